@@ -11,7 +11,7 @@ use Rattle.bc_parse_tree.specs.Tree.{Declarations}
 use Rattle.bc_lex.specs.Files.{File}
 use Rattle.bc_link.specs.Refusals.{refusal_of}
 use Rattle.bc_link.specs.Linked.{image_of, IsRefusal}
-use Rattle.bc_run.specs.Runs.{behind}
+use Rattle.bc_run.specs.Runs.{with_primitives}
 use Rattle.bc_gen_laws.specs.labels.Laws.{LabelsStandOnce}
 use Rattle.bc_scope_laws.specs.Laws.{SectionsFit}
 use Rattle.bc_build.specs.Compiled.{IsAccepted, AreAccepted}
@@ -92,8 +92,8 @@ built_from files mains n segments entries built a l = record {
   segments = l.segments_are ∙ a.segments_are;
   entries = ap (map entry_view) l.entries_are ∙ a.entries_are;
   roots = ap (λ (es : List Entry). map (λ (e : Entry). e.root) es) (ap (map entry_view) l.entries_are ∙ a.entries_are) ∙ of_sections 0 a.sections;
-  linked = subst (λ s. refusal_of (behind s) ≡ None) a.segments_are l.accepted;
-  image = l.image_is ∙ ap (λ s. image_of (behind s)) a.segments_are;
+  linked = subst (λ s. refusal_of (with_primitives s) ≡ None) a.segments_are l.accepted;
+  image = l.image_is ∙ ap (λ s. image_of (with_primitives s)) a.segments_are;
 }
 
 -- a main is refused
@@ -115,7 +115,7 @@ link_refused once keep files mains n segments entries (Scope at e) a h = absurd 
 link_refused once keep files mains n segments entries (Gen at e) a h = absurd h
 link_refused once keep files mains n segments entries (Link e) a h =
     let accepted = subst (AreAccepted files mains) (append-nil a.sections) (a.accepted [] tt) in
-    (a.sections, accepted, link_fault once keep files mains a.sections e accepted (subst (λ s. IsRefusal (refusal_of (behind s)) e) a.segments_are h))
+    (a.sections, accepted, link_fault once keep files mains a.sections e accepted (subst (λ s. IsRefusal (refusal_of (with_primitives s)) e) a.segments_are h))
 link_refused once keep files mains n segments entries Memory a h = tt
 
 -- an error that is this one

@@ -9,7 +9,7 @@ use Rattle.bc_parse_tree.specs.Height.{exp_height, exps_height}
 use Rattle.bc_core.specs.Tree.{Exp, Num, Frame, Glob, Place, Load, Neg, Not, Bin, Cond, Call, Valof}
 use Rattle.bc_scope_defs.specs.Scope.{Meant, Constant, Pending, Static, Global, Routine, Variable, OuterVariable, OuterLabel, StrayVariable, StrayLabel, LabelOutside, Undeclared, Env, Numbers, meant_by}
 use Rattle.bc_scope_defs.specs.Scope as scope
-use Rattle.bc_scope_defs.specs.Numbering.{behind}
+use Rattle.bc_scope_defs.specs.Numbering.{following}
 use Rattle.bc_scope_defs.specs.Scoping.{operator}
 use Rattle.bc_scope_defs.specs.Translation.{Forms, form_of_name, form_of_monadic, form_of_dyadic, negation, opposite, or_not, forms, core_arguments}
 use Rattle.bc_cert_laws.specs.Entries.{nested, all_nested}
@@ -70,20 +70,20 @@ mutual
   forms_nested E at (tree.Table ks) = (omega arith, omega arith)
   forms_nested E at (tree.Valof b) = (omega arith, omega arith)
   forms_nested E at (tree.Monadic m e) = monadic_nested m (forms E at e) (exp_height e) (forms_nested E at e)
-  forms_nested E at (tree.Dyadic o l r) = dyadic_nested (operator o) _ _ (exp_height l) (exp_height r) (forms_nested E at l).1 (forms_nested E (behind at l) r).1
+  forms_nested E at (tree.Dyadic o l r) = dyadic_nested (operator o) _ _ (exp_height l) (exp_height r) (forms_nested E at l).1 (forms_nested E (following at l) r).1
   forms_nested E at (tree.Condition c x y) =
       let hc = (forms_nested E at c).1 in
-      let hx = (forms_nested E (behind at c) x).1 in
-      let hy = (forms_nested E (behind (behind at c) x) y).1 in
+      let hx = (forms_nested E (following at c) x).1 in
+      let hy = (forms_nested E (following (following at c) x) y).1 in
       (omega arith, omega arith)
   forms_nested E at (tree.Call f es) =
       let hf = (forms_nested E at f).1 in
-      let hs = arguments_nested E (behind at f) es in
+      let hs = arguments_nested E (following at f) es in
       (omega arith, omega arith)
 
   pub arguments_nested : (E : Env) (at : Numbers) (es : tree.Exps) → all_nested (core_arguments E at es) ≤ 2 * exps_height es
   arguments_nested E at tree.none = omega arith
   arguments_nested E at (tree.more e es) =
       let he = (forms_nested E at e).1 in
-      let hs = arguments_nested E (behind at e) es in
+      let hs = arguments_nested E (following at e) es in
       omega arith

@@ -7,7 +7,7 @@ use Rattle.bc_rules_defs.specs.declared.piece.Piece.TheVariants as pieces
 use Rattle.bc_core.specs.Tree.{Exp, Frame, Root, Value, Test, Assign}
 use Rattle.bc_core.specs.Commands.{Variable, Initial, Vector, Command, Block, block, Items, no_item, command, case, default, label, Body, Gives, Does, Place, Valof, Core}
 use Rattle.bc_core.specs.Commands as commands
-use Rattle.bc_core.specs.Level.{cells_of, cells_of_all, cells_declared, level_in_for, level_behind_parameters}
+use Rattle.bc_core.specs.Level.{cells_of, cells_of_all, cells_declared, level_in_for, level_after_parameters}
 use Rattle.bc_core.specs.Command.{step_of_for}
 use Rattle.bc_gen_defs.specs.Emit.{Code, Roots, Exits, labelled, labels_in, entries_in, table_of, emit_variable, emit_variables, emit_declarations, end_of_for, emit, emit_block, emit_items, zero_item}
 use Rattle.bc_gen_defs.specs.Bodies.{BodiesCode, Coding, fill, label_ahead, body_exits, emit_valof, emit_body, bodies_from, level_of}
@@ -139,8 +139,8 @@ module _ {P : Root → Type 0} {L : Exp → Type 0} (suits : Suits P L) (roots :
   routines_marks : (j : ℕ) (ps : List Place) → OfPlaces L ps → (f : ℕ) → Marks P (emit_routines Plain roots j ps f).0
   routines_marks j [] h f = nothing
   routines_marks j (commands.Code p ∷ ps) h f =
-      let x = emit_body Plain roots p.body (level_behind_parameters p.parameters) f in
-      plain _ _ (joined _ _ (body_marks p.body h.0 (level_behind_parameters p.parameters) f) (routines_marks (j + 1) ps h.1 x.1))
+      let x = emit_body Plain roots p.body (level_after_parameters p.parameters) f in
+      plain _ _ (joined _ _ (body_marks p.body h.0 (level_after_parameters p.parameters) f) (routines_marks (j + 1) ps h.1 x.1))
   routines_marks j (commands.Static w ∷ ps) h f = routines_marks (j + 1) ps h f
   routines_marks j (commands.Table ws ∷ ps) h f = routines_marks (j + 1) ps h f
   routines_marks j (commands.Text bytes ∷ ps) h f = routines_marks (j + 1) ps h f

@@ -5,7 +5,7 @@ use Rattle.std.proofs.lemmas.Bool.{and_parts}
 use Rattle.bc_core.specs.Tree.{Exp, Frame, Root}
 use Rattle.bc_core.specs.Commands.{Variable, Initial, Vector, Command, Block, block, Items, no_item, command, case, default, label, Body, Gives, Does, Place, Code, Static, Table, Text, Valof}
 use Rattle.bc_core.specs.Commands as commands
-use Rattle.bc_core.specs.Level.{side_level, cells_of_all, cells_declared, level_in_for, level_behind_parameters}
+use Rattle.bc_core.specs.Level.{side_level, cells_of_all, cells_declared, level_in_for, level_after_parameters}
 use Rattle.bc_core.specs.Layout.{frame_size}
 use Rattle.bc_core.specs.WellFormed.{Around, Jumps, nodes, most_nodes, exp_fits, root_fits, assignment_fits, variables_fit, declarations_fit, labels_of, are_distinct, entries_differ, has_entries, in_a_loop, in_list, command_fits, block_fits, items_fit, jumps_in_routine, jumps_in_valof, body_fits, global_fits, places_fit, valofs_fit}
 use Rattle.bc_select_defs.specs.Nodes.{root_nodes}
@@ -127,7 +127,7 @@ body_few A (Does b) s h = block_few A jumps_in_routine b s h
 places_few : (A : Around) (vs : List Valof) (ps : List Place) → places_fit A vs ps ≡ true → OfPlaces Few ps
 places_few A vs [] h = tt
 places_few A vs (Code r ∷ ps) h =
-    let s = level_behind_parameters r.parameters in
+    let s = level_after_parameters r.parameters in
     let x = global_fits r.global && nat_le (frame_size vs r) 32768 in
     let y = body_fits A r.body s in
     let p = and_parts (x && y) (places_fit A vs ps) h in

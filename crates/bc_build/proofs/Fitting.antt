@@ -53,7 +53,7 @@ begin_extent (pieces.Body n ∷ ps) (count ∷ counts) is h =
     let d = length-drop count is in
     omega (arith, b, r, d)
 
--- ---- No entry's place is behind the items
+-- ---- No entry's place is after the items
 
 abbrev Within : ℕ → List Entry → Type 0
 Within n [] = Unit {0}
@@ -72,7 +72,7 @@ section_within c core =
 
 -- ---- One segment
 
--- the place is in front of the segment k, or in it and not behind the item j
+-- the place is before the segment k, or in it and not after the item j
 abbrev IsBefore : (segment item k j : ℕ) → Type 0
 IsBefore segment item k j = (segment < k) ⊎ ((segment ≡ k) × (item ≤ j))
 
@@ -139,7 +139,7 @@ entries_least segments k items at (e ∷ es) stand =
 
 -- ---- All segments
 
--- behind these segments the section is the next
+-- after these segments the section is the next
 next_at : (front : List (List Item)) (s : Declarations) (sections : List Declarations) → HaveAt (front ++ map items_of (s ∷ sections)) (length front) (items_of s)
 next_at front s sections =
     let long = length-append front (map items_of (s ∷ sections)) in

@@ -12,15 +12,15 @@ use Rattle.bc_gen_defs.specs.Entries.{Mark, Marked, Plain}
 use Rattle.bc_build.proofs.Marks.{AllMarks, marks_both, table_marks}
 use Rattle.bc_build.proofs.Frames.{most, left_most, right_most, exp_fits, sides_fit, RootFits}
 
--- the level behind declarations
-behind_most : (V : Bodies) (ds : List (List Variable)) (s : ℕ) → s ≤ most → cells_of_declarations V ds s ≤ most → s + cells_declared ds ≤ most
-behind_most V [] s h c = omega arith
-behind_most V (vs ∷ ds) s h c =
+-- the level after declarations
+after_most : (V : Bodies) (ds : List (List Variable)) (s : ℕ) → s ≤ most → cells_of_declarations V ds s ≤ most → s + cells_declared ds ≤ most
+after_most V [] s h c = omega arith
+after_most V (vs ∷ ds) s h c =
     let n = cells_of_all vs in
     let ci = cells_of_initials V vs (s + n) in
     let cd = cells_of_declarations V ds (s + n) in
     let up : s + n ≤ most = left_most (s + n) (max ci cd) c in
-    let all = behind_most V ds (s + n) up (right_most ci cd (right_most (s + n) (max ci cd) c)) in
+    let all = after_most V ds (s + n) up (right_most ci cd (right_most (s + n) (max ci cd) c)) in
     let l : (s + n) + cells_declared ds ≤ most = all in
     omega arith
 
@@ -140,7 +140,7 @@ module _ (V : Bodies) (P : Mark → Type 0) (roots : Roots Marked) (r : (x : Roo
         let ci = cells_of_items V is s1 in
         let of_declarations = left_most cd ci c in
         marks_both P d.0 x.0 (declarations_framed ds s (f + labels_in is) h of_declarations)
-        (items_framed is s1 E1 0 d.1 (behind_most V ds s h of_declarations) (right_most cd ci c))
+        (items_framed is s1 E1 0 d.1 (after_most V ds s h of_declarations) (right_most cd ci c))
 
     items_framed : (is : Items) (s : ℕ) (E : Exits) (first f : ℕ) → s ≤ most → cells_of_items V is s ≤ most → AllMarks P (emit_items Plain roots is s E first f).0
     items_framed no_item s E first f h c = tt

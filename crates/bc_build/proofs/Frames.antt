@@ -99,9 +99,9 @@ sides_fit V v a s h c =
 abbrev AreLevels : List (Exp × ℕ) → Type 0
 AreLevels ns = AllByRecursion (λ (n : Exp × ℕ). n.1 ≤ most) ns
 
-behind_levels : (xs ys : List (Exp × ℕ)) → AreLevels xs → AreLevels ys → AreLevels (xs ++ ys)
-behind_levels [] ys h k = k
-behind_levels (x ∷ xs) ys h k = (h.0, behind_levels xs ys h.1 k)
+after_levels : (xs ys : List (Exp × ℕ)) → AreLevels xs → AreLevels ys → AreLevels (xs ++ ys)
+after_levels [] ys h k = k
+after_levels (x ∷ xs) ys h k = (h.0, after_levels xs ys h.1 k)
 
 mutual
   levels_fit : (V : Bodies) (e : Exp) (s : ℕ) → Fits V e s → AreLevels (in_order e s)
@@ -110,18 +110,18 @@ mutual
   levels_fit V (Glob n) s h = (h, tt)
   levels_fit V (Place m) s h = (h, tt)
   levels_fit V (Valof n) s h = (h.0, tt)
-  levels_fit V (Load e) s h = behind_levels _ _ (levels_fit V e s h.1) (h.0, tt)
-  levels_fit V (Neg e) s h = behind_levels _ _ (levels_fit V e s h.1) (h.0, tt)
-  levels_fit V (Not e) s h = behind_levels _ _ (levels_fit V e s h.1) (h.0, tt)
-  levels_fit V (Bin op a b) s h = behind_levels _ _ (behind_levels _ _ (levels_fit V a (s + 1) h.1) (levels_fit V b (s + 1) h.2)) (h.0, tt)
-  levels_fit V (Cond c x y) s h = behind_levels _ _ (behind_levels _ _ (behind_levels _ _ (levels_fit V c s h.1) (levels_fit V x s h.2)) (levels_fit V y s h.3)) (h.0, tt)
-  levels_fit V (Call es f) s h = behind_levels _ _ (behind_levels _ _ (all_levels_fit V es (s + 2) h.1) (levels_fit V f (s + 2 + count es) h.2)) (h.0, tt)
+  levels_fit V (Load e) s h = after_levels _ _ (levels_fit V e s h.1) (h.0, tt)
+  levels_fit V (Neg e) s h = after_levels _ _ (levels_fit V e s h.1) (h.0, tt)
+  levels_fit V (Not e) s h = after_levels _ _ (levels_fit V e s h.1) (h.0, tt)
+  levels_fit V (Bin op a b) s h = after_levels _ _ (after_levels _ _ (levels_fit V a (s + 1) h.1) (levels_fit V b (s + 1) h.2)) (h.0, tt)
+  levels_fit V (Cond c x y) s h = after_levels _ _ (after_levels _ _ (after_levels _ _ (levels_fit V c s h.1) (levels_fit V x s h.2)) (levels_fit V y s h.3)) (h.0, tt)
+  levels_fit V (Call es f) s h = after_levels _ _ (after_levels _ _ (all_levels_fit V es (s + 2) h.1) (levels_fit V f (s + 2 + count es) h.2)) (h.0, tt)
 
   all_levels_fit : (V : Bodies) (es : Args) (s : ℕ) → AllFit V es s → AreLevels (all_in_order es s)
   all_levels_fit V no_argument s h = tt
-  all_levels_fit V (argument e es) s h = behind_levels _ _ (levels_fit V e s h.0) (all_levels_fit V es (s + 1) h.1)
+  all_levels_fit V (argument e es) s h = after_levels _ _ (levels_fit V e s h.0) (all_levels_fit V es (s + 1) h.1)
 
 pub root_levels : (V : Bodies) (r : Root) → RootFits V r → HasLevels r
 root_levels V (Value s e) h = levels_fit V e s h
 root_levels V (Test s sense e) h = levels_fit V e s h
-root_levels V (Assign s v a) h = behind_levels _ _ (levels_fit V v (side_level a s) h.0) (levels_fit V a (side_level a s) h.1)
+root_levels V (Assign s v a) h = after_levels _ _ (levels_fit V v (side_level a s) h.0) (levels_fit V a (side_level a s) h.1)

@@ -3,7 +3,7 @@ use Rattle.std.proofs.Common.{ℕ, ◌+◌, ◌≤◌, ◌==◌, Bool, true, fal
 use Rattle.bc_core.specs.Tree.{Frame, Root, Value, Test, Assign}
 use Rattle.bc_core.specs.Commands.{Variable, Initial, Vector, Command, Block, block, Items, no_item, command, case, default, label, Body, Gives, Does, Place, Valof, Core}
 use Rattle.bc_core.specs.Commands as commands
-use Rattle.bc_core.specs.Level.{cells_of, cells_of_all, cells_declared, level_in_for, level_behind_parameters}
+use Rattle.bc_core.specs.Level.{cells_of, cells_of_all, cells_declared, level_in_for, level_after_parameters}
 use Rattle.bc_core.specs.Command.{step_of_for}
 use Rattle.bc_rules_defs.specs.declared.piece.Piece.{Piece}
 use Rattle.bc_rules_defs.specs.declared.piece.Piece.TheVariants as pieces
@@ -125,7 +125,7 @@ module _ (P : Mark → Type 0) (n : ℕ) (roots : Roots Marked) (up : Rising roo
   routines_end : (j : ℕ) (ps : List Place) (f : ℕ) → (emit_routines Plain roots j ps f).1 ≤ n → AllMarks P (emit_routines Plain roots j ps f).0
   routines_end j [] f h = tt
   routines_end j (commands.Code p ∷ ps) f h =
-      let s = level_behind_parameters p.parameters in
+      let s = level_after_parameters p.parameters in
       let x = emit_body Plain roots p.body s f in
       let y = emit_routines Plain roots (j + 1) ps x.1 in
       marks_both P x.0 y.0 (body_ends p.body s f (upto x.1 y.1 n (routines_up roots up (j + 1) ps x.1) h)) (routines_end (j + 1) ps x.1 h)

@@ -8,7 +8,7 @@ use Rattle.bc_link.specs.declared.link_error.LinkError.{LinkError}
 use Rattle.bc_link.specs.declared.link_error.LinkError.TheVariants.{LabelUnset, LabelTwice, GlobalTwice, TooLarge, Memory}
 use Rattle.bc_link.specs.Refusals.{first_of, label_twice_from, label_unset_from, repeated_global_of, global_twice, too_large, refusal_of}
 use Rattle.bc_link.specs.Linked.{IsRefusal}
-use Rattle.bc_run.specs.Runs.{behind}
+use Rattle.bc_run.specs.Runs.{with_primitives}
 use Rattle.bc_rules_defs.specs.declared.rule.Table.TheVariants.{Two}
 use Rattle.bc_select_defs.specs.Chosen.{chosen}
 use Rattle.bc_scope_defs.specs.Translation.{core_of}
@@ -39,18 +39,18 @@ labels_are_right once keep files (main ∷ mains) (s ∷ ss) h =
     let small = h.0.is_section.small in
     one_more (items_of s) (map items_of ss) (once Two (chosen Two) (core_of s) (keep s (omega (arith, small)) h.0.faultless)) (labels_are_right once keep files mains ss h.1)
 
-nothing_behind : (x : Option LinkError) → first_of x None ≡ x
-nothing_behind None = refl
-nothing_behind (Some e) = refl
+nothing_after : (x : Option LinkError) → first_of x None ≡ x
+nothing_after None = refl
+nothing_after (Some e) = refl
 
-refusal_is : (segments : List (List Item)) → LabelsAreRight segments → refusal_of (behind segments) ≡ first_of (global_twice (behind segments)) (too_large (behind segments))
+refusal_is : (segments : List (List Item)) → LabelsAreRight segments → refusal_of (with_primitives segments) ≡ first_of (global_twice (with_primitives segments)) (too_large (with_primitives segments))
 refusal_is segments h =
-    let all = behind segments in
+    let all = with_primitives segments in
     let twice : label_twice_from 0 all ≡ None = h.twice 1 in
     let unset : label_unset_from 0 all ≡ None = h.unset 1 in
     ap (λ x. first_of x (first_of (global_twice all) (first_of (too_large all) (label_unset_from 0 all)))) twice
     ∙ ap (λ x. first_of (global_twice all) (first_of (too_large all) x)) unset
-    ∙ ap (λ x. first_of (global_twice all) x) (nothing_behind (too_large all))
+    ∙ ap (λ x. first_of (global_twice all) x) (nothing_after (too_large all))
 
 -- by the global that is set twice, if there is one, and by whether there is room
 abbrev due : Option ℕ → Bool → Option LinkError
@@ -84,6 +84,6 @@ fault_of segments (GlobalTwice n) r h = a_global (repeated_global_of segments) _
 fault_of segments TooLarge r h = the_size (repeated_global_of segments) _ (sym r ∙ h)
 
 pub link_fault : LabelsStandOnce → SectionsFit → (files : List File) (mains : List ℕ) (sections : List Declarations) (e : LinkError) → AreAccepted files mains sections
-    → IsRefusal (refusal_of (behind (map items_of sections))) e → IsLinkFault (behind (map items_of sections)) e
+    → IsRefusal (refusal_of (with_primitives (map items_of sections))) e → IsLinkFault (with_primitives (map items_of sections)) e
 link_fault once keep files mains sections e accepted h =
-    fault_of (behind (map items_of sections)) e (refusal_is (map items_of sections) (labels_are_right once keep files mains sections accepted)) h
+    fault_of (with_primitives (map items_of sections)) e (refusal_is (map items_of sections) (labels_are_right once keep files mains sections accepted)) h

@@ -24,13 +24,13 @@ AllNamed P (pieces.Body n ∷ ps) = P n × AllNamed P ps
 pub record Names (P : ℕ → Type 0) (ps : List Piece) : Type 0 where
   pub all : AllNamed P ps
 
-behind : (P : ℕ → Type 0) (ps qs : List Piece) → AllNamed P ps → AllNamed P qs → AllNamed P (ps ++ qs)
-behind P [] qs h k = k
-behind P (pieces.Item i ∷ ps) qs h k = behind P ps qs h k
-behind P (pieces.Body n ∷ ps) qs h k = (h.0, behind P ps qs h.1 k)
+following : (P : ℕ → Type 0) (ps qs : List Piece) → AllNamed P ps → AllNamed P qs → AllNamed P (ps ++ qs)
+following P [] qs h k = k
+following P (pieces.Item i ∷ ps) qs h k = following P ps qs h k
+following P (pieces.Body n ∷ ps) qs h k = (h.0, following P ps qs h.1 k)
 
 both : {P : ℕ → Type 0} {ps qs : List Piece} → Names P ps → Names P qs → Names P (ps ++ qs)
-both {P = P} {ps = ps} {qs = qs} h k = record { all = behind P ps qs h.all k.all }
+both {P = P} {ps = ps} {qs = qs} h k = record { all = following P ps qs h.all k.all }
 
 nothing : {P : ℕ → Type 0} → Names P []
 nothing = record { all = tt }

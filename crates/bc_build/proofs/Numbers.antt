@@ -22,9 +22,9 @@ use Rattle.bc_build.specs.RoomLaws.{IsShallow, HasSmallForm, NodesHaveRoom}
 abbrev OfAll : (Exp × ℕ → Type 0) → List (Exp × ℕ) → Type 0
 OfAll P ns = AllByRecursion P ns
 
-behind : (P : Exp × ℕ → Type 0) (xs ys : List (Exp × ℕ)) → OfAll P xs → OfAll P ys → OfAll P (xs ++ ys)
-behind P [] ys h k = k
-behind P (x ∷ xs) ys h k = (h.0, behind P xs ys h.1 k)
+following : (P : Exp × ℕ → Type 0) (xs ys : List (Exp × ℕ)) → OfAll P xs → OfAll P ys → OfAll P (xs ++ ys)
+following P [] ys h k = k
+following P (x ∷ xs) ys h k = (h.0, following P xs ys h.1 k)
 
 first : (P : Exp × ℕ → Type 0) (xs ys : List (Exp × ℕ)) → OfAll P (xs ++ ys) → OfAll P xs
 first P [] ys h = tt
@@ -50,17 +50,17 @@ module _ (most deep : ℕ) where
     within (Glob n) s h d = ((h, d), tt)
     within (Place m) s h d = ((h, d), tt)
     within (Valof n) s h d = ((h, d), tt)
-    within (Load e) s h d = behind Within _ _ (within e s (omega arith) (omega arith)) ((h, d), tt)
-    within (Neg e) s h d = behind Within _ _ (within e s (omega arith) (omega arith)) ((h, d), tt)
-    within (Not e) s h d = behind Within _ _ (within e s (omega arith) (omega arith)) ((h, d), tt)
-    within (Bin op a b) s h d = behind Within _ _ (behind Within _ _ (within a (s + 1) (omega arith) (omega arith)) (within b (s + 1) (omega arith) (omega arith))) ((h, d), tt)
+    within (Load e) s h d = following Within _ _ (within e s (omega arith) (omega arith)) ((h, d), tt)
+    within (Neg e) s h d = following Within _ _ (within e s (omega arith) (omega arith)) ((h, d), tt)
+    within (Not e) s h d = following Within _ _ (within e s (omega arith) (omega arith)) ((h, d), tt)
+    within (Bin op a b) s h d = following Within _ _ (following Within _ _ (within a (s + 1) (omega arith) (omega arith)) (within b (s + 1) (omega arith) (omega arith))) ((h, d), tt)
     within (Cond c x y) s h d =
-        behind Within _ _ (behind Within _ _ (behind Within _ _ (within c s (omega arith) (omega arith)) (within x s (omega arith) (omega arith))) (within y s (omega arith) (omega arith))) ((h, d), tt)
-    within (Call es f) s h d = behind Within _ _ (behind Within _ _ (all_within es (s + 2) (omega arith) (omega arith)) (within f (s + 2 + count es) (omega arith) (omega arith))) ((h, d), tt)
+        following Within _ _ (following Within _ _ (following Within _ _ (within c s (omega arith) (omega arith)) (within x s (omega arith) (omega arith))) (within y s (omega arith) (omega arith))) ((h, d), tt)
+    within (Call es f) s h d = following Within _ _ (following Within _ _ (all_within es (s + 2) (omega arith) (omega arith)) (within f (s + 2 + count es) (omega arith) (omega arith))) ((h, d), tt)
 
     all_within : (es : Args) (s : ℕ) → nodes_of_args es ≤ most → all_nested es ≤ deep → OfAll Within (all_in_order es s)
     all_within no_argument s h d = tt
-    all_within (argument e es) s h d = behind Within _ _ (within e s (omega arith) (omega arith)) (all_within es (s + 1) (omega arith) (omega arith))
+    all_within (argument e es) s h d = following Within _ _ (within e s (omega arith) (omega arith)) (all_within es (s + 1) (omega arith) (omega arith))
 
 -- a call's arguments stand at rising levels, so they are few
 abbrev Low : Exp × ℕ → Type 0
@@ -89,21 +89,21 @@ mutual
   numbers (Glob n) s h = (h.0.1, tt)
   numbers (Place m) s h = (h.0.1, tt)
   numbers (Valof n) s h = (h.0.1, tt)
-  numbers (Load e) s h = behind IsSmallNode _ _ (numbers e s (first Low (in_order e s) ((Load e, s) ∷ []) h)) (tt, tt)
-  numbers (Neg e) s h = behind IsSmallNode _ _ (numbers e s (first Low (in_order e s) ((Neg e, s) ∷ []) h)) (tt, tt)
-  numbers (Not e) s h = behind IsSmallNode _ _ (numbers e s (first Low (in_order e s) ((Not e, s) ∷ []) h)) (tt, tt)
+  numbers (Load e) s h = following IsSmallNode _ _ (numbers e s (first Low (in_order e s) ((Load e, s) ∷ []) h)) (tt, tt)
+  numbers (Neg e) s h = following IsSmallNode _ _ (numbers e s (first Low (in_order e s) ((Neg e, s) ∷ []) h)) (tt, tt)
+  numbers (Not e) s h = following IsSmallNode _ _ (numbers e s (first Low (in_order e s) ((Not e, s) ∷ []) h)) (tt, tt)
   numbers (Bin op a b) s h =
       let xs = in_order a (s + 1) in
       let ys = in_order b (s + 1) in
       let k = first Low (xs ++ ys) ((Bin op a b, s) ∷ []) h in
-      behind IsSmallNode _ _ (behind IsSmallNode _ _ (numbers a (s + 1) (first Low xs ys k)) (numbers b (s + 1) (second Low xs ys k))) (tt, tt)
+      following IsSmallNode _ _ (following IsSmallNode _ _ (numbers a (s + 1) (first Low xs ys k)) (numbers b (s + 1) (second Low xs ys k))) (tt, tt)
   numbers (Cond c x y) s h =
       let cs = in_order c s in
       let xs = in_order x s in
       let ys = in_order y s in
       let k = first Low ((cs ++ xs) ++ ys) ((Cond c x y, s) ∷ []) h in
       let l = first Low (cs ++ xs) ys k in
-      behind IsSmallNode _ _ (behind IsSmallNode _ _ (behind IsSmallNode _ _ (numbers c s (first Low cs xs l)) (numbers x s (second Low cs xs l))) (numbers y s (second Low (cs ++ xs) ys k))) (tt, tt)
+      following IsSmallNode _ _ (following IsSmallNode _ _ (following IsSmallNode _ _ (numbers c s (first Low cs xs l)) (numbers x s (second Low cs xs l))) (numbers y s (second Low (cs ++ xs) ys k))) (tt, tt)
   numbers (Call es f) s h =
       let xs = all_in_order es (s + 2) in
       let ys = in_order f (s + 2 + count es) in
@@ -111,20 +111,20 @@ mutual
       let of_routine = second Low xs ys k in
       let l = own_level f (s + 2 + count es) of_routine in
       let few : count es ≤ 65535 = omega arith in
-      behind IsSmallNode _ _ (behind IsSmallNode _ _ (all_numbers es (s + 2) (first Low xs ys k)) (numbers f (s + 2 + count es) of_routine)) (few, tt)
+      following IsSmallNode _ _ (following IsSmallNode _ _ (all_numbers es (s + 2) (first Low xs ys k)) (numbers f (s + 2 + count es) of_routine)) (few, tt)
 
   all_numbers : (es : Args) (s : ℕ) → OfAll Low (all_in_order es s) → OfAll IsSmallNode (all_in_order es s)
   all_numbers no_argument s h = tt
   all_numbers (argument e es) s h =
       let xs = in_order e s in
       let ys = all_in_order es (s + 1) in
-      behind IsSmallNode _ _ (numbers e s (first Low xs ys h)) (all_numbers es (s + 1) (second Low xs ys h))
+      following IsSmallNode _ _ (numbers e s (first Low xs ys h)) (all_numbers es (s + 1) (second Low xs ys h))
 
 -- of a root
 root_within : (r : Root) → root_nodes r ≤ 2 ^ 32 → IsShallow r → OfAll (Within (2 ^ 32) 400) (root_in_order r)
 root_within (Value s e) h d = within (2 ^ 32) 400 e s h d
 root_within (Test s sense e) h d = within (2 ^ 32) 400 e s h d
-root_within (Assign s v a) h d = behind (Within (2 ^ 32) 400) _ _ (within (2 ^ 32) 400 v (side_level a s) (omega (arith, h)) d.0) (within (2 ^ 32) 400 a (side_level a s) (omega (arith, h)) d.1)
+root_within (Assign s v a) h d = following (Within (2 ^ 32) 400) _ _ (within (2 ^ 32) 400 v (side_level a s) (omega (arith, h)) d.0) (within (2 ^ 32) 400 a (side_level a s) (omega (arith, h)) d.1)
 
 root_numbers : (r : Root) → OfAll Low (root_in_order r) → OfAll IsSmallNode (root_in_order r)
 root_numbers (Value s e) h = numbers e s h
@@ -132,7 +132,7 @@ root_numbers (Test s sense e) h = numbers e s h
 root_numbers (Assign s v a) h =
     let xs = in_order v (side_level a s) in
     let ys = in_order a (side_level a s) in
-    behind IsSmallNode _ _ (numbers v (side_level a s) (first Low xs ys h)) (numbers a (side_level a s) (second Low xs ys h))
+    following IsSmallNode _ _ (numbers v (side_level a s) (first Low xs ys h)) (numbers a (side_level a s) (second Low xs ys h))
 
 below_side : (t : Bool) (s : ℕ) → cond t s (s + 1) ≤ 32768 → s ≤ 32768
 below_side true s h = h

@@ -18,7 +18,7 @@ use Rattle.bc_machine_defs.specs.Streams.{Content}
 use Rattle.bc_machine_defs.specs.State.{start}
 use Rattle.bc_machine_defs.specs.declared.state.End.{End}
 use Rattle.bc_machine.specs.Ran.{Ran}
-use Rattle.bc_run.specs.Runs.{behind, IsRunOf}
+use Rattle.bc_run.specs.Runs.{with_primitives, IsRunOf}
 use Rattle.bc_parse_tree.specs.Tree.{Declarations}
 use Rattle.bc_scope_defs.specs.Translation.{core_of}
 use Rattle.bc_rules_defs.specs.declared.rule.Table.TheVariants.{Two}
@@ -32,7 +32,7 @@ use Rattle.bc_build.specs.Text.{text_of, ReadsAs, IsRunFrom}
 are_items : (segments : List (List Item)) → All (All IsItem) segments → AllByRecursion (AllByRecursion IsItem) segments
 are_items segments h = recursion_from_All (AllByRecursion IsItem) segments (All-weaker (All IsItem) (AllByRecursion IsItem) (λ s k. recursion_from_All IsItem s k) segments h)
 
-pub reads_as : (segments : List (List Item)) (image : Image) → All (All IsItem) segments → refusal_of (behind segments) ≡ None → image ≡ image_of (behind segments) → ReadsAs segments image
+pub reads_as : (segments : List (List Item)) (image : Image) → All (All IsItem) segments → refusal_of (with_primitives segments) ≡ None → image ≡ image_of (with_primitives segments) → ReadsAs segments image
 reads_as segments image items linked is =
     let text : IsText (text_of segments) segments = reads_back segments (are_items segments items) in
     record { text = text; only = (one_text (text_of segments) segments text).0; linked = linked; image_is = is }
@@ -45,7 +45,7 @@ segments_words : (sections : List Declarations) → size_of_segments (map items_
 segments_words [] = refl
 segments_words (s ∷ ss) = let h = items_words s in let i = segments_words ss in omega (arith, h, i)
 
-pub has_size : (sections : List Declarations) (image : Image) → image ≡ image_of (behind (map items_of sections)) → HasSize sections image
+pub has_size : (sections : List Declarations) (image : Image) → image ≡ image_of (with_primitives (map items_of sections)) → HasSize sections image
 has_size sections image is =
     let e = ap (λ (x : Image). x.stack_base) is in
     let p = words_of_primitives in
@@ -58,5 +58,5 @@ pub text_runs : (segments : List (List Item)) (image : Image) (steps : ℕ) (tol
 text_runs segments image steps told tells old new before after end reads run =
     let read = run.2 in
     let same = reads.only run.0 (subst (λ bytes. IsText bytes run.0) (sym read.1) read.3) in
-    let e : image_of (behind run.0) ≡ image = ap (λ s. image_of (behind s)) same ∙ sym reads.image_is in
+    let e : image_of (with_primitives run.0) ≡ image = ap (λ s. image_of (with_primitives s)) same ∙ sym reads.image_is in
     (run.1, run.4, subst (λ (x : Image). Ran told tells steps (start x.words x.stack_base old) run.1 end before after) e run.5)

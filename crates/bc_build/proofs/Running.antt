@@ -13,7 +13,7 @@ use Rattle.bc_link.specs.Layout.{places_from, stack_base_of}
 use Rattle.bc_link.specs.Linked.{image_of}
 use Rattle.bc_link.specs.Refusals.{refusal_of}
 use Rattle.bc_link.specs.Store.{store_of}
-use Rattle.bc_run.specs.Runs.{behind}
+use Rattle.bc_run.specs.Runs.{with_primitives}
 use Rattle.bc_parse_tree.specs.Tree.{Declarations}
 use Rattle.bc_core.specs.Map.{Map, IsMap}
 use Rattle.bc_core.specs.Commands.{Core}
@@ -67,13 +67,13 @@ items_are : (c : Coding) (sections : List Declarations) → map (λ section. sec
 items_are c [] = refl
 items_are c (s ∷ ss) = ap (λ rest. section_items c (core_of s) ∷ rest) (items_are c ss)
 
-segments_are : (sections : List Declarations) → behind (map items_of sections) ≡ segments_of (coding_of (chosen Two)) (map core_of sections)
+segments_are : (sections : List Declarations) → with_primitives (map items_of sections) ≡ segments_of (coding_of (chosen Two)) (map core_of sections)
 unfolding coding
 segments_are sections = ap (λ rest. library_items ∷ rest) (items_are (coding_of (chosen Two)) sections)
 
 -- accepted sections run as they mean, from their image
 pub runs_as_meant : LinkedMapIsMap → SectionsRun → (files : List File) (mains : List ℕ) (sections : List Declarations) (image : Image) → AreAccepted files mains sections
-    → refusal_of (behind (map items_of sections)) ≡ None → image ≡ image_of (behind (map items_of sections)) → ((i : ℕ) → slice_index image.words i < 65536)
+    → refusal_of (with_primitives (map items_of sections)) ≡ None → image ≡ image_of (with_primitives (map items_of sections)) → ((i : ℕ) → slice_index image.words i < 65536)
     → RunsAsMeant sections image
 runs_as_meant maps runs files mains sections image accepted linked is words =
     let e = segments_are sections in

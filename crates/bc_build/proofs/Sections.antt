@@ -3,7 +3,7 @@ use Rattle.std.proofs.Common.{ℕ, suc, ◌+◌, ◌<◌, ◌≤◌, ◌==◌, �
 use Rattle.std.specs.Prelude.{nat_le}
 use Rattle.bc_core.specs.Tree.{Root}
 use Rattle.bc_core.specs.Commands as core
-use Rattle.bc_core.specs.Level.{level_behind_parameters}
+use Rattle.bc_core.specs.Level.{level_after_parameters}
 use Rattle.bc_core.specs.Layout.{Bodies, cells_of_block, cells_of_body}
 use Rattle.bc_scope_defs.specs.Scope.{nothing_known}
 use Rattle.bc_scope_defs.specs.Found.{Found, FoundRoutine, RoutineBody, Gives, Does, Thing, AValof, ARoutine, Data, AStatic, ATable, AText, found_in_section, section_start}
@@ -85,12 +85,12 @@ no_fault true f h = refl
 no_fault false f h = absurd (cc)
 
 -- the routines
-body_wide : (V : Bodies) (r : FoundRoutine) → AllWide V (routine_body r) → let s = level_behind_parameters r.parameters in cells_of_body V (core_routine r).body s ≡ width_of_body r.names r.numbers r.body s
+body_wide : (V : Bodies) (r : FoundRoutine) → AllWide V (routine_body r) → let s = level_after_parameters r.parameters in cells_of_body V (core_routine r).body s ≡ width_of_body r.names r.numbers r.body s
 body_wide V r h = of_body r.body h where
-  of_body : (b : RoutineBody) → AllWide V (found_in_routine r.names r.numbers b (level_behind_parameters r.parameters))
-      → cells_of_body V (core_body r.names r.numbers b (level_behind_parameters r.parameters)) (level_behind_parameters r.parameters) ≡ width_of_body r.names r.numbers b (level_behind_parameters r.parameters)
-  of_body (Gives e) k = (exp_wide V r.names r.numbers e (level_behind_parameters r.parameters) k).1
-  of_body (Does b) k = block_wide V r.names r.numbers b (level_behind_parameters r.parameters) k
+  of_body : (b : RoutineBody) → AllWide V (found_in_routine r.names r.numbers b (level_after_parameters r.parameters))
+      → cells_of_body V (core_body r.names r.numbers b (level_after_parameters r.parameters)) (level_after_parameters r.parameters) ≡ width_of_body r.names r.numbers b (level_after_parameters r.parameters)
+  of_body (Gives e) k = (exp_wide V r.names r.numbers e (level_after_parameters r.parameters) k).1
+  of_body (Does b) k = block_wide V r.names r.numbers b (level_after_parameters r.parameters) k
 
 module _ (V : Bodies) (roots : Roots Marked) (known : (x : Root) (t f : ℕ) → RootFits V x → AllMarks Leveled (roots x t f).0) where
   routines_leveled : (j n q : ℕ) (fs : List Thing) (f : ℕ) → Nested n q fs → AllWide V fs → frames_fault fs ≡ None → AllMarks Leveled (emit_routines Plain roots j (places_of fs) f).0
@@ -100,7 +100,7 @@ module _ (V : Bodies) (roots : Roots Marked) (known : (x : Root) (t f : ℕ) →
   routines_leveled j n q (Data m (ATable v) ∷ fs) f h w k = routines_leveled (j + 1) n (q + 1) fs f h.0 w k
   routines_leveled j n q (Data m (AText v) ∷ fs) f h w k = routines_leveled (j + 1) n (q + 1) fs f h.0 w k
   routines_leveled j n q (ARoutine r ∷ fs) f h w k =
-      let s = level_behind_parameters r.parameters in
+      let s = level_after_parameters r.parameters in
       let x = emit_body Plain roots (core_routine r).body s f in
       let this : Option Fault = unless (nat_le (frame_of r) 32768) AFrameTooLarge in
       let wide = body_wide V r (first_wide V (routine_body r) h.0.0 (subst (λ gs. AllWide V gs) h.0.1 w)) in
@@ -119,8 +119,8 @@ roots_have_levels T choice ds n =
     let coding = coding_of choice in
     let levels = level_of c.valofs in
     let nested = all_nested ds in
-    let behind = or_else (frames_fault fs) (places_fault fs) in
-    let frames = none_left (frames_fault fs) (places_fault fs) (none_right (declarations_fault nothing_known section_start ds 0) behind (same_section_fault ds ∙ n)) in
+    let following = or_else (frames_fault fs) (places_fault fs) in
+    let frames = none_left (frames_fault fs) (places_fault fs) (none_right (declarations_fault nothing_known section_start ds 0) following (same_section_fault ds ∙ n)) in
     let V = table levels 0 c.valofs in
     let wide = table_wide levels 0 1 fs nested (all_at levels 0 1 fs nested (λ i. let m : 0 + i ≡ i = omega arith in ap levels m)) in
     let bodies = bodies_from Plain (marked_over coding levels) 0 c.valofs in

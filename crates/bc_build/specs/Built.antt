@@ -6,7 +6,7 @@ use Rattle.bc_parse_tree.specs.Tree.{Declarations}
 use Rattle.bc_lex.specs.Files.{File}
 use Rattle.bc_link.specs.Refusals.{refusal_of}
 use Rattle.bc_link.specs.Linked.{image_of}
-use Rattle.bc_run.specs.Runs.{behind}
+use Rattle.bc_run.specs.Runs.{with_primitives}
 use Rattle.bc_build.specs.Compiled.{AreAccepted}
 use Rattle.bc_build.specs.Code.{items_of, entries_from}
 use Rattle.bc_build.specs.Size.{section_roots}
@@ -22,5 +22,5 @@ pub record IsBuilt (files : List File) (mains : List ℕ) (built : Built) : Type
   pub segments : built.segments.items ≡ map items_of sections
   pub entries : map entry_view built.entries.items ≡ entries_from 0 sections
   pub roots : map (λ (e : Entry). e.root) (map entry_view built.entries.items) ≡ flat_map section_roots sections
-  pub linked : refusal_of (behind (map items_of sections)) ≡ None
-  pub image : built.image ≡ image_of (behind (map items_of sections))
+  pub linked : refusal_of (with_primitives (map items_of sections)) ≡ None
+  pub image : built.image ≡ image_of (with_primitives (map items_of sections))

@@ -4,7 +4,7 @@ use Rattle.bc_text_items.specs.declared.item.Item.{Item}
 use Rattle.bc_machine_defs.specs.Streams.{Content, HoldBytes}
 use Rattle.bc_link.specs.Refusals.{refusal_of}
 use Rattle.bc_link.specs.Linked.{image_of}
-use Rattle.bc_run.specs.Runs.{behind}
+use Rattle.bc_run.specs.Runs.{with_primitives}
 use Rattle.bc_core.specs.Commands.{Core}
 use Rattle.bc_core.specs.WellFormed.{is_core}
 use Rattle.bc_core.specs.Meaning.{meaning}
@@ -18,11 +18,11 @@ abbrev pub generated : List Core → List (List Item)
 generated cores = map (section_items coding) cores
 
 -- For all Cores that fit, all inputs and every number of turns: where the linker refuses nothing and the image's words are
--- words, as those of an image are, the run of these items behind the primitives is what the Cores mean, or they are wild.
+-- words, as those of an image are, the run of these items after the primitives is what the Cores mean, or they are wild.
 abbrev pub GeneratedRuns : Type 0
 GeneratedRuns =
     (cores : List Core) → All (λ core. is_core core ≡ true) cores
-    → (let segments = behind (generated cores) in
+    → (let segments = with_primitives (generated cores) in
     let image = image_of segments in
     refusal_of segments ≡ None → ((i : ℕ) → slice_index image.words i < 65536)
     → (streams : Content) → HoldBytes streams.inputs → (n : ℕ) → Same (meaning cores (addresses image) streams n) n (started image streams))

@@ -36,7 +36,7 @@ pub record IsLeast (segments : List (List Item)) (e : Entry) : Type 0 where
 abbrev pub judged : Entry → Judged
 judged e = judged_by e (least_derivation Two e.root)
 
--- each entry is of least words, none stands in front of the one before it, and their code lies in the segments
+-- each entry is of least words, none stands before the one before it, and their code lies in the segments
 pub record AreLeast (segments : List (List Item)) (entries : List Entry) : Type 0 where
   pub each : All (IsLeast segments) entries
   pub fit : Fit segments 0 0 (map judged entries)

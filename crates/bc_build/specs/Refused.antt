@@ -18,7 +18,7 @@ use Rattle.bc_link.specs.Refusals.{global_twice, too_large}
 use Rattle.bc_link.specs.declared.link_error.LinkError.{LinkError}
 use Rattle.bc_link.specs.declared.link_error.LinkError.TheVariants as links
 use Rattle.bc_text_items.specs.declared.item.Item.{Item}
-use Rattle.bc_run.specs.Runs.{behind}
+use Rattle.bc_run.specs.Runs.{with_primitives}
 use Rattle.bc_build.specs.Compiled.{IsSection, IsAccepted, AreAccepted}
 use Rattle.bc_build.specs.Code.{items_of}
 use Rattle.bc_build.specs.declared.build_error.ScopeFault.{ScopeFault}
@@ -72,7 +72,7 @@ IsLinkFault segments (links.LabelUnset k label) = ⊥
 
 abbrev pub IsRefused : List File → List ℕ → BuildError → Type 0
 IsRefused files mains Memory = Unit {0}
-IsRefused files mains (Link e) = (sections : List Declarations) × AreAccepted files mains sections × IsLinkFault (behind (map items_of sections)) e
+IsRefused files mains (Link e) = (sections : List Declarations) × AreAccepted files mains sections × IsLinkFault (with_primitives (map items_of sections)) e
 IsRefused files mains (Lex at e) = IsFirstRefusal files mains (Lex at e)
 IsRefused files mains (Parse at e) = IsFirstRefusal files mains (Parse at e)
 IsRefused files mains (Scope at e) = IsFirstRefusal files mains (Scope at e)

@@ -12,7 +12,7 @@ use Rattle.bc_core.specs.Same.{Same}
 use Rattle.bc_scope_defs.specs.Translation.{core_of}
 use Rattle.bc_scope_defs.specs.Sections.{meaning_of_sections}
 
--- where an image has the places of its sections, which stand behind the primitives, and where its stack begins
+-- where an image has the places of its sections, which stand after the primitives, and where its stack begins
 abbrev pub addresses : Image → Map
 addresses image = record { places = map (λ (place : SegmentPlace). label_address place.labels) (drop 1 image.places); stack_base = image.stack_base }
 

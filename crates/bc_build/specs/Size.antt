@@ -22,6 +22,6 @@ abbrev pub words_of : List Declarations → ℕ
 words_of [] = 0
 words_of (section ∷ sections) = section_words section + words_of sections
 
--- the stack begins behind the globals, the 26 words of the primitives, and the sections
+-- the stack begins after the globals, the 26 words of the primitives, and the sections
 abbrev pub HasSize : List Declarations → Image → Type 0
 HasSize sections image = image.stack_base ≡ 546 + words_of sections

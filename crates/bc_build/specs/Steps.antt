@@ -10,7 +10,7 @@ use Rattle.bc_build.specs.Code.{items_of, entries_from}
 use Rattle.bc_scope_defs.specs.Faults.{Fault}
 use Rattle.bc_link.specs.Refusals.{refusal_of}
 use Rattle.bc_link.specs.Linked.{image_of, IsRefusal}
-use Rattle.bc_run.specs.Runs.{behind}
+use Rattle.bc_run.specs.Runs.{with_primitives}
 use Rattle.bc_text.specs.Printed.{IsItem}
 use Rattle.bc_build.specs.Ranges.{IsSmallEntry}
 use Rattle.bc_build.specs.Refused.{IsScopeFault, IsFirstRefusal}
@@ -28,8 +28,8 @@ IsScopeRefusal main due _ = ⊥
 pub record IsLinked (segments : List (List Item)) (entries : List code.Entry) (built : Built) : Type 0 where
   pub segments_are : built.segments.items ≡ segments
   pub entries_are : built.entries.items ≡ entries
-  pub accepted : refusal_of (behind segments) ≡ None
-  pub image_is : built.image ≡ image_of (behind segments)
+  pub accepted : refusal_of (with_primitives segments) ≡ None
+  pub image_is : built.image ≡ image_of (with_primitives segments)
   pub words : (i : ℕ) → slice_index built.image.words i < 65536
   pub items : All (All IsItem) segments
   pub small : All IsSmallEntry entries
@@ -37,7 +37,7 @@ pub record IsLinked (segments : List (List Item)) (entries : List code.Entry) (b
 
 -- why segments were not linked
 abbrev pub IsLinkRefusal : List (List Item) → BuildError → Type 0
-IsLinkRefusal segments (Link e) = IsRefusal (refusal_of (behind segments)) e
+IsLinkRefusal segments (Link e) = IsRefusal (refusal_of (with_primitives segments)) e
 IsLinkRefusal segments Memory = Unit {0}
 IsLinkRefusal segments _ = ⊥
 

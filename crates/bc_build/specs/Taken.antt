@@ -16,7 +16,7 @@ use Rattle.bc_cert.specs.Answer.{IsAnswer}
 use Rattle.bc_build.specs.Least.{judged, AreLeast}
 use Rattle.bc_build.specs.Certified.{IsCertified}
 
--- A writer that had `old` has these bytes behind it, and `write_cert` ensures of them what it ensures with Ok.
+-- A writer that had `old` has these bytes after it, and `write_cert` ensures of them what it ensures with Ok.
 abbrev pub IsWritten : List Entry → (old bytes : List ℕ) → Type 0
 IsWritten entries old bytes = (ds : List Derived) → entries ≡ map entry_of ds → Appends (Some old) (Some (old ++ bytes)) (certificate ds)
 

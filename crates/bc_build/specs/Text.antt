@@ -10,9 +10,9 @@ use Rattle.bc_text.specs.Printed.{printed_segment}
 use Rattle.bc_machine_defs.specs.declared.image.Image.{Image}
 use Rattle.bc_link.specs.Refusals.{refusal_of}
 use Rattle.bc_link.specs.Linked.{image_of}
-use Rattle.bc_run.specs.Runs.{behind}
+use Rattle.bc_run.specs.Runs.{with_primitives}
 
--- the segments, printed one behind another
+-- the segments, printed one after another
 abbrev pub text_of : List (List Item) → List ℕ
 text_of segments = flat_map printed_segment segments
 
@@ -20,8 +20,8 @@ text_of segments = flat_map printed_segment segments
 pub record ReadsAs (segments : List (List Item)) (image : Image) : Type 0 where
   pub text : IsText (text_of segments) segments
   pub only : (others : List (List Item)) → IsText (text_of segments) others → others ≡ segments
-  pub linked : refusal_of (behind segments) ≡ None
-  pub image_is : image ≡ image_of (behind segments)
+  pub linked : refusal_of (with_primitives segments) ≡ None
+  pub image_is : image ≡ image_of (with_primitives segments)
 
 -- the end of a run of at most `steps` instructions from the image
 abbrev pub IsRunFrom : Image → ℕ → Type 0 → Type 0 → Content → Content → ℕ → ℕ → End → Type 0

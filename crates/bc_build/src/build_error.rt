@@ -31,7 +31,7 @@ pub enum ScopeFault {
     /// The name is declared as a global whose number is over 511.
     #[error("global number over 511")]
     GlobalNumber(Vec<u8>),
-    /// What stands to the left of `:=` or behind `@` is no cell.
+    /// What stands to the left of `:=` or after `@` is no cell.
     #[error("not assignable")]
     NotAssignable,
     /// A command or a declaration stands where it can't.

@@ -24,7 +24,7 @@ use bc_link::link;
 use bc_machine_defs::Image;
 use bc_parse::parse;
 use bc_rules_defs::Entry;
-use bc_run::behind_primitives;
+use bc_run::after_primitives;
 use bc_scope::resolve;
 use bc_text_items::Segment;
 use std::alloc::Global;
@@ -36,7 +36,7 @@ pub struct Built {
     pub segments: Vec<Segment>,
     /// The entries of all mains, those of the first main first.
     pub entries: Vec<Entry>,
-    /// What was worked out of each entry, for the certificate: the n-th of the n-th entry.
+    /// What was computed of each entry, for the certificate: the n-th of the n-th entry.
     pub workings: Vec<Workings>,
     /// The image of the primitives followed by the segments.
     pub image: Image,
@@ -70,7 +70,7 @@ fn compiled(alloc: Global, sources: &[Source<'_>], main: usize) -> Result<Genera
     }
 }
 
-/// Puts a segment's entries behind those that are there.
+/// Puts a segment's entries after those that are there.
 fn add_entries(all: &mut Vec<Entry>, segment: u64, entries: Vec<Entry>) -> Result<(), BuildError>
     ensures added { OnOk result (map entry_view all.new.items ≡ map entry_view all.old.items ++ map (in_segment segment) (map entry_view entries.items)) }
     ensures refused { IfErr result (λ e. e ≡ BuildError.Memory) }
@@ -82,7 +82,7 @@ fn add_entries(all: &mut Vec<Entry>, segment: u64, entries: Vec<Entry>) -> Resul
     Ok(())
 }
 
-/// The segments, linked behind the primitives, with their entries and the workings of these.
+/// The segments, linked after the primitives, with their entries and the workings of these.
 fn linked(
     alloc: Global,
     segments: Vec<Segment>,
@@ -93,7 +93,7 @@ fn linked(
     ensures worked { IfOk result (λ built. built.workings.items ≡ workings.items) }
     ensures refused { IfErr result (IsLinkRefusal segments.items) }
 {
-    let mut segments = behind_primitives(alloc, segments)?;
+    let mut segments = after_primitives(alloc, segments)?;
     let image = match link(alloc, segments.as_slice()) {
         Ok(image) => image,
         Err(fault) => return Err(BuildError::Link(fault)),
@@ -111,7 +111,7 @@ fn linked(
 }
 
 /// Builds the program of these mains, which are indexes of the sources: each is read, parsed, resolved and translated in
-/// turn, and then the segments are linked behind the primitives. No mains at all are lawful.
+/// turn, and then the segments are linked after the primitives. No mains at all are lawful.
 ///
 /// The first refusal in this order is answered, or `Memory` where an allocation was refused.
 pub fn build(alloc: Global, sources: &[Source<'_>], mains: &[usize]) -> Result<Built, BuildError>

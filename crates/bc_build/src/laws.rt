@@ -39,7 +39,7 @@ pub fn certificate_is_taken()
     bc_cert_laws::laws::one_answer();
 }
 
-/// The items that `generate` gives for any Cores that fit, linked behind the primitives, run as the Cores mean.
+/// The items that `generate` gives for any Cores that fit, linked after the primitives, run as the Cores mean.
 pub fn generated_runs()
     ensures { GeneratedRuns }
 {

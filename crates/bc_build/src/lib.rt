@@ -1,4 +1,4 @@
-//! From source to image: every part of the compiler in its order, and the linker behind them.
+//! From source to image: every part of the compiler in its order, and the linker after them.
 //!
 //! The roots of sections without fault have room in the lines of a certificate.
 #![tactic(auto)]

@@ -20,7 +20,7 @@ pub fn roots_have_few_nodes()
     ensures { RootsHaveFewNodes }
 {}
 
-/// Where the labels of a section suffice, none of its roots takes a label behind the last one.
+/// Where the labels of a section suffice, none of its roots takes a label after the last one.
 pub fn labels_have_room()
     ensures { LabelsHaveRoom }
 {}

@@ -90,12 +90,12 @@ pub none_left : (es : List CoreExp) (i : ℕ) → length es ≤ i → args (drop
 none_left es i h = ap args (drop_all i es h)
 
 -- the level of a call's routine
-pub behind_all : (es : List CoreExp) (s inside behind : ℕ) → inside ≡ s + 2 → behind ≡ inside + length es → behind ≡ s + 2 + count (args es)
-behind_all es s inside behind h i = let k = args_count es in omega arith
+pub after_all : (es : List CoreExp) (s inside following : ℕ) → inside ≡ s + 2 → following ≡ inside + length es → following ≡ s + 2 + count (args es)
+after_all es s inside following h i = let k = args_count es in omega arith
 
 -- the words of a call
-pub call_words : (es : Args) (f : Exp) (s inside behind k : ℕ) (c : Choices) (stored own all words : Option ℕ) → inside ≡ s + 2 → behind ≡ s + 2 + count es → stored ≡ words_of_all Two es inside → c ≡ choices Two f behind → own ≡ words_of c.any → all ≡ sum stored own → k ≡ w s → words ≡ plus all k → words ≡ plus (sum (words_of_all Two es (s + 2)) (words_of (choices Two f (s + 2 + count es)).any)) (w s)
-call_words es f s inside behind k c stored own all words hi hb hs hc ho ha hk hw =
+pub call_words : (es : Args) (f : Exp) (s inside following k : ℕ) (c : Choices) (stored own all words : Option ℕ) → inside ≡ s + 2 → following ≡ s + 2 + count es → stored ≡ words_of_all Two es inside → c ≡ choices Two f following → own ≡ words_of c.any → all ≡ sum stored own → k ≡ w s → words ≡ plus all k → words ≡ plus (sum (words_of_all Two es (s + 2)) (words_of (choices Two f (s + 2 + count es)).any)) (w s)
+call_words es f s inside following k c stored own all words hi hb hs hc ho ha hk hw =
     let first : stored ≡ words_of_all Two es (s + 2) = hs ∙ ap (words_of_all Two es) hi in
     let last : own ≡ words_of (choices Two f (s + 2 + count es)).any = ho ∙ ap (λ q. words_of q.any) (hc ∙ ap (choices Two f) hb) in
     let both : all ≡ sum (words_of_all Two es (s + 2)) (words_of (choices Two f (s + 2 + count es)).any) = ha ∙ ap (λ x. sum x own) first ∙ ap (sum (words_of_all Two es (s + 2))) last in

@@ -90,7 +90,7 @@ without_0 T operators.Or a b m s x y ha hb = makes_none _ _ _
 without_0 T operators.NotEquivalent a b m s x y ha hb = makes_none _ _ _
 without_0 T operators.Equivalent a b m s x y ha hb = makes_none _ _ _
 
--- one operand is worked out, the other stands in the instruction
+-- one operand is computed, the other stands in the instruction
 abbrev WithOperand : Table → Exp → Mode → Option Operand → Type 0
 WithOperand T e m p = Derives T e (Gets m) × OperandOf p
 
@@ -154,7 +154,7 @@ mixed_made T op a b m s x y ha hb = (
 of_two : (T : Table) (e f g : Exp) (aim1 aim2 aim : Aim) (s t k : ℕ) (r : Rule) (rule_of : Derives T e aim1 × Derives T f aim2 → Derives T g aim) → ((q : Derives T e aim1 × Derives T f aim2) → cost (rule_of q) s ≡ cost q.0 t + cost q.1 t + k) → ((q : Derives T e aim1 × Derives T f aim2) → first_rule (rule_of q) ≡ r) → (x y : Option ℕ) → Has T e aim1 t x → Has T f aim2 t y → By T g aim s r (plus (sum x y) k)
 of_two T e f g aim1 aim2 aim s t k r rule_of c fr x y h i = makes_map _ _ _ _ _ _ _ rule_of c (λ q j. fr q) (makes_plus _ _ _ (sum x y) k (makes_sum _ _ _ _ _ _ x y h i))
 
--- the rules with both operands worked out
+-- the rules with both operands computed
 worked_made : (T : Table) (op : Op) (a b : Exp) (s : ℕ) → AllBy T (Bin op a b) (Gets Any) s (worked op (node_of T a (s + 1)) (node_of T b (s + 1)) s)
 worked_made T op a b s =
     let e = Bin op a b in

@@ -17,7 +17,7 @@ use Rattle.bc_rules_defs.specs.Names.{rule_number}
 use Rattle.bc_select_defs.specs.Folds.{Within, Reaches, of_rule}
 use Rattle.bc_select_defs.specs.Makes.{Makes, AllMade}
 use Rattle.bc_select.specs.Rows.{AreCosts}
-use Rattle.bc_candidates.specs.declared.beginning.Beginning.{Beginning}
+use Rattle.bc_candidates.specs.declared.candidate.Beginning.{Beginning}
 use Rattle.bc_candidates.specs.Beginnings.{IsAmong, rises_from, or_fewer, least_words, AreBeginnings}
 use Rattle.bc_candidates.specs.Aims.{ForAims, AreCandidatesOf}
 use Rattle.bc_candidates.specs.Laws.{LeastAreTheRows}
@@ -196,7 +196,7 @@ pub all_are : (nodes : List (Exp × ℕ)) → AllZip AreCandidatesOf nodes (map 
 all_are [] = tt
 all_are (node ∷ nodes) = (candidates_are node, all_are nodes)
 
--- what was put behind nothing
+-- what was put after nothing
 pub all_found : (new : List ForAims) (nodes : List (Exp × ℕ)) → Adds [] new nodes → AllZip AreCandidatesOf nodes new
 all_found new nodes h = let P : List ForAims → Type 0 = λ x. AllZip AreCandidatesOf nodes x in subst P (sym h.is) (all_are nodes)
 

@@ -4,7 +4,7 @@ use Rattle.bc_core.specs.Tree.{Exp}
 use Rattle.bc_rules_defs.specs.declared.rule.Mode.TheVariants.{Any, Push}
 use Rattle.bc_rules_defs.specs.declared.rule.Aim.{Aim}
 use Rattle.bc_rules_defs.specs.declared.rule.Aim.TheVariants.{Gets, Jumps}
-use Rattle.bc_candidates.specs.declared.beginning.Beginning.{Beginning}
+use Rattle.bc_candidates.specs.declared.candidate.Beginning.{Beginning}
 use Rattle.bc_candidates.specs.Beginnings.{AreBeginnings}
 
 -- as a value, as a value that is pushed, as a jump on false, as a jump on true

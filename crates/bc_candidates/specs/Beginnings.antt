@@ -9,7 +9,7 @@ use Rattle.bc_rules_defs.specs.Rules.{Derives}
 use Rattle.bc_rules_defs.specs.Code.{cost}
 use Rattle.bc_select_defs.specs.Least.{first_rule, AreLeastWords}
 use Rattle.bc_rules_defs.specs.Names.{rule_number}
-use Rattle.bc_candidates.specs.declared.beginning.Beginning.{Beginning}
+use Rattle.bc_candidates.specs.declared.candidate.Beginning.{Beginning}
 
 -- some derivation that begins with the rule has so many words, and none that begins with it has fewer
 abbrev pub AreLeastBy : Exp → Aim → ℕ → Rule → ℕ → Type 0

@@ -1,4 +1,4 @@
--- For proofs: what is known of a node's parts, and which candidates were put behind others.
+-- For proofs: what is known of a node's parts, and which candidates were put after others.
 use Rattle.std.specs.Prelude.{◌≡◌, ℕ, ◌+◌, List, ◌++◌, map}
 use Rattle.bc_core.specs.Tree.{Exp, Args}
 use Rattle.bc_core.specs.Value.{has_call}
@@ -27,7 +27,7 @@ pub record AreArguments (a : Arguments) (es : Args) (s : ℕ) : Type 0 where
   pub words : a.words ≡ words_of_all Two es s
   pub nodes : a.nodes ≡ nodes_of_args es
 
--- the candidates of these nodes were put behind the others
+-- the candidates of these nodes were put after the others
 pub record Adds (old new : List ForAims) (nodes : List (Exp × ℕ)) : Type 0 where
   pub is : new ≡ old ++ map candidates_at nodes
 

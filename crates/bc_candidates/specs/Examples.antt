@@ -6,7 +6,7 @@ use Rattle.bc_rules_defs.specs.declared.rule.Rule.{Rule}
 use Rattle.bc_rules_defs.specs.declared.rule.Rule.TheVariants as rule
 use Rattle.bc_select_defs.specs.Options.{plus, more, sum, given, better, least_from, operand_cost}
 use Rattle.bc_select_defs.specs.Choices.{number_cost}
-use Rattle.bc_candidates.specs.declared.beginning.Beginning.{Beginning}
+use Rattle.bc_candidates.specs.declared.candidate.Beginning.{Beginning}
 use Rattle.bc_candidates.specs.Aims.{ForAims}
 use Rattle.bc_candidates.specs.Lists.{candidates_at}
 

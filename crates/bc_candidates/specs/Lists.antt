@@ -17,7 +17,7 @@ use Rattle.bc_select_defs.specs.declared.choice.Asked.{Asked}
 use Rattle.bc_select_defs.specs.Options.{plus, sum, operand_cost, words_of, candidate, least_from}
 use Rattle.bc_select_defs.specs.Choices.{by_value, number_tests, not_tests, mixed, worked, pair_tests, choices, words_of_all, node_of}
 use Rattle.bc_word.specs.declared.operator.Op.{Op}
-use Rattle.bc_candidates.specs.declared.beginning.Beginning.{Beginning}
+use Rattle.bc_candidates.specs.declared.candidate.Beginning.{Beginning}
 use Rattle.bc_candidates.specs.Aims.{ForAims}
 
 pub record Lists : Type 0 where

@@ -1,14 +1,14 @@
 //! For each node of a root all rules that can begin a derivation of it, each with the least words of those that begin with it.
 #![tactic(auto)]
 
-mod adding;
-mod beginning;
+mod binary_candidates;
+mod candidate;
 pub mod laws;
 mod lists;
 mod nodes;
-mod pair;
 mod root;
+mod sums;
 
 pub use bc_rules_defs::{Aim, Mode, Rule};
-pub use beginning::{Beginning, Candidates};
+pub use candidate::{Beginning, Candidates};
 pub use root::candidates;

@@ -8,9 +8,9 @@ ghost use Rattle.bc_select_defs.specs.Choices.{by_value, number_tests as tests_o
 ghost use Rattle.bc_rules_defs.specs.declared.rule.Table.TheVariants.{Two};
 ghost use Rattle.bc_candidates.specs.Lists.{pushes as pushes_of, values as values_of, least_words_of, beginnings, applying_lists, choices_of};
 
-use crate::adding::{candidate, plus};
-use crate::beginning::{Beginning, Candidates};
-use crate::pair::{tests_on_false, tests_on_true};
+use crate::binary_candidates::{tests_on_false, tests_on_true};
+use crate::candidate::{Beginning, Candidates};
+use crate::sums::{candidate, plus};
 use bc_core::Operand;
 use bc_rules_defs::{Rule, jumps};
 use bc_select::{Pair, alone, any_words, better};
@@ -29,7 +29,7 @@ fn least_from(best: Option<Choice>, candidates: &[Candidate]) -> Option<Choice>
     least_from(better(best, first.rule, first.words), others)
 }
 
-/// Puts those that apply behind the others.
+/// Puts those that apply after the others.
 fn add_applying(found: &mut Vec<Beginning>, candidates: &[Candidate]) -> Result<(), Memory>
     ensures { OnOk result (found.new.items ≡ found.old.items ++ beginnings candidates.now) }
 {

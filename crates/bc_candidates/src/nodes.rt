@@ -15,10 +15,10 @@ ghost use Rattle.bc_select.specs.Order.{parts_in_order};
 ghost use Rattle.bc_candidates.specs.Lists.{pushes, values, line, unary as unary_of, pair as lists_of_pair, conditional, applying_lists};
 ghost use Rattle.bc_candidates.specs.Below.{IsBelow, IsPart, AreArguments, Adds};
 
-use crate::adding::{add, candidate, plus, sum};
-use crate::beginning::Candidates;
+use crate::binary_candidates::{mixed, worked};
+use crate::candidate::Candidates;
 use crate::lists::{Lists, Values};
-use crate::pair::{mixed, worked};
+use crate::sums::{add, candidate, plus, sum};
 use bc_core::{CoreExp, Operand, constant, operand};
 use bc_rules_defs::{Rule, number_words};
 use bc_select::{Pair, any_words};
@@ -166,7 +166,7 @@ pub struct Gathered {
 }
 
 impl Gathered {
-    /// Puts those of lists that apply behind the others, as the candidates of one node.
+    /// Puts those of lists that apply after the others, as the candidates of one node.
     fn close(&mut self, lists: &Lists) -> Result<(), Memory>
         ensures { OnOk result (self.new.found.items ≡ self.old.found.items ++ (applying_lists lists.now ∷ [])) }
     {
@@ -175,7 +175,7 @@ impl Gathered {
         Ok(())
     }
 
-    /// The candidates of an expression's nodes at this level, behind the others.
+    /// The candidates of an expression's nodes at this level, after the others.
     #[tactic(auto, using(crate::proofs::Below::whole_added))]
     pub fn gather(&mut self, e: &CoreExp, level: u64) -> Result<(), Memory>
         ensures { OnOk result (Adds self.old.found.items self.new.found.items (in_order (exp e.now) level)) }
@@ -185,7 +185,7 @@ impl Gathered {
         Ok(())
     }
 
-    /// What is asked of an expression at this level, with the candidates of its nodes behind the others.
+    /// What is asked of an expression at this level, with the candidates of its nodes after the others.
     #[cycle(gathering)]
     fn part(&mut self, e: &CoreExp, level: u64) -> Result<Part, Memory>
         ensures part { IfOk result (λ p. IsPart p (exp e.now) level) }
@@ -200,7 +200,7 @@ impl Gathered {
         })
     }
 
-    /// What the parts of an expression make of it, with the candidates of the parts' nodes behind the others.
+    /// What the parts of an expression make of it, with the candidates of the parts' nodes after the others.
     #[cycle(gathering)]
     #[tactic(auto, using(bc_core::proofs::Rows::call_view))]
     fn below(&mut self, e: &CoreExp, level: u64) -> Result<Below, Memory>
@@ -333,8 +333,8 @@ impl Gathered {
     {
         let inside = add(level, 2)?;
         let stored = self.arguments(arguments, inside)?;
-        let behind = add(inside, arguments.len() as u64)?;
-        let node = self.part(routine, behind)?;
+        let following = add(inside, arguments.len() as u64)?;
+        let node = self.part(routine, following)?;
         let both = sum(stored.words, any_words(node.choices.any))?;
         let words = plus(both, number_words(level))?;
         Ok(Below {

@@ -6,9 +6,9 @@ ghost use Rattle.bc_select_defs.specs.Nodes.{in_order, root_in_order};
 ghost use Rattle.bc_candidates.specs.Aims.{AreCandidatesOf};
 ghost use Rattle.bc_candidates.specs.Below.{Adds};
 
-use crate::adding::add;
-use crate::beginning::Candidates;
+use crate::candidate::Candidates;
 use crate::nodes::Gathered;
+use crate::sums::add;
 use bc_core::{CoreExp, Root, operand};
 use bc_word::Memory;
 use std::alloc::Global;
@@ -23,7 +23,7 @@ fn side_level(address: &CoreExp, level: u64) -> Result<u64, Memory>
     }
 }
 
-/// Puts those of both sides of an assignment behind them.
+/// Puts those of both sides of an assignment after them.
 #[tactic(auto, using(crate::proofs::Below::both_added))]
 fn gather_sides(
     gathered: &mut Gathered,
@@ -40,7 +40,7 @@ fn gather_sides(
     Ok(())
 }
 
-/// Puts those of a root's nodes behind them.
+/// Puts those of a root's nodes after them.
 fn gather_root(gathered: &mut Gathered, root: &Root) -> Result<(), Memory>
     ensures { OnOk result (Adds gathered.old.found.items gathered.new.found.items (root_in_order (root_of root.now))) }
 {

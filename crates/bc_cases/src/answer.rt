@@ -64,19 +64,19 @@ impl Answer {
         self.show(&number);
     }
 
-    /// Adds whether something is so, behind this text.
+    /// Adds whether something is so, after this text.
     pub fn truth(&mut self, text: &str, truth: bool) {
         self.say(text);
         self.say(if truth { "true" } else { "false" });
     }
 
-    /// Adds a number, behind this text.
+    /// Adds a number, after this text.
     pub fn numbered(&mut self, text: &str, number: u64) {
         self.say(text);
         self.number(number);
     }
 
-    /// Adds a signed number, behind this text.
+    /// Adds a signed number, after this text.
     pub fn signed(&mut self, text: &str, number: i16) {
         self.say(text);
         self.show(&number);
@@ -88,7 +88,7 @@ impl Answer {
         self.show(&bytes);
     }
 
-    /// Adds a sign, where something stands in front of it.
+    /// Adds a sign, where something stands before it.
     pub fn go_on(&mut self, between: &str) {
         if !self.text.is_empty() {
             self.say(between);

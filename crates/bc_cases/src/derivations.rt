@@ -31,7 +31,7 @@ fn leaf(alloc: Global, rule: Rule) -> Derivation {
 
 /// Makes one derivation of those that were finished since a bracket was opened.
 fn join(growth: &mut Growth, done: &mut Vec<Derivation>, open: Open) {
-    let parts = growth.behind(done, open.first);
+    let parts = growth.following(done, open.first);
     growth.push(
         done,
         Derivation {

@@ -10,13 +10,13 @@ fn digit(byte: u8) -> Option<u8> {
     }
 }
 
-/// The byte that two hexadecimal digits stand for.
+/// The byte that two hexadecimal digits mean.
 fn byte_of(high: u8, low: u8) -> Option<u8> {
     let high = digit(high)?;
     Some(high.wrapping_mul(16).wrapping_add(digit(low)?))
 }
 
-/// The byte that `xHH` stands for, and what is behind it.
+/// The byte that `xHH` means, and what is after it.
 fn byte_at(part: &[u8]) -> Option<(u8, &[u8])> {
     match part {
         [b'x', high, low, rest @ ..] => Some((byte_of(*high, *low)?, rest)),
@@ -24,7 +24,7 @@ fn byte_at(part: &[u8]) -> Option<(u8, &[u8])> {
     }
 }
 
-/// A text that is repeated, and what is behind it.
+/// A text that is repeated, and what is after it.
 #[derive(Clone, Copy)]
 struct Repeated<'t> {
     times: u32,
@@ -32,10 +32,10 @@ struct Repeated<'t> {
     rest: &'t str,
 }
 
-/// What `N{TEXT}` stands for.
+/// What `N{TEXT}` means.
 fn repeated_at(part: &str) -> Option<Repeated<'_>> {
-    let (times, behind) = part.split_once('{')?;
-    let (text, rest) = behind.split_once('}')?;
+    let (times, following) = part.split_once('{')?;
+    let (text, rest) = following.split_once('}')?;
     Some(Repeated {
         times: times.parse::<u32>().ok()?,
         text,
@@ -43,13 +43,13 @@ fn repeated_at(part: &str) -> Option<Repeated<'_>> {
     })
 }
 
-/// Adds a byte and what is behind it.
+/// Adds a byte and what is after it.
 fn add_byte(growth: &mut Growth, found: &mut Vec<u8>, byte: u8, rest: &[u8]) {
     growth.extend(found, &[byte]);
     growth.extend(found, rest);
 }
 
-/// Adds a text that is repeated, and what is behind it.
+/// Adds a text that is repeated, and what is after it.
 fn add_repeated(growth: &mut Growth, found: &mut Vec<u8>, repeated: Repeated<'_>) {
     for _ in 0..repeated.times {
         growth.extend(found, repeated.text.as_bytes());
@@ -57,7 +57,7 @@ fn add_repeated(growth: &mut Growth, found: &mut Vec<u8>, repeated: Repeated<'_>
     growth.extend(found, repeated.rest.as_bytes());
 }
 
-/// Adds what stands behind a `\`, where that is no byte.
+/// Adds what stands after a `\`, where that is no byte.
 fn add_other(growth: &mut Growth, found: &mut Vec<u8>, part: &str) {
     match repeated_at(part) {
         Some(repeated) => add_repeated(growth, found, repeated),
@@ -65,7 +65,7 @@ fn add_other(growth: &mut Growth, found: &mut Vec<u8>, part: &str) {
     }
 }
 
-/// Adds what stands behind a `\`.
+/// Adds what stands after a `\`.
 fn add_escaped(growth: &mut Growth, found: &mut Vec<u8>, part: &str) {
     match byte_at(part.as_bytes()) {
         Some((byte, rest)) => add_byte(growth, found, byte, rest),

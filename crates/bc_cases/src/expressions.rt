@@ -37,8 +37,8 @@ fn head_of(word: &str) -> Head {
     }
 }
 
-/// The number behind the letter of what stands without brackets.
-fn behind_letter(text: &str) -> u16 {
+/// The number after the letter of what stands without brackets.
+fn after_letter(text: &str) -> u16 {
     for letter in ['P', 'G', 'L', 'V'] {
         if let Some(number) = text.strip_prefix(letter) {
             return short(number);
@@ -49,7 +49,7 @@ fn behind_letter(text: &str) -> u16 {
 
 /// What stands without brackets.
 fn leaf(text: &str) -> CoreExp {
-    let number = behind_letter(text);
+    let number = after_letter(text);
     match text.as_bytes().first() {
         Some(b'P') => CoreExp::Frame(number),
         Some(b'G') => CoreExp::Glob(number),
@@ -59,7 +59,7 @@ fn leaf(text: &str) -> CoreExp {
     }
 }
 
-/// Takes the last of the expressions that were finished behind so many, or 0 where there is none.
+/// Takes the last of the expressions that were finished after so many, or 0 where there is none.
 fn taken(done: &mut Vec<CoreExp>, first: usize) -> CoreExp {
     let zero = CoreExp::Num(Word::new(0));
     if done.len() > first {
@@ -69,7 +69,7 @@ fn taken(done: &mut Vec<CoreExp>, first: usize) -> CoreExp {
     }
 }
 
-/// Puts an expression in place of those that were finished behind so many.
+/// Puts an expression in place of those that were finished after so many.
 fn put(growth: &mut Growth, done: &mut Vec<CoreExp>, first: usize, e: CoreExp) {
     done.truncate(first);
     growth.push(done, e);
@@ -91,7 +91,7 @@ fn load(growth: &mut Growth, done: &mut Vec<CoreExp>, loads: usize) {
 
 /// A call of the first part with the others.
 fn call(growth: &mut Growth, done: &mut Vec<CoreExp>, first: usize) {
-    let arguments = growth.behind(done, first.saturating_add(1));
+    let arguments = growth.following(done, first.saturating_add(1));
     if let Some(routine) = growth.boxed(taken(done, first)) {
         put(growth, done, first, CoreExp::Call(arguments, routine));
     }
@@ -210,15 +210,15 @@ pub fn expression_of(growth: &mut Growth, text: &str) -> Option<Box<CoreExp>> {
     growth.boxed(taken(&mut done, 0))
 }
 
-/// What stands before the first blank of a text, and what stands behind it.
+/// What stands before the first blank of a text, and what stands after it.
 fn front(text: &str) -> (&str, &str) {
     text.split_once(' ').unwrap_or((text, ""))
 }
 
 /// Adds the expressions of a root's line.
 pub fn read_root(growth: &mut Growth, done: &mut Vec<CoreExp>, line: &str) {
-    let (_, behind_form) = front(line);
-    let (_, text) = front(behind_form);
+    let (_, after_form) = front(line);
+    let (_, text) = front(after_form);
     read_expressions(growth, done, text.strip_suffix(')').unwrap_or(text));
 }
 
@@ -251,8 +251,8 @@ fn assignment(level: u16, done: &mut Vec<CoreExp>) -> Root {
 
 /// The root of a line, as `(VALUE 3 !P2)`, with the last of these expressions.
 pub fn root_with(done: &mut Vec<CoreExp>, line: &str) -> Root {
-    let (form, behind_form) = front(line.strip_prefix('(').unwrap_or(line));
-    let level = short(front(behind_form).0);
+    let (form, after_form) = front(line.strip_prefix('(').unwrap_or(line));
+    let level = short(front(after_form).0);
     match form {
         "ASSIGN" => assignment(level, done),
         "TRUE" => test(level, true, done),

@@ -94,8 +94,8 @@ impl Growth {
         }
     }
 
-    /// Takes what stands behind so many values of a list.
-    pub fn behind<T: Drop>(&mut self, list: &mut Vec<T>, count: usize) -> Vec<T> {
+    /// Takes what stands after so many values of a list.
+    pub fn following<T: Drop>(&mut self, list: &mut Vec<T>, count: usize) -> Vec<T> {
         let count = count.min(list.len());
         let rest = list.split_off(count);
         self.list(rest)

@@ -4,7 +4,7 @@ use crate::number::{number, short, word};
 use bc_link::link;
 use bc_machine::{End, Machine, MemoryStreams, Named, Streams};
 use bc_machine_defs::{Image, Places, Words};
-use bc_run::behind_primitives;
+use bc_run::after_primitives;
 use bc_text::read_all;
 use bc_text_items::Segment;
 use bc_word::Word;
@@ -82,9 +82,9 @@ impl Setting {
         }
     }
 
-    /// Puts the words of the image of segments behind the primitives into the store, where there is one.
-    fn link_behind(&mut self, growth: &mut Growth, segments: Vec<Segment>) {
-        match behind_primitives(growth.alloc(), segments) {
+    /// Puts the words of the image of segments after the primitives into the store, where there is one.
+    fn link_after(&mut self, growth: &mut Growth, segments: Vec<Segment>) {
+        match after_primitives(growth.alloc(), segments) {
             Ok(all) => self.link_all(growth.alloc(), all.as_slice()),
             Err(_) => growth.refuse(),
         }
@@ -97,11 +97,11 @@ impl Setting {
         }
     }
 
-    /// Puts the words of the image of a text behind the primitives into the store, or zeros.
+    /// Puts the words of the image of a text after the primitives into the store, or zeros.
     fn read_text(&mut self, growth: &mut Growth, text: &str) {
         self.clear();
         if let Ok(segments) = read_all(growth.alloc(), &[text.as_bytes()]) {
-            self.link_behind(growth, segments);
+            self.link_after(growth, segments);
         }
     }
 
@@ -186,7 +186,7 @@ fn add_byte(answer: &mut Answer, output: Word, byte: u8) {
     answer.bytes(&[byte]);
 }
 
-/// Adds what was written, each byte behind the number of its output.
+/// Adds what was written, each byte after the number of its output.
 pub fn add_written(answer: &mut Answer, streams: &MemoryStreams) {
     for (output, byte) in streams.written() {
         add_byte(answer, *output, *byte);

@@ -49,7 +49,7 @@ struct Report {
 }
 
 impl Report {
-    /// Says what a case answers that is not what is wanted, behind what stands between.
+    /// Says what a case answers that is not what is wanted, after what stands between.
     fn tell(&mut self, case: &Case, between: &str, found: &str) {
         count(&mut self.differ);
         self.lines.say(case.kind.as_str());

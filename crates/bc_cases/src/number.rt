@@ -24,7 +24,7 @@ pub fn next<'t>(words: &mut SplitWhitespace<'t>) -> &'t str {
     words.next().unwrap_or("")
 }
 
-/// Makes a number one more; behind the greatest one comes 0.
+/// Makes a number one more; after the greatest one comes 0.
 pub fn count(number: &mut u64) {
     *number = number.wrapping_add(1);
 }

@@ -27,8 +27,8 @@ fn line(input: &str, index: usize) -> &str {
     input.lines().nth(index).unwrap_or("")
 }
 
-/// The number behind a word of a line, or 0.
-fn behind(line: &str, word: &str) -> u16 {
+/// The number after a word of a line, or 0.
+fn following(line: &str, word: &str) -> u16 {
     match line.split_once(word) {
         Some((_, rest)) => short(next(&mut rest.split_whitespace())),
         None => 0,
@@ -67,10 +67,10 @@ fn add_judgement(answer: &mut Answer, root: &Root, derivation: &Derivation, labe
     }
 }
 
-/// Adds the code of a derivation from these labels on, and the label behind its own.
+/// Adds the code of a derivation from these labels on, and the label after its own.
 fn add_code(answer: &mut Answer, root: &Root, derivation: &Derivation, labels: &str) {
-    let first = behind(labels, "first ");
-    let target = behind(labels, "target ");
+    let first = following(labels, "first ");
+    let target = following(labels, "target ");
     let code = code_of(answer.alloc(), root, derivation, target, first);
     add_made(answer, code);
     add_label(answer, next_label(root, derivation, first));

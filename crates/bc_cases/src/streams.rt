@@ -94,7 +94,7 @@ fn act(answer: &mut Answer, streams: &mut MemoryStreams, line: &str) {
     }
 }
 
-/// The first line of a text, and what is behind it.
+/// The first line of a text, and what is after it.
 fn front(text: &str) -> (&str, &str) {
     text.split_once('\n').unwrap_or((text, ""))
 }

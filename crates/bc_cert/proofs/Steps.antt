@@ -41,7 +41,7 @@ fed_more xs ys s t u h i = feed_append xs ys s ∙ ap (λ r. r >>= (λ x. feed_f
 pub fed_fault : (xs ys : List ℕ) (s t : State × List ℕ) (f : CheckFault) → feed_from xs s ≡ Ok t → feed_from ys t ≡ Err f → feed_from (xs ++ ys) s ≡ Err f
 fed_fault xs ys s t f h i = feed_append xs ys s ∙ ap (λ r. r >>= (λ x. feed_from ys x)) h ∙ i
 
--- a fault of a line stays, whatever comes behind it
+-- a fault of a line stays, whatever comes after it
 fault_stays : (xs more : List ℕ) (f : CheckFault) → feed_from xs (start, []) ≡ Err f → judged (xs ++ more) ≡ Err f
 fault_stays xs more f h = ap (λ r. r >>= (λ t. finished t)) (feed_append xs more (start, []) ∙ ap (λ r. r >>= (λ x. feed_from more x)) h)
 
@@ -126,36 +126,36 @@ pub answer_at_end : (known middle left : Option (List ℕ)) (bytes now : List �
 answer_at_end known middle left bytes now count t (Ok v) none h e end ok done = verdict_given known middle left bytes now count t (verdict v) none h e end ok done
 answer_at_end known middle left bytes now count t (Err f) none h e end ok done = end_given known middle left bytes now count t f none h e end ok done
 
--- bytes up to the first end of a line, and those behind it
-abbrev behind_cut : State × List ℕ → List ℕ → Option (List ℕ) → Result (State × List ℕ) CheckFault
-behind_cut s first None = Ok (s.0, s.1 ++ first)
-behind_cut s first (Some more) = whole_line (s.1 ++ first) s.0 >>= (λ t. feed_from more t)
+-- bytes up to the first end of a line, and those after it
+abbrev after_cut : State × List ℕ → List ℕ → Option (List ℕ) → Result (State × List ℕ) CheckFault
+after_cut s first None = Ok (s.0, s.1 ++ first)
+after_cut s first (Some more) = whole_line (s.1 ++ first) s.0 >>= (λ t. feed_from more t)
 
-behind_one : (s : State × List ℕ) (b : ℕ) (first : List ℕ) (o : Option (List ℕ)) → behind_cut (s.0, s.1 ++ b ∷ []) first o ≡ behind_cut s (b ∷ first) o
-behind_one s b first None = ap (λ l. Ok (s.0, l)) (append_assoc s.1 (b ∷ []) first)
-behind_one s b first (Some more) = ap (λ l. whole_line l s.0 >>= (λ t. feed_from more t)) (append_assoc s.1 (b ∷ []) first)
+after_one : (s : State × List ℕ) (b : ℕ) (first : List ℕ) (o : Option (List ℕ)) → after_cut (s.0, s.1 ++ b ∷ []) first o ≡ after_cut s (b ∷ first) o
+after_one s b first None = ap (λ l. Ok (s.0, l)) (append_assoc s.1 (b ∷ []) first)
+after_one s b first (Some more) = ap (λ l. whole_line l s.0 >>= (λ t. feed_from more t)) (append_assoc s.1 (b ∷ []) first)
 
 abbrev cut_again : ℕ → List ℕ → Bool → Cut
-cut_again b bs t = cond t (record { first = []; behind = Some bs }) (longer (b ∷ []) (cut 10 bs))
+cut_again b bs t = cond t (record { first = []; following = Some bs }) (longer (b ∷ []) (cut 10 bs))
 
-feed_again : (b : ℕ) (bs : List ℕ) (s : State × List ℕ) (t : Bool) → feed_from bs (s.0, s.1 ++ b ∷ []) ≡ behind_cut (s.0, s.1 ++ b ∷ []) (cut 10 bs).first (cut 10 bs).behind
-    → cond t (line_step s.1 s.0 >>= (λ st. Ok (st, []))) (Ok (s.0, s.1 ++ b ∷ [])) >>= (λ u. feed_from bs u) ≡ behind_cut s (cut_again b bs t).first (cut_again b bs t).behind
+feed_again : (b : ℕ) (bs : List ℕ) (s : State × List ℕ) (t : Bool) → feed_from bs (s.0, s.1 ++ b ∷ []) ≡ after_cut (s.0, s.1 ++ b ∷ []) (cut 10 bs).first (cut 10 bs).following
+    → cond t (line_step s.1 s.0 >>= (λ st. Ok (st, []))) (Ok (s.0, s.1 ++ b ∷ [])) >>= (λ u. feed_from bs u) ≡ after_cut s (cut_again b bs t).first (cut_again b bs t).following
 feed_again b bs s true h = ap (λ l. whole_line l s.0 >>= (λ u. feed_from bs u)) (sym (append-nil s.1))
-feed_again b bs s false h = h ∙ behind_one s b (cut 10 bs).first (cut 10 bs).behind
+feed_again b bs s false h = h ∙ after_one s b (cut 10 bs).first (cut 10 bs).following
 
-feed_cut : (text : List ℕ) (s : State × List ℕ) → feed_from text s ≡ behind_cut s (cut 10 text).first (cut 10 text).behind
+feed_cut : (text : List ℕ) (s : State × List ℕ) → feed_from text s ≡ after_cut s (cut 10 text).first (cut 10 text).following
 feed_cut [] s = ap (λ l. Ok (s.0, l)) (sym (append-nil s.1))
 feed_cut (b ∷ bs) s = feed_again b bs s (b == 10) (feed_cut bs (s.0, s.1 ++ b ∷ []))
 
-feed_at : (text : List ℕ) (s : State × List ℕ) (c : Cut) (o : Option (List ℕ)) → c ≡ cut 10 text → c.behind ≡ o → feed_from text s ≡ behind_cut s c.first o
-feed_at text s c o h i = feed_cut text s ∙ ap (λ x. behind_cut s x.first x.behind) (sym h) ∙ ap (λ x. behind_cut s c.first x) i
+feed_at : (text : List ℕ) (s : State × List ℕ) (c : Cut) (o : Option (List ℕ)) → c ≡ cut 10 text → c.following ≡ o → feed_from text s ≡ after_cut s c.first o
+feed_at text s c o h i = feed_cut text s ∙ ap (λ x. after_cut s x.first x.following) (sym h) ∙ ap (λ x. after_cut s c.first x) i
 
 -- the last line, which has not ended
-pub feed_last : (text : List ℕ) (s : State × List ℕ) (c : Cut) (all : Result (State × List ℕ) CheckFault) → c ≡ cut 10 text → c.behind ≡ None → feed_from text s ≡ all → Ok (s.0, s.1 ++ c.first) ≡ all
+pub feed_last : (text : List ℕ) (s : State × List ℕ) (c : Cut) (all : Result (State × List ℕ) CheckFault) → c ≡ cut 10 text → c.following ≡ None → feed_from text s ≡ all → Ok (s.0, s.1 ++ c.first) ≡ all
 feed_last text s c all h i k = sym (feed_at text s c None h i) ∙ k
 
--- a line that ended, and the bytes behind it
-pub feed_on : (text more : List ℕ) (s u : State × List ℕ) (c : Cut) (all : Result (State × List ℕ) CheckFault) → c ≡ cut 10 text → c.behind ≡ Some more → whole_line (s.1 ++ c.first) s.0 ≡ Ok u → feed_from text s ≡ all → feed_from more u ≡ all
+-- a line that ended, and the bytes after it
+pub feed_on : (text more : List ℕ) (s u : State × List ℕ) (c : Cut) (all : Result (State × List ℕ) CheckFault) → c ≡ cut 10 text → c.following ≡ Some more → whole_line (s.1 ++ c.first) s.0 ≡ Ok u → feed_from text s ≡ all → feed_from more u ≡ all
 feed_on text more s u c all h i j k = sym (ap (λ r. r >>= (λ t. feed_from more t)) j) ∙ sym (feed_at text s c (Some more) h i) ∙ k
 
 pub fails_more : {A B : Type 0} (f : CheckFault) (r : Result A CheckFault) (g : A → Result B CheckFault) → Fails f r → Fails f (r >>= g)
@@ -171,6 +171,6 @@ fails_more faults.Read r g h = ap (λ q. q >>= g) h
 fails_more faults.Memory r g h = tt
 
 -- a line with a fault
-pub feed_fails : (text more : List ℕ) (s : State × List ℕ) (c : Cut) (f : CheckFault) (all : Result (State × List ℕ) CheckFault) → c ≡ cut 10 text → c.behind ≡ Some more → Fails f (whole_line (s.1 ++ c.first) s.0) → feed_from text s ≡ all → Fails f all
+pub feed_fails : (text more : List ℕ) (s : State × List ℕ) (c : Cut) (f : CheckFault) (all : Result (State × List ℕ) CheckFault) → c ≡ cut 10 text → c.following ≡ Some more → Fails f (whole_line (s.1 ++ c.first) s.0) → feed_from text s ≡ all → Fails f all
 feed_fails text more s c f all h i j k =
     subst (λ r. Fails f r) (sym (feed_at text s c (Some more) h i) ∙ k) (fails_more f (whole_line (s.1 ++ c.first) s.0) (λ t. feed_from more t) j)

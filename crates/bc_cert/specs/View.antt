@@ -33,11 +33,11 @@ abbrev pub table_alone : Sums → State → Verdict
 table_alone sums st = record { table = sums.table; entries = st.entries }
 
 -- with entries in front
-abbrev pub behind : List Judged → State → State
-behind js st = record st { entries = js ++ st.entries }
+abbrev pub following : List Judged → State → State
+following js st = record st { entries = js ++ st.entries }
 
-abbrev pub fed_behind : List Judged → State × List ℕ → State × List ℕ
-fed_behind js s = (behind js s.0, s.1)
+abbrev pub fed_after : List Judged → State × List ℕ → State × List ℕ
+fed_after js s = (following js s.0, s.1)
 
 -- entries of which only their number is kept
 abbrev pub no_entry : Judged
@@ -47,7 +47,7 @@ abbrev pub gone : ℕ → List Judged
 gone n = replicate n no_entry
 
 abbrev pub state : Checker → State
-state c = behind (gone c.passed) (own c)
+state c = following (gone c.passed) (own c)
 
 -- these words and those of entries, one after another, 2^64 - 1 where they are more
 abbrev pub summed : ℕ → List Judged → ℕ
@@ -57,7 +57,7 @@ summed n (j ∷ js) = summed (min (n + j.words) (2 ^ 64 - 1)) js
 abbrev pub fed : Checker → State × List ℕ
 fed c = (state c, c.line.items)
 
--- a whole line, with none begun behind it
+-- a whole line, with none begun after it
 abbrev pub whole_line : List ℕ → State → Result (State × List ℕ) CheckFault
 whole_line line st = line_step line st >>= (λ s. Ok (s, []))
 

@@ -25,11 +25,11 @@ pub struct Checker {
     alloc: Global,
     /// The line at work, as far as it was read.
     pub line: Vec<u8>,
-    /// How many whole lines stand in front of it.
+    /// How many whole lines stand before it.
     pub lines: u64,
     pub table: Table,
     pub entries: Vec<Judged>,
-    /// How many entries, in front of these, were let go of.
+    /// How many entries, before these, were drop.
     pub passed: u32,
     pub stage: Stage,
     /// The trees of the present entry that no whole has taken yet.
@@ -72,20 +72,20 @@ impl Checker {
     {
         let mut rest = bytes;
         for turn in 0..bytes.len() + 1 {
-            let (line, behind) = first_line(rest);
-            let behind = match behind {
-                Some(behind) => behind,
+            let (line, following) = first_line(rest);
+            let following = match following {
+                Some(following) => following,
                 None => return self.keep(line),
             };
             if let Err(fault) = self.end(line) {
                 return Err(fault);
             }
-            rest = behind;
+            rest = following;
         }
         Ok(())
     }
 
-    /// Bytes of a line that goes on behind them.
+    /// Bytes of a line that goes on after them.
     fn keep(&mut self, bytes: &[u8]) -> Result<(), CheckFault>
         ensures exact { Steps (fed self.new) result (Ok (state self.old, self.old.line.items ++ bytes.now)) }
         ensures trees { OnOk result (stack_of self.new.trees ≡ stack_of self.old.trees) }

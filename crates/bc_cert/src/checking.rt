@@ -14,7 +14,7 @@ pub const LIMIT: usize = 1_073_741_824;
 /// Checks a certificate, which it reads once and line by line.
 ///
 /// It answers what the certificate says, or the first fault in it. Each line is judged before more is read, so a
-/// fault of a line comes in front of a failure of `input` behind it. `Read` comes where `input` failed, or gave
+/// fault of a line comes before a failure of `input` after it. `Read` comes where `input` failed, or gave
 /// more than 2^30 bytes, and `Memory` where an allocation was refused.
 pub fn check<R: Read + Drop>(alloc: Global, mut input: R) -> Result<Verdict, CheckFault>
     ensures answer { IsAnswer (R.Read.remaining input) result }

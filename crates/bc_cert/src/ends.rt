@@ -4,7 +4,7 @@ ghost use Rattle.std.specs.Prelude.{◌≡◌, ◌≤◌, ◌+◌, length, IfSom
 ghost use Rattle.bc_cert_lines.specs.Fields.{cut as cut_of};
 ghost use Rattle.bc_cert_lines.specs.View.{cut as seen_cut};
 
-/// The bytes up to the first end of a line, and those behind it, if there is one.
+/// The bytes up to the first end of a line, and those after it, if there is one.
 #[inline(always)]
 pub fn first_line(text: &[u8]) -> (&[u8], Option<&[u8]>)
     ensures exact { seen_cut result ≡ cut_of 10 text.now }

@@ -2,14 +2,14 @@ ghost use Rattle.std.specs.Prelude.{◌≡◌, ◌<◌, ◌≤◌, ◌⊎◌, �
 ghost use Rattle.bc_text_items.specs.declared.item.Item.{Item};
 ghost use Rattle.std.specs.Prelude.{List, length, drop};
 ghost use Rattle.bc_rules_defs.specs.declared.piece.Piece.TheVariants as pieces;
-ghost use Rattle.bc_cert_defs.specs.Against.{Fit, Misfit, IsBehind, LiesIn, StandsIn, Stands, Passes, taken, extent};
+ghost use Rattle.bc_cert_defs.specs.Against.{Fit, Misfit, IsAfter, LiesIn, StandsIn, Stands, Passes, taken, extent};
 ghost use Rattle.bc_cert_defs.specs.View.{judged as judged_of, verdict as verdict_of};
 
 use bc_cert_defs::{Judged, Mismatch, Verdict};
 use bc_rules_defs::Piece;
 use bc_text_items::{Item, Segment};
 
-/// Whether the verdict's entries stand in the segments: each not in front of the one before it (else `Order`), its
+/// Whether the verdict's entries stand in the segments: each not before the one before it (else `Order`), its
 /// items within its segment (else `OutsideText`), and they are its code, the items of a VALOF's body being passed
 /// over (else `CodeDiffers`).
 ///
@@ -22,7 +22,7 @@ pub fn check_against(verdict: &Verdict, segments: &[Segment]) -> Result<(), Mism
     let mut segment = 0;
     let mut item = 0;
     for (entry, judged) in verdict.entries.iter().enumerate() {
-        if !is_behind(judged, segment, item) {
+        if !is_after(judged, segment, item) {
             return Err(Mismatch::Order(entry as u64));
         }
         if !lies_in(judged, segments) {
@@ -37,9 +37,9 @@ pub fn check_against(verdict: &Verdict, segments: &[Segment]) -> Result<(), Mism
     Ok(())
 }
 
-/// Whether the entry stands at this place or behind it.
-fn is_behind(judged: &Judged, segment: u64, item: u64) -> bool
-    ensures { IsTrue result ↔ IsBehind segment item (judged_of judged.now) }
+/// Whether the entry stands at this place or after it.
+fn is_after(judged: &Judged, segment: u64, item: u64) -> bool
+    ensures { IsTrue result ↔ IsAfter segment item (judged_of judged.now) }
 {
     segment < judged.segment || segment == judged.segment && item <= judged.item
 }
@@ -90,13 +90,13 @@ fn stands_in(judged: &Judged, segments: &[Segment]) -> bool
     is_there(judged.code.as_slice(), after(items, judged.item as usize))
 }
 
-/// Whether code stands in front of these items.
+/// Whether code stands before these items.
 fn is_there(code: &[Piece], items: &[Item]) -> bool
     ensures { IsTrue result ↔ Stands code.now items.now }
 {
     let mut rest = items;
     for piece in code {
-        match behind(piece, rest) {
+        match following(piece, rest) {
             Some(more) => rest = more,
             None => return false,
         }
@@ -104,8 +104,8 @@ fn is_there(code: &[Piece], items: &[Item]) -> bool
     true
 }
 
-/// The items behind a piece, where it stands in front of these.
-fn behind<'s>(piece: &Piece, items: &'s [Item]) -> Option<&'s [Item]>
+/// The items after a piece, where it stands before these.
+fn following<'s>(piece: &Piece, items: &'s [Item]) -> Option<&'s [Item]>
     ensures { MatchOption result ((more : List Item) → Passes piece.now items.now more → ⊥) (λ more. Passes piece.now items.now more.now) }
 {
     match piece {

@@ -1,4 +1,4 @@
--- Code in front of items, a piece at a time.
+-- Code before items, a piece at a time.
 use Rattle.std.proofs.Common.{◌≡◌, ℕ, ◌+◌, ◌≤◌, ◌<◌, ◌↔◌, List, [], ◌∷◌, length, take, drop, get_or, refl, sym, subst, ap, arith, length-append}
 use Rattle.std.proofs.Math.Seq.{drop-append_seam}
 use Rattle.std.proofs.lemmas.List.{length-take-le, take-append-drop, drop_more}
@@ -9,15 +9,15 @@ use Rattle.bc_cert_defs.specs.Against.{Passes, an_item, a_body, Stands, one_more
 
 -- ---- One piece
 
-pub behind_is : {p : Piece} {items behind : List Item} → Passes p items behind → behind ≡ drop (taken p) items
-behind_is an_item = refl
-behind_is (a_body {items = items} body) = sym (drop-append_seam body items)
+pub after_is : {p : Piece} {items following : List Item} → Passes p items following → following ≡ drop (taken p) items
+after_is an_item = refl
+after_is (a_body {items = items} body) = sym (drop-append_seam body items)
 
-pub has_items : {p : Piece} {items behind : List Item} → Passes p items behind → taken p ≤ length items
+pub has_items : {p : Piece} {items following : List Item} → Passes p items following → taken p ≤ length items
 has_items (an_item {items = items}) = omega arith
 has_items (a_body {items = items} body) = omega (arith, length-append body items)
 
-pub item_first : {i : Item} {items behind : List Item} → Passes (pieces.Item i) items behind → items ≡ i ∷ behind
+pub item_first : {i : Item} {items following : List Item} → Passes (pieces.Item i) items following → items ≡ i ∷ following
 item_first an_item = refl
 
 pub body_passes : (n : ℕ) (items : List Item) → n ≤ length items → Passes (pieces.Body n) items (drop n items)
@@ -27,20 +27,20 @@ body_passes n items le =
 
 -- ---- All of them
 
-pub behind_first : {p : Piece} {ps : List Piece} {items : List Item} → Stands (p ∷ ps) items → Stands ps (drop (taken p) items)
-behind_first (one_more {ps = ps} h k) = subst (Stands ps) (behind_is h) k
+pub after_first : {p : Piece} {ps : List Piece} {items : List Item} → Stands (p ∷ ps) items → Stands ps (drop (taken p) items)
+after_first (one_more {ps = ps} h k) = subst (Stands ps) (after_is h) k
 
-pub first_passes : {p : Piece} {ps : List Piece} {items : List Item} → Stands (p ∷ ps) items → (behind : List Item) × Passes p items behind
-first_passes (one_more {behind = behind} h k) = (behind, h)
+pub first_passes : {p : Piece} {ps : List Piece} {items : List Item} → Stands (p ∷ ps) items → (following : List Item) × Passes p items following
+first_passes (one_more {following = following} h k) = (following, h)
 
--- code from the i-th piece on, in front of the items that are left
-pub turn : (code : List Piece) (i : ℕ) (d : Piece) (items behind : List Item) → i < length code → Passes (get_or code i d) items behind → Stands (drop (i + 1) code) behind ↔ Stands (drop i code) items
-turn code i d items behind le h = (
+-- code from the i-th piece on, before the items that are left
+pub turn : (code : List Piece) (i : ℕ) (d : Piece) (items following : List Item) → i < length code → Passes (get_or code i d) items following → Stands (drop (i + 1) code) following ↔ Stands (drop i code) items
+turn code i d items following le h = (
   (λ k. subst (λ ps. Stands ps items) (sym (drop_more code i d le)) (one_more h k)),
-  (λ k. subst (Stands (drop (i + 1) code)) (sym (behind_is h)) (behind_first (subst (λ ps. Stands ps items) (drop_more code i d le) k))),
+  (λ k. subst (Stands (drop (i + 1) code)) (sym (after_is h)) (after_first (subst (λ ps. Stands ps items) (drop_more code i d le) k))),
 )
 
-pub no_turn : (code : List Piece) (i : ℕ) (d : Piece) (items : List Item) → i < length code → ((behind : List Item) → Passes (get_or code i d) items behind → ⊥) → Stands (drop i code) items → ⊥
+pub no_turn : (code : List Piece) (i : ℕ) (d : Piece) (items : List Item) → i < length code → ((following : List Item) → Passes (get_or code i d) items following → ⊥) → Stands (drop i code) items → ⊥
 no_turn code i d items le never k = let p = first_passes (subst (λ ps. Stands ps items) (drop_more code i d le) k) in never p.0 p.1
 
 pub extent_turn : (code : List Piece) (i : ℕ) (d : Piece) → i < length code → extent (drop i code) ≡ taken (get_or code i d) + extent (drop (i + 1) code)
@@ -55,8 +55,8 @@ item_passes i (x ∷ items) d le e = subst (λ y. Passes (pieces.Item y) (x ∷ 
 pub passing_item : (i : Item) (items : List Item) (d : Item) → Passes (pieces.Item i) items (drop 1 items) → get_or items 0 d ≡ i
 passing_item i items d h = ap (λ is. get_or is 0 d) (item_first h)
 
-pub no_other : (i : Item) (items : List Item) → (Passes (pieces.Item i) items (drop 1 items) → ⊥) → (behind : List Item) → Passes (pieces.Item i) items behind → ⊥
-no_other i items never behind h = never (subst (Passes (pieces.Item i) items) (behind_is h) h)
+pub no_other : (i : Item) (items : List Item) → (Passes (pieces.Item i) items (drop 1 items) → ⊥) → (following : List Item) → Passes (pieces.Item i) items following → ⊥
+no_other i items never following h = never (subst (Passes (pieces.Item i) items) (after_is h) h)
 
-pub no_room : (n : ℕ) (items : List Item) → length items < n → (behind : List Item) → Passes (pieces.Body n) items behind → ⊥
-no_room n items lt behind h = absurd (omega (arith, has_items h))
+pub no_room : (n : ℕ) (items : List Item) → length items < n → (following : List Item) → Passes (pieces.Body n) items following → ⊥
+no_room n items lt following h = absurd (omega (arith, has_items h))

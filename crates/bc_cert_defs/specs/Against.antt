@@ -7,16 +7,16 @@ use Rattle.bc_cert_defs.specs.declared.mismatch.Mismatch.{Mismatch}
 use Rattle.bc_cert_defs.specs.declared.mismatch.Mismatch.TheVariants as faults
 use Rattle.bc_cert_defs.specs.Verdict.{Judged}
 
--- a piece stands in front of these items, and behind it come those: an item is there itself, and the items of a body
+-- a piece stands before these items, and after it come those: an item is there itself, and the items of a body
 -- are passed over
-pub data Passes : Piece → (items behind : List Item) → Type 0 where
+pub data Passes : Piece → (items following : List Item) → Type 0 where
   an_item : {i : Item} {items : List Item} → Passes (pieces.Item i) (i ∷ items) items
   a_body : {items : List Item} (body : List Item) → Passes (pieces.Body (length body)) (body ++ items) items
 
--- code stands in front of these items
+-- code stands before these items
 pub data Stands : List Piece → List Item → Type 0 where
   nothing_more : {items : List Item} → Stands [] items
-  one_more : {p : Piece} {ps : List Piece} {items behind : List Item} → Passes p items behind → Stands ps behind → Stands (p ∷ ps) items
+  one_more : {p : Piece} {ps : List Piece} {items following : List Item} → Passes p items following → Stands ps following → Stands (p ∷ ps) items
 
 -- how many items a piece takes, and how many code does
 abbrev pub taken : Piece → ℕ
@@ -39,22 +39,22 @@ pub record LiesIn (segments : List (List Item)) (e : Judged) : Type 0 where
 abbrev pub StandsIn : List (List Item) → Judged → Type 0
 StandsIn segments e = Stands e.code (items_from segments e)
 
--- the entry's place is this one, or behind it
-abbrev pub IsBehind : (segment item : ℕ) → Judged → Type 0
-IsBehind segment item e = (segment < e.segment) ⊎ ((segment ≡ e.segment) × (item ≤ e.item))
+-- the entry's place is this one, or after it
+abbrev pub IsAfter : (segment item : ℕ) → Judged → Type 0
+IsAfter segment item e = (segment < e.segment) ⊎ ((segment ≡ e.segment) × (item ≤ e.item))
 
--- Entries fit segments: none stands in front of the one before it, their items lie there, and they are the code.
--- The first of them is to stand at this place or behind it.
+-- Entries fit segments: none stands before the one before it, their items lie there, and they are the code.
+-- The first of them is to stand at this place or after it.
 abbrev pub Fit : List (List Item) → (segment item : ℕ) → List Judged → Type 0
 Fit segments segment item [] = Unit {0}
-Fit segments segment item (e ∷ es) = IsBehind segment item e × LiesIn segments e × StandsIn segments e × Fit segments e.segment e.item es
+Fit segments segment item (e ∷ es) = IsAfter segment item e × LiesIn segments e × StandsIn segments e × Fit segments e.segment e.item es
 
 -- The first entry that does not, counted from n on, and why: of its causes the first in this order.
 pub data Misfit (segments : List (List Item)) : (segment item n : ℕ) → List Judged → Mismatch → Type 0 where
-  order : {segment item n : ℕ} {e : Judged} {es : List Judged} → ¬ IsBehind segment item e → Misfit segments segment item n (e ∷ es) (faults.Order n)
-  outside : {segment item n : ℕ} {e : Judged} {es : List Judged} → IsBehind segment item e → ¬ LiesIn segments e
+  order : {segment item n : ℕ} {e : Judged} {es : List Judged} → ¬ IsAfter segment item e → Misfit segments segment item n (e ∷ es) (faults.Order n)
+  outside : {segment item n : ℕ} {e : Judged} {es : List Judged} → IsAfter segment item e → ¬ LiesIn segments e
       → Misfit segments segment item n (e ∷ es) (faults.OutsideText n)
-  differs : {segment item n : ℕ} {e : Judged} {es : List Judged} → IsBehind segment item e → LiesIn segments e → ¬ StandsIn segments e
+  differs : {segment item n : ℕ} {e : Judged} {es : List Judged} → IsAfter segment item e → LiesIn segments e → ¬ StandsIn segments e
       → Misfit segments segment item n (e ∷ es) (faults.CodeDiffers n)
-  later : {segment item n : ℕ} {e : Judged} {es : List Judged} {m : Mismatch} → IsBehind segment item e → LiesIn segments e → StandsIn segments e
+  later : {segment item n : ℕ} {e : Judged} {es : List Judged} {m : Mismatch} → IsAfter segment item e → LiesIn segments e → StandsIn segments e
       → Misfit segments e.segment e.item (n + 1) es m → Misfit segments segment item n (e ∷ es) m

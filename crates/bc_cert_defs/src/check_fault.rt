@@ -8,7 +8,7 @@ pub enum CheckFault {
     /// The first line is no header.
     #[error("the first line is not a certificate's")]
     Header,
-    /// The line is not of its form, or does not fit what stands in front of it.
+    /// The line is not of its form, or does not fit what stands before it.
     #[error("line {0} is not of its form")]
     Line(u64),
     /// The certificate ends before its last line does.

@@ -9,7 +9,7 @@ pub enum Mismatch {
     /// The entry's items do not lie in the text.
     #[error("entry {0}: its items do not lie in the text")]
     OutsideText(u64),
-    /// The entry stands in front of the one before it.
+    /// The entry stands before the one before it.
     #[error("entry {0} stands in front of the one before it")]
     Order(u64),
 }

@@ -28,7 +28,7 @@ use Rattle.bc_cert_trees.specs.declared.mark.Mark.{Mark}
 use Rattle.bc_cert_trees.specs.declared.mark.Shown as marks
 use Rattle.bc_cert_trees.specs.Marks.{has_aim}
 use Rattle.bc_cert_trees.specs.Derived.{derived, over_if as made_over}
-use Rattle.bc_cert_trees.specs.Showing.{has_words, makes_by, makes, is_test, tested, tests, same_value, any_by, behind_value, shown_by}
+use Rattle.bc_cert_trees.specs.Showing.{has_words, makes_by, makes, is_test, tested, tests, same_value, any_by, after_value, shown_by}
 use Rattle.bc_cert_trees.specs.Stacks.{second_zero}
 use Rattle.bc_cert_write.specs.Shown.{Shown, rules_of_value, rules_at, below, shown}
 use Rattle.bc_cert_laws.specs.Faults.{Grown, node}
@@ -269,7 +269,7 @@ module _ {T : Table} {s : ℕ} {form : Form} {ns : List Shown} {ms : List Mark} 
   pushed_shows (Some k) r i g = begun_shows r (Gets Push) k g (sym i)
 
   value_shows : (r : Rule) (is_tested freed : Bool) (aim : Aim)
-      → has_aim (behind_value (node_at T s form e ps) c (any_by (node_at T s form e ps) ms c r freed) (makes (node_at T s form e ps) ms r (Gets Push) c.push) is_tested freed) aim ≡ true
+      → has_aim (after_value (node_at T s form e ps) c (any_by (node_at T s form e ps) ms c r freed) (makes (node_at T s form e ps) ms r (Gets Push) c.push) is_tested freed) aim ≡ true
       → Shows T (tree_at e s ns (over_if is_tested J6 (over_if freed V0 (r ∷ [])))) aim
   value_shows r true freed (Gets Any) g = cc
   value_shows r true freed (Gets Push) g = cc
@@ -288,7 +288,7 @@ module _ {T : Table} {s : ℕ} {form : Form} {ns : List Shown} {ms : List Mark} 
   alone_shows ch t f aim h = subst (λ rs. Shows T (tree_at e s ns rs) aim) (sym (ap (λ b. over_if b J6 (over_if ch.is_freed V0 (ch.rule ∷ []))) t ∙ ap (λ b. over_if b V0 (ch.rule ∷ [])) f)) h
 
   chain_shows : (ch : Chain) → IsChain ch → (aim : Aim) (b : Bool) → is_test ch.rule ≡ b
-      → has_aim (cond b (tests (node_at T s form e ps) ms c ch.rule) (behind_value (node_at T s form e ps) c (any_by (node_at T s form e ps) ms c ch.rule ch.is_freed) (makes (node_at T s form e ps) ms ch.rule (Gets Push) c.push) ch.is_tested ch.is_freed)) aim ≡ true
+      → has_aim (cond b (tests (node_at T s form e ps) ms c ch.rule) (after_value (node_at T s form e ps) c (any_by (node_at T s form e ps) ms c ch.rule ch.is_freed) (makes (node_at T s form e ps) ms ch.rule (Gets Push) c.push) ch.is_tested ch.is_freed)) aim ≡ true
       → Shows T (tree_at e s ns (chain_rules ch)) aim
   chain_shows ch i aim true t g = alone_shows ch (not_true (λ f. test_letter ch.rule t (i.tested f))) (not_true (λ f. test_letter ch.rule t (i.freed f))) aim (test_shows ch.rule aim g)
   chain_shows ch i aim false t g = value_shows ch.rule ch.is_tested ch.is_freed aim g
@@ -307,7 +307,7 @@ module _ {T : Table} {s : ℕ} {form : Form} {ns : List Shown} {ms : List Mark} 
       let g = begins_from o d (push_rules d) b f in
       let words : c.push ≡ Some (cost d s) = counted_of h d f in
       let found : makes (node_at T s form e ps) ms r (Gets Push) c.push ≡ true = ap (λ x. makes (node_at T s form e ps) ms r (Gets Push) x) words ∙ g.0 in (
-        ap (λ b. has_aim (cond b (tests (node_at T s form e ps) ms c r) (behind_value (node_at T s form e ps) c (any_by (node_at T s form e ps) ms c r false) (makes (node_at T s form e ps) ms r (Gets Push) c.push) false false)) (Gets Push)) (own_value r (push_own d))
+        ap (λ b. has_aim (cond b (tests (node_at T s form e ps) ms c r) (after_value (node_at T s form e ps) c (any_by (node_at T s form e ps) ms c r false) (makes (node_at T s form e ps) ms r (Gets Push) c.push) false false)) (Gets Push)) (own_value r (push_own d))
             ∙ and_from _ _ found refl,
         g.1,
       )
@@ -340,14 +340,14 @@ module _ {T : Table} {s : ℕ} {form : Form} {ns : List Shown} {ms : List Mark} 
   any_found d b f =
       let r = (value_chain d).rule in
       let v = any_valued d (value_begins d) b f in (
-        ap (λ b. has_aim (cond b (tests (node_at T s form e ps) ms c r) (behind_value (node_at T s form e ps) c (any_by (node_at T s form e ps) ms c r (value_chain d).is_freed) (makes (node_at T s form e ps) ms r (Gets Push) c.push) false (value_chain d).is_freed)) (Gets Any)) (own_value r (any_own d))
+        ap (λ b. has_aim (cond b (tests (node_at T s form e ps) ms c r) (after_value (node_at T s form e ps) c (any_by (node_at T s form e ps) ms c r (value_chain d).is_freed) (makes (node_at T s form e ps) ms r (Gets Push) c.push) false (value_chain d).is_freed)) (Gets Any)) (own_value r (any_own d))
             ∙ v.0,
         v.1,
       )
 
   -- a test by the value
   abbrev tested_aims : Rule → Bool → Bool → marks.Shown
-  tested_aims r freed b = cond b (tests (node_at T s form e ps) ms c r) (behind_value (node_at T s form e ps) c (any_by (node_at T s form e ps) ms c r freed) (makes (node_at T s form e ps) ms r (Gets Push) c.push) true freed)
+  tested_aims r freed b = cond b (tests (node_at T s form e ps) ms c r) (after_value (node_at T s form e ps) c (any_by (node_at T s form e ps) ms c r freed) (makes (node_at T s form e ps) ms r (Gets Push) c.push) true freed)
 
   tested_has : (r : Rule) (freed sense : Bool) (k : ℕ) → cost_of (Jumps sense) c ≡ Some k → any_by (node_at T s form e ps) ms c r freed && is_plain form && tested c.any k ≡ true → has_aim (tested_aims r freed false) (Jumps sense) ≡ true
   tested_has r freed false k w g = ap (λ n. any_by (node_at T s form e ps) ms c r freed && is_plain form && tested c.any n) (some_same w) ∙ g
@@ -378,7 +378,7 @@ module _ {T : Table} {s : ℕ} {form : Form} {ns : List Shown} {ms : List Mark} 
       let r = first_rule d in
       let g = begins_from o d i b f in
       let words : cost_of (Jumps sense) c ≡ Some (cost d s) = counted_of h d f in (
-        ap (λ b. has_aim (cond b (tests (node_at T s form e ps) ms c r) (behind_value (node_at T s form e ps) c (any_by (node_at T s form e ps) ms c r false) (makes (node_at T s form e ps) ms r (Gets Push) c.push) false false)) (Jumps sense)) t
+        ap (λ b. has_aim (cond b (tests (node_at T s form e ps) ms c r) (after_value (node_at T s form e ps) c (any_by (node_at T s form e ps) ms c r false) (makes (node_at T s form e ps) ms r (Gets Push) c.push) false false)) (Jumps sense)) t
             ∙ test_has r sense (ap (λ x. makes (node_at T s form e ps) ms r (Jumps sense) x) words ∙ g.0),
         g.1,
       )

@@ -1,4 +1,4 @@
--- The rules that names stand for at one node.
+-- The rules that names mean at one node.
 use Rattle.std.proofs.Common.{◌≡◌, ◌⊎◌, inl, inr, ⊎_elim, ℕ, ◌==◌, ◌&&◌, Bool, true, false, cond, List, [], ◌∷◌, map, Option, Some, None, refl, ap, ap₂, sym, subst, ◌∙◌, arith, eq-eqb}
 use Rattle.std.proofs.lemmas.Bool.{eqb-true, and_parts}
 use Rattle.bc_rules_defs.specs.declared.rule.Rule.{Rule}
@@ -8,7 +8,7 @@ use Rattle.bc_cert_lines.specs.declared.chain.Chain.{Chain}
 use Rattle.bc_cert_lines.specs.declared.chain.Rules.TheVariants.{Named}
 use Rattle.bc_cert_lines.specs.declared.chain.Names.{Names}
 use Rattle.bc_cert_lines.specs.declared.chain.Names.TheVariants.{Nothing, Tested, Freed, Whole, Wrong}
-use Rattle.bc_cert_lines.specs.Chains.{whole, of_value, begun, behind_test, behind_free, longer, ended}
+use Rattle.bc_cert_lines.specs.Chains.{whole, of_value, begun, after_test, after_free, longer, ended}
 use Rattle.bc_cert_laws.specs.Faults.{Name, name}
 use Rattle.bc_cert_laws.specs.Standing.{over_if, chain_rules, IsChain, AreNamed, named, wrong}
 use Rattle.bc_cert_laws.proofs.Numbers.{chosen}
@@ -54,11 +54,11 @@ begun_is V0 h k = absurd (h refl)
 begun_is J6 h k = absurd (k refl)
 begun_is _ h k = refl
 
-test_is : (r : Rule) → ¬ (r ≡ V0) → behind_test r ≡ of_value r (whole true false r)
+test_is : (r : Rule) → ¬ (r ≡ V0) → after_test r ≡ of_value r (whole true false r)
 test_is V0 h = absurd (h refl)
 test_is _ h = refl
 
-free_is : (tested : Bool) (r : Rule) → ¬ (r ≡ V0) → behind_free tested r ≡ of_value r (whole tested true r)
+free_is : (tested : Bool) (r : Rule) → ¬ (r ≡ V0) → after_free tested r ≡ of_value r (whole tested true r)
 free_is tested V0 h = absurd (h refl)
 free_is tested _ h = refl
 
@@ -116,7 +116,7 @@ freed_at : (tested : Bool) (x : Name) (xs : List Name) (d : Chain) (o : Option R
 freed_at tested x xs d None e h = absurd (not_wrong xs d h)
 freed_at tested x xs d (Some r) e h =
     ⊎_elim
-    (λ i. absurd (not_wrong xs d (sym (ap (λ y. run (behind_free tested y) xs) i) ∙ h)))
+    (λ i. absurd (not_wrong xs d (sym (ap (λ y. run (after_free tested y) xs) i) ∙ h)))
     (λ i. last_of tested true x xs d r (name_of_rule x r e) i (sym (ap (λ ns. run ns xs) (free_is tested r i)) ∙ h))
     (is_v0 r)
 
@@ -143,7 +143,7 @@ tested_at : (x : Name) (xs : List Name) (d : Chain) (o : Option Rule) → rule_n
 tested_at x xs d None e h = absurd (not_wrong xs d h)
 tested_at x xs d (Some r) e h =
     ⊎_elim
-    (λ i. let l = run_freed true xs d (sym (ap (λ y. run (behind_test y) xs) i) ∙ h) in
+    (λ i. let l = run_freed true xs d (sym (ap (λ y. run (after_test y) xs) i) ∙ h) in
     with_names (name J6 ∷ x ∷ xs) _ d (ap₂ (λ y ys. name J6 ∷ y ∷ ys) (name_of_rule x r e ∙ ap name i) l.names) (are_of true true xs d l))
     (λ i. let l = last_of true false x xs d r (name_of_rule x r e) i (sym (ap (λ ns. run ns xs) (test_is r i)) ∙ h) in
     with_names (name J6 ∷ x ∷ xs) _ d (ap (λ ys. name J6 ∷ ys) l.names) (are_of true false (x ∷ xs) d l))

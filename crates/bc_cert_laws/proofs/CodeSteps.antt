@@ -35,7 +35,7 @@ use Rattle.bc_cert_laws.specs.Entries.{PieceHasRoom, pieces_line, SamePiece}
 use Rattle.bc_cert_laws.specs.Faults.{code, judged, IsCode, LineFault, no_pieces, wrong_code, wrong_words}
 use Rattle.bc_cert_laws.specs.Judging.{State, between, same_item, same_piece, same_code, judged_with, against_right, right_of, code_fits, code_step}
 use Rattle.bc_cert_laws.proofs.Read.{code_read, code_back}
-use Rattle.bc_cert_laws.proofs.Results.{StandsBehind, ok_same, err_same, both_true, equal_true, equal_false, not_equal, at_most_true, at_most, not_at_most}
+use Rattle.bc_cert_laws.proofs.Results.{StandsAfter, ok_same, err_same, both_true, equal_true, equal_false, not_equal, at_most_true, at_most, not_at_most}
 
 -- what the checker keeps of a root, by its derivation
 abbrev pub rooted_by : {T : Table} {r : Root} → RootDerives T r → Rooted
@@ -212,7 +212,7 @@ fault_so {T = T} {r = r} text js st d h l p f ps false same sums e room i j k g 
     subst (LineFault text (code T js h r d) (pieces_line ps)) (ap faults.WrongCode (sym e) ∙ err_same g)
     (wrong_code room (λ c. not_at_most _ _ i c.labels))
 
-pub code_fault : {T : Table} {r : Root} (text : List ℕ) (js : List Judged) (n : ℕ) (st : State) (d : RootDerives T r) (h : Head) (l : List ℕ) (p : Position) (f : CheckFault) → StandsBehind text js n p → st.table ≡ T
+pub code_fault : {T : Table} {r : Root} (text : List ℕ) (js : List Judged) (n : ℕ) (st : State) (d : RootDerives T r) (h : Head) (l : List ℕ) (p : Position) (f : CheckFault) → StandsAfter text js n p → st.table ≡ T
     → code_step h (rooted_by d) l p st ≡ Err f → LineFault text (code T js h r d) (l ++ 10 ∷ []) f
 code_fault {T = T} {r = r} text js n st d h l p f stands t g = at (code_of_line l) refl where
   at : (o : Option (List Piece)) → code_of_line l ≡ o → LineFault text (code T js h r d) (l ++ 10 ∷ []) f
@@ -248,7 +248,7 @@ no_words_so true true true p st i j k = cc
 no_words_so true false sums p st i j k = cc
 no_words_so false same sums p st i j k = cc
 
-pub code_fails : {T : Table} {r : Root} (text : List ℕ) (js : List Judged) (n : ℕ) (st : State) (d : RootDerives T r) (h : Head) (l m : List ℕ) (p : Position) (f : CheckFault) → StandsBehind text js n p → st.table ≡ T
+pub code_fails : {T : Table} {r : Root} (text : List ℕ) (js : List Judged) (n : ℕ) (st : State) (d : RootDerives T r) (h : Head) (l m : List ℕ) (p : Position) (f : CheckFault) → StandsAfter text js n p → st.table ≡ T
     → m ≡ l ++ 10 ∷ [] → LineFault text (code T js h r d) m f → code_step h (rooted_by d) l p st ≡ Err f
 code_fails text js n st d h l m p f stands t e (no_pieces none) =
     unread st d h l p (at (code_of_line l) refl) ∙ ap (λ k. Err (faults.Line k)) stands.line where

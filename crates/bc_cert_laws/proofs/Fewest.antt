@@ -29,7 +29,7 @@ by_first_of_three d s m n k f = λ other. let h = f other in omega arith
 pub by_second_of_three : {T : Table} {e : Exp} {aim : Aim} (d : Derives T e aim) (s m n k : ℕ) → ((other : Derives T e aim) → m + cost d s + n + k ≤ m + cost other s + n + k) → IsFewest d s
 by_second_of_three d s m n k f = λ other. let h = f other in omega arith
 
--- the arguments of a call, and those behind the first one
+-- the arguments of a call, and those after the first one
 pub all_by_first : {T : Table} {es : Args} (ds : DerivesAll T es) (s m k : ℕ) → ((other : DerivesAll T es) → all_cost ds s + m + k ≤ all_cost other s + m + k) → AreFewest ds s
 all_by_first ds s m k f = λ other. let h = f other in omega arith
 

@@ -4,7 +4,7 @@ use Rattle.std.specs.List.{AllByRecursion}
 use Rattle.std.proofs.lemmas.Bool.{eqb-true}
 use Rattle.std.proofs.lemmas.List.{append_cancel_right}
 use Rattle.bc_cert_write.specs.Lines.{line}
-use Rattle.bc_cert_lines.specs.Fields.{cut, longer, fields, put, field, field_of, behind}
+use Rattle.bc_cert_lines.specs.Fields.{cut, longer, fields, put, field, field_of, following}
 use Rattle.bc_cert_laws.specs.Faults.{lines}
 use Rattle.bc_cert_laws.proofs.Numbers.{passed}
 
@@ -35,17 +35,17 @@ joined separator f [] = f
 joined separator f (g ∷ gs) = f ++ separator ∷ joined separator g gs
 
 -- up to the first separator
-cut_at : (separator b : ℕ) (bs rest : List ℕ) (t : Bool) → (b == separator) ≡ t → ((cut separator bs).behind ≡ Some rest → bs ≡ (cut separator bs).first ++ separator ∷ rest)
-    → (cond t (record { first = []; behind = Some bs }) (longer (b ∷ []) (cut separator bs))).behind ≡ Some rest
-    → b ∷ bs ≡ (cond t (record { first = []; behind = Some bs }) (longer (b ∷ []) (cut separator bs))).first ++ separator ∷ rest
+cut_at : (separator b : ℕ) (bs rest : List ℕ) (t : Bool) → (b == separator) ≡ t → ((cut separator bs).following ≡ Some rest → bs ≡ (cut separator bs).first ++ separator ∷ rest)
+    → (cond t (record { first = []; following = Some bs }) (longer (b ∷ []) (cut separator bs))).following ≡ Some rest
+    → b ∷ bs ≡ (cond t (record { first = []; following = Some bs }) (longer (b ∷ []) (cut separator bs))).first ++ separator ∷ rest
 cut_at separator b bs rest true e f h = let s = eqb-true b separator e in cc
 cut_at separator b bs rest false e f h = ap (λ x. b ∷ x) (f h)
 
-pub cut_read : (separator : ℕ) (bs rest : List ℕ) → (cut separator bs).behind ≡ Some rest → bs ≡ (cut separator bs).first ++ separator ∷ rest
+pub cut_read : (separator : ℕ) (bs rest : List ℕ) → (cut separator bs).following ≡ Some rest → bs ≡ (cut separator bs).first ++ separator ∷ rest
 cut_read separator [] rest h = absurd (cc)
 cut_read separator (b ∷ bs) rest h = cut_at separator b bs rest (b == separator) refl (cut_read separator bs rest) h
 
-pub cut_back : (separator : ℕ) (first rest : List ℕ) → Without separator first → cut separator (first ++ separator ∷ rest) ≡ record { first = first; behind = Some rest }
+pub cut_back : (separator : ℕ) (first rest : List ℕ) → Without separator first → cut separator (first ++ separator ∷ rest) ≡ record { first = first; following = Some rest }
 cut_back separator [] rest h = rw (eq-eqb separator separator refl)
 cut_back separator (b ∷ bs) rest h = rw (ne_eqb b separator h.0) (ap (longer (b ∷ [])) (cut_back separator bs rest h.1))
 
@@ -55,17 +55,17 @@ field_parts f first rest (Some r) h = let e : (f, r) ≡ (first, rest) = cc in (
 
 pub field_read : (text first rest : List ℕ) → field text ≡ Some (first, rest) → text ≡ first ++ 32 ∷ rest
 field_read text first rest h =
-    let p = field_parts (cut 32 text).first first rest (cut 32 text).behind h in
+    let p = field_parts (cut 32 text).first first rest (cut 32 text).following h in
     cut_read 32 text rest p.1 ∙ ap (λ f. f ++ 32 ∷ rest) p.0
 
 pub field_back : (first rest : List ℕ) → Without 32 first → field (first ++ 32 ∷ rest) ≡ Some (first, rest)
 field_back first rest h = rw (cut_back 32 first rest h)
 
--- behind a letter and a blank
-pub behind_read : (letter : ℕ) (text rest : List ℕ) → behind text letter ≡ Some rest → text ≡ letter ∷ 32 ∷ rest
-behind_read letter [] rest h = absurd (cc)
-behind_read letter (a ∷ []) rest h = absurd (cc)
-behind_read letter (a ∷ b ∷ bs) rest h = let p = passed (a == letter) _ rest h in let q = passed (b == 32) (Some bs) rest p.1 in let x = eqb-true a letter p.0 in let y = eqb-true b 32 q.0 in cc
+-- after a letter and a blank
+pub after_read : (letter : ℕ) (text rest : List ℕ) → following text letter ≡ Some rest → text ≡ letter ∷ 32 ∷ rest
+after_read letter [] rest h = absurd (cc)
+after_read letter (a ∷ []) rest h = absurd (cc)
+after_read letter (a ∷ b ∷ bs) rest h = let p = passed (a == letter) _ rest h in let q = passed (b == 32) (Some bs) rest p.1 in let x = eqb-true a letter p.0 in let y = eqb-true b 32 q.0 in cc
 
 -- all fields
 pub record Parted (separator : ℕ) (text : List ℕ) : Type 0 where

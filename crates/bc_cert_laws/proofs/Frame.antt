@@ -19,11 +19,11 @@ use Rattle.bc_cert_lines.specs.Lines.{header as read_header, entry_line as read_
 use Rattle.bc_cert_trees.specs.declared.position.Position.{Position}
 use Rattle.bc_cert_trees.specs.Stacks.{no_trees}
 use Rattle.bc_cert_laws.specs.Entries.{IsNumber, NodeHasRoom, PieceHasRoom, pieces_line}
-use Rattle.bc_cert_laws.specs.Faults.{HeadHasRoom, head_line, Grown, all_shown, Ends, StandsBy, node, grown, IsCode, judged, RootOver, RootStands, Stage, the_header, between, nodes, code, the_end, Reaches, header, entry, node_line, root_line, code_line, last_line, lines, LineFault, no_header, no_entry, behind}
+use Rattle.bc_cert_laws.specs.Faults.{HeadHasRoom, head_line, Grown, all_shown, Ends, StandsBy, node, grown, IsCode, judged, RootOver, RootStands, Stage, the_header, between, nodes, code, the_end, Reaches, header, entry, node_line, root_line, code_line, last_line, lines, LineFault, no_header, no_entry, following}
 use Rattle.bc_cert_laws.specs.Judging.{State, counted, place_of, step_at, line_step, begun, ended, entered, within_step, code_step}
 use Rattle.bc_cert_laws.specs.Judging.{Stage as Kind, the_header as at_header, between as at_entries, nodes as at_nodes, code as at_code, the_end as at_end}
 use Rattle.bc_cert_laws.proofs.Read.{header_read, header_back, entry_read, entry_back, end_read, end_back, end_no_entry}
-use Rattle.bc_cert_laws.proofs.Results.{StandsBehind, ok_same, err_same}
+use Rattle.bc_cert_laws.proofs.Results.{StandsAfter, ok_same, err_same}
 use Rattle.bc_cert_laws.proofs.Keeping.{StackStands}
 use Rattle.bc_cert_laws.proofs.WithinSteps.{WithinTaken, a_node, a_root, within_taken, within_fault, within_node, within_root, within_fails}
 use Rattle.bc_cert_laws.proofs.CodeSteps.{rooted_by, code_taken, code_fault, code_made as code_goes, code_fails}
@@ -90,7 +90,7 @@ step_from : (s : Kind) (l : List ℕ) (st : State) → st.stage ≡ s → line_s
 step_from s l st h = ap (λ k. step_at k l (place_of (counted st)) (counted st)) h
 
 -- the place of the line
-stands : (text : List ℕ) (js : List Judged) (n : ℕ) (st : State) → st.lines ≡ lines text → st.entries ≡ js → st.nodes ≡ n → StandsBehind text js n (place_of (counted st))
+stands : (text : List ℕ) (js : List Judged) (n : ℕ) (st : State) → st.lines ≡ lines text → st.entries ≡ js → st.nodes ≡ n → StandsAfter text js n (place_of (counted st))
 stands text js n st h i k = record { line = ap (λ m. m + 1) h; entry = ap length i; node = k }
 
 to_text : {a b : List ℕ} (text : List ℕ) (stage : Stage) → b ≡ a → Reaches (text ++ a) stage → Reaches (text ++ b) stage
@@ -233,7 +233,7 @@ line_wrong text (nodes T js e ts) st l f h k =
 line_wrong text (code T js e x d) st l f h k =
     code_fault text js st.nodes (counted st) d e l (place_of (counted st)) f (stands text js st.nodes st h.lines h.at.entries refl) h.at.table (sym (step_from (at_code e (rooted_by d)) l st h.at.stage) ∙ k)
 line_wrong text (the_end T js) st l f h k =
-    subst (LineFault text (the_end T js) (l ++ 10 ∷ [])) (sym (ap (λ n. Line (n + 1)) h.lines) ∙ err_same (sym (step_from at_end l st h.at.stage) ∙ k)) behind
+    subst (LineFault text (the_end T js) (l ++ 10 ∷ [])) (sym (ap (λ n. Line (n + 1)) h.lines) ∙ err_same (sym (step_from at_end l st h.at.stage) ∙ k)) following
 
 -- A line with a fault is one at which the checker finds it.
 header_fails : (text : List ℕ) (st : State) (l m : List ℕ) (f : CheckFault) → m ≡ l ++ 10 ∷ [] → LineFault text the_header m f → begun (counted st) (read_header l) ≡ Err f
@@ -267,7 +267,7 @@ entry_fails text T js st l m f h is (no_entry no_head no_end) = at (read_entry l
   at (Some x) e = let read = entry_read l x e in absurd (no_head x read.1 (is ∙ read.0))
 
 end_fails : (text : List ℕ) (T : Table) (js : List Judged) (st : State) (l m : List ℕ) (f : CheckFault) → Related text (the_end T js) st → LineFault text (the_end T js) m f → step_at at_end l (place_of (counted st)) (counted st) ≡ Err f
-end_fails text T js st l m f h behind = ap (λ n. Err (Line (n + 1))) h.lines
+end_fails text T js st l m f h following = ap (λ n. Err (Line (n + 1))) h.lines
 
 pub line_fails : (text : List ℕ) (stage : Stage) (st : State) (l m : List ℕ) (f : CheckFault) → Related text stage st → m ≡ l ++ 10 ∷ [] → LineFault text stage m f → line_step l st ≡ Err f
 line_fails text the_header st l m f h is k = step_from at_header l st h.at.stage ∙ header_fails text st l m f is k

@@ -29,14 +29,14 @@ pub all_front : {X : Type 0} (P : X → Type 0) (xs ys : List X) → AllByRecurs
 all_front P [] ys h = tt
 all_front P (x ∷ xs) ys h = (h.0, all_front P xs ys h.1)
 
-pub all_behind : {X : Type 0} (P : X → Type 0) (xs ys : List X) → AllByRecursion P (xs ++ ys) → AllByRecursion P ys
-all_behind P [] ys h = h
-all_behind P (x ∷ xs) ys h = all_behind P xs ys h.1
+pub all_after : {X : Type 0} (P : X → Type 0) (xs ys : List X) → AllByRecursion P (xs ++ ys) → AllByRecursion P ys
+all_after P [] ys h = h
+all_after P (x ∷ xs) ys h = all_after P xs ys h.1
 
 abbrev pub HaveRoom : Table → List Shown → Type 0
 HaveRoom T ns = AllByRecursion (NodeHasRoom T) ns
 
--- The lines of these nodes put trees of these expressions behind those that are there.
+-- The lines of these nodes put trees of these expressions after those that are there.
 pub record Grows (T : Table) (ps : List (Exp × ℕ)) (ns : List Shown) : Type 0 where
   pub own : List Grown
   pub shown : all_shown own ≡ ns
@@ -85,7 +85,7 @@ node_grows T e s rules ns g room stands = record {
 -- expressions without rules
 bare_grows : (T : Table) (e : Exp) (s : ℕ) → HaveRoom T (bare e s) → Grows T (parts e s) (bare_parts e s) → Grows T ((e, s) ∷ []) (bare e s)
 bare_grows T e s room g =
-    subst (Grows T ((e, s) ∷ [])) (sym (bare_is e s)) (node_grows T e s [] (bare_parts e s) g (all_behind (NodeHasRoom T) (bare_parts e s) _ (subst (HaveRoom T) (bare_is e s) room)).0 tt)
+    subst (Grows T ((e, s) ∷ [])) (sym (bare_is e s)) (node_grows T e s [] (bare_parts e s) g (all_after (NodeHasRoom T) (bare_parts e s) _ (subst (HaveRoom T) (bare_is e s) room)).0 tt)
 
 bare_front : (T : Table) (e : Exp) (s : ℕ) → HaveRoom T (bare e s) → HaveRoom T (bare_parts e s)
 bare_front T e s room = all_front (NodeHasRoom T) (bare_parts e s) _ (subst (HaveRoom T) (bare_is e s) room)
@@ -100,23 +100,23 @@ mutual
   bare_parts_grow T (Neg e) s room = bare_grows T e s room (bare_parts_grow T e s (bare_front T e s room))
   bare_parts_grow T (Not e) s room = bare_grows T e s room (bare_parts_grow T e s (bare_front T e s room))
   bare_parts_grow T (Bin op a b) s room =
-      let front = all_front (NodeHasRoom T) (bare a (s + 1)) (bare b (s + 1)) room in let behind = all_behind (NodeHasRoom T) (bare a (s + 1)) (bare b (s + 1)) room in
-      both_grow T _ _ _ _ (bare_grows T a (s + 1) front (bare_parts_grow T a (s + 1) (bare_front T a (s + 1) front))) (bare_grows T b (s + 1) behind (bare_parts_grow T b (s + 1) (bare_front T b (s + 1) behind)))
+      let front = all_front (NodeHasRoom T) (bare a (s + 1)) (bare b (s + 1)) room in let following = all_after (NodeHasRoom T) (bare a (s + 1)) (bare b (s + 1)) room in
+      both_grow T _ _ _ _ (bare_grows T a (s + 1) front (bare_parts_grow T a (s + 1) (bare_front T a (s + 1) front))) (bare_grows T b (s + 1) following (bare_parts_grow T b (s + 1) (bare_front T b (s + 1) following)))
   bare_parts_grow T (Cond c x y) s room =
-      let front = all_front (NodeHasRoom T) (bare c s ++ bare x s) (bare y s) room in let third = all_behind (NodeHasRoom T) (bare c s ++ bare x s) (bare y s) room in
-      let first = all_front (NodeHasRoom T) (bare c s) (bare x s) front in let second = all_behind (NodeHasRoom T) (bare c s) (bare x s) front in
+      let front = all_front (NodeHasRoom T) (bare c s ++ bare x s) (bare y s) room in let third = all_after (NodeHasRoom T) (bare c s ++ bare x s) (bare y s) room in
+      let first = all_front (NodeHasRoom T) (bare c s) (bare x s) front in let second = all_after (NodeHasRoom T) (bare c s) (bare x s) front in
       both_grow T _ _ _ _ (both_grow T _ _ _ _ (bare_grows T c s first (bare_parts_grow T c s (bare_front T c s first))) (bare_grows T x s second (bare_parts_grow T x s (bare_front T x s second)))) (bare_grows T y s third (bare_parts_grow T y s (bare_front T y s third)))
   bare_parts_grow T (Call es f) s room =
       let at = s + 2 + count es in
-      let front = all_front (NodeHasRoom T) (all_bare es (s + 2)) (bare f at) room in let behind = all_behind (NodeHasRoom T) (all_bare es (s + 2)) (bare f at) room in
-      both_grow T _ _ _ _ (all_bare_grow T es (s + 2) front) (bare_grows T f at behind (bare_parts_grow T f at (bare_front T f at behind)))
+      let front = all_front (NodeHasRoom T) (all_bare es (s + 2)) (bare f at) room in let following = all_after (NodeHasRoom T) (all_bare es (s + 2)) (bare f at) room in
+      both_grow T _ _ _ _ (all_bare_grow T es (s + 2) front) (bare_grows T f at following (bare_parts_grow T f at (bare_front T f at following)))
   bare_parts_grow T (Valof n) s room = no_part_grows T
 
   all_bare_grow : (T : Table) (es : Args) (s : ℕ) → HaveRoom T (all_bare es s) → Grows T (all_parts es s) (all_bare es s)
   all_bare_grow T no_argument s room = no_part_grows T
   all_bare_grow T (argument e es) s room =
-      let front = all_front (NodeHasRoom T) (bare e s) (all_bare es (s + 1)) room in let behind = all_behind (NodeHasRoom T) (bare e s) (all_bare es (s + 1)) room in
-      both_grow T _ _ _ _ (bare_grows T e s front (bare_parts_grow T e s (bare_front T e s front))) (all_bare_grow T es (s + 1) behind)
+      let front = all_front (NodeHasRoom T) (bare e s) (all_bare es (s + 1)) room in let following = all_after (NodeHasRoom T) (bare e s) (all_bare es (s + 1)) room in
+      both_grow T _ _ _ _ (bare_grows T e s front (bare_parts_grow T e s (bare_front T e s front))) (all_bare_grow T es (s + 1) following)
 
 -- an expression without rules, with its node
 pub bare_node_grows : (T : Table) (e : Exp) (s : ℕ) → HaveRoom T (bare e s) → Grows T ((e, s) ∷ []) (bare e s)
@@ -129,7 +129,7 @@ stand T e s (r ∷ rs) ns h = h
 
 whole_grows : {T : Table} {e : Exp} {aim : Aim} (d : Derives T e aim) (s : ℕ) → HaveRoom T (shown d s) → IsFewest d s → Grows T (parts e s) (below d s) → Grows T ((e, s) ∷ []) (shown d s)
 whole_grows {T = T} {e = e} {aim = aim} d s room least g =
-    node_grows T e s (rules_at d) (below d s) g (all_behind (NodeHasRoom T) (below d s) _ room).0
+    node_grows T e s (rules_at d) (below d s) g (all_after (NodeHasRoom T) (below d s) _ room).0
     (stand T e s (rules_at d) (shown d s) (record { aim = aim; derivation = d; shown = refl; fewest = least }))
 
 abbrev front : {T : Table} {e : Exp} {aim : Aim} (d : Derives T e aim) (s : ℕ) → HaveRoom T (shown d s) → HaveRoom T (below d s)
@@ -140,21 +140,21 @@ beside_grows : {T : Table} {c : Exp} {aim : Aim} (d : Derives T c aim) (z : Bool
     → (HaveRoom T (shown d s) → Grows T ((c, s) ∷ []) (shown d s)) → Grows T ((a, s) ∷ (b, s) ∷ []) (cond z (shown d s ++ bare b s) (bare a s ++ shown d s))
 beside_grows {T = T} {c = c} d true a b s h room grow =
     let i : c ≡ a = cc in
-    both_grow T ((a, s) ∷ []) ((b, s) ∷ []) _ _ (subst (λ e. Grows T ((e, s) ∷ []) (shown d s)) i (grow (all_front (NodeHasRoom T) (shown d s) (bare b s) room))) (bare_node_grows T b s (all_behind (NodeHasRoom T) (shown d s) (bare b s) room))
+    both_grow T ((a, s) ∷ []) ((b, s) ∷ []) _ _ (subst (λ e. Grows T ((e, s) ∷ []) (shown d s)) i (grow (all_front (NodeHasRoom T) (shown d s) (bare b s) room))) (bare_node_grows T b s (all_after (NodeHasRoom T) (shown d s) (bare b s) room))
 beside_grows {T = T} {c = c} d false a b s h room grow =
     let i : c ≡ b = cc in
-    both_grow T ((a, s) ∷ []) ((b, s) ∷ []) _ _ (bare_node_grows T a s (all_front (NodeHasRoom T) (bare a s) (shown d s) room)) (subst (λ e. Grows T ((e, s) ∷ []) (shown d s)) i (grow (all_behind (NodeHasRoom T) (bare a s) (shown d s) room)))
+    both_grow T ((a, s) ∷ []) ((b, s) ∷ []) _ _ (bare_node_grows T a s (all_front (NodeHasRoom T) (bare a s) (shown d s) room)) (subst (λ e. Grows T ((e, s) ∷ []) (shown d s)) i (grow (all_after (NodeHasRoom T) (bare a s) (shown d s) room)))
 
 -- one, two and three parts
 one_grows : {T : Table} (p : Exp × ℕ) (ns : List Shown) → HaveRoom T ns → (HaveRoom T ns → Grows T (p ∷ []) ns) → Grows T (p ∷ []) ns
 one_grows p ns room f = f room
 
 two_grow : {T : Table} (p q : Exp × ℕ) (ns ms : List Shown) → HaveRoom T (ns ++ ms) → (HaveRoom T ns → Grows T (p ∷ []) ns) → (HaveRoom T ms → Grows T (q ∷ []) ms) → Grows T (p ∷ q ∷ []) (ns ++ ms)
-two_grow {T = T} p q ns ms room f g = both_grow T (p ∷ []) (q ∷ []) ns ms (f (all_front (NodeHasRoom T) ns ms room)) (g (all_behind (NodeHasRoom T) ns ms room))
+two_grow {T = T} p q ns ms room f g = both_grow T (p ∷ []) (q ∷ []) ns ms (f (all_front (NodeHasRoom T) ns ms room)) (g (all_after (NodeHasRoom T) ns ms room))
 
 three_grow : {T : Table} (p q r : Exp × ℕ) (ns ms ls : List Shown) → HaveRoom T ((ns ++ ms) ++ ls) → (HaveRoom T ns → Grows T (p ∷ []) ns) → (HaveRoom T ms → Grows T (q ∷ []) ms) → (HaveRoom T ls → Grows T (r ∷ []) ls) → Grows T (p ∷ q ∷ r ∷ []) ((ns ++ ms) ++ ls)
 three_grow {T = T} p q r ns ms ls room f g h =
-    both_grow T (p ∷ q ∷ []) (r ∷ []) (ns ++ ms) ls (two_grow p q ns ms (all_front (NodeHasRoom T) (ns ++ ms) ls room) f g) (h (all_behind (NodeHasRoom T) (ns ++ ms) ls room))
+    both_grow T (p ∷ q ∷ []) (r ∷ []) (ns ++ ms) ls (two_grow p q ns ms (all_front (NodeHasRoom T) (ns ++ ms) ls room) f g) (h (all_after (NodeHasRoom T) (ns ++ ms) ls room))
 
 mutual
   pub below_grows : {T : Table} {e : Exp} {aim : Aim} (d : Derives T e aim) (s : ℕ) → HaveRoom T (below d s) → IsFewest d s → Grows T (parts e s) (below d s)
@@ -182,7 +182,7 @@ mutual
   below_grows (v22 {T = T} {es = es} {f = e} ds f) s room least =
       let at = s + 2 + count es in
       let first = all_front (NodeHasRoom T) (all_of_call ds (s + 2)) (shown f at) room in
-      let last = all_behind (NodeHasRoom T) (all_of_call ds (s + 2)) (shown f at) room in
+      let last = all_after (NodeHasRoom T) (all_of_call ds (s + 2)) (shown f at) room in
       let fewest : IsFewest f at = by_second f at (all_cost ds (s + 2)) (w s) (λ o. least (v22 ds o)) in
       both_grow T (all_parts es (s + 2)) ((e, at) ∷ []) (all_of_call ds (s + 2)) (shown f at)
       (all_grow ds (s + 2) first (all_by_first ds (s + 2) (cost f at) (w s) (λ o. least (v22 o f))))
@@ -202,7 +202,7 @@ mutual
   all_grow (no_more {T = T}) s room least = no_part_grows T
   all_grow (one_more {T = T} {e = e} {es = es} d ds) s room least =
       let first = all_front (NodeHasRoom T) (shown d s) (all_of_call ds (s + 1)) room in
-      let last = all_behind (NodeHasRoom T) (shown d s) (all_of_call ds (s + 1)) room in
+      let last = all_after (NodeHasRoom T) (shown d s) (all_of_call ds (s + 1)) room in
       let fewest : IsFewest d s = by_first d s (w s) (all_cost ds (s + 1)) (λ o. least (one_more o ds)) in
       both_grow T ((e, s) ∷ []) (all_parts es (s + 1)) (shown d s) (all_of_call ds (s + 1))
       (whole_grows d s first fewest (below_grows d s (front d s first) fewest))

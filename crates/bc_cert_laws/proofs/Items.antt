@@ -24,7 +24,7 @@ use Rattle.bc_cert_laws.proofs.Forms.{at_same, number_above}
 abbrev Says : List ℕ → Item → Type 0
 Says text i = (text ≡ printed i) × IsItem i
 
--- behind a letter, a number
+-- after a letter, a number
 abbrev numbered : (ℕ → Item) → Option ℕ → Option Item
 numbered f None = None
 numbered f (Some n) = Some (f n)
@@ -84,7 +84,7 @@ global_read_of first rest i (Some g) (Some l) d e h =
     let r = small_read l rest e in
     at_same (Says (71 ∷ (first ++ 76 ∷ rest))) (items.Global g l) i p.1 (ap₂ (λ x y. 71 ∷ (x ++ 76 ∷ y)) f.0 r.0, (below, r.1))
 
-global_at_read : (text : List ℕ) (i : Item) (o : Option (List ℕ)) → (cut 76 text).behind ≡ o → global_at (cut 76 text).first o ≡ Some i → Says (71 ∷ text) i
+global_at_read : (text : List ℕ) (i : Item) (o : Option (List ℕ)) → (cut 76 text).following ≡ o → global_at (cut 76 text).first o ≡ Some i → Says (71 ∷ text) i
 global_at_read text i None e h = absurd (cc)
 global_at_read text i (Some rest) e h =
     subst (λ t. Says (71 ∷ t) i) (sym (cut_read 76 text rest e))
@@ -146,7 +146,7 @@ item_read (b ∷ bs) i h =
     ⊎_elim (λ p. label_read (b ∷ bs) i p.1)
     (λ p. ⊎_elim (λ q. headed b 68 bs i q.0 (data_read bs i q.1))
     (λ q. ⊎_elim (λ r. headed b 67 bs i r.0 (byte_read_of bs i (small bs) refl r.1))
-    (λ r. ⊎_elim (λ s. headed b 71 bs i s.0 (global_at_read bs i (cut 76 bs).behind refl s.1))
+    (λ r. ⊎_elim (λ s. headed b 71 bs i s.0 (global_at_read bs i (cut 76 bs).following refl s.1))
     (λ s. function_item_read b bs i (function_of b) refl s.1)
     (chosen (b == 71) _ _ i r.1))
     (chosen (b == 67) _ _ i q.1))
@@ -174,7 +174,7 @@ digits_at n h = decimal_digits n (omega arith)
 global_text_back : (n m : ℕ) → n ≤ 511 → m ≤ 65535 → global_of (decimal n ++ 76 ∷ decimal m) ≡ Some (items.Global n m)
 global_text_back n m h k =
     let w : Without 76 (decimal n) = each (IsInRange 48 57) (λ b. b ≢ 76) (λ b i e. omega arith) (decimal n) (digits_at n (omega arith)) in
-    ap (λ (c : Cut). global_at c.first c.behind) (cut_back 76 (decimal n) (decimal m) w)
+    ap (λ (c : Cut). global_at c.first c.following) (cut_back 76 (decimal n) (decimal m) w)
     ∙ ap₂ global_with (small_back n (omega arith)) (small_back m k)
     ∙ global_back n m h
 

@@ -9,7 +9,7 @@ use Rattle.bc_cert_trees.specs.Stacks.{Stack}
 use Rattle.bc_cert_laws.specs.Faults.{Grown}
 use Rattle.bc_cert_laws.specs.Standing.{Stands, AllStand}
 
--- the trees that are kept stand for these
+-- the trees that are kept mean these
 abbrev pub StackStands : Table → List Grown → Stack → Type 0
 StackStands T ts x = AllStand T ts x.marks x.facts x.expressions x.derivations
 
@@ -39,10 +39,10 @@ kept_front zero h = nothing
 kept_front (suc n) nothing = nothing
 kept_front (suc n) (further a rest) = further a (kept_front n rest)
 
-pub kept_behind : {T : Table} {ts : List Grown} {ms : List Mark} {fs : List Facts} {es : List Exp} {xs : List Tree} (n : ℕ) → Kept T ts ms fs es xs → Kept T (drop n ts) (drop n ms) (drop n fs) (drop n es) (drop n xs)
-kept_behind zero h = h
-kept_behind (suc n) nothing = nothing
-kept_behind (suc n) (further a rest) = kept_behind n rest
+pub kept_after : {T : Table} {ts : List Grown} {ms : List Mark} {fs : List Facts} {es : List Exp} {xs : List Tree} (n : ℕ) → Kept T ts ms fs es xs → Kept T (drop n ts) (drop n ms) (drop n fs) (drop n es) (drop n xs)
+kept_after zero h = h
+kept_after (suc n) nothing = nothing
+kept_after (suc n) (further a rest) = kept_after n rest
 
 pub kept_more : {T : Table} {ts : List Grown} {ms : List Mark} {fs : List Facts} {es : List Exp} {xs : List Tree} {t : Grown} {m : Mark} {f : Facts} {e : Exp} {x : Tree} → Kept T ts ms fs es xs → Stands T t m f e x
     → Kept T (ts ++ t ∷ []) (ms ++ m ∷ []) (fs ++ f ∷ []) (es ++ e ∷ []) (xs ++ x ∷ [])

@@ -62,8 +62,8 @@ cut (x ∷ xs) ys [] vs k h = cc
 cut (x ∷ xs) ys (u ∷ us) vs k h =
     let here : x ≡ u = cc in
     let rest : keys xs ≡ keys us = cc in
-    let behind : xs ++ ys ≡ us ++ vs = cc in
-    let c = cut xs ys us vs rest behind in
+    let following : xs ++ ys ≡ us ++ vs = cc in
+    let c = cut xs ys us vs rest following in
     (ap (λ y. y ∷ xs) here ∙ ap (λ l. u ∷ l) c.0, c.1)
 
 pub last_is : (xs us : List Shown) (y v : Shown) → xs ++ y ∷ [] ≡ us ++ v ∷ [] → (xs ≡ us) × (y ≡ v)
@@ -74,8 +74,8 @@ last_is (x ∷ []) [] y v h = cc
 last_is (x ∷ w ∷ xs) [] y v h = cc
 last_is (x ∷ xs) (u ∷ us) y v h =
     let here : x ≡ u = cc in
-    let behind : xs ++ y ∷ [] ≡ us ++ v ∷ [] = cc in
-    let c = last_is xs us y v behind in
+    let following : xs ++ y ∷ [] ≡ us ++ v ∷ [] = cc in
+    let c = last_is xs us y v following in
     (ap (λ z. z ∷ xs) here ∙ ap (λ l. u ∷ l) c.0, c.1)
 
 -- nodes without rules

@@ -22,7 +22,7 @@ use Rattle.bc_cert_defs.specs.declared.head.Head.{Head}
 use Rattle.bc_cert_laws.specs.Entries.{IsLevel, NodeHasRoom, pieces_line, RootHasRoom, Listed, AllListed, none, more, Says}
 use Rattle.bc_cert_laws.specs.Faults.{head_line, Grown, all_shown, IsAssignment, first, second, third, RootOver, assign, between, nodes, the_end, Reaches, header, entry, root_line, code_line, last_line}
 use Rattle.bc_cert_laws.proofs.Fewest.{by_one, by_first, by_second}
-use Rattle.bc_cert_laws.proofs.Growth.{HaveRoom, Grows, all_front, all_behind, bare_node_grows, derivation_grows}
+use Rattle.bc_cert_laws.proofs.Growth.{HaveRoom, Grows, all_front, all_after, bare_node_grows, derivation_grows}
 
 -- the trees of a root
 record RootGrows {T : Table} {r : Root} (d : RootDerives T r) : Type 0 where
@@ -97,17 +97,17 @@ root_grows (test {s = s} {sense = sense} d) room level least = test_grows s sens
 root_grows (a1 {T = T} {s = s} {v = v} {a = a} {o = p} h d) room level least =
     assign_grows (a1 h d) s A1 (shown d s) (bare a s) first level (ap (λ o. cond (is_some o) s (s + 1)) h) refl refl
     (derivation_grows d s (all_front (NodeHasRoom T) (shown d s) (bare a s) room) (by_one d s (operand_words p) (λ o. least (a1 h o))))
-    (bare_node_grows T a s (all_behind (NodeHasRoom T) (shown d s) (bare a s) room))
+    (bare_node_grows T a s (all_after (NodeHasRoom T) (shown d s) (bare a s) room))
 root_grows (a2 {T = T} {s = s} {v = v} {a = a} h free b d) room level least =
     let n = s + 1 in
     assign_grows (a2 h free b d) n A2 (shown d n) (shown b n) second level (no_operand a s h) refl refl
     (derivation_grows d n (all_front (NodeHasRoom T) (shown d n) (shown b n) room) (by_second d n (cost b n) (2 * w s) (λ o. least (a2 h free b o))))
-    (derivation_grows b n (all_behind (NodeHasRoom T) (shown d n) (shown b n) room) (by_first b n (cost d n) (2 * w s) (λ o. least (a2 h free o d))))
+    (derivation_grows b n (all_after (NodeHasRoom T) (shown d n) (shown b n) room) (by_first b n (cost d n) (2 * w s) (λ o. least (a2 h free o d))))
 root_grows (a3 {T = T} {s = s} {v = v} {a = a} h d b) room level least =
     let n = s + 1 in
     assign_grows (a3 h d b) n A3 (shown d n) (shown b n) third level (no_operand a s h) refl refl
     (derivation_grows d n (all_front (NodeHasRoom T) (shown d n) (shown b n) room) (by_first d n (cost b n) (2 * w s + 2 * w (s + 1)) (λ o. least (a3 h o b))))
-    (derivation_grows b n (all_behind (NodeHasRoom T) (shown d n) (shown b n) room) (by_second b n (cost d n) (2 * w s + 2 * w (s + 1)) (λ o. least (a3 h d o))))
+    (derivation_grows b n (all_after (NodeHasRoom T) (shown d n) (shown b n) room) (by_second b n (cost d n) (2 * w s + 2 * w (s + 1)) (λ o. least (a3 h d o))))
 
 -- an entry
 abbrev head_of : Judged → Head

@@ -189,7 +189,7 @@ module _ {T : Table} {s : ℕ} {form : Form} {ns : List Shown} {ms : List Mark} 
       )
   accepted rs names rules k (wrong n none) w p = absurd (no_wrong names n none rules k w)
 
--- the depth that the checker works out is that of the expression
+-- the depth that the checker computes is that of the expression
 pub depth_is : (T : Table) (n : NodeLine) (ts : List Grown) (ms : List Mark) (fs : List Facts) (es : List Exp) (xs : List Tree) (e : Exp) → AllStand T ts ms fs es xs → levels_fit n.level n.form ms ≡ true → whole n.form es ≡ Some e → depth_over ms ≡ nested e
 depth_is T n ts ms fs es xs e h l k = depth_of (over_levelled T n.level n.form ts ms fs es xs e h l k)
 

@@ -27,7 +27,7 @@ use Rattle.bc_cert_laws.specs.Faults.{Grown, all_shown, parts, Ends, Name, name,
 use Rattle.bc_cert_laws.specs.Standing.{AreNamed, no_name, named, wrong, chain_rules, IsOver, ShowsRules, no_rule, by_chain}
 use Rattle.bc_cert_laws.proofs.Node.{depth_is, new_stands, no_rules, right_rules}
 use Rattle.bc_cert_laws.proofs.Results.{ok_same, err_same, at_most_true, at_most, not_at_most}
-use Rattle.bc_cert_laws.proofs.Keeping.{StackStands, Kept, all_stand, kept_front, kept_behind, kept_more, kept_lengths}
+use Rattle.bc_cert_laws.proofs.Keeping.{StackStands, Kept, all_stand, kept_front, kept_after, kept_more, kept_lengths}
 use Rattle.bc_cert_laws.proofs.NodeParts.{placed, expressions, levels_right, expressions_are, levels_are, own_form, right_levels, right_whole, right_length, parts_right, whole_form, whole_made}
 use Rattle.bc_cert_laws.proofs.NodeCosts.{own_parts, costs_are_least, least_are_costs}
 
@@ -58,9 +58,9 @@ fits_of_ends {T = T} {e = e} n ts x ends h form =
     let own : length ends.own ≡ parts_of n.form = sym (length-map ends.own (λ t. (t.expression, t.level))) ∙ ap length ends.parts ∙ right_length e n.level ∙ ap parts_of (sym form) in
     let at : place_of n x ≡ length ends.before = omega (arith, all, cut, own) in
     let front : take (place_of n x) ts ≡ ends.before = ap (λ k. take k ts) at ∙ ap (take (length ends.before)) ends.cut ∙ take-append_seam ends.before ends.own in
-    let behind : drop (place_of n x) ts ≡ ends.own = ap (λ k. drop k ts) at ∙ ap (drop (length ends.before)) ends.cut ∙ drop-append_seam ends.before ends.own in
+    let following : drop (place_of n x) ts ≡ ends.own = ap (λ k. drop k ts) at ∙ ap (drop (length ends.before)) ends.cut ∙ drop-append_seam ends.before ends.own in
     let before = subst (λ us. Kept T us (take (place_of n x) x.marks) (take (place_of n x) x.facts) (take (place_of n x) x.expressions) (take (place_of n x) x.derivations)) front (kept_front (place_of n x) h) in
-    let own_kept = subst (λ us. Kept T us (drop (place_of n x) x.marks) (drop (place_of n x) x.facts) (drop (place_of n x) x.expressions) (drop (place_of n x) x.derivations)) behind (kept_behind (place_of n x) h) in
+    let own_kept = subst (λ us. Kept T us (drop (place_of n x) x.marks) (drop (place_of n x) x.facts) (drop (place_of n x) x.expressions) (drop (place_of n x) x.derivations)) following (kept_after (place_of n x) h) in
     record {
       form = form;
       enough = enough_trees _ _ (omega (arith, all, cut, own));
@@ -83,7 +83,7 @@ found_ends {T = T} n ts x h enough levels = let made = whole_made n.form (drop (
 
   at : (e : Exp) → whole n.form (drop (place_of n x) x.expressions) ≡ Some e → FoundEnds n ts
   at e k =
-      let own = kept_behind (place_of n x) h in
+      let own = kept_after (place_of n x) h in
       record {
         expression = e;
         form = whole_form n.form (drop (place_of n x) x.expressions) e many k;

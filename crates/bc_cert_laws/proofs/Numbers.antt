@@ -13,7 +13,7 @@ use Rattle.bc_cert_write.specs.Lines.{words_field}
 use Rattle.bc_cert_lines.specs.Fields.{◌>>=◌, is_digit, digits_from, number, up_to, small, level, some_number, number_or_none}
 use Rattle.bc_cert_laws.specs.Entries.{IsNumber, IsSmall, IsLevel}
 
--- what was read by a step and one behind it
+-- what was read by a step and one after it
 pub got : {A B : Type 0} (o : Option A) (f : A → Option B) (b : B) → o >>= f ≡ Some b → (a : A) × (o ≡ Some a) × (f a ≡ Some b)
 got None f b h = absurd (cc)
 got (Some a) f b h = (a, refl, h)

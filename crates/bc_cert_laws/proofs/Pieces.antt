@@ -6,12 +6,12 @@ use Rattle.bc_text_items.specs.declared.item.Item.{Item}
 use Rattle.bc_rules_defs.specs.declared.piece.Piece.{Piece}
 use Rattle.bc_rules_defs.specs.declared.piece.Piece.TheVariants as pieces
 use Rattle.bc_text.specs.Printed.{printed}
-use Rattle.bc_cert_lines.specs.Fields.{◌>>=◌, number, fields, behind}
+use Rattle.bc_cert_lines.specs.Fields.{◌>>=◌, number, fields, following}
 use Rattle.bc_cert_lines.specs.Items.{item}
-use Rattle.bc_cert_lines.specs.Lines.{body_of, item_piece, piece, pieces_behind, code_of_line}
+use Rattle.bc_cert_lines.specs.Lines.{body_of, item_piece, piece, pieces_after, code_of_line}
 use Rattle.bc_cert_laws.specs.Entries.{piece_field, PieceHasRoom, pieces_line}
 use Rattle.bc_cert_laws.proofs.Numbers.{got, chosen, passed, number_read, number_back}
-use Rattle.bc_cert_laws.proofs.Fields.{Without, Above, each, lower, without, joined, behind_read, parted, fields_back, line_from, line_to, IsOneLine, line_ends}
+use Rattle.bc_cert_laws.proofs.Fields.{Without, Above, each, lower, without, joined, after_read, parted, fields_back, line_from, line_to, IsOneLine, line_ends}
 use Rattle.bc_cert_laws.proofs.Forms.{at_same, number_above}
 use Rattle.bc_cert_laws.proofs.Items.{item_read, item_back, item_above}
 
@@ -58,15 +58,15 @@ record PiecesRead (front : List Piece) (fs : List (List ℕ)) (ps : List Piece) 
   are : fs ≡ map piece_field list
   room : AllByRecursion PieceHasRoom list
 
-pieces_read : (front : List Piece) (fs : List (List ℕ)) (ps : List Piece) → pieces_behind front fs ≡ Some ps → PiecesRead front fs ps
+pieces_read : (front : List Piece) (fs : List (List ℕ)) (ps : List Piece) → pieces_after front fs ≡ Some ps → PiecesRead front fs ps
 pieces_read front [] ps h = let e : front ≡ ps = cc in record { list = []; all = sym (append-nil front ∙ e); are = refl; room = tt }
 pieces_read front (f ∷ fs) ps h =
-    let p = got (piece f) (λ x. pieces_behind (front ++ x ∷ []) fs) ps h in
+    let p = got (piece f) (λ x. pieces_after (front ++ x ∷ []) fs) ps h in
     let s = piece_read f p.0 p.1 in
     let rest = pieces_read (front ++ p.0 ∷ []) fs ps p.2 in
     record { list = p.0 ∷ rest.list; all = rest.all ∙ append_assoc front (p.0 ∷ []) rest.list; are = ap₂ (λ x xs. x ∷ xs) s.0 rest.are; room = (s.1, rest.room) }
 
-pieces_back : (front ps : List Piece) → AllByRecursion PieceHasRoom ps → pieces_behind front (map piece_field ps) ≡ Some (front ++ ps)
+pieces_back : (front ps : List Piece) → AllByRecursion PieceHasRoom ps → pieces_after front (map piece_field ps) ≡ Some (front ++ ps)
 pieces_back front [] h = ap Some (sym (append-nil front))
 pieces_back front (p ∷ ps) h = rw (piece_back p h.0) (pieces_back (front ++ p ∷ []) ps h.1 ∙ ap Some (append_assoc front (p ∷ []) ps))
 
@@ -81,12 +81,12 @@ of_fields text f fs (p ∷ ps) e h =
     let more : fs ≡ map piece_field ps = cc in
     ap (λ t. 67 ∷ 32 ∷ t) (e ∙ ap₂ (joined 32) first more)
 
-further_read : (l : List ℕ) (ps : List Piece) → behind l 67 >>= (λ text. pieces_behind [] (fields 32 text)) ≡ Some ps → CodeRead l ps
+further_read : (l : List ℕ) (ps : List Piece) → following l 67 >>= (λ text. pieces_after [] (fields 32 text)) ≡ Some ps → CodeRead l ps
 further_read l ps h =
-    let p = got (behind l 67) (λ text. pieces_behind [] (fields 32 text)) ps h in
+    let p = got (following l 67) (λ text. pieces_after [] (fields 32 text)) ps h in
     let f = parted 32 p.0 in
-    let r = pieces_read [] (f.first ∷ f.more) ps (sym (ap (pieces_behind []) f.fields) ∙ p.2) in
-    subst (CodeRead l) (sym r.all) (line_from l (67 ∷ []) (map piece_field r.list) (behind_read 67 l p.0 p.1 ∙ of_fields p.0 f.first f.more r.list f.is r.are), r.room)
+    let r = pieces_read [] (f.first ∷ f.more) ps (sym (ap (pieces_after []) f.fields) ∙ p.2) in
+    subst (CodeRead l) (sym r.all) (line_from l (67 ∷ []) (map piece_field r.list) (after_read 67 l p.0 p.1 ∙ of_fields p.0 f.first f.more r.list f.is r.are), r.room)
 
 pub code_read : (l : List ℕ) (ps : List Piece) → code_of_line l ≡ Some ps → (l ++ 10 ∷ [] ≡ pieces_line ps) × AllByRecursion PieceHasRoom ps
 code_read [] ps h = absurd (cc)
@@ -101,7 +101,7 @@ joined_back : (ps : List Piece) → AllByRecursion PieceHasRoom ps → code_of_l
 joined_back [] h = refl
 joined_back (p ∷ ps) h =
     let all = each (Above 32) (Without 32) (without 32 32 (omega arith)) (map piece_field (p ∷ ps)) (all_above (p ∷ ps) h) in
-    ap (pieces_behind []) (fields_back 32 (piece_field p) (map piece_field ps) all.0 all.1) ∙ pieces_back [] (p ∷ ps) h
+    ap (pieces_after []) (fields_back 32 (piece_field p) (map piece_field ps) all.0 all.1) ∙ pieces_back [] (p ∷ ps) h
 
 pub code_back : (l : List ℕ) (ps : List Piece) → AllByRecursion PieceHasRoom ps → l ++ 10 ∷ [] ≡ pieces_line ps → code_of_line l ≡ Some ps
 code_back l ps h e = ap code_of_line (line_to l (67 ∷ []) (map piece_field ps) e) ∙ joined_back ps h

@@ -14,14 +14,14 @@ use Rattle.bc_cert_node.specs.declared.form.Form.{Form}
 use Rattle.bc_cert_defs.specs.declared.head.Head.{Head}
 use Rattle.bc_cert_lines.specs.declared.lines.NodeLine.{NodeLine}
 use Rattle.bc_cert_lines.specs.declared.lines.RootLine.{RootLine}
-use Rattle.bc_cert_lines.specs.Fields.{◌>>=◌, field, behind, number, small, level, number_or_none}
+use Rattle.bc_cert_lines.specs.Fields.{◌>>=◌, field, following, number, small, level, number_or_none}
 use Rattle.bc_cert_lines.specs.Chains.{rules}
-use Rattle.bc_cert_lines.specs.Lines.{table_of, behind_byte, behind_bytes, header, entry_line, end_line, form, node_line}
+use Rattle.bc_cert_lines.specs.Lines.{table_of, after_byte, after_bytes, header, entry_line, end_line, form, node_line}
 use Rattle.bc_cert_laws.specs.Entries.{IsNumber, IsLevel}
 use Rattle.bc_cert_laws.specs.Faults.{HeadHasRoom, head_line, Name, IsName, names_field, CostsHaveRoom}
 use Rattle.bc_cert_laws.specs.Standing.{AreNamed, form_text, FormIsSmall, root_text}
 use Rattle.bc_cert_laws.proofs.Numbers.{got, chosen, passed, number_read, number_back, small_read, small_back, level_read, level_back, words_read, words_back, decimal_digits, Digits}
-use Rattle.bc_cert_laws.proofs.Fields.{Without, without, field_read, field_back, behind_read, line_from, line_to, IsOneLine, line_ends}
+use Rattle.bc_cert_laws.proofs.Fields.{Without, without, field_read, field_back, after_read, line_from, line_to, IsOneLine, line_ends}
 use Rattle.bc_cert_laws.proofs.Forms.{at_same, form_read, form_back, form_above, number_above, number_bytes, words_above}
 use Rattle.bc_cert_laws.proofs.Names.{rules_read, rules_back}
 use Rattle.bc_cert_laws.proofs.Roots.{root_begins}
@@ -30,15 +30,15 @@ pub use Rattle.bc_cert_laws.proofs.Roots.{root_read, root_back, root_ends}
 pub use Rattle.bc_cert_laws.proofs.Written.{rule_is_name, rules_are_names, rules_field_is, node_ends}
 
 -- the header
-behind_byte_read : (b : ℕ) (text rest : List ℕ) → behind_byte b text ≡ Some rest → text ≡ b ∷ rest
-behind_byte_read b [] rest h = absurd (cc)
-behind_byte_read b (c ∷ cs) rest h = let p = passed (c == b) (Some cs) rest h in let e = eqb-true c b p.0 in cc
+after_byte_read : (b : ℕ) (text rest : List ℕ) → after_byte b text ≡ Some rest → text ≡ b ∷ rest
+after_byte_read b [] rest h = absurd (cc)
+after_byte_read b (c ∷ cs) rest h = let p = passed (c == b) (Some cs) rest h in let e = eqb-true c b p.0 in cc
 
-behind_bytes_read : (bs text rest : List ℕ) → behind_bytes bs text ≡ Some rest → text ≡ bs ++ rest
-behind_bytes_read [] text rest h = cc
-behind_bytes_read (b ∷ bs) text rest h =
-    let p = got (behind_byte b text) (λ t. behind_bytes bs t) rest h in
-    behind_byte_read b text p.0 p.1 ∙ ap (λ t. b ∷ t) (behind_bytes_read bs p.0 rest p.2)
+after_bytes_read : (bs text rest : List ℕ) → after_bytes bs text ≡ Some rest → text ≡ bs ++ rest
+after_bytes_read [] text rest h = cc
+after_bytes_read (b ∷ bs) text rest h =
+    let p = got (after_byte b text) (λ t. after_bytes bs t) rest h in
+    after_byte_read b text p.0 p.1 ∙ ap (λ t. b ∷ t) (after_bytes_read bs p.0 rest p.2)
 
 abbrev title : List ℕ
 title = 66 ∷ 67 ∷ 80 ∷ 76 ∷ 67 ∷ 69 ∷ 82 ∷ 84 ∷ 32 ∷ []
@@ -54,8 +54,8 @@ table_read (b ∷ c ∷ bs) T h = absurd (cc)
 
 pub header_read : (l : List ℕ) (T : Table) → header l ≡ Some T → l ++ 10 ∷ [] ≡ header_line T
 header_read l T h =
-    let p = got (behind_bytes title l) (λ rest. table_of rest) T h in
-    ap (λ t. t ++ 10 ∷ []) (behind_bytes_read title l p.0 p.1) ∙ table_read p.0 T p.2
+    let p = got (after_bytes title l) (λ rest. table_of rest) T h in
+    ap (λ t. t ++ 10 ∷ []) (after_bytes_read title l p.0 p.1) ∙ table_read p.0 T p.2
 
 pub header_back : (l : List ℕ) (T : Table) → l ++ 10 ∷ [] ≡ header_line T → header l ≡ Some T
 header_back l One e = ap header (append_cancel_right l (title ++ 49 ∷ []) (10 ∷ []) e)
@@ -65,16 +65,16 @@ pub header_ends : (T : Table) → IsOneLine (header_line T)
 header_ends One = (title ++ 49 ∷ [], refl, refl)
 header_ends Two = (title ++ 50 ∷ [], refl, refl)
 
--- a field, and those behind it
+-- a field, and those after it
 next : (text : List ℕ) (p : List ℕ × List ℕ) (f rest : List ℕ) → field text ≡ Some p → p.0 ≡ f → p.1 ≡ rest → text ≡ f ++ 32 ∷ rest
 next text p f rest h e k = field_read text p.0 p.1 h ∙ ap₂ (λ x y. x ++ 32 ∷ y) e k
 
--- a step, and what stands behind it
+-- a step, and what stands after it
 then : {A B : Type 0} {o : Option A} {a : A} {b : B} (f : A → Option B) → o ≡ Some a → f a ≡ Some b → o >>= f ≡ Some b
 then f h k = ap (λ x. x >>= f) h ∙ k
 
-behind_step : {A B G : Type 0} (o : Option A) (f : A → Option B) (b : B) → o >>= f ≡ Some b → ((a : A) → o ≡ Some a → f a ≡ Some b → G) → G
-behind_step o f b h k = let p = got o f b h in k p.0 p.1 p.2
+after_step : {A B G : Type 0} (o : Option A) (f : A → Option B) (b : B) → o >>= f ≡ Some b → ((a : A) → o ≡ Some a → f a ≡ Some b → G) → G
+after_step o f b h k = let p = got o f b h in k p.0 p.1 p.2
 
 number_without : (n : ℕ) → IsNumber n → Without 32 (decimal n)
 number_without n h = without 32 32 (omega arith) (decimal n) (number_above 32 n (omega arith) h)
@@ -85,16 +85,16 @@ head_fields h = decimal h.segment ∷ decimal h.item ∷ decimal h.target ∷ de
 
 pub entry_read : (l : List ℕ) (h : Head) → entry_line l ≡ Some h → (l ++ 10 ∷ [] ≡ head_line h) × HeadHasRoom h
 entry_read l h k =
-    behind_step (behind l 69) _ h k (λ text is k.
-    behind_step (field text) _ h k (λ segment_field is1 k.
-    behind_step (field segment_field.1) _ h k (λ item_field is2 k.
-    behind_step (field item_field.1) _ h k (λ target_field is3 k.
-    behind_step (field target_field.1) _ h k (λ first_field is4 k.
-    behind_step (number segment_field.0) _ h k (λ segment n1 k.
-    behind_step (number item_field.0) _ h k (λ item n2 k.
-    behind_step (small target_field.0) _ h k (λ target n3 k.
-    behind_step (small first_field.0) _ h k (λ first n4 k.
-    behind_step (number first_field.1) _ h k (λ words n5 k.
+    after_step (following l 69) _ h k (λ text is k.
+    after_step (field text) _ h k (λ segment_field is1 k.
+    after_step (field segment_field.1) _ h k (λ item_field is2 k.
+    after_step (field item_field.1) _ h k (λ target_field is3 k.
+    after_step (field target_field.1) _ h k (λ first_field is4 k.
+    after_step (number segment_field.0) _ h k (λ segment n1 k.
+    after_step (number item_field.0) _ h k (λ item n2 k.
+    after_step (small target_field.0) _ h k (λ target n3 k.
+    after_step (small first_field.0) _ h k (λ first n4 k.
+    after_step (number first_field.1) _ h k (λ words n5 k.
     let r1 = number_read segment segment_field.0 n1 in
     let r2 = number_read item item_field.0 n2 in
     let r3 = small_read target target_field.0 n3 in
@@ -106,7 +106,7 @@ entry_read l h k =
     (next item_field.1 target_field (decimal target) _ is3 r3.0
     (next target_field.1 first_field (decimal first) (decimal words) is4 r4.0 r5.0))) in
     at_same (λ x. (l ++ 10 ∷ [] ≡ head_line x) × HeadHasRoom x) (record { segment = segment; item = item; target = target; first = first; words = words }) h k (
-      line_from l (69 ∷ []) (decimal segment ∷ decimal item ∷ decimal target ∷ decimal first ∷ decimal words ∷ []) (behind_read 69 l text is ∙ ap (λ t. 69 ∷ 32 ∷ t) fields),
+      line_from l (69 ∷ []) (decimal segment ∷ decimal item ∷ decimal target ∷ decimal first ∷ decimal words ∷ []) (after_read 69 l text is ∙ ap (λ t. 69 ∷ 32 ∷ t) fields),
       record { segment = r1.1; item = r2.1; target = r3.1; first = r4.1; words = r5.1 },
     )))))))))))
 
@@ -133,9 +133,9 @@ entry_ends h r =
 -- the last line
 pub end_read : (l : List ℕ) (n : ℕ) → end_line l ≡ Some n → (l ++ 10 ∷ [] ≡ end_text n) × IsNumber n
 end_read l n h =
-    let p = got (behind l 90) (λ text. number text) n h in
+    let p = got (following l 90) (λ text. number text) n h in
     let r = number_read n p.0 p.2 in
-    (line_from l (90 ∷ []) (decimal n ∷ []) (behind_read 90 l p.0 p.1 ∙ ap (λ t. 90 ∷ 32 ∷ t) r.0), r.1)
+    (line_from l (90 ∷ []) (decimal n ∷ []) (after_read 90 l p.0 p.1 ∙ ap (λ t. 90 ∷ 32 ∷ t) r.0), r.1)
 
 pub end_back : (l : List ℕ) (n : ℕ) → IsNumber n → l ++ 10 ∷ [] ≡ end_text n → end_line l ≡ Some n
 end_back l n r e = ap end_line (line_to l (90 ∷ []) (decimal n ∷ []) e) ∙ number_back n r
@@ -158,19 +158,19 @@ pub record NodeRead (n : NodeLine) (l : List ℕ) : Type 0 where
 
 pub node_read : (l : List ℕ) (n : NodeLine) → node_line l ≡ Some n → NodeRead n l
 node_read l n k =
-    behind_step (field l) _ n k (λ level_field is1 k.
-    behind_step (field level_field.1) _ n k (λ form_field is2 k.
-    behind_step (field form_field.1) _ n k (λ any_field is3 k.
-    behind_step (field any_field.1) _ n k (λ push_field is4 k.
-    behind_step (field push_field.1) _ n k (λ false_field is5 k.
-    behind_step (field false_field.1) _ n k (λ true_field is6 k.
-    behind_step (level level_field.0) _ n k (λ s n1 k.
-    behind_step (form form_field.0) _ n k (λ f n2 k.
-    behind_step (number any_field.0) _ n k (λ any n3 k.
-    behind_step (number_or_none push_field.0) _ n k (λ push n4 k.
-    behind_step (number false_field.0) _ n k (λ on_false n5 k.
-    behind_step (number true_field.0) _ n k (λ on_true n6 k.
-    behind_step (rules true_field.1) _ n k (λ rs n7 k.
+    after_step (field l) _ n k (λ level_field is1 k.
+    after_step (field level_field.1) _ n k (λ form_field is2 k.
+    after_step (field form_field.1) _ n k (λ any_field is3 k.
+    after_step (field any_field.1) _ n k (λ push_field is4 k.
+    after_step (field push_field.1) _ n k (λ false_field is5 k.
+    after_step (field false_field.1) _ n k (λ true_field is6 k.
+    after_step (level level_field.0) _ n k (λ s n1 k.
+    after_step (form form_field.0) _ n k (λ f n2 k.
+    after_step (number any_field.0) _ n k (λ any n3 k.
+    after_step (number_or_none push_field.0) _ n k (λ push n4 k.
+    after_step (number false_field.0) _ n k (λ on_false n5 k.
+    after_step (number true_field.0) _ n k (λ on_true n6 k.
+    after_step (rules true_field.1) _ n k (λ rs n7 k.
     let r1 = level_read s level_field.0 n1 in
     let r2 = form_read form_field.0 f n2 in
     let r3 = number_read any any_field.0 n3 in

@@ -7,8 +7,8 @@ use Rattle.bc_cert_trees.specs.declared.position.Position.{Position}
 use Rattle.bc_cert_trees.specs.Stacks.{◌>>=◌}
 use Rattle.bc_cert_laws.specs.Faults.{lines}
 
--- the place of the next line, behind these lines, these entries and so many nodes
-pub record StandsBehind (text : List ℕ) (js : List Judged) (nodes : ℕ) (p : Position) : Type 0 where
+-- the place of the next line, after these lines, these entries and so many nodes
+pub record StandsAfter (text : List ℕ) (js : List Judged) (nodes : ℕ) (p : Position) : Type 0 where
   pub line : p.line ≡ lines text + 1
   pub entry : p.entry ≡ length js
   pub node : p.node ≡ nodes

@@ -22,7 +22,7 @@ use Rattle.bc_select_defs.specs.Nodes.{in_order, all_in_order, root_in_order}
 use Rattle.bc_cert_write.specs.Shown.{Shown, root_shown}
 use Rattle.bc_cert_write.proofs.Texts.{nodes_in_order}
 use Rattle.bc_cert_laws.specs.Entries.{IsSmall, IsLevel, HasSmallNumber, RootHasRoom}
-use Rattle.bc_cert_laws.proofs.Growth.{HaveRoom, all_front, all_behind}
+use Rattle.bc_cert_laws.proofs.Growth.{HaveRoom, all_front, all_after}
 use Rattle.bc_cert_laws.proofs.Fields.{each_of_two}
 use Rattle.bc_cert_laws.proofs.Kept.{keys}
 
@@ -62,17 +62,17 @@ abbrev AllRoomy : Exp → ℕ → Type 0
 AllRoomy e s = AllByRecursion Roomy (in_order e s)
 
 own_roomy : (e : Exp) (s : ℕ) → AllRoomy e s → Roomy (e, s)
-own_roomy (Load e) s h = (all_behind Roomy (in_order e s) _ h).0
-own_roomy (Neg e) s h = (all_behind Roomy (in_order e s) _ h).0
-own_roomy (Not e) s h = (all_behind Roomy (in_order e s) _ h).0
-own_roomy (Bin op a b) s h = (all_behind Roomy (in_order a (s + 1) ++ in_order b (s + 1)) _ h).0
-own_roomy (Cond c x y) s h = (all_behind Roomy ((in_order c s ++ in_order x s) ++ in_order y s) _ h).0
-own_roomy (Call es f) s h = (all_behind Roomy (all_in_order es (s + 2) ++ in_order f (s + 2 + count es)) _ h).0
+own_roomy (Load e) s h = (all_after Roomy (in_order e s) _ h).0
+own_roomy (Neg e) s h = (all_after Roomy (in_order e s) _ h).0
+own_roomy (Not e) s h = (all_after Roomy (in_order e s) _ h).0
+own_roomy (Bin op a b) s h = (all_after Roomy (in_order a (s + 1) ++ in_order b (s + 1)) _ h).0
+own_roomy (Cond c x y) s h = (all_after Roomy ((in_order c s ++ in_order x s) ++ in_order y s) _ h).0
+own_roomy (Call es f) s h = (all_after Roomy (all_in_order es (s + 2) ++ in_order f (s + 2 + count es)) _ h).0
 own_roomy e s h = h.0
 
 argument_roomy : {es : Args} {e : Exp} {s u : ℕ} → Among es s e u → AllByRecursion Roomy (all_in_order es s) → AllRoomy e u
 argument_roomy (first {e = e} {es = es} {s = s}) h = all_front Roomy (in_order e s) (all_in_order es (s + 1)) h
-argument_roomy (later {a = a} {es = es} {s = s} o) h = argument_roomy o (all_behind Roomy (in_order a s) (all_in_order es (s + 1)) h)
+argument_roomy (later {a = a} {es = es} {s = s} o) h = argument_roomy o (all_after Roomy (in_order a s) (all_in_order es (s + 1)) h)
 
 part_roomy : {a e : Exp} {s u : ℕ} → Within a s e u → AllRoomy a s → AllRoomy e u
 part_roomy itself h = h
@@ -80,23 +80,23 @@ part_roomy (loaded {e = e} {s = s}) h = all_front Roomy (in_order e s) _ h
 part_roomy (negated {e = e} {s = s}) h = all_front Roomy (in_order e s) _ h
 part_roomy (inverted {e = e} {s = s}) h = all_front Roomy (in_order e s) _ h
 part_roomy (left {a = a} {b = b} {s = s}) h = let xs = in_order a (s + 1) in let ys = in_order b (s + 1) in all_front Roomy xs ys (all_front Roomy (xs ++ ys) _ h)
-part_roomy (right {a = a} {b = b} {s = s}) h = let xs = in_order a (s + 1) in let ys = in_order b (s + 1) in all_behind Roomy xs ys (all_front Roomy (xs ++ ys) _ h)
+part_roomy (right {a = a} {b = b} {s = s}) h = let xs = in_order a (s + 1) in let ys = in_order b (s + 1) in all_after Roomy xs ys (all_front Roomy (xs ++ ys) _ h)
 part_roomy (condition {c = c} {x = x} {y = y} {s = s}) h =
     let cs = in_order c s in let xs = in_order x s in let ys = in_order y s in all_front Roomy cs xs (all_front Roomy (cs ++ xs) ys (all_front Roomy ((cs ++ xs) ++ ys) _ h))
 part_roomy (this {c = c} {x = x} {y = y} {s = s}) h =
-    let cs = in_order c s in let xs = in_order x s in let ys = in_order y s in all_behind Roomy cs xs (all_front Roomy (cs ++ xs) ys (all_front Roomy ((cs ++ xs) ++ ys) _ h))
+    let cs = in_order c s in let xs = in_order x s in let ys = in_order y s in all_after Roomy cs xs (all_front Roomy (cs ++ xs) ys (all_front Roomy ((cs ++ xs) ++ ys) _ h))
 part_roomy (that {c = c} {x = x} {y = y} {s = s}) h =
-    let cs = in_order c s in let xs = in_order x s in let ys = in_order y s in all_behind Roomy (cs ++ xs) ys (all_front Roomy ((cs ++ xs) ++ ys) _ h)
+    let cs = in_order c s in let xs = in_order x s in let ys = in_order y s in all_after Roomy (cs ++ xs) ys (all_front Roomy ((cs ++ xs) ++ ys) _ h)
 part_roomy (an_argument {es = es} {f = f} {s = s} o) h =
     let xs = all_in_order es (s + 2) in let ys = in_order f (s + 2 + count es) in argument_roomy o (all_front Roomy xs ys (all_front Roomy (xs ++ ys) _ h))
 part_roomy (routine {es = es} {f = f} {s = s}) h =
-    let xs = all_in_order es (s + 2) in let ys = in_order f (s + 2 + count es) in all_behind Roomy xs ys (all_front Roomy (xs ++ ys) _ h)
+    let xs = all_in_order es (s + 2) in let ys = in_order f (s + 2 + count es) in all_after Roomy xs ys (all_front Roomy (xs ++ ys) _ h)
 
 side_roomy : {r : Root} {e : Exp} {u : ℕ} → Side r e u → AllByRecursion Roomy (root_in_order r) → AllRoomy e u
 side_roomy the_value h = h
 side_roomy the_test h = h
 side_roomy (assigned {v = v} {a = a} {s = s} i) h = let k = side_level a s in subst (AllRoomy v) i (all_front Roomy (in_order v k) (in_order a k) h)
-side_roomy (address {v = v} {a = a} {s = s} i) h = let k = side_level a s in subst (AllRoomy a) i (all_behind Roomy (in_order v k) (in_order a k) h)
+side_roomy (address {v = v} {a = a} {s = s} i) h = let k = side_level a s in subst (AllRoomy a) i (all_after Roomy (in_order v k) (in_order a k) h)
 
 operand_small : (e : Exp) (s : ℕ) (o : Operand) → operand_of e ≡ Some o → AllRoomy e s → o.n ≤ 65535
 operand_small (Num n) s o h room = let i : n ≡ o.n = cc in let k = room.0.1 in omega arith

@@ -11,16 +11,16 @@ use Rattle.bc_rules_defs.specs.Names.{rule_number, rule_letter}
 use Rattle.bc_cert_write.specs.Lines.{line, rule_name, sense_field}
 use Rattle.bc_cert_lines.specs.declared.lines.RootLine.{RootLine}
 use Rattle.bc_cert_lines.specs.declared.lines.RootLine.TheVariants.{Value, Test, Assign}
-use Rattle.bc_cert_lines.specs.Fields.{behind, level}
+use Rattle.bc_cert_lines.specs.Fields.{following, level}
 use Rattle.bc_cert_lines.specs.Lines.{assigned, root_of, root_line}
 use Rattle.bc_cert_laws.specs.Entries.{IsLevel}
 use Rattle.bc_cert_laws.specs.Faults.{Grown, IsAssignment, first, second, third, RootOver, value, test, assign}
 use Rattle.bc_cert_laws.specs.Standing.{root_text, RootLineIsSmall}
 use Rattle.bc_cert_laws.proofs.Numbers.{got, chosen, passed, level_read, level_back}
-use Rattle.bc_cert_laws.proofs.Fields.{Above, joined, behind_read, line_from, line_to, IsOneLine, line_ends}
+use Rattle.bc_cert_laws.proofs.Fields.{Above, joined, after_read, line_from, line_to, IsOneLine, line_ends}
 use Rattle.bc_cert_laws.proofs.Forms.{at_same, number_above}
 
--- the fields behind the first one
+-- the fields after the first one
 abbrev root_fields : RootLine → List (List ℕ)
 root_fields Value = (86 ∷ []) ∷ []
 root_fields (Test sense) = sense_field sense ∷ []
@@ -31,7 +31,7 @@ root_fields_are Value = refl
 root_fields_are (Test sense) = refl
 root_fields_are (Assign r s) = refl
 
--- the text behind the first field says the root
+-- the text after the first field says the root
 abbrev Says : List ℕ → RootLine → Type 0
 Says text r = (82 ∷ 32 ∷ text ≡ joined 32 (82 ∷ []) (root_fields r)) × RootLineIsSmall r
 
@@ -78,9 +78,9 @@ root_of_read (a ∷ n ∷ b ∷ digits) r h =
 
 pub root_read : (l : List ℕ) (r : RootLine) → root_line l ≡ Some r → (l ++ 10 ∷ [] ≡ root_text r) × RootLineIsSmall r
 root_read l r h =
-    let p = got (behind l 82) (λ text. root_of text) r h in
+    let p = got (following l 82) (λ text. root_of text) r h in
     let s = root_of_read p.0 r p.2 in
-    (line_from l (82 ∷ []) (root_fields r) (behind_read 82 l p.0 p.1 ∙ s.0) ∙ sym (root_fields_are r), s.1)
+    (line_from l (82 ∷ []) (root_fields r) (after_read 82 l p.0 p.1 ∙ s.0) ∙ sym (root_fields_are r), s.1)
 
 -- what is written is read
 assign_back : (r : Rule) (s : ℕ) → IsAssignment r → IsLevel s → root_line (82 ∷ 32 ∷ (rule_name r ++ 32 ∷ decimal s)) ≡ Some (Assign r s)

@@ -18,20 +18,20 @@ use Rattle.bc_cert_laws.specs.Faults.{HeadHasRoom, head_line, Grown, all_shown, 
 use Rattle.bc_cert_laws.proofs.Fields.{each_of_two}
 use Rattle.bc_cert_laws.proofs.Growth.{HaveRoom}
 
--- whole entries behind the header, and then these lines
-record Behind (T : Table) (js : List Judged) (text own : List ℕ) : Type 0 where
+-- whole entries after the header, and then these lines
+record After (T : Table) (js : List Judged) (text own : List ℕ) : Type 0 where
   texts : List ℕ
   entries : AllListed T js texts
   is : text ≡ header_line T ++ (texts ++ own)
 
 -- what the lines of each stage are
 record AtNodes (text : List ℕ) (T : Table) (js : List Judged) (h : Head) (trees : List Grown) : Type 0 where
-  behind : Behind T js text (head_line h ++ flat_map (line_of_node T) (all_shown trees))
+  following : After T js text (head_line h ++ flat_map (line_of_node T) (all_shown trees))
   head : HeadHasRoom h
   room : HaveRoom T (all_shown trees)
 
 record AtCode (text : List ℕ) (T : Table) (js : List Judged) (h : Head) (r : Root) (d : RootDerives T r) : Type 0 where
-  behind : Behind T js text (head_line h ++ (flat_map (line_of_node T) (root_shown d) ++ line_of_root d))
+  following : After T js text (head_line h ++ (flat_map (line_of_node T) (root_shown d) ++ line_of_root d))
   head : HeadHasRoom h
   room : HaveRoom T (root_shown d)
   level : RootHasRoom r
@@ -39,12 +39,12 @@ record AtCode (text : List ℕ) (T : Table) (js : List Judged) (h : Head) (r : R
 
 abbrev Holds : List ℕ → Stage → Type 0
 Holds text the_header = text ≡ []
-Holds text (between T js) = Behind T js text []
+Holds text (between T js) = After T js text []
 Holds text (nodes T js h trees) = AtNodes text T js h trees
 Holds text (code T js h r d) = AtCode text T js h r d
 Holds text (the_end T js) = Says text (record { table = T; entries = js })
 
-longer : (T : Table) (js : List Judged) (text own l all : List ℕ) → own ++ l ≡ all → Behind T js text own → Behind T js (text ++ l) all
+longer : (T : Table) (js : List Judged) (text own l all : List ℕ) → own ++ l ≡ all → After T js text own → After T js (text ++ l) all
 longer T js text own l all e b = record {
   texts = b.texts;
   entries = b.entries;
@@ -67,12 +67,12 @@ after_node : (text : List ℕ) (T : Table) (js : List Judged) (h : Head) (trees 
 after_node text T js h trees e s rules ends room a =
     let all = shown_with e s rules trees ends in
     record {
-      behind =
+      following =
           longer T js text _ (line_of_node T (node e s rules)) _
           (append_assoc (head_line h) _ _ ∙ ap (λ l. head_line h ++ l)
           (ap (λ l. flat_map (line_of_node T) (all_shown trees) ++ l) (sym (append-nil (line_of_node T (node e s rules))))
           ∙ sym (flat_map-append (line_of_node T) (all_shown trees) (node e s rules ∷ [])) ∙ ap (flat_map (line_of_node T)) (sym all)))
-          a.behind;
+          a.following;
       head = a.head;
       room = subst (HaveRoom T) (sym all) (each_of_two (NodeHasRoom T) (all_shown trees) (node e s rules ∷ []) a.room (room, tt));
     }
@@ -84,22 +84,22 @@ root_room _ _ _ (assign i room v a) = room
 
 after_root : (text : List ℕ) (T : Table) (js : List Judged) (h : Head) (trees : List Grown) (r : Root) (l : List ℕ) (d : RootDerives T r) → RootOver trees r l → RootStands T r (all_shown trees) l d → AtNodes text T js h trees → AtCode (text ++ l) T js h r d
 after_root text T js h trees r l d over stands a = record {
-  behind =
+  following =
       longer T js text _ l _
       (append_assoc (head_line h) _ _ ∙ ap (λ x. head_line h ++ x) (ap (λ x. flat_map (line_of_node T) x ++ l) stands.shown ∙ ap (λ x. flat_map (line_of_node T) (root_shown d) ++ x) stands.is))
-      a.behind;
+      a.following;
   head = a.head;
   room = subst (HaveRoom T) stands.shown a.room;
   level = root_room trees r l over;
   fewest = stands.fewest;
 }
 
-after_code : (text : List ℕ) (T : Table) (js : List Judged) (h : Head) (r : Root) (d : RootDerives T r) (ps : List Piece) → AllByRecursion PieceHasRoom ps → IsCode d h ps → root_cost d ≡ h.words → AtCode text T js h r d → Behind T (js ++ judged h r ps ∷ []) (text ++ pieces_line ps) []
+after_code : (text : List ℕ) (T : Table) (js : List Judged) (h : Head) (r : Root) (d : RootDerives T r) (ps : List Piece) → AllByRecursion PieceHasRoom ps → IsCode d h ps → root_cost d ≡ h.words → AtCode text T js h r d → After T (js ++ judged h r ps ∷ []) (text ++ pieces_line ps) []
 after_code text T js h r d ps room is words a =
     let own = head_line h ++ (flat_map (line_of_node T) (root_shown d) ++ (line_of_root d ++ pieces_line ps)) in
     record {
-      texts = a.behind.texts ++ own;
-      entries = more a.behind.entries (record {
+      texts = a.following.texts ++ own;
+      entries = more a.following.entries (record {
         derivation = d;
         code = is.same;
         words = words;
@@ -115,12 +115,12 @@ after_code text T js h r d ps room is words a =
         pieces = room;
         lines = refl;
       });
-      is = ap (λ x. x ++ pieces_line ps) a.behind.is ∙ joined (header_line T) a.behind.texts (head_line h) (flat_map (line_of_node T) (root_shown d)) (line_of_root d) (pieces_line ps);
+      is = ap (λ x. x ++ pieces_line ps) a.following.is ∙ joined (header_line T) a.following.texts (head_line h) (flat_map (line_of_node T) (root_shown d)) (line_of_root d) (pieces_line ps);
     } where
       joined : (h t a b c e : List ℕ) → (h ++ (t ++ (a ++ (b ++ c)))) ++ e ≡ h ++ ((t ++ (a ++ (b ++ (c ++ e)))) ++ [])
       joined h t a b c e = simp (append_assoc, append-nil)
 
-after_last : (text : List ℕ) (T : Table) (js : List Judged) → length js < 2 ^ 64 → Behind T js text [] → Says (text ++ end_line (length js)) (record { table = T; entries = js })
+after_last : (text : List ℕ) (T : Table) (js : List Judged) → length js < 2 ^ 64 → After T js text [] → Says (text ++ end_line (length js)) (record { table = T; entries = js })
 after_last text T js room b = record {
   texts = b.texts;
   entries = b.entries;
@@ -135,7 +135,7 @@ holds _ _ nothing = refl
 holds _ _ (header {T = T}) = record { texts = []; entries = none; is = sym (append-nil (header_line T)) }
 holds _ _ (entry {text = text} {T = T} {js = js} {h = h} r room) =
     let b = holds text (between T js) r in
-    record { behind = longer T js text [] (head_line h) _ (sym (append-nil (head_line h))) b; head = room; room = tt }
+    record { following = longer T js text [] (head_line h) _ (sym (append-nil (head_line h))) b; head = room; room = tt }
 holds _ _ (node_line {text = text} {T = T} {js = js} {h = h} {trees = trees} {e = e} {s = s} {rules = rules} r ends room stands) = after_node text T js h trees e s rules ends room (holds text (nodes T js h trees) r)
 holds _ _ (root_line {text = text} {T = T} {js = js} {h = h} {trees = trees} {r = x} {l = l} {d = d} r over stands) = after_root text T js h trees x l d over stands (holds text (nodes T js h trees) r)
 holds _ _ (code_line {text = text} {T = T} {js = js} {h = h} {r = x} {d = d} {ps = ps} r room is words) = after_code text T js h x d ps room is words (holds text (code T js h x d) r)

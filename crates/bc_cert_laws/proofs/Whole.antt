@@ -22,7 +22,7 @@ use Rattle.bc_cert_laws.proofs.Frame.{Related, Made, lines_of_two, line_right, l
 abbrev Fed : Type 0
 Fed = State × List ℕ
 
--- behind a line
+-- after a line
 abbrev anew : State → Result Fed CheckFault
 anew st = Ok (st, [])
 
@@ -100,7 +100,7 @@ comes _ _ (code_line {text = text} {T = T} {js = js} {h = h} {r = x} {d = d} {ps
 comes _ _ (last_line {text = text} {T = T} {js = js} r room) =
     by_line text (between T js) (the_end T js) _ (comes text (between T js) r) (end_ends _ room) (λ st l u e k. last_made text T js st l _ u e room refl k)
 
--- Where the checker is behind bytes: lines that lead there, and bytes that end no line; or the bytes have the fault.
+-- Where the checker is after bytes: lines that lead there, and bytes that end no line; or the bytes have the fault.
 record Stopped (whole : List ℕ) (s : Fed) : Type 0 where
   text : List ℕ
   stage : Stage

@@ -28,7 +28,7 @@ use Rattle.bc_cert_laws.specs.Judging.{State, nodes as at_nodes, code as at_code
 use Rattle.bc_cert_laws.specs.Standing.{AreNamed, form_text, root_text, RootLineIsSmall, FormIsSmall}
 use Rattle.bc_cert_laws.proofs.Read.{NodeRead, node_read, node_back, root_read, root_back, node_no_root, rules_are_names, rules_field_is}
 use Rattle.bc_cert_laws.proofs.Over.{some_same}
-use Rattle.bc_cert_laws.proofs.Results.{StandsBehind, bound, ok_same, err_same}
+use Rattle.bc_cert_laws.proofs.Results.{StandsAfter, bound, ok_same, err_same}
 use Rattle.bc_cert_laws.proofs.CodeSteps.{rooted_by}
 use Rattle.bc_cert_laws.proofs.Keeping.{StackStands, kept}
 use Rattle.bc_cert_laws.proofs.RootSteps.{IsRootOf, of_value, of_test, of_assignment, RootRight, RootWrong, no_derivation, no_root, root_made, root_right, root_wrong}
@@ -36,7 +36,7 @@ use Rattle.bc_cert_laws.proofs.NodeParts.{own_form, form_text_is, small_form, sm
 use Rattle.bc_cert_laws.proofs.NodeCosts.{by_derivations, by_choices, least_costs}
 use Rattle.bc_cert_laws.proofs.NodeSteps.{fits_of_ends, NodeDecision, fits, misfit, node_decided, NodeRight, NodeWrong, is_deep, is_cost, is_rule, node_right, node_wrong, node_made}
 
--- what a line within an entry was, and what comes behind it
+-- what a line within an entry was, and what comes after it
 pub data WithinTaken (T : Table) (ts : List Grown) (h : Head) (l : List ℕ) (st after : State) : Type 0 where
   a_node : (e : Exp) (s : ℕ) (rules : List Rule) (ends : Ends e s ts) → NodeHasRoom T (node e s rules) → StandsBy T e s rules (all_shown ends.own ++ node e s rules ∷ []) → l ++ 10 ∷ [] ≡ line_of_node T (node e s rules)
       → (x : Stack) → StackStands T (ends.before ++ grown e s rules ends.own ∷ []) x → after ≡ record st { stage = at_nodes h; trees = x; nodes = st.nodes + 1 } → WithinTaken T ts h l st after
@@ -194,7 +194,7 @@ other_root l {ts = ts} {said = said} {r = r} h k =
     let over = line_over k in subst (λ q. IsRootOf q ts r) (some_same (sym (root_back l over.said over.small over.is) ∙ h)) over.over
 
 -- the fault of a line
-node_fault : (text : List ℕ) {T : Table} (js : List Judged) (ts : List Grown) (st : State) (h : Head) (l : List ℕ) (p : Position) (f : CheckFault) (n : NodeLine) → StandsBehind text js (length (all_shown ts)) p → StackStands T ts st.trees → node_line l ≡ Some n
+node_fault : (text : List ℕ) {T : Table} (js : List Judged) (ts : List Grown) (st : State) (h : Head) (l : List ℕ) (p : Position) (f : CheckFault) (n : NodeLine) → StandsAfter text js (length (all_shown ts)) p → StackStands T ts st.trees → node_line l ≡ Some n
     → node_step T n p st.trees ≡ Err f → LineFault text (nodes T js h ts) (l ++ 10 ∷ []) f
 node_fault text {T = T} js ts st h l p f n place stands i k = at (node_decided n ts st.trees p (kept T ts st.trees.marks st.trees.facts st.trees.expressions st.trees.derivations stands)) where
   found : {e : Exp} (ends : Ends e n.level ts) (form : n.form ≡ own_form e) (read : NodeRead n l) (g : CheckFault) → NodeWrong T n ts read.names e ends p g → LineFault text (nodes T js h ts) (l ++ 10 ∷ []) g
@@ -214,7 +214,7 @@ node_fault text {T = T} js ts st h l p f n place stands i k = at (node_decided n
       let fit = fits_of_ends n ts st.trees ends (kept T ts st.trees.marks st.trees.facts st.trees.expressions st.trees.derivations stands) form in
       found ends form read f (node_wrong p read.names f fit read.rules k)
 
-root_fault : (text : List ℕ) {T : Table} (js : List Judged) (ts : List Grown) (st : State) (h : Head) (l : List ℕ) (p : Position) (f : CheckFault) (said : RootLine) → StandsBehind text js (length (all_shown ts)) p → StackStands T ts st.trees → node_line l ≡ None
+root_fault : (text : List ℕ) {T : Table} (js : List Judged) (ts : List Grown) (st : State) (h : Head) (l : List ℕ) (p : Position) (f : CheckFault) (said : RootLine) → StandsAfter text js (length (all_shown ts)) p → StackStands T ts st.trees → node_line l ≡ None
     → root_line l ≡ Some said → root_step said p st.trees ≡ Err f → LineFault text (nodes T js h ts) (l ++ 10 ∷ []) f
 root_fault text {T = T} js ts st h l p f said place stands i j k = let read = root_read l said j in at read f k (root_wrong T ts said st.trees p f stands read.1 k) where
   at : (l ++ 10 ∷ [] ≡ root_text said) × RootLineIsSmall said → (g : CheckFault) → root_step said p st.trees ≡ Err g → RootWrong said ts p g → LineFault text (nodes T js h ts) (l ++ 10 ∷ []) g
@@ -225,7 +225,7 @@ root_fault text {T = T} js ts st h l p f said place stands i j k = let read = ro
         made m = cc
   at read _ k (no_root none) = subst (LineFault text (nodes T js h ts) (l ++ 10 ∷ [])) (ap faults.Line (sym place.line)) (no_form (λ e s c names ends. unread_node l i) (λ r over. none r (other_root l j over)))
 
-pub within_fault : (text : List ℕ) (T : Table) (js : List Judged) (ts : List Grown) (st : State) (h : Head) (l : List ℕ) (p : Position) (f : CheckFault) → StandsBehind text js (length (all_shown ts)) p → st.table ≡ T → StackStands T ts st.trees
+pub within_fault : (text : List ℕ) (T : Table) (js : List Judged) (ts : List Grown) (st : State) (h : Head) (l : List ℕ) (p : Position) (f : CheckFault) → StandsAfter text js (length (all_shown ts)) p → st.table ≡ T → StackStands T ts st.trees
     → within_step h l p st ≡ Err f → LineFault text (nodes T js h ts) (l ++ 10 ∷ []) f
 within_fault text T js ts st h l p f place t stands k = at (node_line l) refl (root_line l) refl where
   at : (o : Option NodeLine) → node_line l ≡ o → (r : Option RootLine) → root_line l ≡ r → LineFault text (nodes T js h ts) (l ++ 10 ∷ []) f
@@ -374,10 +374,10 @@ no_form_fails {T = T} ts st h l p t stands no_nodes no_roots = at (node_line l) 
       (λ g k. fault said g read.0 (root_wrong T ts said st.trees p g stands read.1 k)))
   at None i None j = no_line_so h l p st i j
 
-wrong_at : {js : List Judged} {text : List ℕ} {p : Position} (ts : List Grown) → StandsBehind text js (length (all_shown ts)) p → faults.WrongRule p.entry p.node ≡ faults.WrongRule (length js) (length (all_shown ts))
+wrong_at : {js : List Judged} {text : List ℕ} {p : Position} (ts : List Grown) → StandsAfter text js (length (all_shown ts)) p → faults.WrongRule p.entry p.node ≡ faults.WrongRule (length js) (length (all_shown ts))
 wrong_at {p = p} ts place = ap (faults.WrongRule p.entry) place.node ∙ ap (λ x. faults.WrongRule x (length (all_shown ts))) place.entry
 
-pub within_fails : (text : List ℕ) (T : Table) (js : List Judged) (ts : List Grown) (st : State) (h : Head) (l m : List ℕ) (p : Position) (f : CheckFault) → StandsBehind text js (length (all_shown ts)) p → st.table ≡ T → StackStands T ts st.trees
+pub within_fails : (text : List ℕ) (T : Table) (js : List Judged) (ts : List Grown) (st : State) (h : Head) (l m : List ℕ) (p : Position) (f : CheckFault) → StandsAfter text js (length (all_shown ts)) p → st.table ≡ T → StackStands T ts st.trees
     → m ≡ l ++ 10 ∷ [] → LineFault text (nodes T js h ts) m f → within_step h l p st ≡ Err f
 within_fails text T js ts st h l m p f place t stands i (no_form no_nodes no_roots) =
     no_form_fails ts st h l p t stands (λ e s c names ends is. no_nodes e s c names ends (subst (IsNodeLine e s c names) (sym i) is)) (λ r over. no_roots r (subst (RootOver ts r) (sym i) over))

@@ -9,8 +9,8 @@ use Rattle.bc_cert_defs.specs.Verdict.{Judged}
 use Rattle.bc_cert_laws.specs.Entries.{Says, none}
 use Rattle.bc_cert_laws.specs.Faults.{the_header, between, the_end, Lacks, at_line, in_header, in_lines, nothing, header, no_header}
 
-is_behind : {T : Table} {js : List Judged} → ¬ (between T js ≡ the_header)
-is_behind h = cc
+is_after : {T : Table} {js : List Judged} → ¬ (between T js ≡ the_header)
+is_after h = cc
 
 is_no_end : {T U : Table} {js ks : List Judged} → ¬ (between T js ≡ the_end U ks)
 is_no_end h = cc
@@ -31,7 +31,7 @@ of_another_line = at_line (88 ∷ []) [] nothing refl (no_header is_none) where
 
 -- the header alone
 pub of_the_header : Lacks (header_line Two) Truncated
-of_the_header = in_lines {rest = []} (header {T = Two}) is_behind refl (λ T js h r. is_no_end h)
+of_the_header = in_lines {rest = []} (header {T = Two}) is_after refl (λ T js h r. is_no_end h)
 
 -- no entries: `BCPLCERT 1`, and `Z 0`
 pub of_no_entries : Says (header_line One ++ end_line 0) (record { table = One; entries = [] })

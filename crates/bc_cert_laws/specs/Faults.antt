@@ -151,7 +151,7 @@ pub record RootStands (T : Table) (r : Root) (nodes : List Shown) (text : List �
   pub is : text ≡ line_of_root d
   pub fewest : (other : RootDerives T r) → root_cost d ≤ root_cost other
 
--- What may come next: behind the header and whole entries, behind some node lines, behind a root line.
+-- What may come next: after the header and whole entries, after some node lines, after a root line.
 pub data Stage : Type 0 where
   the_header : Stage
   between : Table → List Judged → Stage
@@ -217,13 +217,13 @@ pub data LineFault (text : List ℕ) : Stage → List ℕ → CheckFault → Typ
       → ¬ IsCode d h ps → LineFault text (code T js h r d) (pieces_line ps) (WrongCode (length js))
   wrong_words : {T : Table} {js : List Judged} {h : Head} {r : Root} {d : RootDerives T r} {ps : List Piece} → AllByRecursion PieceHasRoom ps
       → IsCode d h ps → ¬ (root_cost d ≡ h.words) → LineFault text (code T js h r d) (pieces_line ps) (WrongWords (length js))
-  behind : {T : Table} {js : List Judged} {l : List ℕ} → LineFault text (the_end T js) l (Line (lines text + 1))
+  following : {T : Table} {js : List Judged} {l : List ℕ} → LineFault text (the_end T js) l (Line (lines text + 1))
 
 -- bytes that end no line
 abbrev pub IsUnended : List ℕ → Type 0
 IsUnended bytes = lines bytes ≡ 0
 
--- the first fault: that of a line behind lines that are right, or the want of a last line
+-- the first fault: that of a line after lines that are right, or the want of a last line
 pub data Lacks : List ℕ → CheckFault → Type 0 where
   at_line : {text : List ℕ} {stage : Stage} {f : CheckFault} (l rest : List ℕ) → Reaches text stage → IsUnended l → LineFault text stage (l ++ 10 ∷ []) f
       → Lacks (text ++ (l ++ 10 ∷ rest)) f

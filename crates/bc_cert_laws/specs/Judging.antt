@@ -1,4 +1,4 @@
--- For proofs: what a certificate comes to, line by line: the first fault of a line, or what comes behind it.
+-- For proofs: what a certificate comes to, line by line: the first fault of a line, or what comes after it.
 use Rattle.std.specs.Prelude.{ℕ, ◌+◌, ◌==◌, Bool, true, false, ◌&&◌, cond, nat_le, length, List, [], ◌∷◌, ◌++◌, Option, Some, None, Result, Ok, Err}
 use Rattle.bc_text_items.specs.declared.item.Item.{Item}
 use Rattle.bc_text_items.specs.contracts.item.ItemPartialEq.TheImpl.{ghosts}
@@ -135,7 +135,7 @@ counted st = record st { lines = st.lines + 1; stage = the_end }
 abbrev pub line_step : List ℕ → State → Result State CheckFault
 line_step line st = step_at st.stage line (place_of (counted st)) (counted st)
 
--- a byte, behind those of a line that has not ended yet
+-- a byte, after those of a line that has not ended yet
 abbrev pub byte_step : ℕ → State × List ℕ → Result (State × List ℕ) CheckFault
 byte_step b s = cond (b == 10) (line_step s.1 s.0 >>= (λ st. Ok (st, []))) (Ok (s.0, s.1 ++ b ∷ []))
 

@@ -6,4 +6,4 @@ pub mod Laws
 pub mod Standing
 pub mod Examples
 pub mod Sample
-pub mod examples
+pub mod worked

@@ -107,7 +107,7 @@ pub other_words : judged (header_line
 unfolding sum
 other_words = refl
 
--- behind the last line there is nothing
+-- after the last line there is nothing
 pub further_line : judged (sample ++ header_line) ≡ Err (Line 10)
 unfolding sum
 further_line = refl

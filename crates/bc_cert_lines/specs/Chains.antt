@@ -28,18 +28,18 @@ begun J6 = Tested
 begun V0 = Freed false
 begun r = whole false false r
 
-abbrev pub behind_test : Rule → Names
-behind_test V0 = Freed true
-behind_test r = of_value r (whole true false r)
+abbrev pub after_test : Rule → Names
+after_test V0 = Freed true
+after_test r = of_value r (whole true false r)
 
-abbrev pub behind_free : Bool → Rule → Names
-behind_free tested V0 = Wrong
-behind_free tested r = of_value r (whole tested true r)
+abbrev pub after_free : Bool → Rule → Names
+after_free tested V0 = Wrong
+after_free tested r = of_value r (whole tested true r)
 
 abbrev pub longer_by : Names → Rule → Names
 longer_by Nothing r = begun r
-longer_by Tested r = behind_test r
-longer_by (Freed tested) r = behind_free tested r
+longer_by Tested r = after_test r
+longer_by (Freed tested) r = after_free tested r
 longer_by _ r = Wrong
 
 abbrev pub longer : Names → Option Rule → Names

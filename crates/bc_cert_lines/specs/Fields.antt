@@ -6,17 +6,17 @@ abbrev pub ◌>>=◌ : {A B : Type 0} → Option A → (A → Option B) → Opti
 (Some x) >>= f = f x
 None >>= f = None
 
--- the bytes up to the first separator, and those behind it, if there is one
+-- the bytes up to the first separator, and those after it, if there is one
 pub record Cut : Type 0 where
   pub first : List ℕ
-  pub behind : Option (List ℕ)
+  pub following : Option (List ℕ)
 
 abbrev pub longer : List ℕ → Cut → Cut
-longer front c = record { first = front ++ c.first; behind = c.behind }
+longer front c = record { first = front ++ c.first; following = c.following }
 
 abbrev pub cut : ℕ → List ℕ → Cut
-cut separator [] = record { first = []; behind = None }
-cut separator (b ∷ bs) = cond (b == separator) (record { first = []; behind = Some bs }) (longer (b ∷ []) (cut separator bs))
+cut separator [] = record { first = []; following = None }
+cut separator (b ∷ bs) = cond (b == separator) (record { first = []; following = Some bs }) (longer (b ∷ []) (cut separator bs))
 
 -- the fields between separators
 abbrev pub put : ℕ → List (List ℕ) → List (List ℕ)
@@ -27,18 +27,18 @@ abbrev pub fields : ℕ → List ℕ → List (List ℕ)
 fields separator [] = [] ∷ []
 fields separator (b ∷ bs) = cond (b == separator) ([] ∷ fields separator bs) (put b (fields separator bs))
 
--- the first field, and what stands behind it and its blank
+-- the first field, and what stands after it and its blank
 abbrev pub field_of : List ℕ → Option (List ℕ) → Option (List ℕ × List ℕ)
 field_of first None = None
 field_of first (Some rest) = Some (first, rest)
 
 abbrev pub field : List ℕ → Option (List ℕ × List ℕ)
-field text = field_of (cut 32 text).first (cut 32 text).behind
+field text = field_of (cut 32 text).first (cut 32 text).following
 
--- what stands behind a letter and a blank
-abbrev pub behind : List ℕ → ℕ → Option (List ℕ)
-behind (a ∷ b ∷ rest) letter = cond (a == letter) (cond (b == 32) (Some rest) None) None
-behind _ letter = None
+-- what stands after a letter and a blank
+abbrev pub following : List ℕ → ℕ → Option (List ℕ)
+following (a ∷ b ∷ rest) letter = cond (a == letter) (cond (b == 32) (Some rest) None) None
+following _ letter = None
 
 abbrev pub is_digit : ℕ → Bool
 is_digit b = nat_le 48 b && nat_le b 57

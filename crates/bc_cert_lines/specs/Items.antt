@@ -38,7 +38,7 @@ global_at first None = None
 global_at first (Some rest) = global_with (small first) (small rest)
 
 abbrev pub global_of : List ℕ → Option Item
-global_of text = global_at (cut 76 text).first (cut 76 text).behind
+global_of text = global_at (cut 76 text).first (cut 76 text).following
 
 abbrev pub function_of : ℕ → Option Function
 function_of b =

@@ -15,7 +15,7 @@ use Rattle.bc_cert_defs.specs.declared.head.Head.{Head}
 use Rattle.bc_cert_lines.specs.declared.lines.NodeLine.{NodeLine}
 use Rattle.bc_cert_lines.specs.declared.lines.RootLine.{RootLine}
 use Rattle.bc_cert_lines.specs.declared.lines.RootLine.TheVariants.{Value, Test, Assign}
-use Rattle.bc_cert_lines.specs.Fields.{◌>>=◌, field, fields, behind, number, small, level, number_or_none}
+use Rattle.bc_cert_lines.specs.Fields.{◌>>=◌, field, fields, following, number, small, level, number_or_none}
 use Rattle.bc_cert_lines.specs.Chains.{rules}
 use Rattle.bc_cert_lines.specs.Items.{item}
 
@@ -24,21 +24,21 @@ abbrev pub table_of : List ℕ → Option Table
 table_of (b ∷ []) = cond (b == 49) (Some One) (cond (b == 50) (Some Two) None)
 table_of _ = None
 
-abbrev pub behind_byte : ℕ → List ℕ → Option (List ℕ)
-behind_byte b [] = None
-behind_byte b (c ∷ cs) = cond (c == b) (Some cs) None
+abbrev pub after_byte : ℕ → List ℕ → Option (List ℕ)
+after_byte b [] = None
+after_byte b (c ∷ cs) = cond (c == b) (Some cs) None
 
-abbrev pub behind_bytes : List ℕ → List ℕ → Option (List ℕ)
-behind_bytes [] text = Some text
-behind_bytes (b ∷ bs) text = behind_byte b text >>= (λ rest. behind_bytes bs rest)
+abbrev pub after_bytes : List ℕ → List ℕ → Option (List ℕ)
+after_bytes [] text = Some text
+after_bytes (b ∷ bs) text = after_byte b text >>= (λ rest. after_bytes bs rest)
 
 -- `BCPLCERT `
 abbrev pub header : List ℕ → Option Table
-header line = behind_bytes (66 ∷ 67 ∷ 80 ∷ 76 ∷ 67 ∷ 69 ∷ 82 ∷ 84 ∷ 32 ∷ []) line >>= (λ rest. table_of rest)
+header line = after_bytes (66 ∷ 67 ∷ 80 ∷ 76 ∷ 67 ∷ 69 ∷ 82 ∷ 84 ∷ 32 ∷ []) line >>= (λ rest. table_of rest)
 
 abbrev pub entry_line : List ℕ → Option Head
 entry_line line =
-    behind line 69 >>= (λ text.
+    following line 69 >>= (λ text.
     field text >>= (λ segment_field.
     field segment_field.1 >>= (λ item_field.
     field item_field.1 >>= (λ target_field.
@@ -51,7 +51,7 @@ entry_line line =
     Some (record { segment = segment; item = place; target = target; first = first; words = words })))))))))))
 
 abbrev pub end_line : List ℕ → Option ℕ
-end_line line = behind line 90 >>= (λ text. number text)
+end_line line = following line 90 >>= (λ text. number text)
 
 abbrev pub operators : List Op
 operators = Multiply ∷ Divide ∷ Remainder ∷ Add ∷ Subtract ∷ Equal ∷ NotEqual ∷ Less ∷ GreaterEqual ∷ Greater ∷ LessEqual ∷ ShiftLeft ∷ ShiftRight ∷ And
@@ -112,7 +112,7 @@ root_of (a ∷ n ∷ b ∷ digits) = cond (a == 65 && b == 32) (assigned n digit
 root_of _ = None
 
 abbrev pub root_line : List ℕ → Option RootLine
-root_line line = behind line 82 >>= (λ text. root_of text)
+root_line line = following line 82 >>= (λ text. root_of text)
 
 -- a code line
 abbrev pub body_of : Option ℕ → Option Piece
@@ -127,16 +127,16 @@ abbrev pub piece : List ℕ → Option Piece
 piece [] = None
 piece (b ∷ bs) = cond (b == 63) (body_of (number bs)) (item_piece (item (b ∷ bs)))
 
--- whether a piece was said, and it stands behind the others
+-- whether a piece was said, and it stands after the others
 abbrev pub Adds : Bool → Option Piece → (old new : List Piece) → Type 0
 Adds true (Some p) old new = new ≡ old ++ p ∷ []
 Adds false None old new = Unit {0}
 Adds _ _ old new = ⊥
 
-abbrev pub pieces_behind : List Piece → List (List ℕ) → Option (List Piece)
-pieces_behind ps [] = Some ps
-pieces_behind ps (f ∷ fs) = piece f >>= (λ p. pieces_behind (ps ++ p ∷ []) fs)
+abbrev pub pieces_after : List Piece → List (List ℕ) → Option (List Piece)
+pieces_after ps [] = Some ps
+pieces_after ps (f ∷ fs) = piece f >>= (λ p. pieces_after (ps ++ p ∷ []) fs)
 
 abbrev pub code_of_line : List ℕ → Option (List Piece)
 code_of_line (b ∷ []) = cond (b == 67) (Some []) None
-code_of_line line = behind line 67 >>= (λ text. pieces_behind [] (fields 32 text))
+code_of_line line = following line 67 >>= (λ text. pieces_after [] (fields 32 text))

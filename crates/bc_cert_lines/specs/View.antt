@@ -1,4 +1,4 @@
--- For proofs: what borrowed fields stand for.
+-- For proofs: what borrowed fields mean.
 use Rattle.std.specs.Prelude.{ℕ, List, Vec, Option, Some, None}
 use Rattle.std.specs.declared.alloc.Global.{Global}
 use Rattle.bc_rules_defs.specs.declared.piece.Piece.{Piece}
@@ -10,7 +10,7 @@ slice None = None
 slice (Some s) = Some s.now
 
 abbrev pub cut : (Bor (List ℕ) × Option (Bor (List ℕ))) → Cut
-cut c = record { first = c.0.now; behind = slice c.1 }
+cut c = record { first = c.0.now; following = slice c.1 }
 
 abbrev pub pair : Option (Bor (List ℕ) × Bor (List ℕ)) → Option (List ℕ × List ℕ)
 pair None = None

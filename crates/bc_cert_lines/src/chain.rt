@@ -51,7 +51,7 @@ pub enum Names {
     Nothing,
     /// `J6`.
     Tested,
-    /// `V0`, perhaps behind `J6`.
+    /// `V0`, perhaps after `J6`.
     Freed(bool),
     Whole(Chain),
     Wrong,
@@ -136,13 +136,13 @@ fn joined(text: &[u8]) -> Option<Rules>
     let mut names = Names::Nothing;
     let mut rest = text;
     for turn in 0..text.len() + 1 {
-        let (first, behind) = cut(rest, b'.');
+        let (first, following) = cut(rest, b'.');
         match named(first) {
             Some(rule) => names = names.longer(rule),
             None => return None,
         }
-        match behind {
-            Some(behind) => rest = behind,
+        match following {
+            Some(following) => rest = following,
             None => return Some(names.ended()),
         }
     }

@@ -1,12 +1,12 @@
 // Code lines.
 
 ghost use Rattle.std.specs.Prelude.{◌≡◌, ◌++◌, ◌∷◌, [], IfOk, OnOk};
-ghost use Rattle.bc_cert_lines.specs.Lines.{code_of_line, piece as piece_of, pieces_behind, Adds};
+ghost use Rattle.bc_cert_lines.specs.Lines.{code_of_line, piece as piece_of, pieces_after, Adds};
 ghost use Rattle.bc_cert_lines.specs.Fields.{fields};
 ghost use Rattle.bc_cert_lines.specs.View.{code};
 ghost use Rattle.bc_rules_defs.specs.declared.piece.Piece.TheVariants as forms;
 
-use crate::fields::{behind, cut, number};
+use crate::fields::{cut, following, number};
 use crate::items::item;
 use bc_rules_defs::Piece;
 use bc_text_items::Item;
@@ -25,7 +25,7 @@ pub fn code_line(alloc: Global, line: &[u8]) -> Result<Option<Vec<Piece>>, Memor
                 Ok(None)
             }
         }
-        _ => match behind(line, b'C') {
+        _ => match following(line, b'C') {
             Some(text) => pieces(alloc, text),
             None => Ok(None),
         },
@@ -33,17 +33,17 @@ pub fn code_line(alloc: Global, line: &[u8]) -> Result<Option<Vec<Piece>>, Memor
 }
 
 fn pieces(alloc: Global, text: &[u8]) -> Result<Option<Vec<Piece>>, Memory>
-    ensures { IfOk result (λ found. code found ≡ pieces_behind [] (fields 32 text.now)) }
+    ensures { IfOk result (λ found. code found ≡ pieces_after [] (fields 32 text.now)) }
 {
     let mut pieces = Vec::new(alloc);
     let mut rest = text;
     for turn in 0..text.len() + 1 {
-        let (first, behind) = cut(rest, b' ');
+        let (first, following) = cut(rest, b' ');
         if !add_piece(&mut pieces, first)? {
             return Ok(None);
         }
-        match behind {
-            Some(behind) => rest = behind,
+        match following {
+            Some(following) => rest = following,
             None => return Ok(Some(pieces)),
         }
     }

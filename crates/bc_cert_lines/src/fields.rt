@@ -1,10 +1,10 @@
 // The fields of a line, and the numbers in them.
 
 ghost use Rattle.std.specs.Prelude.{◌≡◌, ◌≤◌, ◌+◌, length, drop, IfSome};
-ghost use Rattle.bc_cert_lines.specs.Fields.{cut as cut_of, field as field_of, behind as behind_letter, number as number_of, small as small_of, level as level_of, number_or_none as number_or_none_of, digits_from, some_number};
+ghost use Rattle.bc_cert_lines.specs.Fields.{cut as cut_of, field as field_of, following as after_letter, number as number_of, small as small_of, level as level_of, number_or_none as number_or_none_of, digits_from, some_number};
 ghost use Rattle.bc_cert_lines.specs.View.{cut as seen_cut, pair as seen_pair, slice as seen};
 
-/// The bytes up to the first separator, and those behind it, if there is one.
+/// The bytes up to the first separator, and those after it, if there is one.
 pub fn cut(text: &[u8], separator: u8) -> (&[u8], Option<&[u8]>)
     ensures exact { seen_cut result ≡ cut_of separator text.now }
     ensures shorter { IfSome result.1 (λ rest. length rest.now + 1 ≤ length text.now) }
@@ -17,7 +17,7 @@ pub fn cut(text: &[u8], separator: u8) -> (&[u8], Option<&[u8]>)
     (text, None)
 }
 
-/// The first field, and what stands behind it and its blank.
+/// The first field, and what stands after it and its blank.
 #[inline(always)]
 pub fn field(text: &[u8]) -> Option<(&[u8], &[u8])>
     ensures { seen_pair result ≡ field_of text.now }
@@ -28,9 +28,9 @@ pub fn field(text: &[u8]) -> Option<(&[u8], &[u8])>
     }
 }
 
-/// What stands behind a letter and a blank.
-pub fn behind(line: &[u8], letter: u8) -> Option<&[u8]>
-    ensures { seen result ≡ behind_letter line.now letter }
+/// What stands after a letter and a blank.
+pub fn following(line: &[u8], letter: u8) -> Option<&[u8]>
+    ensures { seen result ≡ after_letter line.now letter }
 {
     match line {
         [first, second, rest @ ..] => {

@@ -133,7 +133,7 @@ fn function(letter: u8) -> Option<Function>
     }
 }
 
-/// An operation behind its function's letter.
+/// An operation after its function's letter.
 fn operation(function: Function, text: &[u8]) -> Option<Item>
     ensures { result ≡ operation_of function text.now }
 {

@@ -5,7 +5,7 @@ ghost use Rattle.bc_cert_lines.specs.Lines.{header as header_of, entry_line as e
 ghost use Rattle.bc_cert_lines.specs.Fields.{small as small_of, level as level_of};
 
 use crate::chain::{Rules, rules_field};
-use crate::fields::{behind, field, level, number, number_or_none, small};
+use crate::fields::{field, following, level, number, number_or_none, small};
 use bc_cert_defs::{Costs, Head};
 use bc_cert_node::Form;
 use bc_rules_defs::{Rule, Table};
@@ -45,7 +45,7 @@ pub fn header(line: &[u8]) -> Option<Table>
 pub fn entry_line(line: &[u8]) -> Option<Head>
     ensures { result ≡ entry_line_of line.now }
 {
-    let (segment, rest) = field(behind(line, b'E')?)?;
+    let (segment, rest) = field(following(line, b'E')?)?;
     let (item, rest) = field(rest)?;
     let (target, rest) = field(rest)?;
     let (first, words) = field(rest)?;
@@ -67,7 +67,7 @@ pub fn entry_line(line: &[u8]) -> Option<Head>
 pub fn end_line(line: &[u8]) -> Option<u64>
     ensures { result ≡ end_line_of line.now }
 {
-    number(behind(line, b'Z')?)
+    number(following(line, b'Z')?)
 }
 
 /// A node line.
@@ -199,7 +199,7 @@ fn by_letter(letter: u8, number: u16) -> Option<Form>
 pub fn root_line(line: &[u8]) -> Option<RootLine>
     ensures { result ≡ root_line_of line.now }
 {
-    match behind(line, b'R')? {
+    match following(line, b'R')? {
         [letter] => {
             if *letter == b'V' {
                 Some(RootLine::Value)

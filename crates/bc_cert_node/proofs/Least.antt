@@ -32,7 +32,7 @@ use Rattle.bc_cert_node.specs.Form.{is_plain}
 use Rattle.bc_cert_node.specs.Recipe.{facts_of, words_of_operand, recipe, adding, where_so, less_number, without_zero, zero_test}
 use Rattle.bc_cert_node.specs.Node.{Node, more_words, words_where, words_by, words_from, lesser, least, by_value, plain_words, pushes_of, values_of, tests_of, least_push, least_any, least_on}
 use Rattle.bc_cert_node.specs.Parts.{AreLeast, AreCallParts, AreParts, form_of, node_over}
-use Rattle.bc_cert_node.proofs.Minima.{lesser_none, lesser_turned, lesser_grouped, least_behind, Give, give_least, better_words}
+use Rattle.bc_cert_node.proofs.Minima.{lesser_none, lesser_turned, lesser_grouped, least_after, Give, give_least, better_words}
 
 -- what a recipe has in words, at two parts
 abbrev pair_words : ℕ → Facts → Facts → Option Recipe → Option ℕ
@@ -151,7 +151,7 @@ so_given x = refl
 any_from : (n : Node) (push : Option Choice) (cs : List Candidate) → least_push n ≡ words_in push → Give n (Gets Any) (values_of n.form) cs → least_any n ≡ words_in (least_from None (candidate rule.V0 (words_in push) ∷ cs))
 unfolding least_from
 any_from n push cs h g =
-    least_behind n (Gets Any) (least_push n) (values_of n.form)
+    least_after n (Gets Any) (least_push n) (values_of n.form)
     ∙ ap (λ x. least n (Gets Any) x (values_of n.form)) (h ∙ sym (better_words None rule.V0 (words_in push)))
     ∙ give_least n (Gets Any) (better None rule.V0 (words_in push)) (values_of n.form) cs g
 
@@ -383,7 +383,7 @@ unfolding operand_cost
 operand_alone s ps None = refl
 operand_alone s ps (Some o) = nothing_more s (operand_words o + 0) 0 ps ∙ ap Some (omega arith)
 
--- by which rules an expression is pushed and worked out, and its test goes by the value
+-- by which rules an expression is pushed and computed, and its test goes by the value
 plain_line : (T : Table) (e : Exp) (k s : ℕ) (ps : List Facts) (rs qs : List Rule) (pushes values : List Candidate)
     → pushes_of (form_of e k) ≡ rule.V1 ∷ rs → values_of (form_of e k) ≡ qs → tests_of (form_of e k) ≡ [] → is_plain (form_of e k) ≡ true
     → Give (node_over T e k s ps) (Gets Push) rs pushes → Give (node_over T e k s ps) (Gets Any) qs values

@@ -33,8 +33,8 @@ pub least_on_from : (n : Node) (aim : Aim) (x y : Option ℕ) (rs : List Rule) �
 least_on_from n aim x y [] = refl
 least_on_from n aim x y (r ∷ rs) = ap (λ q. least n aim q rs) (lesser_grouped x y (words_by n r aim)) ∙ least_on_from n aim x (lesser y (words_by n r aim)) rs
 
-pub least_behind : (n : Node) (aim : Aim) (x : Option ℕ) (rs : List Rule) → lesser x (least n aim None rs) ≡ least n aim x rs
-least_behind n aim x rs = sym (least_on_from n aim x None rs) ∙ ap (λ q. least n aim q rs) (lesser_none x)
+pub least_after : (n : Node) (aim : Aim) (x : Option ℕ) (rs : List Rule) → lesser x (least n aim None rs) ≡ least n aim x rs
+least_after n aim x rs = sym (least_on_from n aim x None rs) ∙ ap (λ q. least n aim q rs) (lesser_none x)
 
 less_one : (m n : ℕ) (b : Bool) → nat_lt n m ≡ b → cond b n m ≡ min m n
 less_one m n true h = let i : n < m = grind (arith, h) in omega arith

@@ -1,5 +1,5 @@
 // The least words of a node. The forms that stand in a program most have each their own rules one after another, so that
-// what a rule asks is worked out where the rule is known.
+// what a rule asks is computed where the rule is known.
 #![tactic(auto, unfolding(bc_select_defs::specs::Options::plus, bc_select_defs::specs::Options::sum, bc_select_defs::specs::Options::given))]
 
 ghost use Rattle.std.specs.Prelude.{◌≡◌, ◌<◌, ◌+◌, ◌^◌, List, [], ◌∷◌, None, IfSome};

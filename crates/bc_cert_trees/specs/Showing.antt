@@ -79,20 +79,20 @@ is_value c = same_value c.push c.any
 abbrev pub any_by : Node → List Mark → Costs → Rule → (freed : Bool) → Bool
 any_by n ms c r freed = cond freed (makes n ms r (Gets Push) c.push && is_value c) (makes n ms r (Gets Any) (Some c.any))
 
-abbrev pub behind_value : Node → Costs → (any push : Bool) → (tested freed : Bool) → Shown
-behind_value n c any push true freed = record {
+abbrev pub after_value : Node → Costs → (any push : Bool) → (tested freed : Bool) → Shown
+after_value n c any push true freed = record {
   any = false;
   push = false;
   on_false = any && is_plain n.form && tested c.any c.on_false;
   on_true = any
       && is_plain n.form && tested c.any c.on_true;
 }
-behind_value n c any push false freed = record { any = any; push = push && not freed; on_false = false; on_true = false }
+after_value n c any push false freed = record { any = any; push = push && not freed; on_false = false; on_true = false }
 
 abbrev pub shown_by : Node → List Mark → Costs → Chain → Shown
 shown_by n ms c ch =
     cond (is_test ch.rule) (tests n ms c ch.rule)
-    (behind_value n c (any_by n ms c ch.rule ch.is_freed) (makes n ms ch.rule (Gets Push) c.push) ch.is_tested ch.is_freed)
+    (after_value n c (any_by n ms c ch.rule ch.is_freed) (makes n ms ch.rule (Gets Push) c.push) ch.is_tested ch.is_freed)
 
 abbrev pub nothing_shown : Shown
 nothing_shown = record { any = false; push = false; on_false = false; on_true = false }

@@ -309,7 +309,7 @@ impl Stack {
             self.derivations.pop(),
             self.derivations.pop(),
         ) {
-            (Some(right), Some(left), Some(behind), Some(before)) => Some((
+            (Some(right), Some(left), Some(following), Some(before)) => Some((
                 One {
                     mark: marks.0,
                     facts: facts.0,
@@ -320,7 +320,7 @@ impl Stack {
                     mark: marks.1,
                     facts: facts.1,
                     expression: right,
-                    derivation: behind,
+                    derivation: following,
                 },
             )),
             _ => None,

@@ -1,4 +1,4 @@
--- What is looked up in trees, and what the trees stand for.
+-- What is looked up in trees, and what the trees mean.
 use Rattle.std.proofs.Common.{◌≡◌, ℕ, zero, suc, Bool, cond, Option, Some, None, List, [], ◌∷◌, drop, length, ◌+◌, refl, add-one, ap, sym, ◌∙◌, Bor}
 use Rattle.std.specs.Prelude.{slice_get}
 use Rattle.std.specs.Option.{option_copied}
@@ -10,7 +10,7 @@ use Rattle.bc_rules_defs.specs.Rules.{Tree, by}
 use Rattle.bc_rules_defs.specs.View.{derivation, derivations}
 use Rattle.bc_cert_write.specs.declared.slot.Slot.{Slot}
 use Rattle.bc_select.proofs.Trees.{tree_view}
-use Rattle.bc_cert_write.specs.Walked.{tree_of, first, rest, parts, top_of, behind, at_slot, placed, behind_arguments, chain_of, chain_of_value}
+use Rattle.bc_cert_write.specs.Walked.{tree_of, first, rest, parts, top_of, following, at_slot, placed, after_arguments, chain_of, chain_of_value}
 
 seen : Option Derivation → Option Tree
 seen None = None
@@ -37,9 +37,9 @@ parts_seen d = sym (ap (λ x. parts (Some x)) (tree_view d))
 pub top_seen : (d : Derivation) → top_of (Some (derivation d)) ≡ Some (out-Derivation d).rule
 top_seen d = ap (λ x. top_of (Some x)) (tree_view d)
 
-pub behind_seen : (skips : Rule → Bool) (d : Derivation) → behind skips (Some (derivation d)) ≡ cond (skips (out-Derivation d).rule) (first (derivations (out-Derivation d).parts.items)) (Some (derivation d))
-behind_seen skips d =
-    ap (λ x. behind skips (Some x)) (tree_view d)
+pub after_seen : (skips : Rule → Bool) (d : Derivation) → following skips (Some (derivation d)) ≡ cond (skips (out-Derivation d).rule) (first (derivations (out-Derivation d).parts.items)) (Some (derivation d))
+after_seen skips d =
+    ap (λ x. following skips (Some x)) (tree_view d)
     ∙ ap (λ x. cond (skips (out-Derivation d).rule) (first (derivations (out-Derivation d).parts.items)) (Some x)) (sym (tree_view d))
 
 pub rest_seen : (xs : List Derivation) → derivations (drop 1 xs) ≡ rest (derivations xs)
@@ -68,7 +68,7 @@ after_trees (x ∷ xs) (suc i) = after_trees xs i
 pub next_trees : (xs : List Derivation) (i : ℕ) → derivations (drop (i + 1) xs) ≡ rest (derivations (drop i xs))
 next_trees xs i = ap (λ n. derivations (drop n xs)) (add-one i) ∙ after_trees xs i
 
-pub behind_seen_all : (es : List CoreExp) (xs : List Derivation) → behind_arguments (args es) (derivations xs) ≡ derivations (drop (length es) xs)
-behind_seen_all [] xs = refl
-behind_seen_all (e ∷ es) [] = behind_seen_all es [] ∙ ap derivations (drop_none (length es) ∙ sym (drop_none (suc (length es))))
-behind_seen_all (e ∷ es) (x ∷ xs) = behind_seen_all es xs
+pub after_seen_all : (es : List CoreExp) (xs : List Derivation) → after_arguments (args es) (derivations xs) ≡ derivations (drop (length es) xs)
+after_seen_all [] xs = refl
+after_seen_all (e ∷ es) [] = after_seen_all es [] ∙ ap derivations (drop_none (length es) ∙ sym (drop_none (suc (length es))))
+after_seen_all (e ∷ es) (x ∷ xs) = after_seen_all es xs

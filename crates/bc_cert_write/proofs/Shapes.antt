@@ -14,7 +14,7 @@ use Rattle.bc_rules_defs.specs.Takes.{beside}
 use Rattle.bc_rules_defs.specs.Rules.{Derives, v0, v1, v2, v3, v4, v6, v7, v8, v9, v10, v11, v12, v13, v14, v15, v16, v17, v18, v19, v20, v21, v22, v22_valof, j1, j2, j3, j4, j5, j6, j7, j8, j9, DerivesAll, no_more, one_more, RootDerives, value, test, a1, a2, a3, Tree, by, no_part, one, end_with, shape, shapes, root_shape}
 use Rattle.bc_select_defs.specs.Least.{top}
 use Rattle.bc_cert_write.specs.Shown.{Shown, ended, bare, rules_of_value, rules_at, below, all_shown, shown, root_shown}
-use Rattle.bc_cert_write.specs.Walked.{first, top_of, is_v0, is_j6, behind, own, at_slot, first_slot, second_slot, behind_arguments, behind_value, behind_test, chain_of_value, chain_of, rules_of, below_with, all_with, whole_with, root_with}
+use Rattle.bc_cert_write.specs.Walked.{first, top_of, is_v0, is_j6, following, own, at_slot, first_slot, second_slot, after_arguments, after_value, after_test, chain_of_value, chain_of, rules_of, below_with, all_with, whole_with, root_with}
 use Rattle.bc_cert_write.specs.Nodes.{shown_at}
 use Rattle.bc_cert_write.proofs.Bare.{all_bare, bare_parts, bare_is, below_is}
 
@@ -26,11 +26,11 @@ top_some : (x : Tree) → top_of (Some x) ≡ Some (top x)
 top_some (by r xs) = refl
 
 value_chain : {T : Table} {e : Exp} {aim : Aim} (d : Derives T e aim) → rules_of (chain_of_value (Some (shape d))) ≡ rules_of_value d
-value_chain (v0 d) = ap (λ o. rules_of (behind_value o)) (top_some (shape d))
+value_chain (v0 d) = ap (λ o. rules_of (after_value o)) (top_some (shape d))
 value_chain d = refl
 
-test_chain : {T : Table} {e : Exp} {aim : Aim} (d : Derives T e aim) → rules_of (behind_test (chain_of_value (Some (shape d)))) ≡ J6 ∷ rules_of_value d
-test_chain (v0 d) = ap (λ o. rules_of (behind_test (behind_value o))) (top_some (shape d))
+test_chain : {T : Table} {e : Exp} {aim : Aim} (d : Derives T e aim) → rules_of (after_test (chain_of_value (Some (shape d)))) ≡ J6 ∷ rules_of_value d
+test_chain (v0 d) = ap (λ o. rules_of (after_test (after_value o))) (top_some (shape d))
 test_chain d = refl
 
 chain_is : {T : Table} {e : Exp} {aim : Aim} (d : Derives T e aim) → rules_of (chain_of (Some (shape d))) ≡ rules_at d
@@ -50,7 +50,7 @@ own_pushed (v9 d) = refl
 own_pushed (v10 h d) = refl
 own_pushed (v11 h free d) = refl
 
-no_test : {T : Table} {e : Exp} (d : Derives T e (Gets Any)) → behind is_j6 (Some (shape d)) ≡ Some (shape d)
+no_test : {T : Table} {e : Exp} (d : Derives T e (Gets Any)) → following is_j6 (Some (shape d)) ≡ Some (shape d)
 no_test (v0 d) = refl
 no_test (v2 d) = refl
 no_test (v3 d) = refl
@@ -75,9 +75,9 @@ no_test (v22 ds f) = refl
 no_test v22_valof = refl
 
 -- nodes at which no rule stands
-none_behind : (es : Args) → first (behind_arguments es no_part) ≡ None
-none_behind no_argument = refl
-none_behind (argument e es) = none_behind es
+none_after : (es : Args) → first (after_arguments es no_part) ≡ None
+none_after no_argument = refl
+none_after (argument e es) = none_after es
 
 bare_node : (e : Exp) (s : ℕ) → below_with shown_at e s None ≡ bare_parts e s → whole_with shown_at e s None ≡ bare e s
 bare_node e s h = ap (λ l. ended l e s []) h ∙ sym (bare_is e s)
@@ -95,7 +95,7 @@ mutual
   bare_below (Cond c x y) s = both _ _ _ _ (both _ _ _ _ (bare_node c s (bare_below c s)) (bare_node x s (bare_below x s))) (bare_node y s (bare_below y s))
   bare_below (Call es f) s =
       both _ _ _ _ (bare_all es (s + 2))
-      (ap (λ x. whole_with shown_at f (s + 2 + count es) x) (none_behind es) ∙ bare_node f (s + 2 + count es) (bare_below f (s + 2 + count es)))
+      (ap (λ x. whole_with shown_at f (s + 2 + count es) x) (none_after es) ∙ bare_node f (s + 2 + count es) (bare_below f (s + 2 + count es)))
   bare_below (Valof n) s = refl
 
   bare_all : (es : Args) (s : ℕ) → all_with shown_at es s no_part ≡ all_bare es s
@@ -109,7 +109,7 @@ operand_below : (e : Exp) (s : ℕ) → below_with shown_at e s (Some (by V1 no_
 operand_below (Load e) s = bare_below (Load e) s
 operand_below e s = bare_below e s
 
--- the node itself behind those below it
+-- the node itself after those below it
 whole : {T : Table} {e : Exp} {aim : Aim} (d : Derives T e aim) (s : ℕ) → below_with shown_at e s (own (Some (shape d))) ≡ below d s → whole_with shown_at e s (Some (shape d)) ≡ shown d s
 whole {e = e} d s h =
     ap (λ l. l ++ shown_at e s (Some (shape d)) ∷ []) h
@@ -139,8 +139,8 @@ kept operators.Add a b c h = kept_of (is_zero a) (is_zero b) a b c h
 kept operators.Subtract a b c h = kept_left (is_zero b) a b c h
 kept op a b c h = cc
 
--- the routine's tree is behind those of the arguments
-routine_tree : {T : Table} {es : Args} (ds : DerivesAll T es) (x : Tree) → first (behind_arguments es (end_with (shapes ds) x)) ≡ Some x
+-- the routine's tree is after those of the arguments
+routine_tree : {T : Table} {es : Args} (ds : DerivesAll T es) (x : Tree) → first (after_arguments es (end_with (shapes ds) x)) ≡ Some x
 routine_tree no_more x = refl
 routine_tree (one_more d ds) x = routine_tree ds x
 
@@ -176,7 +176,7 @@ mutual
   nodes_below (j3 a b) s = both _ _ _ _ (whole a (s + 1) (nodes_below a (s + 1))) (whole b (s + 1) (nodes_below b (s + 1)))
   nodes_below (j4 a b) s = both _ _ _ _ (whole a (s + 1) (nodes_below a (s + 1))) (whole b (s + 1) (nodes_below b (s + 1)))
   nodes_below (j5 a b) s = both _ _ _ _ (whole a (s + 1) (nodes_below a (s + 1))) (whole b (s + 1) (nodes_below b (s + 1)))
-  nodes_below (j6 {e = e} h d) s = ap (λ y. below_with shown_at e s (behind is_v0 y)) (sym (no_test d)) ∙ nodes_below d s
+  nodes_below (j6 {e = e} h d) s = ap (λ y. below_with shown_at e s (following is_v0 y)) (sym (no_test d)) ∙ nodes_below d s
   nodes_below j7 s = refl
   nodes_below (j8 {a = a} {b = b} {c = c} h k d) s = dropped (is_zero b) a b d (s + 1) (kept_of (is_zero a) (is_zero b) a b c k) (whole d (s + 1) (nodes_below d (s + 1)))
   nodes_below (j9 {a = a} {b = b} {c = c} h k d) s = dropped (is_zero b) a b d (s + 1) (kept_of (is_zero a) (is_zero b) a b c k) (whole d (s + 1) (nodes_below d (s + 1)))

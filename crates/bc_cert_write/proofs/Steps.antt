@@ -9,8 +9,8 @@ use Rattle.bc_rules_defs.specs.Rules.{Tree}
 use Rattle.bc_rules_defs.specs.View.{derivations}
 use Rattle.bc_select.proofs.Wholes.{args_count}
 use Rattle.bc_cert_write.specs.declared.mark.Mark.{Mark}
-use Rattle.bc_cert_write.specs.Walked.{first, rest, mark, all_with, whole_with, behind_arguments}
-use Rattle.bc_cert_write.proofs.Seen.{next_trees, behind_seen_all}
+use Rattle.bc_cert_write.specs.Walked.{first, rest, mark, all_with, whole_with, after_arguments}
+use Rattle.bc_cert_write.proofs.Seen.{next_trees, after_seen_all}
 
 pub next_argument : (es : List CoreExp) (i : ℕ) (e : CoreExp) → i < length es → e ≡ get_or es i e → args (drop i es) ≡ argument (exp e) (args (drop (i + 1) es))
 next_argument es i e h is =
@@ -20,7 +20,7 @@ next_argument es i e h is =
 moved : (xs ys zs us vs ws : List Mark) → ys ≡ xs ++ zs → us ≡ zs ++ vs → xs ++ us ≡ ws → ys ++ vs ≡ ws
 moved xs ys zs us vs ws h i j = ap (λ l. l ++ vs) h ∙ append_assoc xs zs vs ∙ ap (λ l. xs ++ l) (sym i) ∙ j
 
--- the nodes of the i-th argument come behind those so far
+-- the nodes of the i-th argument come after those so far
 pub arguments_more : (now new whole : List Mark) (es : List CoreExp) (xs : List Derivation) (s i : ℕ) (e : CoreExp) (t : Option Tree)
     → i < length es → e ≡ get_or es i e → t ≡ first (derivations (drop i xs)) → new ≡ now ++ whole_with mark (exp e) (s + i) t
     → now ++ all_with mark (args (drop i es)) (s + i) (derivations (drop i xs)) ≡ whole
@@ -41,13 +41,13 @@ pub on_ok : {X E P Q : Type 0} (r : Result X E) → (P → Q) → OnOk r P → O
 on_ok (Ok x) f h = f h
 on_ok (Err e) f h = h
 
--- the routine's nodes come behind those of the arguments
-pub routine_behind : (old mid new : List Mark) (es : List CoreExp) (f : Exp) (s : ℕ) (xs : List Derivation) (t : Option Tree)
+-- the routine's nodes come after those of the arguments
+pub routine_after : (old mid new : List Mark) (es : List CoreExp) (f : Exp) (s : ℕ) (xs : List Derivation) (t : Option Tree)
     → mid ≡ old ++ all_with mark (args es) (s + 2) (derivations xs) → t ≡ first (derivations (drop (length es) xs))
     → new ≡ mid ++ whole_with mark f (s + 2 + length es) t
-    → new ≡ old ++ (all_with mark (args es) (s + 2) (derivations xs) ++ whole_with mark f (s + 2 + count (args es)) (first (behind_arguments (args es) (derivations xs))))
-routine_behind old mid new es f s xs t h i j =
+    → new ≡ old ++ (all_with mark (args es) (s + 2) (derivations xs) ++ whole_with mark f (s + 2 + count (args es)) (first (after_arguments (args es) (derivations xs))))
+routine_after old mid new es f s xs t h i j =
     j ∙ ap (λ n. mid ++ whole_with mark f (s + 2 + n) t) (sym (args_count es))
-    ∙ ap (λ q. mid ++ whole_with mark f (s + 2 + count (args es)) q) (i ∙ ap first (sym (behind_seen_all es xs)))
-    ∙ ap (λ l. l ++ whole_with mark f (s + 2 + count (args es)) (first (behind_arguments (args es) (derivations xs)))) h
+    ∙ ap (λ q. mid ++ whole_with mark f (s + 2 + count (args es)) q) (i ∙ ap first (sym (after_seen_all es xs)))
+    ∙ ap (λ l. l ++ whole_with mark f (s + 2 + count (args es)) (first (after_arguments (args es) (derivations xs)))) h
     ∙ append_assoc old _ _

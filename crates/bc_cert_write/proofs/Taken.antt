@@ -41,7 +41,7 @@ same_length [] (d ∷ ds) h = cc
 same_length (x ∷ xs) [] h = cc
 same_length (x ∷ xs) (d ∷ ds) h = let tail : map entry xs ≡ map entry_of ds = cc in ap suc (same_length xs ds tail)
 
--- the text so far, the next entry's lines, and what is behind them
+-- the text so far, the next entry's lines, and what is after them
 parted : (ds : List Derived) (i : ℕ) (e : Entry) (n : Next ds i e) → certificate ds ≡ (header_line Two ++ lines (take i ds)) ++ (entry_text n.derived ++ (lines (drop (suc i) ds) ++ end_line (length ds)))
 unfolding lines
 parted ds i e n =

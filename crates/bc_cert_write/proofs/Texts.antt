@@ -188,7 +188,7 @@ nodes_added r x rows marks old new h i j = record {
       ∙ ap (λ l. old ++ l) (node_lines_are d rows h);
 }
 
--- the lines of an entry, one behind another
+-- the lines of an entry, one after another
 four : (t0 t1 t2 t3 t4 a b c d : List ℕ) → t0 ≡ [] → t1 ≡ t0 ++ a → t2 ≡ t1 ++ b → t3 ≡ t2 ++ c → t4 ≡ t3 ++ d → t4 ≡ a ++ (b ++ (c ++ d))
 four t0 t1 t2 t3 t4 a b c d h i j k l =
     l ∙ ap (λ t. t ++ d) (k ∙ ap (λ t. t ++ c) (j ∙ ap (λ t. t ++ b) (i ∙ ap (λ t. t ++ a) h))) ∙ simp append_assoc

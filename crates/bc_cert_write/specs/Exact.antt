@@ -9,7 +9,7 @@ use Rattle.bc_cert_write.specs.Shown.{root_shown}
 use Rattle.bc_cert_write.specs.Lines.{node_line}
 use Rattle.bc_cert_write.specs.Certificate.{Derived, entry_of, entry_text}
 
--- the node lines of the root's derivation with these rules came behind
+-- the node lines of the root's derivation with these rules came after
 pub record AddsNodes (r : Root) (x : Tree) (old new : List ℕ) : Type 0 where
   pub exact : (T : Table) (d : RootDerives T r) → root_shape d ≡ x → new ≡ old ++ flat_map (node_line Two) (root_shown d)
 

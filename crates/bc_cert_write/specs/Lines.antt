@@ -17,7 +17,7 @@ use Rattle.bc_select_defs.specs.LeastDerivation.{least_words_of}
 use Rattle.bc_text.specs.Printed.{printed}
 use Rattle.bc_cert_write.specs.Shown.{Shown}
 
--- behind a field: each further one with a blank before it, and the end of the line
+-- after a field: each further one with a blank before it, and the end of the line
 abbrev pub line_end : List (List ℕ) → List ℕ
 line_end [] = 10 ∷ []
 line_end (f ∷ fs) = 32 ∷ (f ++ line_end fs)
@@ -37,7 +37,7 @@ abbrev pub rules_field : List Rule → List ℕ
 rules_field [] = 45 ∷ []
 rules_field (r ∷ rs) = rule_name r ++ further_rules rs
 
--- What a node is, by a letter or sign, with its number behind it: N, P, G, L and V of a number, a cell of the frame, a global,
+-- What a node is, by a letter or sign, with its number after it: N, P, G, L and V of a number, a cell of the frame, a global,
 -- a place and a VALOF; `!` of a content, M of minus, `~` of NOT, X of an operator, the question mark of a condition, K of a call.
 abbrev pub form_field : Exp → List ℕ
 form_field (Num n) = 78 ∷ decimal n

@@ -23,7 +23,7 @@ use Rattle.bc_cert_write.specs.declared.mark.Mark.{Mark}
 use Rattle.bc_cert_write.specs.declared.slot.Slot.{Slot}
 use Rattle.bc_cert_write.specs.declared.slot.Slot.TheVariants as slots
 
--- what the program's trees stand for
+-- what the program's trees mean
 abbrev pub tree_of : Option (Bor Derivation) → Option Tree
 tree_of None = None
 tree_of (Some d) = Some (derivation d.now)
@@ -53,12 +53,12 @@ abbrev pub is_j6 : Rule → Bool
 is_j6 J6 = true
 is_j6 _ = false
 
-abbrev pub behind : (Rule → Bool) → Option Tree → Option Tree
-behind skips None = None
-behind skips (Some (by r xs)) = cond (skips r) (first xs) (Some (by r xs))
+abbrev pub following : (Rule → Bool) → Option Tree → Option Tree
+following skips None = None
+following skips (Some (by r xs)) = cond (skips r) (first xs) (Some (by r xs))
 
 abbrev pub own : Option Tree → Option Tree
-own x = behind is_v0 (behind is_j6 x)
+own x = following is_v0 (following is_j6 x)
 
 -- the tree at a place
 abbrev pub at_slot : Slot → Trees → Option Tree
@@ -107,10 +107,10 @@ second_place zero r = second_slot (takes r (Gets Any) zero)
 abbrev pub third_place : Rule → Slot
 third_place r = third_slot (takes r (Gets Any) false)
 
--- the trees behind those of arguments
-abbrev pub behind_arguments : Args → Trees → Trees
-behind_arguments no_argument xs = xs
-behind_arguments (argument e es) xs = behind_arguments es (rest xs)
+-- the trees after those of arguments
+abbrev pub after_arguments : Args → Trees → Trees
+after_arguments no_argument xs = xs
+after_arguments (argument e es) xs = after_arguments es (rest xs)
 
 -- the nodes, each as f has it, where x stands at the whole and y is its own tree
 abbrev pub ended_with : {X : Type 0} → (Exp → ℕ → Option Tree → X) → List X → Exp → ℕ → Option Tree → List X
@@ -129,8 +129,8 @@ abbrev mutual
       ++ ended_with f (below_with f x s (own (placed (second_place false) y))) x s (placed (second_place false) y))
       ++ ended_with f (below_with f z s (own (placed third_place y))) z s (placed third_place y)
   below_with f (Call es e) s y = all_with f es (s + 2) (parts y)
-      ++ ended_with f (below_with f e (s + 2 + count es) (own (first (behind_arguments es (parts y))))) e (s + 2 + count es)
-      (first (behind_arguments es (parts y)))
+      ++ ended_with f (below_with f e (s + 2 + count es) (own (first (after_arguments es (parts y))))) e (s + 2 + count es)
+      (first (after_arguments es (parts y)))
   below_with f _ s y = []
 
   pub all_with : {X : Type 0} → (Exp → ℕ → Option Tree → X) → Args → ℕ → Trees → List X
@@ -148,23 +148,23 @@ root_with f (Assign s v a) x =
     whole_with f v (side_level a s) (placed (first_place false) (Some x)) ++ whole_with f a (side_level a s) (placed (second_place false) (Some x))
 
 -- the rules at one node
-abbrev pub behind_value : Option Rule → Chain
-behind_value None = chains.One V0
-behind_value (Some r) = chains.Two V0 r
+abbrev pub after_value : Option Rule → Chain
+after_value None = chains.One V0
+after_value (Some r) = chains.Two V0 r
 
 abbrev pub chain_of_value : Option Tree → Chain
 chain_of_value None = chains.Nothing
-chain_of_value (Some (by r xs)) = cond (is_v0 r) (behind_value (top_of (first xs))) (chains.One r)
+chain_of_value (Some (by r xs)) = cond (is_v0 r) (after_value (top_of (first xs))) (chains.One r)
 
-abbrev pub behind_test : Chain → Chain
-behind_test chains.Nothing = chains.One J6
-behind_test (chains.One r) = chains.Two J6 r
-behind_test (chains.Two r q) = chains.Three J6 r q
-behind_test (chains.Three r q p) = chains.Three r q p
+abbrev pub after_test : Chain → Chain
+after_test chains.Nothing = chains.One J6
+after_test (chains.One r) = chains.Two J6 r
+after_test (chains.Two r q) = chains.Three J6 r q
+after_test (chains.Three r q p) = chains.Three r q p
 
 abbrev pub chain_of : Option Tree → Chain
 chain_of None = chains.Nothing
-chain_of (Some (by r xs)) = cond (is_j6 r) (behind_test (chain_of_value (first xs))) (chain_of_value (Some (by r xs)))
+chain_of (Some (by r xs)) = cond (is_j6 r) (after_test (chain_of_value (first xs))) (chain_of_value (Some (by r xs)))
 
 abbrev pub rules_of : Chain → List Rule
 rules_of chains.Nothing = []

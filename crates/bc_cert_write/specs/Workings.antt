@@ -1,4 +1,4 @@
--- What is worked out of an entry for its lines, and when its numbers have no room.
+-- What is computed of an entry for its lines, and when its numbers have no room.
 use Rattle.std.specs.Prelude.{ℕ, ◌<◌, ◌^◌, ◌⊎◌}
 use Rattle.std.specs.List.{AllZip}
 use Rattle.bc_core.specs.Tree.{Root}

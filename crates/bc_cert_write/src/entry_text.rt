@@ -36,7 +36,7 @@ fn root_nodes(
     node_lines(text, marks.as_slice(), rows)
 }
 
-/// The lines of an entry with these workings, in the place of what the text was.
+/// The lines of an entry with these workings, instead of what the text was.
 ///
 /// `Memory` comes where an allocation was refused.
 pub fn entry_text(

@@ -3,7 +3,7 @@
 ghost use Rattle.std.specs.Prelude.{◌≡◌, drop};
 ghost use Rattle.bc_rules_defs.specs.Rules.{by};
 ghost use Rattle.bc_rules_defs.specs.View.{derivations};
-ghost use Rattle.bc_cert_write.specs.Walked.{tree_of, first, parts as parts_of, top_of, is_v0 as is_v0_of, is_j6 as is_j6_of, behind, own as own_of, at_slot as slot_of, chain_of, chain_of_value, behind_value, behind_test, placed, first_place, second_place, third_place};
+ghost use Rattle.bc_cert_write.specs.Walked.{tree_of, first, parts as parts_of, top_of, is_v0 as is_v0_of, is_j6 as is_j6_of, following, own as own_of, at_slot as slot_of, chain_of, chain_of_value, after_value, after_test, placed, first_place, second_place, third_place};
 
 use crate::chain::Chain;
 use crate::slot::{Slot, first_slot, second_slot, third_slot};
@@ -60,10 +60,10 @@ fn is_j6(rule: Rule) -> bool
     }
 }
 
-/// What stands behind a `V0`.
-#[tactic(auto, using(crate::proofs::Seen::behind_seen))]
-fn behind_v0(tree: Option<&Derivation>) -> Option<&Derivation>
-    ensures { tree_of result ≡ behind is_v0_of (tree_of tree.entry) }
+/// What stands after a `V0`.
+#[tactic(auto, using(crate::proofs::Seen::after_seen))]
+fn after_v0(tree: Option<&Derivation>) -> Option<&Derivation>
+    ensures { tree_of result ≡ following is_v0_of (tree_of tree.entry) }
 {
     let own = tree?;
     if is_v0(own.rule) {
@@ -73,10 +73,10 @@ fn behind_v0(tree: Option<&Derivation>) -> Option<&Derivation>
     }
 }
 
-/// What stands behind a `J6`.
-#[tactic(auto, using(crate::proofs::Seen::behind_seen))]
-fn behind_j6(tree: Option<&Derivation>) -> Option<&Derivation>
-    ensures { tree_of result ≡ behind is_j6_of (tree_of tree.entry) }
+/// What stands after a `J6`.
+#[tactic(auto, using(crate::proofs::Seen::after_seen))]
+fn after_j6(tree: Option<&Derivation>) -> Option<&Derivation>
+    ensures { tree_of result ≡ following is_j6_of (tree_of tree.entry) }
 {
     let own = tree?;
     if is_j6(own.rule) {
@@ -90,7 +90,7 @@ fn behind_j6(tree: Option<&Derivation>) -> Option<&Derivation>
 pub fn own(tree: Option<&Derivation>) -> Option<&Derivation>
     ensures { tree_of result ≡ own_of (tree_of tree.entry) }
 {
-    behind_v0(behind_j6(tree))
+    after_v0(after_j6(tree))
 }
 
 /// The tree at a place among a rule's parts.
@@ -119,9 +119,9 @@ fn value_rules(rule: Rule, trees: &[Derivation]) -> Chain
     }
 }
 
-/// `J6` in front of the rules of the value that a test is made of.
+/// `J6` before the rules of the value that a test is made of.
 fn test_rules(value: Chain) -> Chain
-    ensures { result ≡ behind_test value }
+    ensures { result ≡ after_test value }
 {
     match value {
         Chain::Nothing => Chain::One(Rule::J6),

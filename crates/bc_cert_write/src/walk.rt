@@ -8,7 +8,7 @@ ghost use Rattle.bc_core.specs.WellFormed.{nodes as nodes_in, nodes_of_args};
 ghost use Rattle.bc_select_defs.specs.Nodes.{root_nodes};
 ghost use Rattle.bc_rules_defs.specs.Free.{is_zero as is_zero_of};
 ghost use Rattle.bc_rules_defs.specs.View.{derivation, derivations};
-ghost use Rattle.bc_cert_write.specs.Walked.{tree_of, first, parts as parts_of, mark, placed, first_place, second_place, third_place, behind_arguments, below_with, all_with, whole_with, root_with};
+ghost use Rattle.bc_cert_write.specs.Walked.{tree_of, first, parts as parts_of, mark, placed, first_place, second_place, third_place, after_arguments, below_with, all_with, whole_with, root_with};
 
 use crate::form::without_parts;
 use crate::mark::Mark;
@@ -91,7 +91,7 @@ fn call(
     ensures { OnOk result (marks.new.items ≡ marks.old.items
         ++ (all_with mark (args arguments.now) (level + 2) (derivations trees.now)
         ++ whole_with mark (exp routine.now) (level + 2 + count (args arguments.now))
-        (first (behind_arguments (args arguments.now) (derivations trees.now))))) }
+        (first (after_arguments (args arguments.now) (derivations trees.now))))) }
 {
     let count = arguments.len();
     all(arguments, level + 2, trees, marks)?;

@@ -1,4 +1,4 @@
-//! What is worked out of an entry for its lines.
+//! What is computed of an entry for its lines.
 
 ghost use Rattle.bc_rules_defs.specs.View.{entry as entry_of};
 ghost use Rattle.std.specs.Prelude.{◌≡◌, IfOk, IfErr};
@@ -11,7 +11,7 @@ use bc_rules_defs::{Entry, Piece};
 use bc_select::{Row, is_selectable, rows};
 use std::alloc::Global;
 
-/// What is worked out of an entry for its lines, which whoever chose its derivation has too.
+/// What is computed of an entry for its lines, which whoever chose its derivation has too.
 #[derive(Debug, Drop)]
 pub struct Workings {
     /// A row for each node of the root, as `rows` of bc_select gives them.

@@ -78,7 +78,7 @@ fn begin<W: Write>(out: &mut W) -> Result<(), CertFault>
     put(out, b"BCPLCERT 2\n")
 }
 
-/// The last line of a certificate, in the place of what the text was.
+/// The last line of a certificate, instead of what the text was.
 fn last_line(text: &mut Text, entries: u64) -> Result<(), Memory>
     ensures { OnOk result (text.new.bytes.items ≡ end_line entries) }
 {

@@ -3,7 +3,7 @@ use crate::notes::Notes;
 use crate::operands::{is_plain, is_too_long, take_out};
 use bc_convert_tokens::{Kind, TokenizedText};
 
-/// What was read of a chain of relations: where it begins, the indices around its last operand, and what is to be put behind it.
+/// What was read of a chain of relations: where it begins, the indices around its last operand, and what is to be put after it.
 #[derive(Clone, Copy)]
 pub struct Chain {
     pub at: usize,
@@ -26,7 +26,7 @@ pub enum ChainState {
 }
 
 impl Chain {
-    /// Joins a relation whose operator stands at the index behind the last operand. `is_inner` says whether the chain is an
+    /// Joins a relation whose operator stands at the index after the last operand. `is_inner` says whether the chain is an
     /// operand of an operator that binds more tightly than `&`.
     pub fn join(self, source: TokenizedText<'_>, notes: &mut Notes, is_inner: bool) -> ChainState {
         if let Some(percent) = self.percent(source) {
@@ -42,7 +42,7 @@ impl Chain {
         }
     }
 
-    /// The index of the first `%` in the last operand, where `=` stands in front of that or behind it.
+    /// The index of the first `%` in the last operand, where `=` stands before that or after it.
     fn percent(self, source: TokenizedText<'_>) -> Option<usize> {
         let is_equality = source.kind(self.to) == Kind::Equal
             || source.kind(self.from.saturating_sub(1)) == Kind::Equal;
@@ -50,7 +50,7 @@ impl Chain {
         if is_equality { percent } else { None }
     }
 
-    /// Joins a relation behind an operand that may be worked out twice.
+    /// Joins a relation after an operand that may be computed twice.
     fn join_plain(
         self,
         source: TokenizedText<'_>,
@@ -66,7 +66,7 @@ impl Chain {
         self.open(notes, is_inner)
     }
 
-    /// Puts `&` and the middle in front of the operator.
+    /// Puts `&` and the middle before the operator.
     fn link(self, source: TokenizedText<'_>, notes: &mut Notes, middle: &[u8]) {
         let gap: &[u8] = if source.gap(self.to).is_empty() {
             b""
@@ -77,7 +77,7 @@ impl Chain {
         notes.take_gap(source, self.to);
     }
 
-    /// Puts the opening bracket in front of the chain, where none stands there yet.
+    /// Puts the opening bracket before the chain, where none stands there yet.
     fn open(self, notes: &mut Notes, is_inner: bool) -> ChainState {
         match (self.state, is_inner) {
             (ChainState::Single, false) => {
@@ -108,7 +108,7 @@ impl Chain {
         ChainState::Valof
     }
 
-    /// Puts a variable in the place of the middle.
+    /// Puts a variable instead of the middle.
     fn put_name(self, source: TokenizedText<'_>, notes: &mut Notes, name: &[u8]) {
         take_out(source, notes, self.from.saturating_add(1), self.to);
         notes.clear(self.from);
@@ -117,12 +117,12 @@ impl Chain {
     }
 }
 
-/// Puts behind a chain what its state wants.
+/// Puts after a chain what its state wants.
 pub fn close_chain(notes: &mut Notes, end: usize, state: ChainState) {
     match state {
         ChainState::Single => {}
-        ChainState::Joined => notes.put_behind(end, b")"),
-        ChainState::Wrapped => notes.put_behind(end, b"))"),
-        ChainState::Valof => notes.put_behind(end, b") $))"),
+        ChainState::Joined => notes.put_after(end, b")"),
+        ChainState::Wrapped => notes.put_after(end, b"))"),
+        ChainState::Valof => notes.put_after(end, b") $))"),
     }
 }

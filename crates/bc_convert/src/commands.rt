@@ -17,8 +17,8 @@ pub fn put_byte_of(
     notes.replace(assign, b",");
 }
 
-/// Makes of an assignment with an operator one without: the operator stands behind the left side, the sign that assigns
-/// behind the operator, and the right side ends at the last index.
+/// Makes of an assignment with an operator one without: the operator stands after the left side, the sign that assigns
+/// after the operator, and the right side ends at the last index.
 pub fn put_compound(
     source: TokenizedText<'_>,
     notes: &mut Notes,
@@ -27,7 +27,7 @@ pub fn put_compound(
     end: usize,
 ) {
     let operator = left.end;
-    let behind = operator.saturating_add(2);
+    let following = operator.saturating_add(2);
     let sign = notes.rendered(source, operator, operator.saturating_add(1));
     match left.byte {
         None => put_cell(source, notes, at, operator),
@@ -41,22 +41,22 @@ pub fn put_compound(
                     operator,
                 },
             );
-            notes.put_behind(end, b")");
+            notes.put_after(end, b")");
         }
     }
-    notes.put_all_behind(behind, &[b" ", sign.as_slice()]);
-    if source.gap(behind).is_empty() {
-        notes.put_behind(behind, b" ");
+    notes.put_all_after(following, &[b" ", sign.as_slice()]);
+    if source.gap(following).is_empty() {
+        notes.put_after(following, b" ");
     }
 }
 
-/// Puts the sign that assigns in the place of an operator, and behind it the left side, which is no byte.
+/// Puts the sign that assigns instead of an operator, and after it the left side, which is no byte.
 fn put_cell(source: TokenizedText<'_>, notes: &mut Notes, at: usize, operator: usize) {
     let assign = operator.saturating_add(1);
     let whole = notes.rendered(source, at, operator);
     notes.replace(operator, b":=");
     notes.replace(assign, b" ");
-    notes.put_behind(assign.saturating_add(1), whole.as_slice());
+    notes.put_after(assign.saturating_add(1), whole.as_slice());
 }
 
 /// A byte on the left side of an assignment with an operator: where it begins, and where its `%` and the operator stand.
@@ -67,14 +67,14 @@ struct Byte {
     operator: usize,
 }
 
-/// Makes of a byte the beginning of a call of PUTBYTE, and of the operator behind it a call of GETBYTE.
+/// Makes of a byte the beginning of a call of PUTBYTE, and of the operator after it a call of GETBYTE.
 fn put_byte(source: TokenizedText<'_>, notes: &mut Notes, byte: Byte) {
     let assign = byte.operator.saturating_add(1);
     let string = notes.rendered(source, byte.at, byte.percent);
     let place = notes.rendered(source, byte.percent.saturating_add(1), byte.operator);
     put_byte_of(source, notes, byte.at, byte.percent, byte.operator);
     notes.replace(assign, b" GETBYTE(");
-    notes.put_all_behind(
+    notes.put_all_after(
         assign.saturating_add(1),
         &[string.as_slice(), b", ", place.as_slice(), b")"],
     );

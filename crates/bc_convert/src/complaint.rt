@@ -35,7 +35,7 @@ pub enum Fault {
     Unclosed,
     /// A character that begins no token.
     UnknownByte,
-    /// A full stop behind a section, with another one behind it.
+    /// A full stop after a section, with another one after it.
     SectionEnd,
     /// A bracket without its partner.
     OpenBracket,
@@ -51,17 +51,17 @@ pub enum Fault {
     ConstantAbs,
     /// A list of assignments with an operator.
     OperatorInList,
-    /// A GOTO past a declaration behind commands.
+    /// A GOTO past a declaration after commands.
     LabelInBlock,
     /// A range of cases that is no range of constants, or over 256.
     CaseRange,
     /// The first name of a GLOBAL, without a number.
     FirstGlobal,
-    /// A declaration behind a command in the list of a SWITCHON.
+    /// A declaration after a command in the list of a SWITCHON.
     LateDeclaration,
     /// What is nested too deep to be read.
     TooDeep,
-    /// `*(` behind what is no vector, in a source where it begins a subscript.
+    /// `*(` after what is no vector, in a source where it begins a subscript.
     StarProduct,
     /// A format that is no string, where LIBHDR is got.
     HiddenFormat,
@@ -252,7 +252,7 @@ impl fmt::Display for Fault {
     }
 }
 
-/// What can't be converted, and the stretch of the text that it begins with: its first byte, and the byte behind it.
+/// What can't be converted, and the stretch of the text that it begins with: its first byte, and the byte after it.
 #[derive(Clone, Copy)]
 pub struct Complaint {
     pub start: usize,

@@ -53,7 +53,7 @@ fn has_label(source: TokenizedText<'_>, labels: &[usize], index: usize) -> bool 
     false
 }
 
-/// Jumps past a declaration behind commands, to a label that now stands in the block of that.
+/// Jumps past a declaration after commands, to a label that now stands in the block of that.
 fn find_parted_jumps(source: TokenizedText<'_>, notes: &mut Notes) {
     for index in 0..source.tokens.len() {
         if notes.is_parted(source, index) {

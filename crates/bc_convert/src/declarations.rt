@@ -5,7 +5,7 @@ use crate::numbers::value_of_number;
 use bc_convert_tokens::{Kind, TokenizedText};
 
 /// The names of a definition: where the first one stands, how many they are, with a comma between each two, and where the
-/// sign behind them stands.
+/// sign after them stands.
 #[derive(Clone, Copy)]
 pub struct Values {
     pub first: usize,
@@ -45,7 +45,7 @@ pub fn put_values(source: TokenizedText<'_>, notes: &mut Notes, values: Values, 
         notes.take_out(source, sign);
         notes.take_out(source, name);
         notes.replace(*comma, b" AND ");
-        notes.put_all_behind(comma.saturating_add(1), &[text.as_slice(), b" ="]);
+        notes.put_all_after(comma.saturating_add(1), &[text.as_slice(), b" ="]);
     }
 }
 
@@ -72,7 +72,7 @@ impl Last {
     }
 }
 
-/// What is counted on from behind an entry whose value stands between two indices.
+/// What is counted on from after an entry whose value stands between two indices.
 pub fn continued(source: TokenizedText<'_>, from: usize, to: usize) -> Option<Last> {
     if from >= to {
         return None;
@@ -95,7 +95,7 @@ fn counted_on(last: Option<Last>) -> Last {
 }
 
 /// Gives a value to the entry without one at an index, of the declaration whose word stands at `word`: one more than the last
-/// one's, and where there is none 0, if it is no global. A static gets 0. Gives what is counted on from behind it.
+/// one's, and where there is none 0, if it is no global. A static gets 0. Gives what is counted on from after it.
 pub fn put_entry(
     source: TokenizedText<'_>,
     notes: &mut Notes,
@@ -103,7 +103,7 @@ pub fn put_entry(
     index: usize,
     last: Option<Last>,
 ) -> Option<Last> {
-    let behind = index.saturating_add(1);
+    let following = index.saturating_add(1);
     let is_global = source.kind(word) == Kind::Global;
     if is_global && last.is_none() {
         notes.complain(source, index, Fault::FirstGlobal);
@@ -115,19 +115,19 @@ pub fn put_entry(
         counted_on(last)
     };
     let sign: &[u8] = if is_global { b":" } else { b"=" };
-    notes.put_behind(behind, sign);
-    put_next(source, notes, behind, next);
+    notes.put_after(following, sign);
+    put_next(source, notes, following, next);
     Some(next)
 }
 
-/// Puts a value that is counted on behind a token.
-fn put_next(source: TokenizedText<'_>, notes: &mut Notes, behind: usize, next: Last) {
+/// Puts a value that is counted on after a token.
+fn put_next(source: TokenizedText<'_>, notes: &mut Notes, following: usize, next: Last) {
     match next {
-        Last::Number(number) => notes.put_number_behind(behind, number),
+        Last::Number(number) => notes.put_number_after(following, number),
         Last::Value { from, to, more } => {
             let text = notes.rendered(source, from, to);
-            notes.put_all_behind(behind, &[text.as_slice(), b"+"]);
-            notes.put_number_behind(behind, more);
+            notes.put_all_after(following, &[text.as_slice(), b"+"]);
+            notes.put_number_after(following, more);
         }
     }
 }

@@ -9,7 +9,7 @@ use bc_library_ext::further_bit;
 pub enum Format {
     /// As a string, in a call that LIBHDR's WRITEF serves.
     Plain,
-    /// As a string with letters, or with more arguments behind it, that EXTHDR's WRITEF alone serves.
+    /// As a string with letters, or with more arguments after it, that EXTHDR's WRITEF alone serves.
     Further,
     /// Otherwise than as a string.
     Hidden,
@@ -40,7 +40,7 @@ pub fn format_at(
     }
 }
 
-/// Whether the format behind the bracket at an index wants EXTHDR, where it is a string or a choice between strings; `None` where it is
+/// Whether the format after the bracket at an index wants EXTHDR, where it is a string or a choice between strings; `None` where it is
 /// neither.
 fn seen(source: TokenizedText<'_>, opening: usize) -> Option<bool> {
     let format = opening.saturating_add(1);
@@ -82,7 +82,7 @@ fn text_at(source: TokenizedText<'_>, index: usize) -> &[u8] {
     }
 }
 
-/// How many arguments stand behind the bracket at an index: a comma in no further bracket parts two, but for those of a choice.
+/// How many arguments stand after the bracket at an index: a comma in no further bracket parts two, but for those of a choice.
 fn arguments(source: TokenizedText<'_>, opening: usize) -> usize {
     let mut count: usize = 1;
     let mut depth: usize = 0;
@@ -141,7 +141,7 @@ pub fn bit_at(source: TokenizedText<'_>, index: usize, library: &[Renaming<'_>])
     }
 }
 
-/// Whether a string stands behind GET and names the library's header, in either case and with any ending.
+/// Whether a string stands after GET and names the library's header, in either case and with any ending.
 pub fn gets_header(source: TokenizedText<'_>, index: usize) -> bool {
     let name = inside(source.bytes(index));
     let stem = match name.iter().position(|byte| *byte == b'.') {

@@ -4,7 +4,7 @@ use crate::numbers::value_of_number;
 use crate::operands::{is_plain, is_too_long};
 use bc_convert_tokens::{Kind, TokenizedText};
 
-/// The index of the number or the character that ABS at an index stands in front of, a sign aside; `None` where it stands in front
+/// The index of the number or the character that ABS at an index stands before, a sign aside; `None` where it stands in front
 /// of something else.
 fn magnitude(source: TokenizedText<'_>, at: usize) -> Option<usize> {
     let next = at.saturating_add(1);
@@ -21,7 +21,7 @@ fn magnitude(source: TokenizedText<'_>, at: usize) -> Option<usize> {
     if is_positive { Some(index) } else { None }
 }
 
-/// Writes down where ABS stands between two indices with no number behind it: there a constant is wanted.
+/// Writes down where ABS stands between two indices with no number after it: there a constant is wanted.
 pub fn tell_absolutes(source: TokenizedText<'_>, notes: &mut Notes, from: usize, to: usize) {
     for index in from..to {
         if source.kind(index) == Kind::Abs && magnitude(source, index).is_none() {
@@ -30,7 +30,7 @@ pub fn tell_absolutes(source: TokenizedText<'_>, notes: &mut Notes, from: usize,
     }
 }
 
-/// Whether an index stands where a constant is wanted: behind VEC, or behind TABLE and any number of its elements. What stands
+/// Whether an index stands where a constant is wanted: after VEC, or after TABLE and any number of its elements. What stands
 /// between is of the kinds that constants are made of.
 fn wants_constant(source: TokenizedText<'_>, index: usize) -> bool {
     let mut closed: usize = 0;
@@ -76,7 +76,7 @@ fn is_of_constant(kind: Kind) -> bool {
     )
 }
 
-/// Takes out ABS at an index, and the sign, if one stands in front of the number at another one.
+/// Takes out ABS at an index, and the sign, if one stands before the number at another one.
 fn drop_absolute(source: TokenizedText<'_>, notes: &mut Notes, at: usize, number: usize) {
     for index in at..number {
         notes.replace(index, b"");
@@ -84,7 +84,7 @@ fn drop_absolute(source: TokenizedText<'_>, notes: &mut Notes, at: usize, number
     }
 }
 
-/// Writes down that ABS stands at an index, and its operand behind it up to another one: the operand is worked out twice where
+/// Writes down that ABS stands at an index, and its operand after it up to another one: the operand is computed twice where
 /// it holds no call, and else kept in a variable of a VALOF. Of a number its sign goes.
 pub fn put_absolute(source: TokenizedText<'_>, notes: &mut Notes, at: usize, end: usize) {
     let start = at.saturating_add(1);
@@ -102,13 +102,13 @@ fn put_kept(source: TokenizedText<'_>, notes: &mut Notes, at: usize, end: usize)
     let name = notes.fresh_name(source);
     let name = name.as_slice();
     notes.replace(at, b"(VALOF $( LET ");
-    notes.put_all_behind(start, &[name, b" ="]);
-    notes.put_behind(end, b"; RESULTIS ");
+    notes.put_all_after(start, &[name, b" ="]);
+    notes.put_after(end, b"; RESULTIS ");
     put_choice(notes, end, name);
-    notes.put_all_behind(end, &[b" ", name, b" $))"]);
+    notes.put_all_after(end, &[b" ", name, b" $))"]);
 }
 
-/// Has the operand of ABS worked out twice, where its text isn't too long.
+/// Has the operand of ABS computed twice, where its text isn't too long.
 fn put_twice(source: TokenizedText<'_>, notes: &mut Notes, at: usize, end: usize) {
     let start = at.saturating_add(1);
     let bare = notes.rendered(source, start, end);
@@ -117,24 +117,24 @@ fn put_twice(source: TokenizedText<'_>, notes: &mut Notes, at: usize, end: usize
     }
     if matches!(source.kind(start), Kind::Add | Kind::Not) {
         notes.put_before(start, b"(");
-        notes.put_behind(end, b")");
+        notes.put_after(end, b")");
     }
     put_choice_of(source, notes, at, end);
 }
 
-/// Puts the choice between the operand of ABS and its negative in the place of both.
+/// Puts the choice between the operand of ABS and its negative instead of both.
 fn put_choice_of(source: TokenizedText<'_>, notes: &mut Notes, at: usize, end: usize) {
     let start = at.saturating_add(1);
     let text = notes.rendered(source, start, end);
     notes.replace(at, b"(");
     put_choice(notes, start, text.as_slice());
     if source.gap(start).is_empty() {
-        notes.put_behind(start, b" ");
+        notes.put_after(start, b" ");
     }
-    notes.put_behind(end, b")");
+    notes.put_after(end, b")");
 }
 
-/// Puts behind a token the test whether a value is negative, and the value that it has then without its sign.
+/// Puts after a token the test whether a value is negative, and the value that it has then without its sign.
 fn put_choice(notes: &mut Notes, end: usize, value: &[u8]) {
-    notes.put_all_behind(end, &[value, b"<0 -> -", value, b","]);
+    notes.put_all_after(end, &[value, b"<0 -> -", value, b","]);
 }

@@ -26,15 +26,15 @@ pub fn is_first(source: TokenizedText<'_>, index: usize) -> bool {
 fn rank(source: TokenizedText<'_>, index: usize) -> u32 {
     let bytes = source.bytes(index);
     let mut rank: u32 = 0;
-    let mut is_behind = false;
+    let mut is_after = false;
     for other in 0..source.tokens.len() {
         let name = source.bytes(other);
         if source.kind(other) != Kind::Name || !meets(name, bytes) {
             continue;
         }
         if name == bytes {
-            is_behind = true;
-        } else if is_first(source, other) && (!is_behind || !name.contains(&b'_')) {
+            is_after = true;
+        } else if is_first(source, other) && (!is_after || !name.contains(&b'_')) {
             rank = rank.saturating_add(1);
         }
     }
@@ -47,7 +47,7 @@ fn has_name(source: TokenizedText<'_>, bytes: &[u8]) -> bool {
         && source.bytes(index) == bytes)
 }
 
-/// A name with dots for its underlines, and behind it a number, if it is not 1.
+/// A name with dots for its underlines, and after it a number, if it is not 1.
 fn with_dots(alloc: Global, bytes: &[u8], number: u32) -> Result<Vec<u8>, Memory> {
     let mut text = Vec::new(alloc);
     for byte in bytes {
@@ -160,7 +160,7 @@ fn new_name<'o>(
     None
 }
 
-/// Whether the name at an index is declared somewhere: behind LET, AND, FOR or a comma among these, as a parameter, or with
+/// Whether the name at an index is declared somewhere: after LET, AND, FOR or a comma among these, as a parameter, or with
 /// a number.
 pub fn is_declared(source: TokenizedText<'_>, index: usize) -> bool {
     (0..source.tokens.len()).any(|other| source.kind(other) == Kind::Name
@@ -189,7 +189,7 @@ pub fn is_entry(source: TokenizedText<'_>, index: usize) -> bool {
     )
 }
 
-/// The token in front of the section bracket that a name stands in, behind which no other section bracket stands.
+/// The token before the section bracket that a name stands in, after which no other section bracket stands.
 fn listing_word(source: TokenizedText<'_>, index: usize) -> Kind {
     for back in 1..=index {
         let at = index - back;
@@ -213,7 +213,7 @@ fn is_same_name(source: TokenizedText<'_>, index: usize, other: usize) -> bool {
     source.kind(other) == Kind::Name && source.is_same(index, other)
 }
 
-/// Whether a round bracket stands behind the name at an index.
+/// Whether a round bracket stands after the name at an index.
 pub fn is_called(source: TokenizedText<'_>, index: usize) -> bool {
     source.kind(index.saturating_add(1)) == Kind::OpenRound
 }
@@ -260,24 +260,24 @@ fn begins_number(source: TokenizedText<'_>, index: usize) -> bool {
 }
 
 /// Where the value begins that the name at an index is set to or compared with; the name's own index where it is neither. In a
-/// list it is the value with as many others in front of it as the name has.
+/// list it is the value with as many others before it as the name has.
 fn value_of_name(source: TokenizedText<'_>, index: usize) -> usize {
     let next = index.saturating_add(1);
     let sign = if source.kind(next) == Kind::Comma {
-        behind_list(source, next)
+        after_list(source, next)
     } else {
         next
     };
     match source.kind(sign) {
-        Kind::Equal if is_in_heading(source, index) => value_behind(source, sign, index),
-        Kind::Assign | Kind::Underline => value_behind(source, sign, index),
+        Kind::Equal if is_in_heading(source, index) => value_after(source, sign, index),
+        Kind::Assign | Kind::Underline => value_after(source, sign, index),
         Kind::Equal | Kind::Relation if sign == next => next.saturating_add(1),
         _ => index,
     }
 }
 
-/// The index behind what is left of a list of variables, from a comma in it on.
-fn behind_list(source: TokenizedText<'_>, comma: usize) -> usize {
+/// The index after what is left of a list of variables, from a comma in it on.
+fn after_list(source: TokenizedText<'_>, comma: usize) -> usize {
     let mut open: usize = 0;
     for at in comma..source.tokens.len() {
         if open == 0 && source.is_separated(at) {
@@ -294,7 +294,7 @@ fn behind_list(source: TokenizedText<'_>, comma: usize) -> usize {
     comma
 }
 
-/// How many others stand in front of the name at an index in its list: as many as commas, outside of brackets.
+/// How many others stand before the name at an index in its list: as many as commas, outside of brackets.
 fn names_before(source: TokenizedText<'_>, index: usize) -> usize {
     let mut count: usize = 0;
     let mut closed: usize = 0;
@@ -315,9 +315,9 @@ fn names_before(source: TokenizedText<'_>, index: usize) -> usize {
     count
 }
 
-/// Where the value of the list behind a sign begins that has as many others in front of it as the name at an index has: behind so many
+/// Where the value of the list after a sign begins that has as many others before it as the name at an index has: after so many
 /// commas, outside of brackets and choices. The name's own index where there is none.
-fn value_behind(source: TokenizedText<'_>, sign: usize, name: usize) -> usize {
+fn value_after(source: TokenizedText<'_>, sign: usize, name: usize) -> usize {
     let mut left = names_before(source, name);
     let mut open: usize = 0;
     let mut waiting: usize = 0;
@@ -357,7 +357,7 @@ fn is_own(source: TokenizedText<'_>, index: usize) -> bool {
         && !(0..count).any(|other| is_same_name(source, index, other) && is_called(source, other))
 }
 
-/// Whether the tokens in front of a name, back to LET, AND or FOR, are names, commas and an opening bracket alone.
+/// Whether the tokens before a name, back to LET, AND or FOR, are names, commas and an opening bracket alone.
 fn is_in_heading(source: TokenizedText<'_>, index: usize) -> bool {
     for back in 1..=index {
         match source.kind(index - back) {

@@ -5,7 +5,7 @@ use bc_convert_tokens::{Kind, TokenizedText, is_name_byte};
 use bc_word::Memory;
 use std::alloc::Global;
 
-/// What becomes of a token: what stands in front of it, in its place and behind it, and whether the blanks in front of it go.
+/// What becomes of a token: what stands before it, in its place and after it, and whether the blanks before it go.
 #[derive(Drop)]
 struct Slot {
     before: Vec<u8>,
@@ -28,7 +28,7 @@ impl Slot {
         self.before.is_empty() && self.instead.is_none() && self.after.is_empty() && !self.takes_gap
     }
 
-    /// Puts bytes in front of all that was put there before.
+    /// Puts bytes before all that was put there before.
     fn put_before(&mut self, alloc: Global, bytes: &[u8]) -> Result<(), Memory> {
         let mut whole = Vec::from_slice(alloc, bytes)?;
         whole.extend_from_slice(self.before.as_slice())?;
@@ -43,7 +43,7 @@ impl Slot {
     }
 }
 
-/// A list from an index on, with a declaration behind commands that begins a block up to the end of the list.
+/// A list from an index on, with a declaration after commands that begins a block up to the end of the list.
 #[derive(Clone, Copy)]
 pub struct LateBlock {
     pub from: usize,
@@ -62,7 +62,7 @@ pub struct Notes {
     destinations: Vec<usize>,
     blocks: Vec<LateBlock>,
     fresh: u32,
-    /// The index behind the last nest that is too deep.
+    /// The index after the last nest that is too deep.
     told_until: usize,
     is_refused: bool,
 }
@@ -108,7 +108,7 @@ impl Notes {
         }
     }
 
-    /// Puts bytes in front of a token and of all that was put there before.
+    /// Puts bytes before a token and of all that was put there before.
     pub fn put_before(&mut self, index: usize, bytes: &[u8]) {
         if index < self.slots.len() {
             let slot = &mut self.slots[index];
@@ -118,8 +118,8 @@ impl Notes {
         }
     }
 
-    /// Puts bytes behind the token in front of an index and behind all that was put there before.
-    pub fn put_behind(&mut self, end: usize, bytes: &[u8]) {
+    /// Puts bytes after the token before an index and after all that was put there before.
+    pub fn put_after(&mut self, end: usize, bytes: &[u8]) {
         if 0 < end && end <= self.slots.len() {
             let slot = &mut self.slots[end - 1];
             if slot.after.extend_from_slice(bytes).is_err() {
@@ -128,29 +128,29 @@ impl Notes {
         }
     }
 
-    /// Puts these in front of a token and of all that was put there before, each in front of the one before it.
+    /// Puts these before a token and of all that was put there before, each before the one before it.
     pub fn put_all_before(&mut self, index: usize, texts: &[&[u8]]) {
         for bytes in texts {
             self.put_before(index, bytes);
         }
     }
 
-    /// Puts these behind the token in front of an index and behind all that was put there before, in their order.
-    pub fn put_all_behind(&mut self, end: usize, texts: &[&[u8]]) {
+    /// Puts these after the token before an index and after all that was put there before, in their order.
+    pub fn put_all_after(&mut self, end: usize, texts: &[&[u8]]) {
         for bytes in texts {
-            self.put_behind(end, bytes);
+            self.put_after(end, bytes);
         }
     }
 
-    /// Puts a number behind the token in front of an index and behind all that was put there before.
-    pub fn put_number_behind(&mut self, end: usize, number: u32) {
+    /// Puts a number after the token before an index and after all that was put there before.
+    pub fn put_number_after(&mut self, end: usize, number: u32) {
         let digits = decimal(self.alloc, i64::from(number));
         if let Some(digits) = self.made(digits) {
-            self.put_behind(end, digits.as_bytes());
+            self.put_after(end, digits.as_bytes());
         }
     }
 
-    /// Puts bytes in the place of a token.
+    /// Puts bytes instead of a token.
     pub fn replace(&mut self, index: usize, bytes: &[u8]) {
         if index < self.slots.len() {
             let slot = &mut self.slots[index];
@@ -160,7 +160,7 @@ impl Notes {
         }
     }
 
-    /// Takes out the blanks in front of a token, where no comment and no line break is among them.
+    /// Takes out the blanks before a token, where no comment and no line break is among them.
     pub fn take_gap(&mut self, source: TokenizedText<'_>, index: usize) {
         if index < self.slots.len() && is_plain_gap(source.gap(index)) {
             let slot = &mut self.slots[index];
@@ -177,7 +177,7 @@ impl Notes {
         }
     }
 
-    /// Takes out a token and the blanks in front of it.
+    /// Takes out a token and the blanks before it.
     pub fn take_out(&mut self, source: TokenizedText<'_>, index: usize) {
         self.clear(index);
         self.replace(index, &[]);
@@ -193,7 +193,7 @@ impl Notes {
         whole
     }
 
-    /// Puts that text behind another one.
+    /// Puts that text after another one.
     fn render(
         &self,
         source: TokenizedText<'_>,
@@ -250,14 +250,14 @@ impl Notes {
         }
     }
 
-    /// Writes down that a declaration behind commands begins a block.
+    /// Writes down that a declaration after commands begins a block.
     pub fn note_block(&mut self, block: LateBlock) {
         if self.blocks.push(block).is_err() {
             self.refuse();
         }
     }
 
-    /// Whether the GOTO with its destination at an index stands in front of a declaration behind commands, and its label behind it
+    /// Whether the GOTO with its destination at an index stands before a declaration after commands, and its label after it
     /// in the same list.
     pub fn is_parted(&self, source: TokenizedText<'_>, destination: usize) -> bool {
         self.destinations.contains(&destination)
@@ -385,7 +385,7 @@ fn put_apart(
     Ok(())
 }
 
-/// Whether a new text would run into the byte behind the token.
+/// Whether a new text would run into the byte after the token.
 fn needs_blank(text: &[u8], source: TokenizedText<'_>, index: usize) -> bool {
     let last = text.last().copied();
     let next = source.text.get(source.end(index)).copied();
@@ -414,12 +414,12 @@ fn is_plain_gap(gap: &[u8]) -> bool {
     !gap.is_empty() && gap.iter().all(|byte| *byte == b' ' || *byte == b'\t')
 }
 
-/// Whether a bracket that opens behind an index and in front of another one closes behind that.
+/// Whether a bracket that opens after an index and before another one closes after that.
 fn is_enclosed(source: TokenizedText<'_>, from: usize, index: usize) -> bool {
     (from..index).any(|at| source.kind(at) == Kind::OpenSection && source.partner(at) > index)
 }
 
-/// The index behind the outermost bracket that a token stands in, or behind the token where it stands in none.
+/// The index after the outermost bracket that a token stands in, or after the token where it stands in none.
 fn nest_end(source: TokenizedText<'_>, index: usize) -> usize {
     let outermost = (0..index).find(|at| source.partner(*at) >= index && opens(source, *at));
     outermost

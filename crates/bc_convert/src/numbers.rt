@@ -1,5 +1,5 @@
 use crate::complaint::Fault;
-use bc_convert_tokens::{TokenizedText, behind};
+use bc_convert_tokens::{TokenizedText, following};
 use bc_word::Memory;
 use std::alloc::Global;
 
@@ -14,7 +14,7 @@ pub enum NumberChange {
     Fault(Fault),
 }
 
-/// The base of a number, and how many bytes stand in front of its digits.
+/// The base of a number, and how many bytes stand before its digits.
 fn base_of(bytes: &[u8]) -> (u32, usize) {
     match bytes {
         [b'#', b'X' | b'x', ..] => (16, 2),
@@ -53,7 +53,7 @@ pub fn value_of_number(source: TokenizedText<'_>, index: usize) -> Result<u32, F
     if front >= bytes.len() {
         return Err(Fault::BadNumber);
     }
-    value_of_digits(base, behind(bytes, front))
+    value_of_digits(base, following(bytes, front))
 }
 
 /// Whether this dialect reads the number as it stands.

@@ -1,7 +1,7 @@
 use crate::notes::Notes;
 use bc_convert_tokens::{Kind, TokenizedText};
 
-/// How an operand was read: the index behind it, and where it is a byte of a string as a whole the index of its `%`, whose
+/// How an operand was read: the index after it, and where it is a byte of a string as a whole the index of its `%`, whose
 /// change is not written down yet.
 #[derive(Clone, Copy)]
 pub struct Operand {
@@ -21,11 +21,11 @@ pub fn finish(notes: &mut Notes, at: usize, operand: Operand) {
     if let Some(percent) = operand.byte {
         notes.put_before(at, b"GETBYTE(");
         notes.replace(percent, b",");
-        notes.put_behind(operand.end, b")");
+        notes.put_after(operand.end, b")");
     }
 }
 
-/// Whether a token and the one behind it stand side by side.
+/// Whether a token and the one after it stand side by side.
 pub fn is_adjacent(source: TokenizedText<'_>, index: usize) -> bool {
     let next = index.saturating_add(1);
     source.kind(next) != Kind::End && source.end(index) == source.start(next)
@@ -60,7 +60,7 @@ fn is_call(source: TokenizedText<'_>, index: usize) -> bool {
         && matches!(before, Kind::Name | Kind::CloseRound | Kind::CloseSection)
 }
 
-/// Whether the tokens between two indices hold no call and no VALOF, so that they may be worked out twice.
+/// Whether the tokens between two indices hold no call and no VALOF, so that they may be computed twice.
 pub fn is_plain(source: TokenizedText<'_>, from: usize, to: usize) -> bool {
     (from..to).all(|index| !is_call(source, index) && source.kind(index) != Kind::Valof)
 }

@@ -38,7 +38,7 @@ pub struct NameList<'o> {
     pub complaints: Vec<Complaint>,
 }
 
-/// The renamings that the lines of a text list: on each line the old name, and behind blanks the new one. What else stands
+/// The renamings that the lines of a text list: on each line the old name, and after blanks the new one. What else stands
 /// in a line is passed over, and so are empty lines and those that begin with `//` or `||`. A line with one name, with an old name
 /// that an earlier line has, or with a new name that no library here has, is complained of and says nothing.
 ///
@@ -81,7 +81,7 @@ fn add_line<'o>(names: &mut NameList<'o>, start: usize, line: &'o [u8]) -> Resul
     Ok(())
 }
 
-/// What is wrong with a renaming behind these.
+/// What is wrong with a renaming after these.
 fn fault_of(earlier: &[Renaming<'_>], renaming: Renaming<'_>) -> Option<Fault> {
     if renaming.new.is_empty() {
         Some(Fault::NameAlone)
@@ -97,7 +97,7 @@ fn fault_of(earlier: &[Renaming<'_>], renaming: Renaming<'_>) -> Option<Fault> {
     }
 }
 
-/// The first word of a line, and what stands behind it.
+/// The first word of a line, and what stands after it.
 fn first_word(line: &[u8]) -> (&[u8], &[u8]) {
     let trimmed = line.trim_ascii_start();
     let count = trimmed

@@ -1,5 +1,5 @@
 use crate::complaint::Fault;
-use bc_convert_tokens::{behind, span};
+use bc_convert_tokens::{following, span};
 use bc_word::Memory;
 use std::alloc::Global;
 
@@ -8,11 +8,11 @@ use std::alloc::Global;
 enum Piece {
     /// Nothing: the end.
     End,
-    /// Bytes that stay as they are and stand for one character.
+    /// Bytes that stay as they are and mean one character.
     Kept(usize),
     /// An escape of so many bytes for this byte, which this dialect writes otherwise.
     Byte(u8, usize),
-    /// So many bytes that stand for nothing: a line break within a string.
+    /// So many bytes that mean nothing: a line break within a string.
     Nothing(usize),
     /// What is no escape.
     Bad,
@@ -31,7 +31,7 @@ fn byte_of_digits(base: u32, digits: &[u8]) -> Option<u8> {
     u8::try_from(value).ok()
 }
 
-/// The escape by number in front, whose digits begin behind so many bytes.
+/// The escape by number in front, whose digits begin after so many bytes.
 fn numbered(bytes: &[u8], front: usize, count: usize, base: u32) -> Piece {
     let end = front.saturating_add(count);
     let digits = span(bytes, front, end);
@@ -44,7 +44,7 @@ fn numbered(bytes: &[u8], front: usize, count: usize, base: u32) -> Piece {
     }
 }
 
-/// How many bytes the blanks and line breaks in front have, with the `*` behind them.
+/// How many bytes the blanks and line breaks in front have, with the `*` after them.
 fn break_bytes(bytes: &[u8]) -> usize {
     let blanks = bytes
         .iter()
@@ -79,7 +79,7 @@ fn next_piece(bytes: &[u8]) -> Piece {
             | b'*',
             ..
         ] => Piece::Kept(2),
-        [b'*', b'\n' | b'\r', ..] => Piece::Nothing(break_bytes(behind(bytes, 1)).saturating_add(
+        [b'*', b'\n' | b'\r', ..] => Piece::Nothing(break_bytes(following(bytes, 1)).saturating_add(
             1,
         )),
         [b'*', b'X' | b'x', ..] => numbered(bytes, 2, 2, 16),
@@ -156,7 +156,7 @@ pub fn inside_respelled(alloc: Global, inside: &[u8]) -> Result<Result<Respelled
     }))
 }
 
-/// The byte that a character constant's inside stands for, where it is one character.
+/// The byte that a character constant's inside means, where it is one character.
 pub fn character_of(inside: &[u8]) -> Option<u8> {
     match inside {
         [byte] => Some(*byte),

@@ -54,7 +54,7 @@ fn put_constant(
     Ok(())
 }
 
-/// The cases between two constants, each with CASE and a colon around it, and CASE in front of the last one; `None` where they
+/// The cases between two constants, each with CASE and a colon around it, and CASE before the last one; `None` where they
 /// are no constants, or no range of at most 256.
 pub fn cases_between(
     alloc: Global,
@@ -88,11 +88,11 @@ fn cases(alloc: Global, first: CaseConstant, last: CaseConstant) -> Result<Vec<u
     Ok(text)
 }
 
-/// Puts bytes in the place of a token, and a blank behind them where none stands there.
+/// Puts bytes instead of a token, and a blank after them where none stands there.
 pub fn replace_apart(source: TokenizedText<'_>, notes: &mut Notes, index: usize, bytes: &[u8]) {
     notes.replace(index, bytes);
     let next = index.saturating_add(1);
     if source.gap(next).is_empty() {
-        notes.put_behind(next, b" ");
+        notes.put_after(next, b" ");
     }
 }

@@ -52,7 +52,7 @@ fn is_filled_up(source: TokenizedText<'_>, index: usize) -> bool {
     (index..source.tokens.len()).all(|at| source.bytes(at) == FILLER)
 }
 
-/// What becomes of a byte that begins no token. Fillers behind the text are taken out, and so is the full stop behind its last section; one
+/// What becomes of a byte that begins no token. Fillers after the text are taken out, and so is the full stop after its last section; one
 /// at the end of a line ends another section.
 fn respell_unknown(source: TokenizedText<'_>, notes: &mut Notes, index: usize) {
     let next = index.saturating_add(1);
@@ -139,7 +139,7 @@ pub fn inside(bytes: &[u8]) -> &[u8] {
     span(bytes, 1, bytes.len().saturating_sub(1))
 }
 
-/// What becomes of a string: the library's header has its name here where it stands behind GET.
+/// What becomes of a string: the library's header has its name here where it stands after GET.
 fn respell_string(source: TokenizedText<'_>, notes: &mut Notes, index: usize, header: Header) {
     if gets_header(source, index) {
         let name: &[u8] = match header {
@@ -197,11 +197,11 @@ fn put_quoted(source: TokenizedText<'_>, notes: &mut Notes, index: usize, sign: 
     if inside(source.bytes(index)) != new {
         notes.replace(index, new);
         notes.put_before(index, sign);
-        notes.put_behind(index.saturating_add(1), sign);
+        notes.put_after(index.saturating_add(1), sign);
     }
 }
 
-/// Puts bytes in the place of a token that is spelled otherwise.
+/// Puts bytes instead of a token that is spelled otherwise.
 fn replace_if_other(source: TokenizedText<'_>, notes: &mut Notes, index: usize, bytes: &[u8]) {
     if source.bytes(index) != bytes {
         notes.replace(index, bytes);
@@ -254,6 +254,6 @@ fn respell_section(source: TokenizedText<'_>, notes: &mut Notes, index: usize, s
     }
     notes.replace(index, sign);
     for byte in span(bytes, 2, bytes.len()) {
-        notes.put_behind(index.saturating_add(1), &[dotted(*byte)]);
+        notes.put_after(index.saturating_add(1), &[dotted(*byte)]);
     }
 }

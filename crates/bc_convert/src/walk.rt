@@ -42,8 +42,8 @@ fn inside_end(source: TokenizedText<'_>, index: usize, to: usize) -> usize
     source.partner(index).min(to)
 }
 
-/// The index behind another one, within a limit.
-fn behind(index: usize, to: usize) -> usize
+/// The index after another one, within a limit.
+fn following(index: usize, to: usize) -> usize
     ensures { result ≤ to }
 {
     if index < to { index + 1 } else { to }
@@ -73,12 +73,12 @@ fn is_no_command(kind: Kind) -> bool {
         || matches!(kind, Kind::And | Kind::Semicolon | Kind::Get | Kind::Header)
 }
 
-/// Whether an item of a list begins at an index: in front, behind a separator, or behind the colon of a case or a label.
+/// Whether an item of a list begins at an index: in front, after a separator, or after the colon of a case or a label.
 fn begins_item(source: TokenizedText<'_>, from: usize, at: usize) -> bool {
     at == from || source.is_separated(at) || at > 0 && source.kind(at - 1) == Kind::Colon
 }
 
-/// The items of a list, from one index up to another one. A declaration behind commands gets a block of its own, which goes
+/// The items of a list, from one index up to another one. A declaration after commands gets a block of its own, which goes
 /// to the end of the list.
 #[cycle(walk)]
 pub fn items(walk: Walk<'_>, notes: &mut Notes, from: usize, to: usize) {
@@ -117,7 +117,7 @@ fn put_block(source: TokenizedText<'_>, notes: &mut Notes, from: usize, at: usiz
     }
 }
 
-/// The part of an item that begins at an index. Gives the index behind it.
+/// The part of an item that begins at an index. Gives the index after it.
 #[cycle(walk)]
 fn item(walk: Walk<'_>, notes: &mut Notes, at: usize, to: usize) -> usize {
     if walk.depth == 0 {
@@ -125,25 +125,25 @@ fn item(walk: Walk<'_>, notes: &mut Notes, at: usize, to: usize) -> usize {
         return to;
     }
     let source = walk.source;
-    let next = behind(at, to);
+    let next = following(at, to);
     match source.kind(at) {
         Kind::Let | Kind::And => definition(walk.deeper(), notes, next, to),
         Kind::Global | Kind::Manifest | Kind::Static => entries(walk.deeper(), notes, at, to),
         Kind::Case => cases(walk.deeper(), notes, next, to),
         Kind::Goto => destination(source, notes, next, to),
         Kind::Header => header(source, notes, at, to),
-        Kind::Get => behind(next, to),
+        Kind::Get => following(next, to),
         Kind::OpenSection => bracket(walk.deeper(), notes, at, to),
         Kind::Name if source.kind(next) == Kind::Colon => {
             notes.note_label(at);
-            behind(next, to)
+            following(next, to)
         }
         kind if kind.can_be_operand() => command(walk.deeper(), notes, at, to),
         _ => next,
     }
 }
 
-/// What stands between brackets. Gives the index behind the closing one.
+/// What stands between brackets. Gives the index after the closing one.
 #[cycle(walk)]
 fn bracket(walk: Walk<'_>, notes: &mut Notes, at: usize, to: usize) -> usize {
     if walk.depth == 0 {
@@ -155,30 +155,30 @@ fn bracket(walk: Walk<'_>, notes: &mut Notes, at: usize, to: usize) -> usize {
         notes.complain(source, at, Fault::OpenBracket);
     }
     let closing = inside_end(source, at, to);
-    items(walk.deeper(), notes, behind(at, to), closing);
-    behind(closing, to)
+    items(walk.deeper(), notes, following(at, to), closing);
+    following(closing, to)
 }
 
 /// SECTION or NEEDS with its names, which become a comment.
 fn header(source: TokenizedText<'_>, notes: &mut Notes, at: usize, to: usize) -> usize {
-    let mut end = behind(at, to);
+    let mut end = following(at, to);
     for _ in at..to {
-        let next = behind(end, to);
+        let next = following(end, to);
         if source.kind(end) == Kind::Text && source.kind(next) == Kind::Comma {
-            end = behind(next, to);
+            end = following(next, to);
         } else {
             end = next;
             break;
         }
     }
     notes.put_before(at, b"/* ");
-    notes.put_behind(end, b" */");
+    notes.put_after(end, b" */");
     end
 }
 
 /// A GOTO's destination, which is to be a name alone.
 fn destination(source: TokenizedText<'_>, notes: &mut Notes, at: usize, to: usize) -> usize {
-    let next = behind(at, to);
+    let next = following(at, to);
     let goes_on = !source.is_separated(next)
         && matches!(
             source.kind(next),
@@ -192,7 +192,7 @@ fn destination(source: TokenizedText<'_>, notes: &mut Notes, at: usize, to: usiz
     at
 }
 
-/// A definition behind LET or AND, up to the body of a routine or a single value.
+/// A definition after LET or AND, up to the body of a routine or a single value.
 #[cycle(walk)]
 fn definition(walk: Walk<'_>, notes: &mut Notes, at: usize, to: usize) -> usize {
     if walk.depth == 0 {
@@ -200,17 +200,17 @@ fn definition(walk: Walk<'_>, notes: &mut Notes, at: usize, to: usize) -> usize 
         return to;
     }
     let source = walk.source;
-    let next = behind(at, to);
+    let next = following(at, to);
     if source.kind(at) != Kind::Name {
         return at;
     }
     if source.kind(next) == Kind::OpenRound {
         let closing = inside_end(source, next, to);
-        return behind(behind(closing, to), to);
+        return following(following(closing, to), to);
     }
     let values = Values::of(source, at, to);
     if values.count == 1 || source.kind(values.equal) != Kind::Equal {
-        return behind(values.equal, to);
+        return following(values.equal, to);
     }
     definitions(walk.deeper(), notes, values, to)
 }
@@ -225,11 +225,11 @@ fn definitions(walk: Walk<'_>, notes: &mut Notes, values: Values, to: usize) -> 
     let source = walk.source;
     let mut commas = Vec::new(notes.alloc());
     let mut has_vector = false;
-    let mut start = behind(values.equal, to);
+    let mut start = following(values.equal, to);
     for _ in 0..values.count {
         if source.kind(start) == Kind::Vec {
             has_vector = true;
-            start = behind(start, to);
+            start = following(start, to);
         }
         start = expression(walk.deeper(), notes, 1, start, to);
         if source.kind(start) != Kind::Comma || commas.len().saturating_add(1) >= values.count {
@@ -239,7 +239,7 @@ fn definitions(walk: Walk<'_>, notes: &mut Notes, values: Values, to: usize) -> 
             notes.refuse();
             break;
         }
-        start = behind(start, to);
+        start = following(start, to);
     }
     if has_vector {
         put_values(source, notes, values, commas.as_slice());
@@ -247,14 +247,14 @@ fn definitions(walk: Walk<'_>, notes: &mut Notes, values: Values, to: usize) -> 
     start
 }
 
-/// Whether an entry without a value ends in front of an index.
+/// Whether an entry without a value ends before an index.
 fn ends_entry(source: TokenizedText<'_>, index: usize, closing: usize) -> bool {
     index >= closing
         || matches!(source.kind(index), Kind::Comma | Kind::Semicolon)
         || source.is_separated(index)
 }
 
-/// GLOBAL, MANIFEST or STATIC with its entries. Gives the index behind the closing bracket.
+/// GLOBAL, MANIFEST or STATIC with its entries. Gives the index after the closing bracket.
 #[cycle(walk)]
 fn entries(walk: Walk<'_>, notes: &mut Notes, at: usize, to: usize) -> usize {
     if walk.depth == 0 {
@@ -262,25 +262,25 @@ fn entries(walk: Walk<'_>, notes: &mut Notes, at: usize, to: usize) -> usize {
         return to;
     }
     let source = walk.source;
-    let opening = behind(at, to);
+    let opening = following(at, to);
     if source.kind(opening) != Kind::OpenSection {
         return opening;
     }
     let closing = inside_end(source, opening, to);
-    let mut entry = behind(opening, to);
+    let mut entry = following(opening, to);
     let mut last = None;
     for _ in at..to {
         if entry >= closing {
             break;
         }
-        let next = behind(entry, closing);
+        let next = following(entry, closing);
         if source.kind(entry) != Kind::Name {
             if source.kind(entry) == Kind::Comma {
                 notes.replace(entry, b";");
             }
             entry = next;
         } else if matches!(source.kind(next), Kind::Equal | Kind::Colon) {
-            let start = behind(next, closing);
+            let start = following(next, closing);
             let end = expression(walk.deeper(), notes, 2, start, closing);
             tell_absolutes(source, notes, start, end);
             last = continued(source, start, end);
@@ -292,10 +292,10 @@ fn entries(walk: Walk<'_>, notes: &mut Notes, at: usize, to: usize) -> usize {
             entry = next;
         }
     }
-    behind(closing, to)
+    following(closing, to)
 }
 
-/// The constants of a CASE. Gives the index behind them.
+/// The constants of a CASE. Gives the index after them.
 #[cycle(walk)]
 fn cases(walk: Walk<'_>, notes: &mut Notes, at: usize, to: usize) -> usize {
     if walk.depth == 0 {
@@ -307,7 +307,7 @@ fn cases(walk: Walk<'_>, notes: &mut Notes, at: usize, to: usize) -> usize {
     for _ in at..to {
         let mut end = expression(walk.deeper(), notes, 2, start, to);
         if source.kind(end) == Kind::To {
-            let from = behind(end, to);
+            let from = following(end, to);
             let last = expression(walk.deeper(), notes, 2, from, to);
             put_range(source, notes, (start, end), (from, last));
             end = last;
@@ -317,7 +317,7 @@ fn cases(walk: Walk<'_>, notes: &mut Notes, at: usize, to: usize) -> usize {
             return end;
         }
         replace_apart(source, notes, end, b": CASE");
-        start = behind(end, to);
+        start = following(end, to);
     }
     start
 }
@@ -341,7 +341,7 @@ fn put_range(
     }
 }
 
-/// What begins with an operand: an assignment, a call, or expressions with commas between them. Gives the index behind it.
+/// What begins with an operand: an assignment, a call, or expressions with commas between them. Gives the index after it.
 #[cycle(walk)]
 fn command(walk: Walk<'_>, notes: &mut Notes, at: usize, to: usize) -> usize {
     if walk.depth == 0 {
@@ -363,7 +363,7 @@ fn command(walk: Walk<'_>, notes: &mut Notes, at: usize, to: usize) -> usize {
         if source.kind(end) != Kind::Comma || end >= to {
             break;
         }
-        let start = behind(end, to);
+        let start = following(end, to);
         let further = operand(walk.deeper(), notes, start, to, false);
         has_byte = has_byte || further.byte.is_some();
         finish(notes, start, further);
@@ -371,14 +371,14 @@ fn command(walk: Walk<'_>, notes: &mut Notes, at: usize, to: usize) -> usize {
     }
     if is_compound(source, end) {
         notes.complain(source, end, Fault::OperatorInList);
-        end = behind(behind(end, to), to);
+        end = following(following(end, to), to);
     } else if has_byte && source.kind(end) == Kind::Assign {
         notes.complain(source, at, Fault::ByteInList);
     }
-    end.max(behind(at, to))
+    end.max(following(at, to))
 }
 
-/// An assignment to what was read, whose sign stands behind it.
+/// An assignment to what was read, whose sign stands after it.
 #[cycle(walk)]
 fn assignment(walk: Walk<'_>, notes: &mut Notes, at: usize, left: Operand, to: usize) -> usize {
     if walk.depth == 0 {
@@ -386,17 +386,17 @@ fn assignment(walk: Walk<'_>, notes: &mut Notes, at: usize, left: Operand, to: u
         return to;
     }
     let source = walk.source;
-    let start = behind(left.end, to);
+    let start = following(left.end, to);
     if let Some(percent) = left.byte {
         let end = expression(walk.deeper(), notes, 1, start, to);
         put_byte_of(source, notes, at, percent, left.end);
-        notes.put_behind(end, b")");
+        notes.put_after(end, b")");
         return end;
     }
     start
 }
 
-/// An assignment with an operator to what was read, whose operator stands behind it.
+/// An assignment with an operator to what was read, whose operator stands after it.
 #[cycle(walk)]
 fn compound(walk: Walk<'_>, notes: &mut Notes, at: usize, left: Operand, to: usize) -> usize {
     if walk.depth == 0 {
@@ -404,7 +404,7 @@ fn compound(walk: Walk<'_>, notes: &mut Notes, at: usize, left: Operand, to: usi
         return to;
     }
     let source = walk.source;
-    let start = behind(behind(left.end, to), to);
+    let start = following(following(left.end, to), to);
     let right = operand(walk.deeper(), notes, start, to, false);
     finish(notes, start, right);
     let end = operators(walk.deeper(), notes, 1, start, right.end, to);
@@ -414,13 +414,13 @@ fn compound(walk: Walk<'_>, notes: &mut Notes, at: usize, left: Operand, to: usi
     }
     if end != right.end || matches!(source.kind(start), Kind::Add | Kind::Not) {
         notes.put_before(start, b"(");
-        notes.put_behind(end, b")");
+        notes.put_after(end, b")");
     }
     put_compound(source, notes, at, left, end);
     end
 }
 
-/// The expression that begins at an index, without operators that bind more loosely than a level. Gives the index behind it.
+/// The expression that begins at an index, without operators that bind more loosely than a level. Gives the index after it.
 #[cycle(walk)]
 fn expression(walk: Walk<'_>, notes: &mut Notes, level: u8, at: usize, to: usize) -> usize {
     if walk.depth == 0 {
@@ -435,7 +435,7 @@ fn expression(walk: Walk<'_>, notes: &mut Notes, level: u8, at: usize, to: usize
     operators(walk.deeper(), notes, level, at, left.end, to)
 }
 
-/// The operators behind what was read from an index up to another one, that bind no more loosely than a level, with their
+/// The operators after what was read from an index up to another one, that bind no more loosely than a level, with their
 /// operands.
 #[cycle(walk)]
 fn operators(
@@ -458,7 +458,7 @@ fn operators(
         if end >= to || operator == 0 || operator < level {
             break;
         }
-        let start = behind(end, to);
+        let start = following(end, to);
         let next = if operator == 1 {
             choice(walk.deeper(), notes, start, to)
         } else {
@@ -493,7 +493,7 @@ fn close(notes: &mut Notes, end: usize, chain: Option<Chain>) {
     }
 }
 
-/// The two parts behind `->`.
+/// The two parts after `->`.
 #[cycle(walk)]
 fn choice(walk: Walk<'_>, notes: &mut Notes, at: usize, to: usize) -> usize {
     if walk.depth == 0 {
@@ -504,17 +504,17 @@ fn choice(walk: Walk<'_>, notes: &mut Notes, at: usize, to: usize) -> usize {
     if walk.source.kind(end) != Kind::Comma {
         return end;
     }
-    expression(walk.deeper(), notes, 1, behind(end, to), to)
+    expression(walk.deeper(), notes, 1, following(end, to), to)
 }
 
-/// The operand that begins at an index; with calls alone behind it, where `calls_only` says so, and else with `!` and `%` too.
+/// The operand that begins at an index; with calls alone after it, where `calls_only` says so, and else with `!` and `%` too.
 #[cycle(walk)]
 fn operand(walk: Walk<'_>, notes: &mut Notes, at: usize, to: usize, calls_only: bool) -> Operand {
     if walk.depth == 0 || at >= to {
         return Operand::plain(at);
     }
     let source = walk.source;
-    let next = behind(at, to);
+    let next = following(at, to);
     match source.kind(at) {
         Kind::Add => {
             drop_plus(source, notes, at);
@@ -555,7 +555,7 @@ fn drop_plus(source: TokenizedText<'_>, notes: &mut Notes, at: usize) {
     notes.replace(at, blank)
 }
 
-/// Whether `*(` behind an operand is a subscript.
+/// Whether `*(` after an operand is a subscript.
 fn is_star_subscript(walk: Walk<'_>, index: usize) -> bool {
     let source = walk.source;
     walk.dialect.has_star_subscripts
@@ -587,21 +587,25 @@ fn is_truth(source: TokenizedText<'_>, from: usize, to: usize) -> bool {
         && (from..to).all(|index| source.kind(index) != Kind::Arrow)
 }
 
-/// Why the sign at an index, behind what was read from another one, goes on with no subscript, though it is that of one.
+/// Why the sign at an index, after what was read from another one, goes on with no subscript, though it is that of one.
 fn subscript_fault(walk: Walk<'_>, at: usize, sign: usize) -> Option<Fault> {
     let source = walk.source;
     if is_star_subscript(walk, sign) && is_number_alone(source, at, sign) {
         return Some(Fault::StarProduct);
     }
-    let behind = sign.saturating_add(1);
+    let following = sign.saturating_add(1);
     let is_or = source.kind(sign) == Kind::Percent
         && (is_constant_alone(source, at, sign)
             || is_truth(source, at, sign)
-            || is_truth(source, behind, source.partner(behind).saturating_add(1)));
+            || is_truth(
+                source,
+                following,
+                source.partner(following).saturating_add(1),
+            ));
     if is_or { Some(Fault::PercentOr) } else { None }
 }
 
-/// The calls and subscripts behind what was read from an index up to another one.
+/// The calls and subscripts after what was read from an index up to another one.
 #[cycle(walk)]
 fn selected(
     walk: Walk<'_>,
@@ -633,10 +637,10 @@ fn selected(
         } else if is_star_subscript(walk, here) {
             finish(notes, at, whole);
             notes.replace(here, b"!");
-            whole = Operand::plain(bracket(walk.deeper(), notes, behind(here, to), to));
+            whole = Operand::plain(bracket(walk.deeper(), notes, following(here, to), to));
         } else if kind == Kind::Bang || kind == Kind::Percent {
             finish(notes, at, whole);
-            let start = behind(here, to);
+            let start = following(here, to);
             let inner = operand(walk.deeper(), notes, start, to, true);
             finish(notes, start, inner);
             let byte = if kind == Kind::Percent {
@@ -663,7 +667,7 @@ fn absolute(walk: Walk<'_>, notes: &mut Notes, at: usize, to: usize) -> usize {
         return to;
     }
     let source = walk.source;
-    let start = behind(at, to);
+    let start = following(at, to);
     let end = expression(walk.deeper(), notes, 10, start, to);
     if end <= start {
         return start;

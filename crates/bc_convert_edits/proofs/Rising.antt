@@ -1,4 +1,4 @@
--- Replacements that rise, with one more behind them.
+-- Replacements that rise, with one more after them.
 use Rattle.std.proofs.Common.{◌≡◌, ℕ, ◌≤◌, List, [], ◌∷◌, ◌++◌, arith}
 use Rattle.bc_convert_edits.specs.declared.replacement.Replacement.{Replacement}
 use Rattle.bc_convert_edits.specs.Converted.{RiseWithin}

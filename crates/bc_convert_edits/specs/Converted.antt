@@ -11,12 +11,12 @@ converted_from at text (r ∷ rs) = slice_range text at r.start ++ (r.text.items
 abbrev pub converted : List ℕ → List Replacement → List ℕ
 converted text rs = converted_from 0 text rs
 
--- the spans begin at this place or behind it, rise, don't overlap, and end within a text of this length
+-- the spans begin at this place or after it, rise, don't overlap, and end within a text of this length
 abbrev pub RiseWithin : ℕ → ℕ → List Replacement → Type 0
 RiseWithin at size [] = at ≤ size
 RiseWithin at size (r ∷ rs) = (at ≤ r.start) × (r.start ≤ r.end) × (r.end ≤ size) × RiseWithin r.end size rs
 
--- a replacement has other bytes than what it stands for
+-- a replacement has other bytes than what it means
 abbrev pub Changes : List ℕ → Replacement → Type 0
 Changes text r = slice_range text r.start r.end ≢ r.text.items
 

@@ -1,4 +1,4 @@
-/// A span of a text, from the byte `start` up to and without the byte `end`, and the bytes that stand for it. Where
+/// A span of a text, from the byte `start` up to and without the byte `end`, and the bytes that mean it. Where
 /// `start` and `end` are equal, bytes are put in and none is taken out.
 #[derive(Drop)]
 pub struct Replacement {

@@ -15,7 +15,7 @@ fn changes(text: &[u8], replacement: &Replacement) -> bool
     span != replacement.text.as_slice()
 }
 
-/// Of these replacements, in their order, those that begin at or behind the end of the one that was taken last, lie
+/// Of these replacements, in their order, those that begin at or after the end of the one that was taken last, lie
 /// within the text and change it.
 ///
 /// # Errors

@@ -1,7 +1,7 @@
 ghost use Rattle.std.specs.Prelude.{◌≡◌, ◌+◌, ◌≤◌, length};
 
 /// The bytes from a place on.
-pub fn behind(bytes: &[u8], at: usize) -> &[u8]
+pub fn following(bytes: &[u8], at: usize) -> &[u8]
     requires { at ≤ length bytes.now }
     ensures { length result.now + at ≡ length bytes.now }
 {
@@ -54,7 +54,7 @@ pub fn hexadecimal_bytes(bytes: &[u8]) -> usize
         .count()
 }
 
-/// How many bytes stand in front of a line break, or of the end.
+/// How many bytes stand before a line break, or of the end.
 pub fn line_bytes(bytes: &[u8]) -> usize
     ensures { result ≤ length bytes.now }
 {

@@ -11,7 +11,7 @@ pub struct Dialect {
     pub has_small_words: bool,
     /// Names of the library stand in small letters.
     pub has_small_library: bool,
-    /// `*` and a round or square bracket right behind it are a subscript.
+    /// `*` and a round or square bracket right after it are a subscript.
     pub has_star_subscripts: bool,
 }
 
@@ -20,7 +20,7 @@ impl Dialect {
     ///
     /// Reserved words stand in small letters where the source begins with one, or where `let` and a word stand side by side,
     /// which is no part of a source in this dialect. The library's names stand in small letters where these do, where the
-    /// library's header does behind GET, or where `start` is declared and START isn't. `*(` and `*[` are subscripts where something
+    /// library's header does after GET, or where `start` is declared and START isn't. `*(` and `*[` are subscripts where something
     /// is assigned to one.
     pub fn of(source: TokenizedText<'_>) -> Dialect {
         let has_small_words = begins_small(source) || has_small_let(source);
@@ -48,7 +48,7 @@ fn begins_small(source: TokenizedText<'_>) -> bool {
     source.kind(0) == Kind::Word && is_small(first) && reserved(first, true).is_some()
 }
 
-/// Whether `let` stands in front of a word in the same line.
+/// Whether `let` stands before a word in the same line.
 fn has_small_let(source: TokenizedText<'_>) -> bool {
     for index in 1..source.tokens.len() {
         let is_in_line = !source.gap(index).contains(&b'\n');
@@ -136,7 +136,7 @@ fn is_in_entries(source: TokenizedText<'_>, index: usize) -> bool {
     false
 }
 
-/// Whether an entry of such a list can begin at an index: behind the bracket, a semicolon or a line break, or behind a comma
+/// Whether an entry of such a list can begin at an index: after the bracket, a semicolon or a line break, or after a comma
 /// where a value follows.
 fn begins_entry(source: TokenizedText<'_>, index: usize) -> bool {
     if index == 0 {
@@ -152,7 +152,7 @@ fn begins_entry(source: TokenizedText<'_>, index: usize) -> bool {
     }
 }
 
-/// Whether the tokens in front of an index, back to LET or AND, are words, commas and opening brackets, the last one no word.
+/// Whether the tokens before an index, back to LET or AND, are words, commas and opening brackets, the last one no word.
 fn is_in_heading(source: TokenizedText<'_>, index: usize) -> bool {
     if index == 0 || source.kind(index - 1) == Kind::Word {
         return false;
@@ -253,7 +253,7 @@ fn kind_of_word(source: TokenizedText<'_>, index: usize, dialect: Dialect) -> Ki
     }
 }
 
-/// What an opening square bracket behind such a token is: round behind an operand in the same line or where an operand is
+/// What an opening square bracket after such a token is: round after an operand in the same line or where an operand is
 /// wanted, else that of a section.
 fn kind_of_square(before: Kind, is_separated: bool) -> Kind {
     let opens_section = matches!(

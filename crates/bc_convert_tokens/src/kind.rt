@@ -96,7 +96,7 @@ pub enum Kind {
 }
 
 impl Kind {
-    /// Whether a command can end with such a token, so that a line break behind it can separate two.
+    /// Whether a command can end with such a token, so that a line break after it can separate two.
     pub fn can_end(self) -> bool {
         matches!(
             self,
@@ -114,7 +114,7 @@ impl Kind {
         )
     }
 
-    /// Whether a command can begin with such a token, so that a line break in front of it can separate two.
+    /// Whether a command can begin with such a token, so that a line break before it can separate two.
     pub fn can_begin(self) -> bool {
         matches!(
             self,

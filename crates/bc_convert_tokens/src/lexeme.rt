@@ -1,6 +1,6 @@
 ghost use Rattle.std.specs.Prelude.{◌≡◌, ◌+◌, ◌<◌, ◌≤◌, length, IfSome};
 
-use crate::bytes::{behind, digit_bytes, hexadecimal_bytes, is_space, line_bytes, name_bytes};
+use crate::bytes::{digit_bytes, following, hexadecimal_bytes, is_space, line_bytes, name_bytes};
 use crate::kind::Kind;
 
 /// Whether a block comment ends in front.
@@ -14,7 +14,7 @@ fn block_comment(bytes: &[u8]) -> Option<usize>
     ensures { IfSome result (λ n. n ≤ length bytes.now) }
 {
     for at in 2..bytes.len() {
-        if at + 2 <= bytes.len() && closes(behind(bytes, at)) {
+        if at + 2 <= bytes.len() && closes(following(bytes, at)) {
             return Some(at + 2);
         }
     }
@@ -40,7 +40,7 @@ pub fn gap(bytes: &[u8]) -> usize
 {
     let mut at = 0;
     for _ in 0..bytes.len() {
-        let count = blank(behind(bytes, at));
+        let count = blank(following(bytes, at));
         if count == 0 {
             return at;
         }
@@ -50,7 +50,7 @@ pub fn gap(bytes: &[u8]) -> usize
 }
 
 /// How many bytes the string or the constant in front has, with the signs around it, or `None` where it is not closed. It
-/// goes over a line break only behind a `*`.
+/// goes over a line break only after a `*`.
 fn quoted(bytes: &[u8], close: u8) -> Option<usize>
     ensures { IfSome result (λ n. n ≤ length bytes.now) }
 {
@@ -85,9 +85,9 @@ fn number(bytes: &[u8]) -> (Kind, usize)
     ensures { result.1 ≤ length bytes.now }
 {
     let whole = digit_bytes(bytes);
-    match behind(bytes, whole) {
+    match following(bytes, whole) {
         [b'.', digit, ..] if digit.is_ascii_digit() => {
-            let fraction = digit_bytes(behind(bytes, whole + 1));
+            let fraction = digit_bytes(following(bytes, whole + 1));
             (Kind::Floating, whole + 1 + fraction)
         }
         _ => (Kind::Number, whole),
@@ -100,11 +100,14 @@ fn based(bytes: &[u8]) -> (Kind, usize)
     ensures { result.1 ≤ length bytes.now }
 {
     match bytes {
-        [b'#', b'X' | b'x', ..] => (Kind::Number, 2 + hexadecimal_bytes(behind(bytes, 2))),
-        [b'#', b'B' | b'b' | b'O' | b'o', ..] => (Kind::Number, 2 + digit_bytes(behind(bytes, 2))),
+        [b'#', b'X' | b'x', ..] => (Kind::Number, 2 + hexadecimal_bytes(following(bytes, 2))),
+        [b'#', b'B' | b'b' | b'O' | b'o', ..] => (
+            Kind::Number,
+            2 + digit_bytes(following(bytes, 2)),
+        ),
         [b'#', digit, ..] if digit.is_ascii_digit() => (
             Kind::Number,
-            1 + digit_bytes(behind(bytes, 1)),
+            1 + digit_bytes(following(bytes, 1)),
         ),
         [
             b'#',
@@ -180,8 +183,8 @@ fn sign(bytes: &[u8]) -> (Kind, usize)
     ensures { result.1 ≤ length bytes.now }
 {
     match bytes {
-        [b'$', b'(', ..] => (Kind::OpenSection, 2 + name_bytes(behind(bytes, 2))),
-        [b'$', b')', ..] => (Kind::CloseSection, 2 + name_bytes(behind(bytes, 2))),
+        [b'$', b'(', ..] => (Kind::OpenSection, 2 + name_bytes(following(bytes, 2))),
+        [b'$', b')', ..] => (Kind::CloseSection, 2 + name_bytes(following(bytes, 2))),
         [0xc2, 0xac, b'=', ..] => (Kind::Relation, 3),
         [0xc2, 0xac, ..] => (Kind::Not, 2),
         [0xe2, 0x89, 0xa0 | 0xa4 | 0xa5, ..] => (Kind::Relation, 3),

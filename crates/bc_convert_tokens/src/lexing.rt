@@ -1,6 +1,6 @@
 ghost use Rattle.std.specs.Prelude.{◌≤◌, length};
 
-use crate::bytes::{behind, span};
+use crate::bytes::{following, span};
 use crate::lexeme::{gap, lexeme};
 use crate::source::Token;
 use bc_word::Memory;
@@ -15,8 +15,8 @@ pub fn lex(alloc: Global, text: &[u8]) -> Result<Vec<Token>, Memory> {
     let mut tokens = Vec::new(alloc);
     let mut at = 0;
     for _ in 0..text.len() {
-        let start = at + gap(behind(text, at));
-        let rest = behind(text, start);
+        let start = at + gap(following(text, at));
+        let rest = following(text, start);
         if rest.is_empty() {
             return Ok(tokens);
         }

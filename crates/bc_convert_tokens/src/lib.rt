@@ -11,7 +11,7 @@ mod source;
 mod words;
 
 pub use brackets::partners;
-pub use bytes::{behind, is_name_byte, span};
+pub use bytes::{following, is_name_byte, span};
 pub use dialect::{Dialect, classified};
 pub use kind::Kind;
 pub use lexing::lex;

@@ -1,7 +1,7 @@
 use crate::bytes::span;
 use crate::kind::Kind;
 
-/// A token: what it is, its first byte and the byte behind it, and whether a line break stands in front of it.
+/// A token: what it is, its first byte and the byte after it, and whether a line break stands before it.
 #[derive(Clone, Copy)]
 pub struct Token {
     pub kind: Kind,
@@ -19,7 +19,7 @@ pub struct TokenizedText<'s> {
 }
 
 impl<'s> TokenizedText<'s> {
-    /// What the token at an index is; `End` behind the last one.
+    /// What the token at an index is; `End` after the last one.
     pub fn kind(self, index: usize) -> Kind {
         self.tokens.get(index).map_or(Kind::End, |token| token.kind)
     }
@@ -32,20 +32,20 @@ impl<'s> TokenizedText<'s> {
         }
     }
 
-    /// The bytes between a token and the one in front of it.
+    /// The bytes between a token and the one before it.
     pub fn gap(self, index: usize) -> &'s [u8] {
         let start = if index == 0 { 0 } else { self.end(index - 1) };
         span(self.text, start, self.start(index))
     }
 
-    /// Where a token begins; behind the last one, where the text ends.
+    /// Where a token begins; after the last one, where the text ends.
     pub fn start(self, index: usize) -> usize {
         self.tokens
             .get(index)
             .map_or(self.text.len(), |token| token.start)
     }
 
-    /// Where a token ends; behind the last one, where the text ends.
+    /// Where a token ends; after the last one, where the text ends.
     pub fn end(self, index: usize) -> usize {
         self.tokens
             .get(index)
@@ -60,7 +60,7 @@ impl<'s> TokenizedText<'s> {
             .unwrap_or(self.tokens.len())
     }
 
-    /// Whether a line break or a semicolon separates the token at an index from what stands in front of it.
+    /// Whether a line break or a semicolon separates the token at an index from what stands before it.
     pub fn is_separated(self, index: usize) -> bool {
         if index == 0 {
             return true;

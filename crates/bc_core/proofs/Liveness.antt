@@ -55,7 +55,7 @@ dead_then top c0 c1 h d a le = h a ∙ d a le
 pub given_back : (n top a : ℕ) (c0 c1 c2 : List Cell) → top ≤ a → ((b : ℕ) → Outside n a b → cell_at c1 b ≡ cell_at c0 b) → DeadFrom top c0 → SameLive c1 c2 → SameLive c0 (closed n a c2)
 given_back n top a c0 c1 c2 le same dead keeps b =
     ⊎_elim (λ before. outside (inl before))
-    (λ from. ⊎_elim (λ inside. ap is_live (closed_inside n a c2 b from inside) ∙ sym (dead b (omega arith))) (λ behind. outside (inr behind)) (cases_lt b (a + n)))
+    (λ from. ⊎_elim (λ inside. ap is_live (closed_inside n a c2 b from inside) ∙ sym (dead b (omega arith))) (λ following. outside (inr following)) (cases_lt b (a + n)))
     (cases_lt b a) where
       outside : Outside n a b → is_live (cell_at (closed n a c2) b) ≡ is_live (cell_at c0 b)
       outside h = ap is_live (filled_outside n a Dead c2 b h) ∙ keeps b ∙ ap is_live (same b h)

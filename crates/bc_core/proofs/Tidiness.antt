@@ -1,4 +1,4 @@
--- Every run is tidy: outputs only grow, and what is live behind it was live before it.
+-- Every run is tidy: outputs only grow, and what is live after it was live before it.
 use Rattle.std.proofs.Common.{◌≡◌, ℕ, zero, suc, ◌+◌, ◌%◌, ◌≤◌, ◌==◌, ◌||◌, List, [], ◌∷◌, Bool, true, false, Option, Some, None, refl, sym, ap, subst, arith}
 use Rattle.std.specs.Prelude.{nat_le, cond}
 use Rattle.bc_word.specs.declared.operator.Op.{Op}
@@ -16,8 +16,8 @@ use Rattle.bc_core.specs.Store.{Cell, Dead, Unset, Set, cell_at, opened}
 use Rattle.bc_core.specs.Outcome.{State, Outcome, Done, Ended, Going, Wild, Ending, ZeroDivide, Run, wild, ends, followed, then_do, choose, taken, in_turn, content_of_cell, read, written, write, left, with_cells, outweighed, second_side, both, Round, Again, Leave, next_round, rounds, repeated}
 use Rattle.bc_core.specs.Value.{Context, Sense, has_call, truth_of_value, given, operated, operator_truth, sense, values, value, truth, assign}
 use Rattle.bc_core.specs.Exit.{Exit, Past, Broke, Looped, LeftCases, Returned, Resulted, Jumped, onward}
-use Rattle.bc_core.specs.Lists.{Entry, Beginning, AtCase, AtDefault, AtLabel, from_entry, behind_list, listed, behind_cases, switched, met, meets_case, meets_default, meets_label, entry_of}
-use Rattle.bc_core.specs.Loop.{LoopRound, back, leave, behind_body, while_loop, repeat_loop, repeat_while_loop, for_loop, agrees, end_relation}
+use Rattle.bc_core.specs.Lists.{Entry, Beginning, AtCase, AtDefault, AtLabel, from_entry, after_list, listed, after_cases, switched, met, meets_case, meets_default, meets_label, entry_of}
+use Rattle.bc_core.specs.Loop.{LoopRound, back, leave, after_body, while_loop, repeat_loop, repeat_while_loop, for_loop, agrees, end_relation}
 use Rattle.bc_core.specs.Command.{initialise_one, initialise, declare, perform, perform_block, perform_items, step_of_for}
 use Rattle.bc_core.specs.Primitive.{Primitive, Select, ReadByte, WriteByte, Find, EndStream, byte_of_string, bytes_of_string, on_streams, primitive_work, primitive_frame}
 use Rattle.bc_core.specs.Map.{Placed}
@@ -235,41 +235,41 @@ tidy_onward top r Returned h = tidy_done top _
 tidy_onward top r (Resulted v) h = tidy_done top _
 tidy_onward top r (Jumped l) h = tidy_done top _
 
-tidy_behind_list : (top : ℕ) (is : ℕ → Bool) (x : Exit) → TidyRun top (behind_list is x)
-tidy_behind_list top is Past = tidy_done top _
-tidy_behind_list top is Broke = tidy_done top _
-tidy_behind_list top is Looped = tidy_done top _
-tidy_behind_list top is LeftCases = tidy_done top _
-tidy_behind_list top is Returned = tidy_done top _
-tidy_behind_list top is (Resulted v) = tidy_done top _
-tidy_behind_list top is (Jumped l) = tidy_done top _
+tidy_after_list : (top : ℕ) (is : ℕ → Bool) (x : Exit) → TidyRun top (after_list is x)
+tidy_after_list top is Past = tidy_done top _
+tidy_after_list top is Broke = tidy_done top _
+tidy_after_list top is Looped = tidy_done top _
+tidy_after_list top is LeftCases = tidy_done top _
+tidy_after_list top is Returned = tidy_done top _
+tidy_after_list top is (Resulted v) = tidy_done top _
+tidy_after_list top is (Jumped l) = tidy_done top _
 
 tidy_listed : (top : ℕ) (is : ℕ → Bool) (items : Entry → Run Exit) (at : Entry) → ((at1 : Entry) → TidyRun top (items at1)) → TidyRun top (listed is items at)
-tidy_listed top is items at h = tidy_repeated top _ at (λ at1. tidy_then top _ _ (h at1) (λ x. tidy_behind_list top is x))
+tidy_listed top is items at h = tidy_repeated top _ at (λ at1. tidy_then top _ _ (h at1) (λ x. tidy_after_list top is x))
 
-tidy_behind_cases : (top : ℕ) (x : Exit) → TidyRun top (behind_cases x)
-tidy_behind_cases top Past = tidy_done top _
-tidy_behind_cases top Broke = tidy_done top _
-tidy_behind_cases top Looped = tidy_done top _
-tidy_behind_cases top LeftCases = tidy_done top _
-tidy_behind_cases top Returned = tidy_done top _
-tidy_behind_cases top (Resulted v) = tidy_done top _
-tidy_behind_cases top (Jumped l) = tidy_done top _
+tidy_after_cases : (top : ℕ) (x : Exit) → TidyRun top (after_cases x)
+tidy_after_cases top Past = tidy_done top _
+tidy_after_cases top Broke = tidy_done top _
+tidy_after_cases top Looped = tidy_done top _
+tidy_after_cases top LeftCases = tidy_done top _
+tidy_after_cases top Returned = tidy_done top _
+tidy_after_cases top (Resulted v) = tidy_done top _
+tidy_after_cases top (Jumped l) = tidy_done top _
 
 tidy_back : (top : ℕ) → TidyRun top back
 tidy_back top = tidy_turn top _ (tidy_done top _)
 
-tidy_behind_body : (top : ℕ) (again : Run (Round (Unit {0}) Exit)) (x : Exit) → TidyRun top again → TidyRun top (behind_body again x)
-tidy_behind_body top again Past h = h
-tidy_behind_body top again Looped h = h
-tidy_behind_body top again Broke h = tidy_done top _
-tidy_behind_body top again LeftCases h = tidy_done top _
-tidy_behind_body top again Returned h = tidy_done top _
-tidy_behind_body top again (Resulted v) h = tidy_done top _
-tidy_behind_body top again (Jumped l) h = tidy_done top _
+tidy_after_body : (top : ℕ) (again : Run (Round (Unit {0}) Exit)) (x : Exit) → TidyRun top again → TidyRun top (after_body again x)
+tidy_after_body top again Past h = h
+tidy_after_body top again Looped h = h
+tidy_after_body top again Broke h = tidy_done top _
+tidy_after_body top again LeftCases h = tidy_done top _
+tidy_after_body top again Returned h = tidy_done top _
+tidy_after_body top again (Resulted v) h = tidy_done top _
+tidy_after_body top again (Jumped l) h = tidy_done top _
 
-tidy_round : (top : ℕ) (body : Run Exit) (rest : LoopRound) → TidyRun top body → TidyRun top rest → TidyRun top (then_do body (behind_body rest))
-tidy_round top body rest h k = tidy_then top body (behind_body rest) h (λ x. tidy_behind_body top rest x k)
+tidy_round : (top : ℕ) (body : Run Exit) (rest : LoopRound) → TidyRun top body → TidyRun top rest → TidyRun top (then_do body (after_body rest))
+tidy_round top body rest h k = tidy_then top body (after_body rest) h (λ x. tidy_after_body top rest x k)
 
 tidy_while : (top : ℕ) (sense : Bool) (test : Run Bool) (body : Run Exit) → TidyRun top test → TidyRun top body → TidyRun top (while_loop sense test body)
 tidy_while top sense test body h k =
@@ -290,7 +290,7 @@ tidy_for top by start limit variable step body hs hl hv ht hb =
 
 tidy_switched : (top : ℕ) (v : Run ℕ) (cases is : ℕ → Bool) (items : Entry → Run Exit) → TidyRun top v → ((at : Entry) → TidyRun top (items at)) → TidyRun top (switched v cases is items)
 tidy_switched top v cases is items h k =
-    tidy_then top v _ h (λ w. tidy_then top _ behind_cases (tidy_listed top is items (entry_of cases w) k) (λ x. tidy_behind_cases top x))
+    tidy_then top v _ h (λ w. tidy_then top _ after_cases (tidy_listed top is items (entry_of cases w) k) (λ x. tidy_after_cases top x))
 
 mutual
   tidy_perform : (C : Context) → TidyContext C → (c : Command) (p s : ℕ) → TidyRun (p + s) (perform C c p s)

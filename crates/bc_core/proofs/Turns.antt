@@ -15,8 +15,8 @@ use Rattle.bc_core.specs.Store.{Cell, Dead, Unset, Set, cell_at, opened}
 use Rattle.bc_core.specs.Outcome.{State, Outcome, Done, Ended, Going, Wild, Ending, ZeroDivide, Run, wild, ends, followed, then_do, choose, taken, in_turn, content_of_cell, read, written, write, left, with_cells, outweighed, second_side, both, Round, Again, Leave, next_round, rounds, repeated}
 use Rattle.bc_core.specs.Value.{Context, Sense, has_call, truth_of_value, given, operator_truth, sense, values, assign}
 use Rattle.bc_core.specs.Exit.{Exit, Past, Broke, Looped, LeftCases, Returned, Resulted, Jumped, onward}
-use Rattle.bc_core.specs.Lists.{Entry, Beginning, AtCase, AtDefault, AtLabel, from_entry, behind_list, listed, behind_cases, switched, met, meets_case, meets_default, meets_label, entry_of}
-use Rattle.bc_core.specs.Loop.{LoopRound, back, leave, behind_body, while_loop, repeat_loop, repeat_while_loop, for_loop, agrees, end_relation}
+use Rattle.bc_core.specs.Lists.{Entry, Beginning, AtCase, AtDefault, AtLabel, from_entry, after_list, listed, after_cases, switched, met, meets_case, meets_default, meets_label, entry_of}
+use Rattle.bc_core.specs.Loop.{LoopRound, back, leave, after_body, while_loop, repeat_loop, repeat_while_loop, for_loop, agrees, end_relation}
 use Rattle.bc_core.specs.Command.{initialise_one, initialise, declare, perform, perform_block, perform_items, step_of_for}
 use Rattle.bc_core.specs.Primitive.{Primitive, primitive_work, primitive_frame, Select, ReadByte, WriteByte, Find, EndStream, byte_of_string, bytes_of_string, string_of, on_streams}
 use Rattle.bc_core.specs.Map.{Placed, placed, standing}
@@ -294,45 +294,45 @@ more_onward d r q Returned h = more_done d _
 more_onward d r q (Resulted v) h = more_done d _
 more_onward d r q (Jumped l) h = more_done d _
 
-more_behind_list : (d : ℕ) (is : ℕ → Bool) (x : Exit) → MoreRun d (behind_list is x) (behind_list is x)
-more_behind_list d is Past = more_done d _
-more_behind_list d is Broke = more_done d _
-more_behind_list d is Looped = more_done d _
-more_behind_list d is LeftCases = more_done d _
-more_behind_list d is Returned = more_done d _
-more_behind_list d is (Resulted v) = more_done d _
-more_behind_list d is (Jumped l) = more_done d _
+more_after_list : (d : ℕ) (is : ℕ → Bool) (x : Exit) → MoreRun d (after_list is x) (after_list is x)
+more_after_list d is Past = more_done d _
+more_after_list d is Broke = more_done d _
+more_after_list d is Looped = more_done d _
+more_after_list d is LeftCases = more_done d _
+more_after_list d is Returned = more_done d _
+more_after_list d is (Resulted v) = more_done d _
+more_after_list d is (Jumped l) = more_done d _
 
 more_listed : (d : ℕ) (is : ℕ → Bool) (items items1 : Entry → Run Exit) (at : Entry) → ((at1 : Entry) → MoreRun d (items at1) (items1 at1)) → MoreRun d (listed is items at) (listed is items1 at)
-more_listed d is items items1 at h = more_repeated d _ _ at (λ at1. more_then d _ _ _ _ (h at1) (λ x. more_behind_list d is x))
+more_listed d is items items1 at h = more_repeated d _ _ at (λ at1. more_then d _ _ _ _ (h at1) (λ x. more_after_list d is x))
 
-more_behind_cases : (d : ℕ) (x : Exit) → MoreRun d (behind_cases x) (behind_cases x)
-more_behind_cases d Past = more_done d _
-more_behind_cases d Broke = more_done d _
-more_behind_cases d Looped = more_done d _
-more_behind_cases d LeftCases = more_done d _
-more_behind_cases d Returned = more_done d _
-more_behind_cases d (Resulted v) = more_done d _
-more_behind_cases d (Jumped l) = more_done d _
+more_after_cases : (d : ℕ) (x : Exit) → MoreRun d (after_cases x) (after_cases x)
+more_after_cases d Past = more_done d _
+more_after_cases d Broke = more_done d _
+more_after_cases d Looped = more_done d _
+more_after_cases d LeftCases = more_done d _
+more_after_cases d Returned = more_done d _
+more_after_cases d (Resulted v) = more_done d _
+more_after_cases d (Jumped l) = more_done d _
 
 more_switched : (d : ℕ) (v v1 : Run ℕ) (cases is : ℕ → Bool) (items items1 : Entry → Run Exit) → MoreRun d v v1 → ((at : Entry) → MoreRun d (items at) (items1 at)) → MoreRun d (switched v cases is items) (switched v1 cases is items1)
 more_switched d v v1 cases is items items1 h k =
-    more_then d v v1 _ _ h (λ w. more_then d _ _ behind_cases behind_cases (more_listed d is items items1 (entry_of cases w) k) (λ x. more_behind_cases d x))
+    more_then d v v1 _ _ h (λ w. more_then d _ _ after_cases after_cases (more_listed d is items items1 (entry_of cases w) k) (λ x. more_after_cases d x))
 
 more_back : (d : ℕ) → MoreRun d back back
 more_back d = more_turn d _ _ (more_done d _)
 
-more_behind_body : (d : ℕ) (r q : LoopRound) (x : Exit) → MoreRun d r q → MoreRun d (behind_body r x) (behind_body q x)
-more_behind_body d r q Past h = h
-more_behind_body d r q Looped h = h
-more_behind_body d r q Broke h = more_done d _
-more_behind_body d r q LeftCases h = more_done d _
-more_behind_body d r q Returned h = more_done d _
-more_behind_body d r q (Resulted v) h = more_done d _
-more_behind_body d r q (Jumped l) h = more_done d _
+more_after_body : (d : ℕ) (r q : LoopRound) (x : Exit) → MoreRun d r q → MoreRun d (after_body r x) (after_body q x)
+more_after_body d r q Past h = h
+more_after_body d r q Looped h = h
+more_after_body d r q Broke h = more_done d _
+more_after_body d r q LeftCases h = more_done d _
+more_after_body d r q Returned h = more_done d _
+more_after_body d r q (Resulted v) h = more_done d _
+more_after_body d r q (Jumped l) h = more_done d _
 
-more_round : (d : ℕ) (body body1 : Run Exit) (r q : LoopRound) → MoreRun d body body1 → MoreRun d r q → MoreRun d (then_do body (behind_body r)) (then_do body1 (behind_body q))
-more_round d body body1 r q h k = more_then d body body1 (behind_body r) (behind_body q) h (λ x. more_behind_body d r q x k)
+more_round : (d : ℕ) (body body1 : Run Exit) (r q : LoopRound) → MoreRun d body body1 → MoreRun d r q → MoreRun d (then_do body (after_body r)) (then_do body1 (after_body q))
+more_round d body body1 r q h k = more_then d body body1 (after_body r) (after_body q) h (λ x. more_after_body d r q x k)
 
 more_while : (d : ℕ) (sense : Bool) (test test1 : Run Bool) (body body1 : Run Exit) → MoreRun d test test1 → MoreRun d body body1 → MoreRun d (while_loop sense test body) (while_loop sense test1 body1)
 more_while d sense test test1 body body1 h k =

@@ -253,7 +253,7 @@ no_case = refl
 takes_default : switch_on 9 (default (command (print (Num 68)) no_item)) ≡ printed (68 ∷ [])
 takes_default = refl
 
--- the cell behind V's own is V!0; in the second turn of the loop it is unset again
+-- the cell after V's own is V!0; in the second turn of the loop it is unset again
 abbrev vector_twice : Command → Result
 vector_twice last = run (commands (c.For (Num 1) (Num 2) 1 (let_in (Vector 0 ∷ []) (c.Assign (Num 65) (at 4) ∷ last ∷ [])) ∷ []))
 

@@ -30,8 +30,8 @@ Longer [] [] = Unit {0}
 Longer (old ∷ olds) (new ∷ news) = ((more : List ℕ) × (new ≡ old ++ more)) × Longer olds news
 Longer _ _ = ⊥
 
--- what a run leaves behind that began with these cells and streams, and above this address with no live cell:
--- longer outputs, and where it goes on behind its part of the source, the same live cells
+-- what a run leaves after that began with these cells and streams, and above this address with no live cell:
+-- longer outputs, and where it goes on after its part of the source, the same live cells
 abbrev pub Tidy : {A : Type 0} → ℕ → List Cell → Content → Outcome A → Type 0
 Tidy top cells streams (Done x st) = Longer (output_of streams) (output_of st.streams) × (DeadFrom top cells → SameLive cells st.cells)
 Tidy top cells streams (outcomes.Ended e streams1) = Longer (output_of streams) (output_of streams1)
@@ -44,7 +44,7 @@ CallsAreTidy =
     (program : List Placed) (n a : ℕ) (arguments : List ℕ) (frame : ℕ) (st : State)
     → Tidy frame st.cells st.streams (calls program n a arguments frame st)
 
--- a run that goes on behind its part of the source in the state in which it began, or ends there by a zero
+-- a run that goes on after its part of the source in the state in which it began, or ends there by a zero
 -- divisor, or is wild
 abbrev pub IsCalm : {A : Type 0} → State → Outcome A → Type 0
 IsCalm st (Done x st1) = st ≡ st1

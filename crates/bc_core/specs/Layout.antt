@@ -5,7 +5,7 @@ use Rattle.bc_core.specs.Commands.{Variable, Initial, Vector, Command, Block, bl
 use Rattle.bc_core.specs.Tree as tree
 use Rattle.bc_core.specs.Commands as commands
 use Rattle.bc_core.specs.Operand.{is_operand}
-use Rattle.bc_core.specs.Level.{level_behind_parameters, operand_level, argument_level, routine_level, side_level, cells_of_all, cells_declared, level_in_for}
+use Rattle.bc_core.specs.Level.{level_after_parameters, operand_level, argument_level, routine_level, side_level, cells_of_all, cells_declared, level_in_for}
 
 -- the cells that a VALOF's body takes, by its number and level
 abbrev pub Bodies : Type 0
@@ -32,7 +32,7 @@ abbrev pub cells_of_assignment : Bodies → Exp → Exp → ℕ → ℕ
 cells_of_assignment V value address s =
     max (cond (is_operand address) 0 (s + 2)) (max (cells_of_exp V value (side_level address s)) (cells_of_exp V address (side_level address s)))
 
--- the initialisers of one declaration, at the level behind it
+-- the initialisers of one declaration, at the level after it
 abbrev pub cells_of_initial : Bodies → Variable → ℕ → ℕ
 cells_of_initial V (Initial e) s = cells_of_exp V e s
 cells_of_initial V (Vector k) s = 0
@@ -41,7 +41,7 @@ abbrev pub cells_of_initials : Bodies → List Variable → ℕ → ℕ
 cells_of_initials V [] s = 0
 cells_of_initials V (v ∷ vs) s = max (cells_of_initial V v s) (cells_of_initials V vs s)
 
--- each declaration takes its cells first, and its initialisers stand at the level behind it
+-- each declaration takes its cells first, and its initialisers stand at the level after it
 abbrev pub cells_of_declarations : Bodies → List (List Variable) → ℕ → ℕ
 cells_of_declarations V [] s = 0
 cells_of_declarations V (vs ∷ ds) s =
@@ -56,7 +56,7 @@ abbrev mutual
   cells_of_command V (commands.While sense e b) s = max (cells_of_exp V e s) (cells_of_block V b s)
   cells_of_command V (commands.Repeat b) s = cells_of_block V b s
   cells_of_command V (commands.RepeatWhile b sense e) s = max (cells_of_block V b s) (cells_of_exp V e s)
-  -- the FOR's own test and sum are operators at the level behind its two cells
+  -- the FOR's own test and sum are operators at the level after its two cells
   cells_of_command V (commands.For start limit by b) s =
       let s1 = level_in_for s in
       max (s1 + 2) (max (cells_of_exp V start s1) (max (cells_of_exp V limit s1) (cells_of_block V b s1)))
@@ -89,4 +89,4 @@ cells_of_body V (Does b) s = cells_of_block V b s
 -- the size of a routine's frame: the links and the parameters have cells in any case
 abbrev pub frame_size : List Valof → Routine → ℕ
 frame_size valofs r =
-    let s = level_behind_parameters r.parameters in max s (cells_of_body (cells_of_valofs 0 valofs) r.body s)
+    let s = level_after_parameters r.parameters in max s (cells_of_body (cells_of_valofs 0 valofs) r.body s)

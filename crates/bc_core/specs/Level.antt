@@ -5,8 +5,8 @@ use Rattle.bc_core.specs.Commands.{Variable, Initial, Vector}
 use Rattle.bc_core.specs.Operand.{is_operand}
 
 -- the links stand at 0 and 1, the arguments from 2 on
-abbrev pub level_behind_parameters : ℕ → ℕ
-level_behind_parameters n = 2 + n
+abbrev pub level_after_parameters : ℕ → ℕ
+level_after_parameters n = 2 + n
 
 -- both operands of a binary operator at level s
 abbrev pub operand_level : ℕ → ℕ
@@ -24,7 +24,7 @@ routine_level s n = s + 2 + n
 abbrev pub side_level : Exp → ℕ → ℕ
 side_level address s = cond (is_operand address) s (s + 1)
 
--- the cells of a variable: its own, and behind it those of its vector
+-- the cells of a variable: its own, and after it those of its vector
 abbrev pub cells_of : Variable → ℕ
 cells_of (Initial e) = 1
 cells_of (Vector k) = k + 2

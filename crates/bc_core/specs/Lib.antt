@@ -21,4 +21,4 @@ pub mod Meaning
 pub mod Same
 pub mod Laws
 pub mod Examples
-pub mod examples
+pub mod worked

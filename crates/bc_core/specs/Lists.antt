@@ -52,17 +52,17 @@ from_entry Beginning r = r
 from_entry _ r = Done Past
 
 -- a jump to a label of this list enters it there, every other exit leaves it
-abbrev pub behind_list : (has_label : ℕ → Bool) → Exit → Run (Round Entry Exit)
-behind_list has_label (Jumped l) = Done (cond (has_label l) (Again (AtLabel l)) (Leave (Jumped l)))
-behind_list has_label x = Done (Leave x)
+abbrev pub after_list : (has_label : ℕ → Bool) → Exit → Run (Round Entry Exit)
+after_list has_label (Jumped l) = Done (cond (has_label l) (Again (AtLabel l)) (Leave (Jumped l)))
+after_list has_label x = Done (Leave x)
 
 -- a list from an entry on, over what its items do from each entry on
 abbrev pub listed : (has_label : ℕ → Bool) → (Entry → Run Exit) → Entry → Run Exit
-listed has_label items at = repeated (λ at1. then_do (items at1) (behind_list has_label)) at
+listed has_label items at = repeated (λ at1. then_do (items at1) (after_list has_label)) at
 
-abbrev pub behind_cases : Exit → Run Exit
-behind_cases LeftCases = Done Past
-behind_cases x = Done x
+abbrev pub after_cases : Exit → Run Exit
+after_cases LeftCases = Done Past
+after_cases x = Done x
 
 abbrev pub switched : Run ℕ → (has_case has_label : ℕ → Bool) → (Entry → Run Exit) → Run Exit
-switched value has_case has_label items = then_do value (λ v. then_do (listed has_label items (entry_of has_case v)) behind_cases)
+switched value has_case has_label items = then_do value (λ v. then_do (listed has_label items (entry_of has_case v)) after_cases)

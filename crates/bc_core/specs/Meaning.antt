@@ -3,7 +3,7 @@ use Rattle.std.specs.Prelude.{ℕ, zero, suc, ◌+◌, ◌==◌, nat_le, true, f
 use Rattle.bc_machine_defs.specs.Streams.{Content}
 use Rattle.bc_machine_defs.specs.StreamCalls.{output_of}
 use Rattle.bc_core.specs.Commands.{Place, Code, Routine, Body, Gives, Does, Core, Valof}
-use Rattle.bc_core.specs.Level.{level_behind_parameters}
+use Rattle.bc_core.specs.Level.{level_after_parameters}
 use Rattle.bc_core.specs.Layout.{frame_size}
 use Rattle.bc_core.specs.Map.{Map, Placed, placed, standing}
 use Rattle.bc_core.specs.Store.{Cell, Unset, Set}
@@ -111,7 +111,7 @@ entered_of None = None
 entered_of (Some (OfSection section r)) = Some (record {
   parameters = r.parameters;
   frame = frame_size section.core.valofs r;
-  body = λ call f. body_value (context_in section call) r.body f (level_behind_parameters r.parameters);
+  body = λ call f. body_value (context_in section call) r.body f (level_after_parameters r.parameters);
 })
 entered_of (Some (OfLibrary primitive)) =
     Some (record { parameters = 1; frame = primitive_frame; body = λ call f. primitive_work primitive f })

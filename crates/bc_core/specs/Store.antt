@@ -7,7 +7,7 @@ pub data Cell : Type 0 where
   Unset : Cell
   Set : ℕ → Cell
 
--- what lies behind the list's end isn't live
+-- what lies after the list's end isn't live
 abbrev pub cell_at : List Cell → ℕ → Cell
 cell_at cells a = slice_index_or cells a Dead
 
@@ -16,7 +16,7 @@ abbrev pub filled : ℕ → ℕ → Cell → List Cell → List Cell
 filled zero a cell cells = cells
 filled (suc n) a cell cells = filled n (a + 1) cell (slice_set cells a cell)
 
--- cells become live, unset each time anew
+-- cells become live, unset each time again
 abbrev pub opened : ℕ → ℕ → List Cell → List Cell
 opened n a cells = filled n a Unset cells
 

@@ -1,4 +1,4 @@
--- What the program's trees stand for.
+-- What the program's trees mean.
 use Rattle.std.specs.Prelude.{List, [], ◌∷◌, map}
 use Rattle.bc_core.specs.declared.expression.CoreExp as expressions
 use Rattle.bc_core.specs.declared.expression.CoreExp.{CoreExp, Row_of-CoreExp, end_of-CoreExp, more_of-CoreExp}

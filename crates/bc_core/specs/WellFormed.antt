@@ -5,7 +5,7 @@ use Rattle.bc_core.specs.Tree.{Exp, Frame, Glob, Place, Load, Neg, Not, Bin, Con
 use Rattle.bc_core.specs.Tree as tree
 use Rattle.bc_core.specs.Commands.{Variable, Initial, Vector, Command, Block, block, Items, no_item, command, case, default, label, Routine, Body, Gives, Does, Code, Text, Valof, Core}
 use Rattle.bc_core.specs.Commands as commands
-use Rattle.bc_core.specs.Level.{level_behind_parameters, operand_level, argument_level, routine_level, side_level, cells_of_all, cells_declared, level_in_for}
+use Rattle.bc_core.specs.Level.{level_after_parameters, operand_level, argument_level, routine_level, side_level, cells_of_all, cells_declared, level_in_for}
 use Rattle.bc_core.specs.Layout.{frame_size}
 
 abbrev mutual
@@ -180,7 +180,7 @@ global_fits (Some n) = nat_lt n 512
 -- a frame has at most 32,768 cells, a string at most 255 bytes
 abbrev pub place_fits : Around → List Valof → commands.Place → Bool
 place_fits A valofs (Code r) =
-    global_fits r.global && nat_le (frame_size valofs r) 32768 && body_fits A r.body (level_behind_parameters r.parameters)
+    global_fits r.global && nat_le (frame_size valofs r) 32768 && body_fits A r.body (level_after_parameters r.parameters)
 place_fits A valofs (Text bytes) = nat_le (length bytes) 255
 place_fits A valofs _ = true
 

@@ -30,7 +30,7 @@ pub enum Command {
     Repeat(Block),
     /// REPEATWHILE or REPEATUNTIL.
     RepeatWhile(Block, Condition),
-    /// FOR: its variable stands at the next free offset of the frame, its limit right behind.
+    /// FOR: its variable stands at the next free offset of the frame, its limit right after.
     For {
         start: CoreExp,
         limit: CoreExp,
@@ -92,7 +92,7 @@ pub struct Declaration {
 pub enum Variable {
     /// The value of an initialiser.
     Value(CoreExp),
-    /// The address of the cells 0 to this number, which stand right behind the variable's own.
+    /// The address of the cells 0 to this number, which stand right after the variable's own.
     Vector(Word),
 }
 

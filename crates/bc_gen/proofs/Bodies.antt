@@ -10,7 +10,7 @@ use Rattle.bc_gen_defs.specs.Emit.{Code, Roots, Exits, zero_item, emit_block}
 use Rattle.bc_gen_defs.specs.Bodies.{BodiesCode, body_exits, emit_valof, bodies_from, level_of}
 use Rattle.bc_gen_defs.specs.Entries.{Marked, Plain, marked_over}
 use Rattle.bc_gen.specs.declared.gen_error.GenError.{GenError}
-use Rattle.bc_gen.specs.declared.around.Around.{Around}
+use Rattle.bc_gen.specs.declared.context.Around.{Around}
 use Rattle.bc_gen.specs.declared.writer.Writer.{Writer}
 use Rattle.bc_gen.specs.Chosen.{coding}
 use Rattle.bc_gen.specs.Room.{room_in, BlockHasRoom, ValofHasRoom}
@@ -26,18 +26,18 @@ at_test : (t : Bool) (x y z : Code Marked) → (t ≡ true → x ≡ z) → (t �
 at_test true x y z p q = p refl
 at_test false x y z p q = q refl
 
--- there is no body with a number below the first, or behind the last
+-- there is no body with a number below the first, or after the last
 pub none_before : (over : BodiesCode Marked → Roots Marked) (first : ℕ) (vs : List Valof) (n s l f : ℕ) → n < first → bodies_from Plain over first vs n s l f ≡ ([], f)
 none_before over first [] n s l f h = refl
 none_before over first (v ∷ vs) n s l f h =
     let k : n < first + 1 = omega (arith, h) in
     at_test (n == first) _ _ _ (λ t. absurd (omega (arith, eqb-true n first t, h))) (λ t. none_before over (first + 1) vs n s l f k)
 
-pub none_behind : (over : BodiesCode Marked → Roots Marked) (first : ℕ) (vs : List Valof) (n s l f : ℕ) → first + length vs ≤ n → bodies_from Plain over first vs n s l f ≡ ([], f)
-none_behind over first [] n s l f h = refl
-none_behind over first (v ∷ vs) n s l f h =
+pub none_after : (over : BodiesCode Marked → Roots Marked) (first : ℕ) (vs : List Valof) (n s l f : ℕ) → first + length vs ≤ n → bodies_from Plain over first vs n s l f ≡ ([], f)
+none_after over first [] n s l f h = refl
+none_after over first (v ∷ vs) n s l f h =
     let k : first + 1 + length vs ≤ n = omega (arith, h) in
-    at_test (n == first) _ _ _ (λ t. absurd (omega (arith, eqb-true n first t, h))) (λ t. none_behind over (first + 1) vs n s l f k)
+    at_test (n == first) _ _ _ (λ t. absurd (omega (arith, eqb-true n first t, h))) (λ t. none_after over (first + 1) vs n s l f k)
 
 pub body_at : (over : BodiesCode Marked → Roots Marked) (first : ℕ) (vs : List Valof) (k : ℕ) (v : Valof) (n s l f : ℕ) → n ≡ first + k → k < length vs
     → bodies_from Plain over first vs n s l f ≡ emit_valof Plain (over (bodies_from Plain over (n + 1) (drop (suc k) vs))) (get_or vs k v).body n s l f
@@ -63,7 +63,7 @@ level_at (u ∷ vs) (suc n) v h = let g : n < length vs = omega (arith, h) in le
 pub outside : (vs : List code.Valof) (least n : ℕ) → least ≤ n → length vs ≤ n → least + length (drop least (valofs_in vs)) ≤ n
 outside vs least n h g = let e = length-drop least (valofs_in vs) in let m = length-map vs valof_of in omega (arith, h, g, e, m)
 
--- a VALOF and those behind it, among those with at least this number
+-- a VALOF and those after it, among those with at least this number
 found_at : (cvs : List code.Valof) (least n : ℕ) (v : code.Valof) → least ≤ n → v ≡ get_or cvs n v → get_or (drop least (valofs_in cvs)) (n - least) (valof_of v) ≡ valof_of v
 found_at cvs least n v h e =
     let vs = valofs_in cvs in

@@ -18,7 +18,7 @@ pub code_is : (r : Root) (x : Tree) (t f : ℕ) (ps : List Piece) → IsCodeOf r
 unfolding coding
 code_is r x t f ps h e = h.exact Two (chosen Two r) (sym e)
 
--- the label behind those of a derivation
+-- the label after those of a derivation
 pub next_is : (r : Root) (x : Tree) (f m : ℕ) → IsNextLabel r x f (Some m) → x ≡ coding.derivation r → m ≡ f + coding.labels r
 unfolding coding
 next_is r x f m h e = (h.exact Two (chosen Two r) (sym e)).1

@@ -1,4 +1,4 @@
--- The labels behind each part of a form are no more than those behind the whole.
+-- The labels after each part of a form are no more than those after the whole.
 use Rattle.std.proofs.Common.{ℕ, ◌+◌, ◌<◌, ◌≤◌, ◌≡◌, Bool, true, false, not, List, ◌∷◌, ◌++◌, map, drop, length, get_or, ap, sym, ◌∙◌, subst, refl, arith, Result, Ok, Err}
 use Rattle.std.proofs.lemmas.List.{drop_more}
 use Rattle.bc_core.specs.declared.command.ListItem.{ListItem}
@@ -12,7 +12,7 @@ use Rattle.bc_core.specs.View.{items, items_before, variable, declarations, bloc
 use Rattle.bc_core.specs.Tree.{Exp, Frame, Root, Value, Test, Assign}
 use Rattle.bc_core.specs.Commands as commands
 use Rattle.bc_core.specs.Commands.{Block, block, Items, no_item}
-use Rattle.bc_core.specs.Level.{cells_of, cells_of_all, cells_declared, level_behind_parameters}
+use Rattle.bc_core.specs.Level.{cells_of, cells_of_all, cells_declared, level_after_parameters}
 use Rattle.bc_core.specs.Command.{step_of_for}
 use Rattle.bc_rules_defs.specs.declared.piece.Piece.{Piece}
 use Rattle.bc_gen_defs.specs.Emit.{Code, Roots, Exits, labelled, labels_in, entries_in, emit_variable, emit_variables, emit_declarations, end_of_for, emit, emit_block, emit_items}
@@ -23,8 +23,8 @@ use Rattle.bc_gen.specs.declared.gen_error.GenError.{GenError}
 use Rattle.bc_gen.specs.declared.gen_error.GenError.TheVariants as errors
 use Rattle.std.specs.Prelude.{IsErrAnd, IfErr}
 use Rattle.bc_gen.specs.declared.writer.Writer.{Writer}
-use Rattle.bc_gen.specs.declared.around.Numbered.{Numbered}
-use Rattle.bc_gen.specs.declared.around.Around.{Around}
+use Rattle.bc_gen.specs.declared.context.Numbered.{Numbered}
+use Rattle.bc_gen.specs.declared.context.Around.{Around}
 use Rattle.bc_gen.specs.Chosen.{coding}
 use Rattle.bc_gen.specs.Surroundings.{label_in, label_pairs, next_entry, exits_of, roots_in, roots_of, bodies_of, initial_of, one_piece, valofs_in}
 use Rattle.bc_gen.specs.Writing.{RunsOut, Writes}
@@ -305,9 +305,9 @@ does_out roots E body b s s1 f eb ee es = rw (eb, ee, es) (same _)
 -- routines
 pub routines_out : (roots : Roots Marked) → Rising roots → (ps : List Place) (i : ℕ) (x : Place) (r : Routine) (l n m whole : ℕ)
     → i < length ps → x ≡ get_or ps i x → x ≡ places.Routine r → m ≡ n → (emit_routines Plain roots l (map place_of (drop i ps)) n).1 ≡ whole
-    → (emit_body Plain roots (body_of r.body) (level_behind_parameters r.parameters) m).1 ≤ whole
+    → (emit_body Plain roots (body_of r.body) (level_after_parameters r.parameters) m).1 ≤ whole
 routines_out roots r ps i x p l n m whole h g ex em inv =
-    let y = emit_body Plain roots (body_of p.body) (level_behind_parameters p.parameters) n in
+    let y = emit_body Plain roots (body_of p.body) (level_after_parameters p.parameters) n in
     let z = emit_routines Plain roots (l + 1) (map place_of (drop (i + 1) ps)) y.1 in
     let d : drop i ps ≡ places.Routine p ∷ drop (i + 1) ps = drop_more ps i x h ∙ ap (λ (v : Place). v ∷ drop (i + 1) ps) (sym g ∙ ex) in
     let e : whole ≡ z.1 = sym inv ∙ ap (λ (qs : List Place). (emit_routines Plain roots l (map place_of qs) n).1) d in

@@ -3,7 +3,7 @@ use Rattle.std.proofs.Common.{ℕ, ◌+◌, ◌≡◌, ◌==◌, ◌≤◌, Bool
 use Rattle.bc_core.specs.Tree.{Frame, Root, Value, Test, Assign}
 use Rattle.bc_core.specs.Commands.{Variable, Initial, Vector, Command, Block, block, Items, no_item, command, case, default, label, Body, Gives, Does, Place, Valof}
 use Rattle.bc_core.specs.Commands as commands
-use Rattle.bc_core.specs.Level.{cells_of, cells_of_all, cells_declared, level_in_for, level_behind_parameters}
+use Rattle.bc_core.specs.Level.{cells_of, cells_of_all, cells_declared, level_in_for, level_after_parameters}
 use Rattle.bc_core.specs.Command.{step_of_for}
 use Rattle.bc_rules_defs.specs.declared.piece.Piece.{Piece}
 use Rattle.bc_rules_defs.specs.declared.piece.Piece.TheVariants as pieces
@@ -139,8 +139,8 @@ body_up roots r (Does b) s f = block_up roots r b s (body_exits 0) f
 pub routines_up : (roots : Roots Marked) → Rising roots → (j : ℕ) (ps : List Place) (f : ℕ) → f ≤ (emit_routines Plain roots j ps f).1
 routines_up roots r j [] f = omega arith
 routines_up roots r j (commands.Code p ∷ ps) f =
-    let x = emit_body Plain roots p.body (level_behind_parameters p.parameters) f in
-    upto f x.1 _ (body_up roots r p.body (level_behind_parameters p.parameters) f) (routines_up roots r (j + 1) ps x.1)
+    let x = emit_body Plain roots p.body (level_after_parameters p.parameters) f in
+    upto f x.1 _ (body_up roots r p.body (level_after_parameters p.parameters) f) (routines_up roots r (j + 1) ps x.1)
 routines_up roots r j (commands.Static w ∷ ps) f = routines_up roots r (j + 1) ps f
 routines_up roots r j (commands.Table ws ∷ ps) f = routines_up roots r (j + 1) ps f
 routines_up roots r j (commands.Text bytes ∷ ps) f = routines_up roots r (j + 1) ps f

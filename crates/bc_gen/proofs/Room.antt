@@ -13,7 +13,7 @@ use Rattle.bc_core.specs.Tree as tree
 use Rattle.bc_core.specs.Commands.{Variable, Initial, Vector, Command, Block, block, Items, no_item, command, case, default, label, Body, Gives, Does, Valof, Core}
 use Rattle.bc_core.specs.Commands as commands
 use Rattle.bc_core.specs.Command.{step_of_for}
-use Rattle.bc_core.specs.Level.{side_level, cells_of_all, cells_declared, level_in_for, level_behind_parameters}
+use Rattle.bc_core.specs.Level.{side_level, cells_of_all, cells_declared, level_in_for, level_after_parameters}
 use Rattle.bc_core.specs.Operand.{is_operand}
 use Rattle.bc_core.specs.Layout.{Bodies as Cells, cells_of_exp, cells_of_args, cells_of_assignment, cells_of_initials, cells_of_declarations, cells_of_command, cells_of_block, cells_of_items, cells_of_valofs, cells_of_body, frame_size}
 use Rattle.bc_core.specs.WellFormed.{nodes, entries_differ, most_nodes, Around, stands_at, exp_fits, args_fit, root_fits, assignment_fits, variables_fit, declarations_fit, Jumps, in_a_loop, in_list, jumps_in_routine, jumps_in_valof, has_entries, are_distinct, labels_of, command_fits, block_fits, items_fit, body_fits, place_fits, places_fit, valofs_fit, is_core, global_fits}
@@ -313,7 +313,7 @@ place_has : (valofs : List Valof) (A : Around) (levels : ℕ → ℕ) → Agrees
 place_has valofs A levels agrees B good (commands.Code r) h =
     let g = global_fits r.global in
     let f = nat_le (frame_size valofs r) most in
-    let s = level_behind_parameters r.parameters in
+    let s = level_after_parameters r.parameters in
     let V = cells_of_valofs 0 valofs in
     let l = both_true (g && f) (body_fits A r.body s) h in
     let k = both_true g f l.0 in

@@ -13,7 +13,7 @@ use Rattle.bc_core.specs.View.{items, items_before, block_of, command}
 use Rattle.bc_core.proofs.Rows.{if_view, test_view, while_view, repeat_view, repeat_while_view, for_view, switchon_view, nested_view}
 use Rattle.bc_core.specs.Commands as commands
 use Rattle.bc_core.specs.Commands.{Command, Block, block, Items, no_item, case, default, label}
-use Rattle.bc_gen.specs.declared.around.Around.{Around}
+use Rattle.bc_gen.specs.declared.context.Around.{Around}
 
 abbrev mutual
   pub weight : Command → ℕ
@@ -105,7 +105,7 @@ from_valof (u ∷ vs) (suc least) (suc i) v h g =
     let z : least ≤ i = omega (arith, h) in
     from_valof vs least i v z k
 
--- what is left behind a VALOF, and its body, weigh less than what is left from an earlier one on
+-- what is left after a VALOF, and its body, weigh less than what is left from an earlier one on
 pub weight_of_valof : (vs : List Valof) (least i : ℕ) (v : Valof) → least ≤ i → i < length vs
     → 64 + 64 * weight_of_block (block_of (get_or vs i v).body) + weight_of_valofs (drop (i + 1) vs) ≤ weight_of_valofs (drop least vs)
 weight_of_valof vs least i v h g = rw (add-one i) (from_valof vs least i v h g)

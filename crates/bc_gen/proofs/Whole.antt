@@ -11,8 +11,8 @@ use Rattle.bc_gen_defs.specs.Section.{emit_routines, routines_over, routines_cod
 use Rattle.bc_gen_defs.specs.Entries.{Marked, Plain, plain_items, marked_over, marked_code}
 use Rattle.bc_gen_defs.proofs.Standing.{marks_add_nothing}
 use Rattle.bc_gen_defs.proofs.Plainly.{section_plain}
-use Rattle.bc_gen.specs.declared.around.Around.{Around}
-use Rattle.bc_gen.specs.declared.parts.Part.{Part}
+use Rattle.bc_gen.specs.declared.context.Around.{Around}
+use Rattle.bc_gen.specs.declared.marked_items.Part.{Part}
 use Rattle.bc_gen.specs.declared.writer.Writer.{Writer}
 use Rattle.bc_gen.specs.Chosen.{coding}
 use Rattle.bc_gen.specs.Parts.{parts}
@@ -23,7 +23,7 @@ use Rattle.bc_gen.proofs.Forms.{there, Wrote}
 abbrev Section : Type 0
 Section = List Place × List Valof
 
--- the labels behind those of the places
+-- the labels after those of the places
 first_label : (ps : List Place) (f n : ℕ) → f ≡ 1 → n ≡ f + length ps → n ≡ length (map place_of ps) + 1
 first_label ps f n h g = let e = length-map ps place_of in omega (arith, h, g, e)
 

@@ -1,12 +1,12 @@
--- What the program's parts of code stand for.
+-- What the program's parts of code mean.
 use Rattle.std.specs.Prelude.{List, map}
 use Rattle.bc_core.specs.View.{root}
 use Rattle.bc_rules_defs.specs.View.{derivation}
 use Rattle.bc_gen_defs.specs.Entries.{Marked, Plain, Begins}
 use Rattle.bc_gen_defs.specs.Entries as entries
-use Rattle.bc_gen.specs.declared.mark.Mark.{Mark}
-use Rattle.bc_gen.specs.declared.parts.Part.{Part}
-use Rattle.bc_gen.specs.declared.parts.Part.TheVariants as variants
+use Rattle.bc_gen.specs.declared.root_mark.Mark.{Mark}
+use Rattle.bc_gen.specs.declared.marked_items.Part.{Part}
+use Rattle.bc_gen.specs.declared.marked_items.Part.TheVariants as variants
 
 abbrev pub mark : Mark → entries.Mark
 mark m = record { target = m.target; first = m.first; root = root m.root; derivation = derivation m.derivation; bodies = m.bodies.items }

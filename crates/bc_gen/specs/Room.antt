@@ -6,7 +6,7 @@ use Rattle.bc_core.specs.Tree.{Frame, Root, Value, Test, Assign}
 use Rattle.bc_core.specs.Commands.{Variable, Command, Block, block, Items, no_item, command, case, default, label, Body, Gives, Does, Valof, Place, Code, Text}
 use Rattle.bc_core.specs.Commands as commands
 use Rattle.bc_core.specs.Command.{step_of_for}
-use Rattle.bc_core.specs.Level.{level_behind_parameters, cells_of, cells_of_all, cells_declared, level_in_for}
+use Rattle.bc_core.specs.Level.{level_after_parameters, cells_of, cells_of_all, cells_declared, level_in_for}
 use Rattle.bc_rules_defs.specs.declared.piece.Piece.{Piece}
 use Rattle.bc_rules_defs.specs.declared.piece.Piece.TheVariants as pieces
 use Rattle.bc_rules.specs.Code.{cells_of_root}
@@ -14,7 +14,7 @@ use Rattle.bc_select_defs.specs.Nodes.{root_nodes}
 use Rattle.bc_gen_defs.specs.Emit.{entries_in, end_of_for}
 use Rattle.bc_gen.specs.Chosen.{coding}
 use Rattle.bc_gen.specs.Surroundings.{initial_of, valofs_in}
-use Rattle.bc_gen.specs.declared.around.Around.{Around}
+use Rattle.bc_gen.specs.declared.context.Around.{Around}
 
 -- what is known of the body of each VALOF, by its number
 abbrev pub Bodies : Type 1
@@ -35,7 +35,7 @@ abbrev pub VariablesHaveRoom : Bodies → List Variable → (k s : ℕ) → Type
 VariablesHaveRoom B [] k s = Unit {0}
 VariablesHaveRoom B (v ∷ vs) k s = RootHasRoom B (Assign s (initial_of v k) (Frame k)) × VariablesHaveRoom B vs (k + cells_of v) s
 
--- each declaration takes its cells first, and its initialisers stand at the level behind it
+-- each declaration takes its cells first, and its initialisers stand at the level after it
 abbrev pub DeclarationsHaveRoom : Bodies → List (List Variable) → ℕ → Type 0
 DeclarationsHaveRoom B [] s = Unit {0}
 DeclarationsHaveRoom B (vs ∷ ds) s = let s1 = s + cells_of_all vs in (s1 ≤ 65535) × VariablesHaveRoom B vs s s1 × DeclarationsHaveRoom B ds s1
@@ -85,7 +85,7 @@ BodyHasRoom B (Gives e) s = RootHasRoom B (Value s e)
 BodyHasRoom B (Does b) s = BlockHasRoom B b s
 
 abbrev pub RoutineHasRoom : Bodies → Place → Type 0
-RoutineHasRoom B (Code r) = let s = level_behind_parameters r.parameters in (s ≤ 65535) × BodyHasRoom B r.body s
+RoutineHasRoom B (Code r) = let s = level_after_parameters r.parameters in (s ≤ 65535) × BodyHasRoom B r.body s
 RoutineHasRoom B _ = Unit {0}
 
 -- a global has a number under 512

@@ -1,4 +1,4 @@
--- For proofs: what the program's surroundings of a command stand for.
+-- For proofs: what the program's surroundings of a command mean.
 use Rattle.std.specs.Prelude.{ℕ, ◌+◌, ◌==◌, cond, List, [], ◌∷◌, map, drop}
 use Rattle.bc_core.specs.declared.command.Valof.{Valof}
 use Rattle.bc_core.specs.declared.command.ListItem.{ListItem}
@@ -13,8 +13,8 @@ use Rattle.bc_gen_defs.specs.Emit.{Roots, Exits}
 use Rattle.bc_gen_defs.specs.Bodies.{BodiesCode, bodies_from, level_of}
 use Rattle.bc_gen_defs.specs.Entries.{Marked, Plain, marked_over}
 use Rattle.bc_gen.specs.Chosen.{coding}
-use Rattle.bc_gen.specs.declared.around.Numbered.{Numbered}
-use Rattle.bc_gen.specs.declared.around.Around.{Around}
+use Rattle.bc_gen.specs.declared.context.Numbered.{Numbered}
+use Rattle.bc_gen.specs.declared.context.Around.{Around}
 
 abbrev pub label_in : List Numbered → ℕ → ℕ → ℕ
 label_in [] n without = without
@@ -28,7 +28,7 @@ label_pairs (case k is) f = label_pairs is f
 label_pairs (default is) f = label_pairs is f
 label_pairs (label k is) f = record { number = k; label = f } ∷ label_pairs is (f + 1)
 
--- the label of the next CASE or DEFAULT behind an item, where that of the next one from the item on is f
+-- the label of the next CASE or DEFAULT after an item, where that of the next one from the item on is f
 abbrev pub next_entry : ListItem → (f : ℕ) → ℕ
 next_entry (entries.Command c) f = f
 next_entry (entries.Case k) f = f + 1
@@ -56,7 +56,7 @@ abbrev pub initial_of : commands.Variable → ℕ → Exp
 initial_of (commands.Initial e) k = e
 initial_of (commands.Vector n) k = Frame (k + 1)
 
--- a piece with the label behind it: its code, the next free label, and the body that it is
+-- a piece with the label after it: its code, the next free label, and the body that it is
 abbrev pub one_piece : (ℕ → ℕ) → BodiesCode Marked → Piece → (label f : ℕ) → List Marked × ℕ × List (List Marked)
 one_piece levels bodies (pieces.Item i) l f = (Plain i ∷ [], f, [])
 one_piece levels bodies (pieces.Body n) l f = let b = bodies n (levels n) l f in (b.0, b.1, b.0 ∷ [])

@@ -37,7 +37,7 @@ pub(crate) fn chosen(alloc: Global, root: &Root) -> Result<Choice, Memory>
     })
 }
 
-/// The code of a root by this derivation, with its labels from `first` on, and the label behind them.
+/// The code of a root by this derivation, with its labels from `first` on, and the label after them.
 ///
 /// `NoRoom` comes only where one of these labels would be over 65,535.
 #[tactic(auto, using(crate::proofs::Choosing::code_is, crate::proofs::Choosing::next_is, crate::proofs::Choosing::labels_lack))]

@@ -11,9 +11,9 @@ ghost use Rattle.bc_gen.specs.Room.{room_in, RootHasRoom, VariablesHaveRoom, Dec
 ghost use Rattle.bc_gen.specs.Surroundings.{initial_of, roots_in, exits_of};
 ghost use Rattle.bc_gen.specs.Writing.{Writes, Puts};
 
-use crate::around::{Around, label_of};
+use crate::context::{Around, label_of};
 use crate::gen_error::GenError;
-use crate::lists::entry_behind;
+use crate::list_labels::entry_after;
 use crate::writer::Writer;
 use bc_core::{
     Block, Command, Condition, CoreExp, Declaration, ListItem, Root, Variable, copy_expression,
@@ -347,7 +347,7 @@ impl Writer {
         let mut entry = first;
         for item in list {
             let label = entry;
-            entry = entry_behind(item, entry);
+            entry = entry_after(item, entry);
             if let ListItem::Case(value) = item {
                 self.data(*value)?;
                 self.data_label(label)?;
@@ -385,7 +385,7 @@ impl Writer {
         self.list(&within, inner, &block.list, 0)
     }
 
-    /// The code of declarations; the result is the next free offset behind their variables.
+    /// The code of declarations; the result is the next free offset after their variables.
     #[cycle(commands)]
     fn declarations(
         &mut self,
@@ -395,7 +395,7 @@ impl Writer {
     ) -> Result<u16, GenError>
         requires { DeclarationsHaveRoom (room_in around.now) (declarations_view declarations.now) level }
         ensures written { Writes result self.old self.new (emit_declarations (roots_in around.now) (declarations_view declarations.now) level self.old.next) }
-        ensures behind { IfOk result (λ found. found ≡ level + cells_declared (declarations_view declarations.now)) }
+        ensures following { IfOk result (λ found. found ≡ level + cells_declared (declarations_view declarations.now)) }
     {
         let mut level = level;
         for declaration in declarations {
@@ -445,7 +445,7 @@ impl Writer {
         let mut entry = first;
         for item in list {
             self.list_item(around, level, item, entry)?;
-            entry = entry_behind(item, entry);
+            entry = entry_after(item, entry);
         }
         Ok(())
     }

@@ -2,7 +2,7 @@
 ghost use Rattle.std.specs.Prelude.{◌≡◌, ◌++◌, ◌∷◌, ◌≤◌, ◌<◌, IfOk, IfErr, IfSome, map, length};
 ghost use Rattle.std.specs.List.{All, AllZip};
 ghost use Rattle.bc_text_items.specs.declared.item.Item.TheVariants as item;
-ghost use Rattle.bc_core.specs.Level.{level_behind_parameters};
+ghost use Rattle.bc_core.specs.Level.{level_after_parameters};
 ghost use Rattle.bc_core.specs.View.{body_of, place_of, section};
 ghost use Rattle.bc_rules_defs.specs.View.{entry as entry_view};
 ghost use Rattle.bc_cert_write.specs.Workings.{WorkedOut};
@@ -14,9 +14,9 @@ ghost use Rattle.bc_gen.specs.Room.{room_in, BodyHasRoom, RoutineHasRoom, Settin
 ghost use Rattle.bc_gen.specs.Surroundings.{exits_of, roots_in};
 ghost use Rattle.bc_gen.specs.Writing.{Writes};
 
-use crate::around::Around;
+use crate::context::Around;
 use crate::gen_error::GenError;
-use crate::parts::{Apart, separated};
+use crate::marked_items::{Apart, separated};
 use crate::writer::Writer;
 use bc_cert_write::Workings;
 use bc_core::{Body, Core, Place, Routine};
@@ -32,7 +32,7 @@ pub struct Generated {
     pub items: Segment,
     /// The roots in the order of their code, a root before those of its VALOFs. Their segment is 0.
     pub entries: Vec<Entry>,
-    /// What was worked out of each entry, for its certificate.
+    /// What was computed of each entry, for its certificate.
     pub workings: Vec<Workings>,
 }
 
@@ -91,10 +91,10 @@ impl Writer {
 
     fn routine(&mut self, around: &Around<'_>, routine: &Routine) -> Result<(), GenError>
         requires outside { exits_of around.now ≡ body_exits 0 }
-        requires level { level_behind_parameters routine.now.parameters ≤ 65535 }
-        requires room { BodyHasRoom (room_in around.now) (body_of routine.now.body) (level_behind_parameters routine.now.parameters) }
+        requires level { level_after_parameters routine.now.parameters ≤ 65535 }
+        requires room { BodyHasRoom (room_in around.now) (body_of routine.now.body) (level_after_parameters routine.now.parameters) }
         ensures { Writes result self.old self.new
-            (emit_body Plain (roots_in around.now) (body_of routine.now.body) (level_behind_parameters routine.now.parameters) self.old.next) }
+            (emit_body Plain (roots_in around.now) (body_of routine.now.body) (level_after_parameters routine.now.parameters) self.old.next) }
     {
         let level = 2 + routine.parameters;
         match &routine.body {

@@ -1,4 +1,4 @@
-//! What one call puts behind the code that is there.
+//! What one call puts after the code that is there.
 ghost use Rattle.std.specs.Prelude.{◌≡◌, ◌+◌, IfOk, IfErr, [], ◌∷◌};
 ghost use Rattle.bc_text_items.specs.declared.item.Item.TheVariants as items;
 ghost use Rattle.bc_gen_defs.specs.Emit.{jump as jump_item, execute as execute_item, zero_item};
@@ -6,7 +6,7 @@ ghost use Rattle.bc_gen_defs.specs.Entries.{Plain};
 ghost use Rattle.bc_gen.specs.Writing.{Puts, RunsOut};
 
 use crate::gen_error::GenError;
-use crate::parts::Part;
+use crate::marked_items::Part;
 use crate::writer::Writer;
 use bc_text_items::{Base, Function, Item};
 use bc_word::Word;

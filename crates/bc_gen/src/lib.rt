@@ -1,15 +1,15 @@
 //! The generator: the items of a section, with the code of each expression by a derivation of least words.
 #![tactic(auto)]
 
-mod around;
 mod choice;
 mod commands;
+mod context;
 mod gen_error;
 mod generation;
 mod items;
-mod lists;
-mod mark;
-mod parts;
+mod list_labels;
+mod marked_items;
+mod root_mark;
 mod roots;
 mod writer;
 

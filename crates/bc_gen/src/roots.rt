@@ -13,11 +13,11 @@ ghost use Rattle.bc_gen.specs.Room.{room_in, RootHasRoom, PieceHasRoom};
 ghost use Rattle.bc_gen.specs.Surroundings.{one_piece, roots_in, bodies_of, valofs_in};
 ghost use Rattle.bc_gen.specs.Writing.{RunsOut, Writes};
 
-use crate::around::Around;
 use crate::choice::{Choice, chosen, pieces_of};
+use crate::context::Around;
 use crate::gen_error::GenError;
-use crate::mark::Mark;
-use crate::parts::{Part, count_items};
+use crate::marked_items::{Part, count_items};
+use crate::root_mark::Mark;
 use crate::writer::Writer;
 use bc_cert_write::Workings;
 use bc_core::{CoreExp, Root, copy_expression};
@@ -25,7 +25,7 @@ use bc_rules::CodeFault;
 use bc_rules_defs::{Derivation, Piece};
 use bc_text_items::Item;
 
-/// The label of a VALOF, which stands right behind its body.
+/// The label of a VALOF, which stands right after its body.
 fn label_ahead(pieces: &[Piece]) -> u16
     ensures { result ≡ label_ahead_of pieces.now }
 {
@@ -36,7 +36,7 @@ fn label_ahead(pieces: &[Piece]) -> u16
 }
 
 /// What stands from a place on.
-fn behind<T>(list: &[T], at: usize) -> &[T]
+fn following<T>(list: &[T], at: usize) -> &[T]
     requires { at ≤ length list.now }
     ensures { result.now ≡ drop at list.now }
 {
@@ -81,7 +81,7 @@ impl Writer {
         self.root(around, root, target)
     }
 
-    /// A root's code. Its mark is put in front of the code when that is there, since it has the numbers of items of the VALOFs' bodies.
+    /// A root's code. Its mark is put before the code when that is there, since it has the numbers of items of the VALOFs' bodies.
     #[cycle(commands)]
     pub(crate) fn root(
         &mut self,
@@ -147,13 +147,13 @@ impl Writer {
     {
         let mut bodies = Vec::new(self.alloc);
         for i in 0..pieces.len() {
-            let label = label_ahead(behind(pieces, i + 1));
+            let label = label_ahead(following(pieces, i + 1));
             self.piece(around, pieces[i], label, &mut bodies)?;
         }
         Ok(bodies)
     }
 
-    /// A piece; the count of a body comes behind those that are there.
+    /// A piece; the count of a body comes after those that are there.
     #[cycle(commands)]
     fn piece(
         &mut self,
@@ -189,7 +189,7 @@ impl Writer {
     {
         let before = self.parts.len();
         self.valof(around, number, label)?;
-        Ok(count_items(behind(&self.parts, before)))
+        Ok(count_items(following(&self.parts, before)))
     }
 
     /// The body of a VALOF, whose RESULTIS jumps to this label.

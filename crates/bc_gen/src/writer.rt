@@ -1,7 +1,7 @@
 //! Code as it grows.
 ghost use Rattle.std.specs.Prelude.{◌≤◌};
 
-use crate::parts::Part;
+use crate::marked_items::Part;
 use std::alloc::Global;
 
 /// Code so far, and the labels that are still free.

@@ -7,7 +7,7 @@ use Rattle.bc_rules_defs.specs.declared.piece.Piece.TheVariants as pieces
 use Rattle.bc_core.specs.Tree.{Frame, Value, Test, Assign}
 use Rattle.bc_core.specs.Commands.{Variable, Initial, Vector, Command, Block, block, Items, no_item, command, case, default, label, Body, Gives, Does, Place, Valof, Core}
 use Rattle.bc_core.specs.Commands as commands
-use Rattle.bc_core.specs.Level.{cells_of, cells_of_all, cells_declared, level_in_for, level_behind_parameters}
+use Rattle.bc_core.specs.Level.{cells_of, cells_of_all, cells_declared, level_in_for, level_after_parameters}
 use Rattle.bc_gen_defs.specs.Emit.{Code, Roots, Exits, labelled, labels_in, entries_in, table_of, emit_variable, emit_variables, emit_declarations, end_of_for, emit, emit_block, emit_items}
 use Rattle.bc_gen_defs.specs.Bodies.{BodiesCode, Coding, fill, label_ahead, over, body_exits, emit_valof, bodies_from, emit_body, level_of}
 use Rattle.bc_gen_defs.specs.Section.{emit_routines, routines_over, routines_code}
@@ -149,8 +149,8 @@ body_plain roots (Does b) s f = rw (sym (block_plain roots b s (body_exits 0) f)
 routines_plain : (roots : Roots Marked) (j : ℕ) (ps : List Place) (f : ℕ) → strip (emit_routines Plain roots j ps f) ≡ emit_routines plain (strip_roots roots) j ps f
 routines_plain roots j [] f = refl
 routines_plain roots j (commands.Code r ∷ ps) f =
-    let x = emit_body Plain roots r.body (level_behind_parameters r.parameters) f in
-    rw (sym (body_plain roots r.body (level_behind_parameters r.parameters) f), sym (routines_plain roots (j + 1) ps x.1)) (simp plain_append)
+    let x = emit_body Plain roots r.body (level_after_parameters r.parameters) f in
+    rw (sym (body_plain roots r.body (level_after_parameters r.parameters) f), sym (routines_plain roots (j + 1) ps x.1)) (simp plain_append)
 routines_plain roots j (commands.Static w ∷ ps) f = routines_plain roots (j + 1) ps f
 routines_plain roots j (commands.Table ws ∷ ps) f = routines_plain roots (j + 1) ps f
 routines_plain roots j (commands.Text bytes ∷ ps) f = routines_plain roots (j + 1) ps f

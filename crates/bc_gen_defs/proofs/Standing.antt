@@ -41,7 +41,7 @@ begin_longer (pieces.Body n ∷ ps) (count ∷ counts) is js h =
     let b : count ≤ length is = h.0 in
     (omega (arith, length-append is js, b), rw (drop-append-le count is js b) (begin_longer ps counts (drop count is) js h.1))
 
--- each mark's code stands behind it
+-- each mark's code stands after it
 abbrev Right : Coding → List Marked → Type 0
 Right coding [] = Unit {0}
 Right coding (Plain i ∷ ps) = Right coding ps
@@ -54,7 +54,7 @@ right_append coding (Begins m ∷ xs) ys p q =
     (p.0, rw (plain_append xs ys) (begin_longer (coding.pieces m.root m.target m.first) m.bodies (plain_items xs) (plain_items ys) p.1), right_append coding xs ys p.2 q)
 
 right_kept : (coding : Coding) → Keeps (Right coding)
-right_kept coding = record { nothing = tt; item = λ i. tt; behind = λ xs ys. right_append coding xs ys }
+right_kept coding = record { nothing = tt; item = λ i. tt; following = λ xs ys. right_append coding xs ys }
 
 count_plain : (xs : List Marked) → length (plain_items xs) ≡ count_items xs
 count_plain [] = refl
@@ -98,7 +98,7 @@ bodies_right coding levels first (v ∷ vs) n s l f =
     let h = bodies_right coding levels (first + 1) vs in
     let k = right_kept coding in
     either_right coding (n == first) (emit_valof Plain (marked_over coding levels inner) v.body n s l f) (inner n s l f)
-    (k.behind (emit_block Plain (marked_over coding levels inner) v.body s (body_exits l) f).0 (Plain zero_item ∷ []) (block_kept (Right coding) k (marked_over coding levels inner) (roots_right coding levels inner h) v.body s (body_exits l) f) (k.item zero_item))
+    (k.following (emit_block Plain (marked_over coding levels inner) v.body s (body_exits l) f).0 (Plain zero_item ∷ []) (block_kept (Right coding) k (marked_over coding levels inner) (roots_right coding levels inner h) v.body s (body_exits l) f) (k.item zero_item))
     (h n s l f)
 
 code_right : (coding : Coding) (core : Core) → Right coding (marked_code coding core)

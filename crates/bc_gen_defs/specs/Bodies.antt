@@ -15,7 +15,7 @@ use Rattle.bc_gen_defs.specs.Emit.{Code, Roots, Exits, zero_item, execute, emit_
 abbrev pub BodiesCode : Type 0 → Type 0
 BodiesCode X = (number level label first : ℕ) → Code X
 
--- The label of a VALOF stands right behind its body.
+-- The label of a VALOF stands right after its body.
 abbrev pub label_ahead : List Piece → ℕ
 label_ahead (pieces.Item (items.Label l) ∷ ps) = l
 label_ahead _ = 0

@@ -1,6 +1,6 @@
 -- The code of commands, over the code of their roots: expressions, tests and assignments.
 --
--- Code is given the next label that is free, and hands on the next one behind it. It is made of items alone, or
+-- Code is given the next label that is free, and hands on the next one after it. It is made of items alone, or
 -- of items and something between them (`Entries`); so `of` says what an item is in it.
 use Rattle.std.specs.Prelude.{ℕ, suc, ◌+◌, ◌==◌, true, false, not, cond, List, [], ◌∷◌, ◌++◌, nat_le}
 use Rattle.bc_word.specs.declared.operator.Op.{Op}
@@ -15,7 +15,7 @@ use Rattle.bc_core.specs.Commands as commands
 use Rattle.bc_core.specs.Level.{cells_of, cells_of_all, cells_declared, level_in_for}
 use Rattle.bc_core.specs.Command.{step_of_for}
 
--- what stands there, and the next free label behind it
+-- what stands there, and the next free label after it
 abbrev pub Code : Type 0 → Type 0
 Code X = List X × ℕ
 

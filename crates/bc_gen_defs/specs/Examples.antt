@@ -21,7 +21,7 @@ pub while_code : emit (λ i. i) no_code (commands.While true (Num 1) (only comma
     ≡ (Label 5 ∷ jump 6 ∷ jump 5 ∷ Label 6 ∷ [], 7)
 while_code = refl
 
--- LOOP in a FOR goes to the label in front of the step
+-- LOOP in a FOR goes to the label before the step
 pub for_code : emit (λ i. i) no_code (commands.For (Num 1) (Num 9) 1 (only commands.Loop)) 2 (body_exits 0) 5
     ≡ (Label 5 ∷ jump 7 ∷ Label 7 ∷ jump 5 ∷ Label 6 ∷ [], 8)
 for_code = refl

@@ -13,7 +13,7 @@ use Rattle.bc_gen_defs.specs.Entries.{plain_items, marked_code, section_entries}
 abbrev pub MarksAddNothing : Type 0
 MarksAddNothing = (coding : Coding) (core : Core) → plain_items (marked_code coding core) ≡ (routines_code coding core).0
 
--- entries none of which has an item before this one, or before that of the entry in front of it
+-- entries none of which has an item before this one, or before that of the entry before it
 abbrev pub RiseFrom : ℕ → List Entry → Type 0
 RiseFrom k [] = Unit {0}
 RiseFrom k (e ∷ es) = (k ≤ e.item) × RiseFrom e.item es

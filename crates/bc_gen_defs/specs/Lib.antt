@@ -5,4 +5,4 @@ pub mod Entries
 pub mod Size
 pub mod Laws
 pub mod Examples
-pub mod examples
+pub mod worked

@@ -4,7 +4,7 @@ use Rattle.bc_text_items.specs.declared.item.Item.{Item}
 use Rattle.bc_text_items.specs.declared.item.Item.TheVariants.{Label, Data, Byte, Global}
 use Rattle.bc_core.specs.Commands as commands
 use Rattle.bc_core.specs.Commands.{Place, Core}
-use Rattle.bc_core.specs.Level.{level_behind_parameters}
+use Rattle.bc_core.specs.Level.{level_after_parameters}
 use Rattle.bc_gen_defs.specs.Emit.{Code, Roots}
 use Rattle.bc_gen_defs.specs.Bodies.{BodiesCode, Coding, over, bodies_from, emit_body, level_of}
 
@@ -12,7 +12,7 @@ use Rattle.bc_gen_defs.specs.Bodies.{BodiesCode, Coding, over, bodies_from, emit
 abbrev pub emit_routines : {X : Type 0} → (Item → X) → Roots X → (j : ℕ) → List Place → (f : ℕ) → Code X
 emit_routines of roots j [] f = ([], f)
 emit_routines of roots j (commands.Code r ∷ places) f =
-    let x = emit_body of roots r.body (level_behind_parameters r.parameters) f in
+    let x = emit_body of roots r.body (level_after_parameters r.parameters) f in
     let y = emit_routines of roots (j + 1) places x.1 in
     (of (Label (j + 1)) ∷ (x.0 ++ y.0), y.1)
 emit_routines of roots j (commands.Static w ∷ places) f = emit_routines of roots (j + 1) places f
@@ -39,7 +39,7 @@ setting_items j (commands.Static w ∷ places) = setting_items (j + 1) places
 setting_items j (commands.Table ws ∷ places) = setting_items (j + 1) places
 setting_items j (commands.Text bytes ∷ places) = setting_items (j + 1) places
 
--- the labels behind those of the places are the routines'
+-- the labels after those of the places are the routines'
 abbrev pub routines_over : {X : Type 0} → (Item → X) → (BodiesCode X → Roots X) → Core → Code X
 routines_over of roots_over core =
     emit_routines of (roots_over (bodies_from of roots_over 0 core.valofs)) 0 core.places (length core.places + 1)

@@ -4,7 +4,7 @@ use Rattle.bc_core.specs.Tree.{Exp, Frame, Load, Neg, Not, Bin, Cond, Call, Args
 use Rattle.bc_core.specs.Tree as tree
 use Rattle.bc_core.specs.Commands.{Variable, Initial, Vector, Command, Block, block, Items, no_item, command, case, default, label, Body, Gives, Does, Place, Valof, Core}
 use Rattle.bc_core.specs.Commands as commands
-use Rattle.bc_core.specs.Level.{cells_of, cells_of_all, cells_declared, level_in_for, level_behind_parameters}
+use Rattle.bc_core.specs.Level.{cells_of, cells_of_all, cells_declared, level_in_for, level_after_parameters}
 use Rattle.bc_core.specs.Command.{step_of_for}
 use Rattle.bc_gen_defs.specs.Emit.{end_of_for, cases_in}
 use Rattle.bc_gen_defs.specs.Bodies.{level_of}
@@ -96,7 +96,7 @@ words_of_body words (Does b) s = words_of_block words b s + 2
 
 -- a string's bytes, with its length, two to a word
 abbrev pub words_of_place : Words → Place → ℕ
-words_of_place words (commands.Code r) = words_of_body words r.body (level_behind_parameters r.parameters)
+words_of_place words (commands.Code r) = words_of_body words r.body (level_after_parameters r.parameters)
 words_of_place words (commands.Static w) = 1
 words_of_place words (commands.Table ws) = length ws
 words_of_place words (commands.Text bytes) = (length bytes + 2) / 2

@@ -17,15 +17,15 @@ use Rattle.bc_interpret_defs.proofs.Running.{steps_keep, steps_lessen}
 use Rattle.bc_interpret_defs.specs.Causes as met
 use Rattle.bc_interpret_defs.specs.Causes.{StandsIn}
 use Rattle.bc_interpret_defs.specs.Meeting.{Meets, ByArgument, after_steps, ComesTo}
-use Rattle.bc_interpret_quiet.specs.declared.sight.Cause.{Cause}
-use Rattle.bc_interpret_quiet.specs.Causes.{cause_of}
+use Rattle.bc_interpret_pure.specs.declared.context.Cause.{Cause}
+use Rattle.bc_interpret_pure.specs.Causes.{cause_of}
 use Rattle.bc_interpret_steps.specs.declared.forms.Work.{Work}
 use Rattle.bc_interpret_steps.specs.declared.forms.Work.TheVariants as works
 use Rattle.bc_interpret_steps.specs.declared.forms.Progress.{Progress}
 use Rattle.bc_interpret_steps.specs.declared.forms.Progress.TheVariants as progress
 use Rattle.bc_interpret_steps.specs.declared.forms.Primitive.{Primitive}
 use Rattle.bc_interpret_steps.specs.declared.forms.Ending.{Ending}
-use Rattle.bc_interpret_steps.specs.declared.rests.Rest.{Rest}
+use Rattle.bc_interpret_steps.specs.declared.continuations.Rest.{Rest}
 use Rattle.bc_interpret_steps.specs.declared.sections.Callable.{Callable}
 use Rattle.bc_interpret_steps.specs.declared.state.State.{State}
 use Rattle.bc_interpret_steps.specs.Code.{stack}
@@ -92,7 +92,7 @@ was_wild program n a old c rests1 new streams h l = through program n a old stre
 
 -- comings to a wild access
 
--- what comes behind a step
+-- what comes after a step
 pub one_more : (program : List Placed) (from at : machine.At) (start st : outcomes.State) (c : met.Cause) → step program from.work from.rests start ≡ outcomes.Done at st → ComesTo program at st c → ComesTo program from start c
 one_more program from at start st c e h = record {
   steps = suc h.steps;
@@ -168,7 +168,7 @@ pub tracks_on : (table : List Callable) (w : Work) (start old new : Run) (before
 tracks_on table w start old new before middle after moved k h program t =
     leads_from program (at_of w start.stacks.rests.items) (at_of (next_of old) old.stacks.rests.items) (state_of start.state before) (state_of old.state middle) moved new after (k program t) (h program t)
 
--- moves behind one another
+-- moves after one another
 
 comes_from : (program : List Placed) (n : ℕ) (r r1 : meanings.Result) (moved : Moved) (new : Run) (after : Content) → r ≡ r1 → Comes program n r1 moved new after → Comes program n r moved new after
 comes_from program n r r1 On new after e h = e ∙ h

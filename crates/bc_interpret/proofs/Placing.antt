@@ -36,27 +36,27 @@ pub no_label_left : (pairs left : List (ℕ × ℕ)) (addresses : List ℕ) → 
 no_label_left pairs [] addresses e h k = sym (h k)
 no_label_left pairs (x ∷ xs) addresses e h k = absurd (omega arith)
 
-pub addresses_more : (all : List (Vec ℕ)) (a : Vec ℕ) (place : SegmentPlace) (behind : List SegmentPlace) (whole : List (ℕ → ℕ)) → IsAddressed place.labels a.items
-    → addresses_of all ++ label_addresses (place ∷ behind) ≡ whole → addresses_of (all ++ a ∷ []) ++ label_addresses behind ≡ whole
-addresses_more all a place behind whole e h =
+pub addresses_more : (all : List (Vec ℕ)) (a : Vec ℕ) (place : SegmentPlace) (following : List SegmentPlace) (whole : List (ℕ → ℕ)) → IsAddressed place.labels a.items
+    → addresses_of all ++ label_addresses (place ∷ following) ≡ whole → addresses_of (all ++ a ∷ []) ++ label_addresses following ≡ whole
+addresses_more all a place following whole e h =
     let f : Vec ℕ → ℕ → ℕ = λ addresses l. slice_index_or addresses.items l 0 in
-    ap (λ xs. xs ++ label_addresses behind) (map-append f all (a ∷ []))
-    ∙ (append_assoc (addresses_of all) ((λ l. slice_index_or a.items l 0) ∷ []) (label_addresses behind)
-    ∙ (ap (λ x. addresses_of all ++ x ∷ label_addresses behind) (λ i l. e l i) ∙ h))
+    ap (λ xs. xs ++ label_addresses following) (map-append f all (a ∷ []))
+    ∙ (append_assoc (addresses_of all) ((λ l. slice_index_or a.items l 0) ∷ []) (label_addresses following)
+    ∙ (ap (λ x. addresses_of all ++ x ∷ label_addresses following) (λ i l. e l i) ∙ h))
 
-pub section_more : (sections : List Section) (s : Section) (core : Core) (behind : List Core) (address : ℕ → ℕ) (further : List (ℕ → ℕ)) (whole : List Placed) → placed_of s ≡ record { core = core; address = address }
-    → program_of sections ++ placed (core ∷ behind) (address ∷ further) ≡ whole → program_of (sections ++ s ∷ []) ++ placed behind further ≡ whole
-section_more sections s core behind address further whole e h =
-    ap (λ xs. xs ++ placed behind further) (map-append placed_of sections (s ∷ []))
-    ∙ (append_assoc (program_of sections) (placed_of s ∷ []) (placed behind further)
-    ∙ (ap (λ x. program_of sections ++ x ∷ placed behind further) e ∙ h))
+pub section_more : (sections : List Section) (s : Section) (core : Core) (following : List Core) (address : ℕ → ℕ) (further : List (ℕ → ℕ)) (whole : List Placed) → placed_of s ≡ record { core = core; address = address }
+    → program_of sections ++ placed (core ∷ following) (address ∷ further) ≡ whole → program_of (sections ++ s ∷ []) ++ placed following further ≡ whole
+section_more sections s core following address further whole e h =
+    ap (λ xs. xs ++ placed following further) (map-append placed_of sections (s ∷ []))
+    ∙ (append_assoc (program_of sections) (placed_of s ∷ []) (placed following further)
+    ∙ (ap (λ x. program_of sections ++ x ∷ placed following further) e ∙ h))
 
 -- one core more, with its addresses
-pub core_more : (sections : List Section) (s : Section) (cores behind : List (List Place × List Valof)) (core : List Place × List Valof) (others further : List (Vec ℕ)) (all : Vec ℕ) (whole : List Placed) → cores ≡ core ∷ behind → others ≡ all ∷ further
+pub core_more : (sections : List Section) (s : Section) (cores following : List (List Place × List Valof)) (core : List Place × List Valof) (others further : List (Vec ℕ)) (all : Vec ℕ) (whole : List Placed) → cores ≡ core ∷ following → others ≡ all ∷ further
     → s.places.now ≡ core.0 → s.valofs.now ≡ core.1 → s.addresses.now ≡ all.items
-    → program_of sections ++ placed (map section cores) (addresses_of others) ≡ whole → program_of (sections ++ s ∷ []) ++ placed (map section behind) (addresses_of further) ≡ whole
-core_more sections s cores behind core others further all whole ec eo ep ev ea h =
-    section_more sections s (section core) (map section behind) (λ l. slice_index_or all.items l 0) (addresses_of further) whole
+    → program_of sections ++ placed (map section cores) (addresses_of others) ≡ whole → program_of (sections ++ s ∷ []) ++ placed (map section following) (addresses_of further) ≡ whole
+core_more sections s cores following core others further all whole ec eo ep ev ea h =
+    section_more sections s (section core) (map section following) (λ l. slice_index_or all.items l 0) (addresses_of further) whole
     (λ i. record { core = section (ep i, ev i); address = λ l. slice_index_or (ea i) l 0 })
     ((λ i. program_of sections ++ placed (map section (sym ec i)) (addresses_of (sym eo i))) ∙ h)
 

@@ -11,8 +11,8 @@ use Rattle.bc_core.specs.Store.{Dead, Unset, Set, cell_at, closed}
 use Rattle.bc_core.specs.Outcome.{Outcome, Done, Ended, Going, Wild, Run, followed, then_do, content_of_cell, read, left}
 use Rattle.bc_core.specs.Primitive.{byte_of_string, bytes_of_string, string_of, on_streams, primitive_work}
 use Rattle.bc_core.specs.Primitive as primitives
-use Rattle.bc_interpret_quiet.specs.declared.sight.Cause.{Cause}
-use Rattle.bc_interpret_quiet.specs.declared.sight.Cause.TheVariants as causes
+use Rattle.bc_interpret_pure.specs.declared.context.Cause.{Cause}
+use Rattle.bc_interpret_pure.specs.declared.context.Cause.TheVariants as causes
 use Rattle.bc_interpret_steps.specs.declared.state.State.{State}
 use Rattle.bc_interpret_steps.specs.Came.{state_of}
 use Rattle.bc_interpret.specs.declared.serve.Served.{Served}

@@ -91,7 +91,7 @@ unset_is_not_dead c e h = let f : store.Unset ≡ store.Dead = sym e ∙ h in cc
 not_opened : (n a : ℕ) (cells : List store.Cell) (b : ℕ) → b < length cells → cell_at (opened n a cells) b ≡ store.Dead → (cell_at cells b ≡ store.Dead) × Outside n a b
 not_opened n a cells b l h =
     ⊎_elim (λ before. outside (inl before))
-    (λ from. ⊎_elim (λ inside. absurd (unset_is_not_dead _ (opened_inside n a cells b from inside l) h)) (λ behind. outside (inr behind)) (cases_lt b (a + n)))
+    (λ from. ⊎_elim (λ inside. absurd (unset_is_not_dead _ (opened_inside n a cells b from inside l) h)) (λ following. outside (inr following)) (cases_lt b (a + n)))
     (cases_lt b a) where
       outside : Outside n a b → (cell_at cells b ≡ store.Dead) × Outside n a b
       outside o = (sym (filled_outside n a store.Unset cells b o) ∙ h, o)
@@ -134,18 +134,18 @@ setting_on s label p left n h e rest =
 pub data_in_section : (s : Placed) (sections : List Placed) (a w : ℕ) → HasData s a (Some w) → data_word (standing (s ∷ sections)) a ≡ Some w
 data_in_section s sections a w h = h (standing sections)
 
-pub data_behind : (s : Placed) (sections : List Placed) (a : ℕ) → HasData s a None → data_word (standing (s ∷ sections)) a ≡ data_word (standing sections) a
-data_behind s sections a h = h (standing sections)
+pub data_after : (s : Placed) (sections : List Placed) (a : ℕ) → HasData s a None → data_word (standing (s ∷ sections)) a ≡ data_word (standing sections) a
+data_after s sections a h = h (standing sections)
 
-pub marks_behind : (s : Placed) (all left : List Placed) (old now new : List store.Cell) → Marks (λ a. data_word (standing all) a ≡ data_word (standing (s ∷ left)) a) old now
+pub marks_after : (s : Placed) (all left : List Placed) (old now new : List store.Cell) → Marks (λ a. data_word (standing all) a ≡ data_word (standing (s ∷ left)) a) old now
     → Marks (λ a. HasData s a None) now new → Marks (λ a. data_word (standing all) a ≡ data_word (standing left) a) old new
-marks_behind s all left old now new m k =
+marks_after s all left old now new m k =
     record {
       size = k.size ∙ m.size;
       rest = λ a l d.
           let here = k.rest a (subst (λ n. a < n) (sym m.size) l) d in
           let was = m.rest a l here.0 in
-          (was.0, was.1 ∙ data_behind s left a here.1);
+          (was.0, was.1 ∙ data_after s left a here.1);
     }
 
 pub marks_cover : (program : List Placed) (old new : List store.Cell) → length old ≡ 65536 → Marks (λ a. data_word (standing program) a ≡ None) old new → CoversData program new
@@ -154,8 +154,8 @@ marks_cover program old new size m a l d = (m.rest a (subst (λ n. a < n) (sym s
 pub setting_in_section : (s : Placed) (sections : List Placed) (n w : ℕ) → HasSetting s n (Some w) → setting (standing (s ∷ sections)) n ≡ Some w
 setting_in_section s sections n w h = h (standing sections)
 
-pub setting_behind : (s : Placed) (sections : List Placed) (n : ℕ) → HasSetting s n None → setting (standing (s ∷ sections)) n ≡ setting (standing sections) n
-setting_behind s sections n h = h (standing sections)
+pub setting_after : (s : Placed) (sections : List Placed) (n : ℕ) → HasSetting s n None → setting (standing (s ∷ sections)) n ≡ setting (standing sections) n
+setting_after s sections n h = h (standing sections)
 
 -- whether it is this global
 abbrev pub is_it : Option ℕ → ℕ → Bool

@@ -13,7 +13,7 @@ use Rattle.bc_interpret.specs.declared.run.Outcome.{Outcome}
 use Rattle.bc_interpret.specs.declared.run.Outcome.TheVariants.{Device}
 use Rattle.bc_interpret.specs.Results.{IsResult, Names}
 
--- where an image has the places of its sections, which stand behind the primitives, and where its stack begins
+-- where an image has the places of its sections, which stand after the primitives, and where its stack begins
 abbrev pub map_of : Image → Map
 map_of image = record { places = map (λ (place : SegmentPlace). label_address place.labels) (drop 1 image.places); stack_base = image.stack_base }
 

@@ -16,7 +16,7 @@ use Rattle.bc_interpret_steps.specs.declared.forms.Work.{Work}
 use Rattle.bc_interpret_steps.specs.declared.forms.Work.TheVariants as works
 use Rattle.bc_interpret_steps.specs.declared.forms.Progress.{Progress}
 use Rattle.bc_interpret_steps.specs.declared.forms.Progress.TheVariants as progress
-use Rattle.bc_interpret_steps.specs.declared.rests.Rest.{Rest}
+use Rattle.bc_interpret_steps.specs.declared.continuations.Rest.{Rest}
 use Rattle.bc_interpret_steps.specs.declared.sections.Callable.{Callable}
 use Rattle.bc_interpret_steps.specs.declared.state.State.{State}
 use Rattle.bc_interpret_steps.specs.declared.state.Stacks.{Stacks}
@@ -49,7 +49,7 @@ weight_of w rests = let a = at_of w rests in weight a.work a.rests
 abbrev pub StepIs : List Placed → machine.At → State → Progress → List Rest → State → Type 0
 StepIs program a old p rests1 new = Stepped program a.work a.rests old p (stack rests1) (given rests1) new
 
--- what steps that change nothing, and a last one behind them, came to
+-- what steps that change nothing, and a last one after them, came to
 abbrev pub RanIs : List Placed → Work → List Rest → State → Progress → List Rest → State → Type 0
 RanIs program w rests old p rests1 new = Ran program (at_of w rests) old p (stack rests1) (given rests1) new
 

@@ -7,7 +7,7 @@ use Rattle.bc_core.specs.Map.{Placed}
 use Rattle.bc_core.specs.Outcome.{State}
 use Rattle.bc_interpret_defs.specs.Machine.{At}
 use Rattle.bc_interpret_defs.specs.Meeting.{ComesTo}
-use Rattle.bc_interpret_quiet.specs.Causes.{cause_of}
+use Rattle.bc_interpret_pure.specs.Causes.{cause_of}
 use Rattle.bc_interpret_steps.specs.Endings.{ending}
 use Rattle.bc_interpret.specs.declared.run.Outcome.{Outcome}
 use Rattle.bc_interpret.specs.declared.run.Outcome.TheVariants as outcomes

@@ -11,7 +11,7 @@ abbrev pub found_in : List Callable → ℕ → Option Callee
 found_in [] a = None
 found_in (e ∷ es) a = cond (e.address == a) (Some (callee_of e)) (found_in es a)
 
--- the routines of a section were put behind those of a table
+-- the routines of a section were put after those of a table
 pub record Adds (section : Placed) (old new : List Callable) : Type 0 where
   pub finds : (a : ℕ) → found_in new a ≡ or_else (found_in old a) (callee_among section 1 section.core.places a)
   pub sized : All IsSized old → All IsSized new
@@ -28,7 +28,7 @@ pub record AddsPlace (section : Placed) (label : ℕ) (place : Place) (old new :
       → or_else (found_in old a) (callee_among section label (place ∷ left) a) ≡ or_else (found_in new a) (callee_among section (label + 1) left a)
   pub sized : All IsSized old → All IsSized new
 
--- the routines of a program are those of the table, and behind them those of the sections that are left
+-- the routines of a program are those of the table, and after them those of the sections that are left
 pub record Covers (program left : List Placed) (table : List Callable) : Type 0 where
   pub finds : (a : ℕ) → callee program a ≡ or_else (found_in table a) (callee left a)
   pub sized : All IsSized table

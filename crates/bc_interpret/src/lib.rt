@@ -9,7 +9,7 @@ mod serve;
 mod start;
 mod table;
 
-pub use bc_interpret_quiet::Cause;
+pub use bc_interpret_pure::Cause;
 pub use bc_interpret_steps::Ending;
 pub use bc_interpret_trace::Standing;
 pub use run::{Interpreted, Outcome, Trail};

@@ -53,19 +53,19 @@ pub(crate) fn all_addresses(alloc: Global, places: &[SegmentPlace]) -> Result<Ve
 {
     let mut all = Vec::new(alloc);
     let mut left = places;
-    while let [place, behind @ ..] = left {
+    while let [place, following @ ..] = left {
         all.push(addresses_of(alloc, place)?)?;
-        left = behind;
+        left = following;
     }
     Ok(all)
 }
 
-/// The places of the segments behind the first one.
-pub(crate) fn behind_first(places: &[SegmentPlace]) -> &[SegmentPlace]
+/// The places of the segments after the first one.
+pub(crate) fn after_first(places: &[SegmentPlace]) -> &[SegmentPlace]
     ensures { result.now ≡ drop 1 places.now }
 {
     match places {
-        [_, behind @ ..] => behind,
+        [_, following @ ..] => following,
         [] => places,
     }
 }
@@ -84,7 +84,7 @@ pub(crate) fn sections_of<'c>(
     let mut sections = Vec::new(alloc);
     let mut left = cores;
     let mut others = addresses;
-    while let Some((core, behind)) = left.split_first() {
+    while let Some((core, following)) = left.split_first() {
         let Some((all, further)) = others.split_first() else {
             return Ok(sections);
         };
@@ -93,7 +93,7 @@ pub(crate) fn sections_of<'c>(
             valofs: core.valofs(),
             addresses: all.as_slice(),
         })?;
-        left = behind;
+        left = following;
         others = further;
     }
     Ok(sections)

@@ -4,7 +4,7 @@ ghost use Rattle.std.specs.Prelude.{IfOk};
 ghost use Rattle.bc_interpret.specs.Moving.{HasProgram, MovesBy, next_of, AdvancedOn, StretchedOn, CompletedOn};
 
 use crate::serve::{Served, serve};
-use bc_interpret_quiet::Cause;
+use bc_interpret_pure::Cause;
 use bc_interpret_steps::{Callable, Ending, Progress, Stacks, State, Work, step};
 use bc_interpret_trace::{Standing, Trace};
 use bc_machine::Streams;

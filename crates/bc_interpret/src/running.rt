@@ -8,12 +8,12 @@ ghost use Rattle.bc_interpret_steps.specs.declared.forms.Work.TheVariants.{Numbe
 ghost use Rattle.bc_interpret.specs.Interpreted.{InterpretedOn};
 ghost use Rattle.bc_interpret.specs.Moving.{RunOn};
 
-use crate::places::{all_addresses, behind_first, sections_of};
+use crate::places::{after_first, all_addresses, sections_of};
 use crate::run::{Interpreted, Run, to_end};
 use crate::start::start_store;
 use crate::table::table_of;
 use bc_core::Core;
-use bc_interpret_quiet::Room;
+use bc_interpret_pure::Room;
 use bc_interpret_steps::{Called, NumberRest, Progress, Rest, Section, Stacks, State, Work, put};
 use bc_interpret_store::Store;
 use bc_interpret_trace::Trace;
@@ -21,7 +21,7 @@ use bc_machine::{Image, Streams};
 use bc_word::Memory;
 use std::alloc::Global;
 
-/// A run over this store, with nothing left to do behind the address of global 1.
+/// A run over this store, with nothing left to do after the address of global 1.
 fn run_over<'c>(alloc: Global, store: Store, turns: u64) -> Run<'c>
     ensures store { result.state.store ≡ store }
     ensures turns { result.state.turns ≡ turns }
@@ -96,7 +96,7 @@ pub fn interpret<S: Streams>(
 ) -> Result<Interpreted, Memory>
     ensures { IfOk result (λ i. InterpretedOn S.known S.content S.failures (map section_view cores.now) image.now turns streams.old streams.new i.outcome) }
 {
-    let places = behind_first(image.places.as_slice());
+    let places = after_first(image.places.as_slice());
     let addresses = all_addresses(alloc, places)?;
     let sections = sections_of(alloc, cores, addresses.as_slice())?;
     let stack_base = image.stack_base.get();

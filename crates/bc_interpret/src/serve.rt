@@ -8,7 +8,7 @@ ghost use Rattle.bc_core.specs.Primitive.{byte_of_string, string_of};
 ghost use Rattle.bc_interpret_steps.specs.Came.{primitive_of};
 ghost use Rattle.bc_interpret.specs.Serving.{Gets, GetsName, ServesOn, ServesAt, ServesIn};
 
-use bc_interpret_quiet::Cause;
+use bc_interpret_pure::Cause;
 use bc_interpret_steps::{Primitive, State};
 use bc_interpret_store::Cell;
 use bc_machine::{Side, Streams};

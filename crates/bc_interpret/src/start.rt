@@ -11,14 +11,14 @@ ghost use Rattle.bc_interpret_store.specs.Cells.{cell_view};
 ghost use Rattle.bc_interpret_steps.specs.Sections.{placed_of, program_of};
 ghost use Rattle.bc_interpret.specs.Starting.{HasData, HasSetting, Sets, IsStart, EndsBy, Marks, CoversData};
 
-use crate::table::{address_of, label_behind};
+use crate::table::{address_of, label_after};
 use bc_core::Place;
 use bc_interpret_steps::Section;
 use bc_interpret_store::{Cell, Store};
 use bc_word::Memory;
 use std::alloc::Global;
 
-/// Byte `k` of a string, whose byte 0 is its length, or 0 behind the last one.
+/// Byte `k` of a string, whose byte 0 is its length, or 0 after the last one.
 fn byte_of(bytes: &[u8], k: usize) -> usize
     ensures { result ≡ slice_index (length bytes.now ∷ bytes.now) k }
 {
@@ -99,13 +99,13 @@ fn data_in(section: &Section<'_>, address: u16) -> Result<Option<u16>, Memory>
 {
     let mut label = 1;
     let mut left = section.places;
-    while let [place, behind @ ..] = left {
+    while let [place, following @ ..] = left {
         let found = word_at(place, address_of(section, label), address)?;
         if found.is_some() {
             return Ok(found);
         }
-        label = label_behind(label)?;
-        left = behind;
+        label = label_after(label)?;
+        left = following;
     }
     Ok(None)
 }
@@ -117,12 +117,12 @@ fn data_at(sections: &[Section<'_>], address: u16) -> Result<Option<u16>, Memory
     ensures { IfOk result (λ word. word ≡ data_word (standing (program_of sections.now)) address) }
 {
     let mut left = sections;
-    while let [section, behind @ ..] = left {
+    while let [section, following @ ..] = left {
         let found = data_in(section, address)?;
         if found.is_some() {
             return Ok(found);
         }
-        left = behind;
+        left = following;
     }
     Ok(None)
 }
@@ -160,11 +160,11 @@ fn mark_section(section: &Section<'_>, marks: &mut Store) -> Result<(), Memory>
 {
     let mut label = 1;
     let mut left = section.places;
-    while let Some((place, behind)) = left.split_first() {
+    while let Some((place, following)) = left.split_first() {
         let from = usize::from(address_of(section, label));
         marks.open(words_of(place), from);
-        label = label_behind(label)?;
-        left = behind;
+        label = label_after(label)?;
+        left = following;
     }
     Ok(())
 }
@@ -172,14 +172,14 @@ fn mark_section(section: &Section<'_>, marks: &mut Store) -> Result<(), Memory>
 /// Marks the addresses at which places have words.
 ///
 /// `Memory` comes where no number is so great, which no label is.
-#[tactic(auto, using(crate::proofs::Starting::marks_begin, crate::proofs::Starting::marks_behind))]
+#[tactic(auto, using(crate::proofs::Starting::marks_begin, crate::proofs::Starting::marks_after))]
 fn mark_data(sections: &[Section<'_>], marks: &mut Store) -> Result<(), Memory>
     ensures { OnOk result (Marks (λ a. data_word (standing (program_of sections.now)) a ≡ None) marks.old marks.new) }
 {
     let mut left = sections;
-    while let [section, behind @ ..] = left {
+    while let [section, following @ ..] = left {
         mark_section(section, marks)?;
-        left = behind;
+        left = following;
     }
     Ok(())
 }
@@ -219,12 +219,12 @@ fn setting_in(section: &Section<'_>, global: u16) -> Result<Option<u16>, Memory>
 {
     let mut label = 1;
     let mut left = section.places;
-    while let [place, behind @ ..] = left {
+    while let [place, following @ ..] = left {
         if is_setting(place, global) {
             return Ok(Some(address_of(section, label)));
         }
-        label = label_behind(label)?;
-        left = behind;
+        label = label_after(label)?;
+        left = following;
     }
     Ok(None)
 }
@@ -253,12 +253,12 @@ fn setting_of(sections: &[Section<'_>], global: u16) -> Result<Option<u16>, Memo
     ensures { IfOk result (λ address. address ≡ setting (standing (program_of sections.now)) global) }
 {
     let mut left = sections;
-    while let [section, behind @ ..] = left {
+    while let [section, following @ ..] = left {
         let found = setting_in(section, global)?;
         if found.is_some() {
             return Ok(found);
         }
-        left = behind;
+        left = following;
     }
     Ok(primitive_of(global))
 }

@@ -21,16 +21,16 @@ pub(crate) fn address_of(section: &Section<'_>, label: usize) -> u16
     }
 }
 
-/// The label behind this one.
+/// The label after this one.
 ///
 /// `Memory` comes where no number is so great, which no label is.
-pub(crate) fn label_behind(label: usize) -> Result<usize, Memory>
+pub(crate) fn label_after(label: usize) -> Result<usize, Memory>
     ensures { IfOk result (λ r. r ≡ label + 1) }
 {
     label.checked_add(1).ok_or(Memory)
 }
 
-/// Puts the routine that stands at this label behind those of the table, with the cells of its frame, where the place is one.
+/// Puts the routine that stands at this label after those of the table, with the cells of its frame, where the place is one.
 ///
 /// `Memory` comes where an allocation was refused.
 #[tactic(auto, using(crate::proofs::Tables::of_a_place))]
@@ -58,7 +58,7 @@ fn add_routine<'c>(
     }
 }
 
-/// Puts the routines of a section behind those of the table.
+/// Puts the routines of a section after those of the table.
 ///
 /// `Memory` comes where an allocation was refused.
 #[tactic(auto, using(crate::proofs::Tables::of_a_section))]
@@ -71,10 +71,10 @@ fn add_routines<'c>(
 {
     let mut label = 1;
     let mut left = section.places;
-    while let Some((place, behind)) = left.split_first() {
+    while let Some((place, following)) = left.split_first() {
         add_routine(alloc, section, label, place, table)?;
-        label = label_behind(label)?;
-        left = behind;
+        label = label_after(label)?;
+        left = following;
     }
     Ok(())
 }
@@ -91,9 +91,9 @@ pub(crate) fn table_of<'c>(
 {
     let mut table = Vec::new(alloc);
     let mut left = sections;
-    while let [section, behind @ ..] = left {
+    while let [section, following @ ..] = left {
         add_routines(alloc, section, &mut table)?;
-        left = behind;
+        left = following;
     }
     Ok(table)
 }

@@ -14,8 +14,8 @@ use Rattle.bc_core.specs.Store.{opened}
 use Rattle.bc_core.specs.Outcome.{Done, ZeroDivide, Run, then_do, in_turn, with_cells, Round, Again, Leave}
 use Rattle.bc_core.specs.Value.{Context, Sense, has_call, is_true, truth_of_value, given, operator_truth, sense, values, assign}
 use Rattle.bc_core.specs.Exit.{Exit, Past, Broke, Looped, LeftCases, Returned, Resulted, Jumped, onward}
-use Rattle.bc_core.specs.Lists.{Entry, Beginning, AtCase, AtDefault, AtLabel, from_entry, behind_list, listed, behind_cases, switched, met, meets_case, meets_default, meets_label, entry_of}
-use Rattle.bc_core.specs.Loop.{LoopRound, back, leave, behind_body, while_loop, repeat_loop, repeat_while_loop, for_loop, agrees, end_relation}
+use Rattle.bc_core.specs.Lists.{Entry, Beginning, AtCase, AtDefault, AtLabel, from_entry, after_list, listed, after_cases, switched, met, meets_case, meets_default, meets_label, entry_of}
+use Rattle.bc_core.specs.Loop.{LoopRound, back, leave, after_body, while_loop, repeat_loop, repeat_while_loop, for_loop, agrees, end_relation}
 use Rattle.bc_core.specs.Command.{initialise_one, initialise, declare, perform, perform_block, perform_items, step_of_for}
 use Rattle.bc_core.specs.Primitive.{Primitive, primitive_work, primitive_frame, Select, ReadByte, WriteByte, Find, EndStream, byte_of_string, bytes_of_string, string_of, on_streams}
 use Rattle.bc_core.specs.Map.{Placed}
@@ -129,45 +129,45 @@ alike_onward d r q Returned h = exit_give d 0 _ (omega arith)
 alike_onward d r q (Resulted v) h = exit_give d 0 _ (omega arith)
 alike_onward d r q (Jumped l) h = exit_give d 1 _ (omega arith)
 
-pub alike_behind_list : (d : ℕ) (is : ℕ → Bool) (x : Exit) → Alike (round_cost exit_cost) d (exit_cost x) (behind_list is x) (behind_list is x)
-alike_behind_list d is Past = round_give d 0 _ (omega arith)
-alike_behind_list d is Broke = round_give d 0 _ (omega arith)
-alike_behind_list d is Looped = round_give d 0 _ (omega arith)
-alike_behind_list d is LeftCases = round_give d 0 _ (omega arith)
-alike_behind_list d is Returned = round_give d 0 _ (omega arith)
-alike_behind_list d is (Resulted v) = round_give d 0 _ (omega arith)
-alike_behind_list d is (Jumped l) = round_give d 1 _ (jump_cost l (is l))
+pub alike_after_list : (d : ℕ) (is : ℕ → Bool) (x : Exit) → Alike (round_cost exit_cost) d (exit_cost x) (after_list is x) (after_list is x)
+alike_after_list d is Past = round_give d 0 _ (omega arith)
+alike_after_list d is Broke = round_give d 0 _ (omega arith)
+alike_after_list d is Looped = round_give d 0 _ (omega arith)
+alike_after_list d is LeftCases = round_give d 0 _ (omega arith)
+alike_after_list d is Returned = round_give d 0 _ (omega arith)
+alike_after_list d is (Resulted v) = round_give d 0 _ (omega arith)
+alike_after_list d is (Jumped l) = round_give d 1 _ (jump_cost l (is l))
 
 pub alike_listed : (d : ℕ) (is : ℕ → Bool) (items items1 : Entry → Run Exit) (at : Entry) → ((at1 : Entry) → Alike exit_cost d 0 (items at1) (items1 at1)) → Alike exit_cost d 0 (listed is items at) (listed is items1 at)
-alike_listed d is items items1 at h = alike_repeated exit_cost d _ _ at (λ at1. alike_then d _ _ _ _ (h at1) (λ x. alike_behind_list d is x))
+alike_listed d is items items1 at h = alike_repeated exit_cost d _ _ at (λ at1. alike_then d _ _ _ _ (h at1) (λ x. alike_after_list d is x))
 
-pub alike_behind_cases : (d : ℕ) (x : Exit) → Alike exit_cost d (exit_cost x) (behind_cases x) (behind_cases x)
-alike_behind_cases d Past = exit_give d 0 _ (omega arith)
-alike_behind_cases d Broke = exit_give d 0 _ (omega arith)
-alike_behind_cases d Looped = exit_give d 0 _ (omega arith)
-alike_behind_cases d LeftCases = exit_give d 0 _ (omega arith)
-alike_behind_cases d Returned = exit_give d 0 _ (omega arith)
-alike_behind_cases d (Resulted v) = exit_give d 0 _ (omega arith)
-alike_behind_cases d (Jumped l) = exit_give d 1 _ (omega arith)
+pub alike_after_cases : (d : ℕ) (x : Exit) → Alike exit_cost d (exit_cost x) (after_cases x) (after_cases x)
+alike_after_cases d Past = exit_give d 0 _ (omega arith)
+alike_after_cases d Broke = exit_give d 0 _ (omega arith)
+alike_after_cases d Looped = exit_give d 0 _ (omega arith)
+alike_after_cases d LeftCases = exit_give d 0 _ (omega arith)
+alike_after_cases d Returned = exit_give d 0 _ (omega arith)
+alike_after_cases d (Resulted v) = exit_give d 0 _ (omega arith)
+alike_after_cases d (Jumped l) = exit_give d 1 _ (omega arith)
 
 alike_switched : (d : ℕ) (v v1 : Run ℕ) (cases is : ℕ → Bool) (items items1 : Entry → Run Exit) → Alike free d 0 v v1 → ((at : Entry) → Alike exit_cost d 0 (items at) (items1 at)) → Alike exit_cost d 0 (switched v cases is items) (switched v1 cases is items1)
 alike_switched d v v1 cases is items items1 h k =
-    alike_then d v v1 _ _ h (λ w. alike_then d _ _ behind_cases behind_cases (alike_listed d is items items1 (entry_of cases w) k) (λ x. alike_behind_cases d x))
+    alike_then d v v1 _ _ h (λ w. alike_then d _ _ after_cases after_cases (alike_listed d is items items1 (entry_of cases w) k) (λ x. alike_after_cases d x))
 
 pub alike_back : (d : ℕ) → Alike (round_cost exit_cost) d 0 back back
 alike_back d = alike_turn1 (round_cost exit_cost) d _ _ (round_give d 1 (Again tt) (omega arith))
 
-pub alike_behind_body : (d : ℕ) (r q : LoopRound) (x : Exit) → Alike (round_cost exit_cost) d 0 r q → Alike (round_cost exit_cost) d (exit_cost x) (behind_body r x) (behind_body q x)
-alike_behind_body d r q Past h = h
-alike_behind_body d r q Looped h = h
-alike_behind_body d r q Broke h = round_give d 0 _ (omega arith)
-alike_behind_body d r q LeftCases h = round_give d 0 _ (omega arith)
-alike_behind_body d r q Returned h = round_give d 0 _ (omega arith)
-alike_behind_body d r q (Resulted v) h = round_give d 0 _ (omega arith)
-alike_behind_body d r q (Jumped l) h = round_give d 1 _ (omega arith)
+pub alike_after_body : (d : ℕ) (r q : LoopRound) (x : Exit) → Alike (round_cost exit_cost) d 0 r q → Alike (round_cost exit_cost) d (exit_cost x) (after_body r x) (after_body q x)
+alike_after_body d r q Past h = h
+alike_after_body d r q Looped h = h
+alike_after_body d r q Broke h = round_give d 0 _ (omega arith)
+alike_after_body d r q LeftCases h = round_give d 0 _ (omega arith)
+alike_after_body d r q Returned h = round_give d 0 _ (omega arith)
+alike_after_body d r q (Resulted v) h = round_give d 0 _ (omega arith)
+alike_after_body d r q (Jumped l) h = round_give d 1 _ (omega arith)
 
-pub alike_round : (d : ℕ) (body body1 : Run Exit) (r q : LoopRound) → Alike exit_cost d 0 body body1 → Alike (round_cost exit_cost) d 0 r q → Alike (round_cost exit_cost) d 0 (then_do body (behind_body r)) (then_do body1 (behind_body q))
-alike_round d body body1 r q h k = alike_then d body body1 (behind_body r) (behind_body q) h (λ x. alike_behind_body d r q x k)
+pub alike_round : (d : ℕ) (body body1 : Run Exit) (r q : LoopRound) → Alike exit_cost d 0 body body1 → Alike (round_cost exit_cost) d 0 r q → Alike (round_cost exit_cost) d 0 (then_do body (after_body r)) (then_do body1 (after_body q))
+alike_round d body body1 r q h k = alike_then d body body1 (after_body r) (after_body q) h (λ x. alike_after_body d r q x k)
 
 pub alike_while : (d : ℕ) (sense : Bool) (test test1 : Run Bool) (body body1 : Run Exit) → Alike free d 0 test test1 → Alike exit_cost d 0 body body1 → Alike exit_cost d 0 (while_loop sense test body) (while_loop sense test1 body1)
 alike_while d sense test test1 body body1 h k =

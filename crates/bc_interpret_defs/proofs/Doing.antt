@@ -10,8 +10,8 @@ use Rattle.bc_core.specs.Map.{Placed}
 use Rattle.bc_core.specs.Outcome.{State, Outcome, Done, Run, wild, followed, then_do, choose, read, write, left, Round, next_round, repeated}
 use Rattle.bc_core.specs.Value.{has_call, value, truth, assign}
 use Rattle.bc_core.specs.Exit.{Exit, Past, Resulted, Jumped, past, onward}
-use Rattle.bc_core.specs.Lists.{Entry, Beginning, AtCase, AtDefault, AtLabel, has_case, has_label, entry_of, meets_case, meets_default, meets_label, met, behind_list, listed, behind_cases}
-use Rattle.bc_core.specs.Loop.{LoopRound, back, leave, behind_body, agrees, end_relation}
+use Rattle.bc_core.specs.Lists.{Entry, Beginning, AtCase, AtDefault, AtLabel, has_case, has_label, entry_of, meets_case, meets_default, meets_label, met, after_list, listed, after_cases}
+use Rattle.bc_core.specs.Loop.{LoopRound, back, leave, after_body, agrees, end_relation}
 use Rattle.bc_core.specs.Command.{initialise, declare, perform, perform_block, perform_items}
 use Rattle.bc_core.specs.Meaning.{Call as Calling, valofs_from}
 use Rattle.bc_interpret_defs.specs.Machine.{Spot, cell_of, Answer, Work, Perform, Enter, Declare, Initialise, Listing, Rest, At, Step, go, give, quiet, first_command, list_step, enter, step}
@@ -55,11 +55,11 @@ first_by call E v a is s rs st true h k =
 first_by call E v a is s rs st false h k =
     let C = context_at call E in
     let q = assign (quiet E) v a E.frame s in
-    let behind = onward (perform_items C is E.frame s Beginning) in
+    let following = onward (perform_items C is E.frame s Beginning) in
     let next : Unit {0} → Step = λ u. list_step E is s Beginning rs in
-    subst (λ z. followed (followed (followed (followed (z st) past) behind) out) (resume call rs) ≡ followed (followed (q st) next) (meant call))
+    subst (λ z. followed (followed (followed (followed (z st) past) following) out) (resume call rs) ≡ followed (followed (q st) next) (meant call))
     (sym (quiet_assign E.address call (λ r1 vs f. wild) (valofs_from E.address call E.first E.valofs) (λ n p s1. wild) v a h E.frame s))
-    (join4 (q st) past behind out (resume call rs) next (meant call) (λ u st1. k st1))
+    (join4 (q st) past following out (resume call rs) next (meant call) (λ u st1. k st1))
 
 first_kept : (call : Calling) (E : Spot) (c : Command) (is : Items) (s : ℕ) (rs : List Rest) (st : State)
     → ((st1 : State) → meant call (record { work = Listing E is s Beginning; rests = rs }) st1 ≡ followed (list_step E is s Beginning rs st1) (meant call))
@@ -84,7 +84,7 @@ declare_kept program call t E [] is s level rs st =
     let C = context_at call E in
     let f = list_round C is E.frame level in
     from_round call rs f Beginning st _ (list_again C (context_alike call t E) is E.frame level Beginning st)
-    (join4 (perform_items C is E.frame level Beginning st) (behind_list (has_label is)) (next_round (repeated f)) out (resume call rs)
+    (join4 (perform_items C is E.frame level Beginning st) (after_list (has_label is)) (next_round (repeated f)) out (resume call rs)
     out (resume call (machine.Listed E is level ∷ rs)) (λ x st1. refl)
     ∙ listing_kept program call E is level Beginning (machine.Listed E is level ∷ rs) st)
 declare_kept program call t E (vs ∷ ds) is s level rs st =
@@ -99,7 +99,7 @@ declare_kept program call t E (vs ∷ ds) is s level rs st =
 pub enter_kept : (program : List Placed) (call : Calling) → AlikeCall 0 call call → (E : Spot) (b : Block) (s : ℕ) (rs : List Rest) (st : State) → Kept program call (Enter E b s) rs st
 enter_kept program call t E (block ds is) s rs st = declare_kept program call t E ds is s (s + cells_declared ds) rs st
 
--- behind a test
+-- after a test
 if_by : (program : List Placed) (call : Calling) → AlikeCall 0 call call → (E : Spot) (sense : Bool) (e : Exp) (b : Block) (s : ℕ) (rs : List Rest) (st : State) (t : Bool) → has_call e ≡ t → meant call (record { work = Perform E (commands.If sense e b) s; rests = rs }) st ≡ followed (by_number t (go (machine.Decide E e s) (machine.Ifs E sense b s ∷ rs)) (then_do (truth (quiet E) e E.frame s) (λ v. choose (agrees sense v) (enter E b s rs) (give (machine.Left Past) rs))) st) (meant call)
 if_by program call k E sense e b s rs st true h =
     let C = context_at call E in
@@ -118,7 +118,7 @@ while_by program call k E sense e b s rs st true h =
     let C = context_at call E in
     let f = while_round C sense e b E.frame s in
     from_round call rs f tt st _ (while_again C (context_alike call k E) sense e b E.frame s tt st)
-    (join4 (truth C e E.frame s st) (λ v. choose (agrees sense v) (then_do (perform_block C b E.frame s) (behind_body back)) leave) (next_round (repeated f)) out (resume call rs)
+    (join4 (truth C e E.frame s st) (λ v. choose (agrees sense v) (then_do (perform_block C b E.frame s) (after_body back)) leave) (next_round (repeated f)) out (resume call rs)
     verdict (resume call (machine.Whiles E sense e b s ∷ rs)) (λ v st1. refl))
 while_by program call k E sense e b s rs st false h =
     let C = context_at call E in
@@ -126,7 +126,7 @@ while_by program call k E sense e b s rs st false h =
     let nr = next_round (repeated f) in
     let R = resume call rs in
     let q = truth (quiet E) e E.frame s in
-    let body : LoopRound = then_do (perform_block C b E.frame s) (behind_body back) in
+    let body : LoopRound = then_do (perform_block C b E.frame s) (after_body back) in
     let rounds : Bool → LoopRound = λ v. choose (agrees sense v) body leave in
     let within = machine.WhileBody E sense e b s ∷ rs in
     let next : Bool → Step = λ v. choose (agrees sense v) (enter E b s within) (give (machine.Left Past) rs) in
@@ -134,7 +134,7 @@ while_by program call k E sense e b s rs st false h =
     (subst (λ z. followed (followed (followed (followed (z st) rounds) nr) out) R ≡ followed (followed (q st) next) (meant call)) (true_or_not call E e s h)
     (join4 (q st) rounds nr out R next (meant call)
     (λ v st1. choose3 (agrees sense v) st1 body leave nr out (enter E b s within) (give (machine.Left Past) rs) R (meant call)
-    (join4 (perform_block C b E.frame s st1) (behind_body back) nr out R out (resume call within) (λ x st2. refl) ∙ enter_kept program call k E b s within st1) refl)))
+    (join4 (perform_block C b E.frame s st1) (after_body back) nr out R out (resume call within) (λ x st2. refl) ∙ enter_kept program call k E b s within st1) refl)))
 
 pub perform_kept : (program : List Placed) (call : Calling) → AlikeCall 0 call call → (E : Spot) (c : Command) (s : ℕ) (rs : List Rest) (st : State) → Kept program call (Perform E c s) rs st
 perform_kept program call t E (commands.Call e) s rs st =
@@ -152,17 +152,17 @@ perform_kept program call t E (commands.Repeat b) s rs st =
     let C = context_at call E in
     let f = repeat_round C b E.frame s in
     from_round call rs f tt st _ (repeat_again C (context_alike call t E) b E.frame s tt st)
-    (join4 (perform_block C b E.frame s st) (behind_body back) (next_round (repeated f)) out (resume call rs) out (resume call (machine.RepeatBody E b s ∷ rs)) (λ x st1. refl))
+    (join4 (perform_block C b E.frame s st) (after_body back) (next_round (repeated f)) out (resume call rs) out (resume call (machine.RepeatBody E b s ∷ rs)) (λ x st1. refl))
 perform_kept program call t E (commands.RepeatWhile b sense e) s rs st =
     let C = context_at call E in
     let f = repeat_while_round C b sense e E.frame s in
     from_round call rs f tt st _ (repeat_while_again C (context_alike call t E) b sense e E.frame s tt st)
-    (join4 (perform_block C b E.frame s st) (behind_body (test_round C sense e E.frame s)) (next_round (repeated f)) out (resume call rs)
+    (join4 (perform_block C b E.frame s st) (after_body (test_round C sense e E.frame s)) (next_round (repeated f)) out (resume call rs)
     out (resume call (machine.RepeatWhileBody E b sense e s ∷ rs)) (λ x st1. refl))
 perform_kept program call t E (commands.For start limit by b) s rs st = for_kept call E start limit by b s rs st
 perform_kept program call t E (commands.SwitchOn e is) s rs st =
     let C = context_at call E in
-    join3 (value C e E.frame s st) (λ v. then_do (listed (has_label is) (perform_items C is E.frame s) (entry_of (has_case is) v)) behind_cases) out (resume call rs)
+    join3 (value C e E.frame s st) (λ v. then_do (listed (has_label is) (perform_items C is E.frame s) (entry_of (has_case is) v)) after_cases) out (resume call rs)
     number (resume call (machine.Switches E is s ∷ rs)) (λ v st1. refl)
     ∙ evaluate_kept program call E e s (machine.Switches E is s ∷ rs) st
 perform_kept program call t E commands.Break s rs st = refl
@@ -182,22 +182,22 @@ initialise_kept program call E [] k s rs st = refl
 initialise_kept program call E (Initial e ∷ vs) k s rs st =
     let C = context_at call E in
     let v = value C e E.frame s in
-    let behind = initialise C vs E.frame (k + 1) s in
+    let following = initialise C vs E.frame (k + 1) s in
     let inits = resume call (machine.Initialises E vs (k + 1) s ∷ rs) in
     let stores = resume call (machine.StoresAt (cell_of E k) ∷ machine.Initialises E vs (k + 1) s ∷ rs) in
-    subst (λ z. followed (followed (followed z (λ u. behind)) nothing) (resume call rs) ≡ followed (followed (v st) number) stores)
+    subst (λ z. followed (followed (followed z (λ u. following)) nothing) (resume call rs) ≡ followed (followed (v st) number) stores)
     (sym (assign_frame C e k E.frame s st))
-    (join4 (v st) (λ w. write (cell_of E k) w) (λ u. behind) nothing (resume call rs) number stores
-    (λ w st1. join3 (write (cell_of E k) w st1) (λ u. behind) nothing (resume call rs) nothing inits (λ u st2. refl)))
+    (join4 (v st) (λ w. write (cell_of E k) w) (λ u. following) nothing (resume call rs) number stores
+    (λ w st1. join3 (write (cell_of E k) w st1) (λ u. following) nothing (resume call rs) nothing inits (λ u st2. refl)))
 initialise_kept program call E (Vector n ∷ vs) k s rs st =
     join3 (write (cell_of E k) (cell_of E (k + 1)) st) (λ u. initialise (context_at call E) vs E.frame (k + (n + 2)) s) nothing (resume call rs)
     (λ u. go (Initialise E vs (k + (n + 2)) s) rs) (meant call) (λ u st1. refl)
 
-round_chosen : (program : List Placed) (call : Calling) → AlikeCall 0 call call → (E : Spot) (limit by : ℕ) (b : Block) (s : ℕ) (rs : List Rest) (st : State) (t : Bool) → followed (followed (followed (choose t leave (then_do (perform_block (context_at call E) b E.frame (level_in_for s)) (behind_body (for_step (context_at call E) by E.frame s))) st) (next_round (repeated (for_round (context_at call E) limit by b E.frame s)))) out) (resume call rs) ≡ followed (choose t (give (machine.Left Past) rs) (enter E b (level_in_for s) (machine.ForBody E limit by b s ∷ rs)) st) (meant call)
+round_chosen : (program : List Placed) (call : Calling) → AlikeCall 0 call call → (E : Spot) (limit by : ℕ) (b : Block) (s : ℕ) (rs : List Rest) (st : State) (t : Bool) → followed (followed (followed (choose t leave (then_do (perform_block (context_at call E) b E.frame (level_in_for s)) (after_body (for_step (context_at call E) by E.frame s))) st) (next_round (repeated (for_round (context_at call E) limit by b E.frame s)))) out) (resume call rs) ≡ followed (choose t (give (machine.Left Past) rs) (enter E b (level_in_for s) (machine.ForBody E limit by b s ∷ rs)) st) (meant call)
 round_chosen program call t E limit by b s rs st true = refl
 round_chosen program call t E limit by b s rs st false =
     let C = context_at call E in
-    join4 (perform_block C b E.frame (level_in_for s) st) (behind_body (for_step C by E.frame s)) (next_round (repeated (for_round C limit by b E.frame s))) out (resume call rs)
+    join4 (perform_block C b E.frame (level_in_for s) st) (after_body (for_step C by E.frame s)) (next_round (repeated (for_round C limit by b E.frame s))) out (resume call rs)
     out (resume call (machine.ForBody E limit by b s ∷ rs)) (λ x st1. refl)
     ∙ enter_kept program call t E b (level_in_for s) (machine.ForBody E limit by b s ∷ rs) st
 
@@ -206,6 +206,6 @@ round_kept program call t E limit by b s rs st =
     let C = context_at call E in
     let f = for_round C limit by b E.frame s in
     from_round call rs f tt st _ (for_again C (context_alike call t E) limit by b E.frame s tt st)
-    (join4 (read (cell_of E s) st) (λ i. choose (holds (end_relation by) i limit) leave (then_do (perform_block C b E.frame (level_in_for s)) (behind_body (for_step C by E.frame s)))) (next_round (repeated f)) out (resume call rs)
+    (join4 (read (cell_of E s) st) (λ i. choose (holds (end_relation by) i limit) leave (then_do (perform_block C b E.frame (level_in_for s)) (after_body (for_step C by E.frame s)))) (next_round (repeated f)) out (resume call rs)
     (λ i. choose (holds (end_relation by) i limit) (give (machine.Left Past) rs) (enter E b (level_in_for s) (machine.ForBody E limit by b s ∷ rs))) (meant call)
     (λ i st1. round_chosen program call t E limit by b s rs st1 (holds (end_relation by) i limit)))

@@ -42,7 +42,7 @@ to_valof_kept : (call : Calling) (address : ℕ → ℕ) (p first : ℕ) (vs : L
 to_valof_kept call address p first [] n s rs st = refl
 to_valof_kept call address p first (v ∷ vs) n s rs st = valof_kept call address p first v vs n s rs st (n == first) (to_valof_kept call address p (first + 1) vs n s rs st)
 
--- what is worked out at once
+-- what is computed at once
 pub valued : (call : Calling) (E : Spot) (e : Exp) (s : ℕ) (st : State) → has_call e ≡ false → (f : ℕ → Run Answer) (k : Answer → Run Answer) (g : ℕ → Step) → ((v : ℕ) (st1 : State) → followed (f v st1) k ≡ followed (g v st1) (meant call)) → followed (followed (value (context_at call E) e E.frame s st) f) k ≡ followed (followed (value (quiet E) e E.frame s st) g) (meant call)
 valued call E e s st h f k g m =
     let v = value (quiet E) e E.frame s in
@@ -91,12 +91,12 @@ argued call E vs e es level f n s rs st false h k =
     let C = context_at call E in
     let onward = Onwards call E vs f n s in
     let q = value (quiet E) e E.frame level in
-    let behind : ℕ → Run (List ℕ) = λ v. then_do (values C es E.frame (level + 1)) (λ ws. Done (v ∷ ws)) in
+    let following : ℕ → Run (List ℕ) = λ v. then_do (values C es E.frame (level + 1)) (λ ws. Done (v ∷ ws)) in
     let next : ℕ → Step = λ v. argue E (vs ++ (v ∷ [])) es (level + 1) f n s rs in
     let moved : (v : ℕ) (ws : List ℕ) → vs ++ (v ∷ ws) ≡ (vs ++ (v ∷ [])) ++ ws = λ v ws. sym (append_assoc vs (v ∷ []) ws) in
-    subst (λ z. followed (followed (followed (z st) behind) onward) (resume call rs) ≡ followed (followed (q st) next) (meant call))
+    subst (λ z. followed (followed (followed (z st) following) onward) (resume call rs) ≡ followed (followed (q st) next) (meant call))
     (sym (quiet_same E.address call (λ r ws f1. wild) (valofs_from E.address call E.first E.valofs) (λ n1 p s1. wild) e h E.frame level).0)
-    (join3 (q st) behind onward (resume call rs) next (meant call)
+    (join3 (q st) following onward (resume call rs) next (meant call)
     (λ v st1. join3 (values C es E.frame (level + 1) st1) (λ ws. Done (v ∷ ws)) onward (resume call rs) (λ ws. onward (v ∷ ws)) (resume call rs) (λ ws st2. refl)
     ∙ (ap (λ g. followed (followed (values C es E.frame (level + 1) st1) g) (resume call rs)) (λ i ws. then_do (value C f E.frame (routine_level s n)) (λ r. then_do (call r (moved v ws i) (E.frame + s)) number))
     ∙ k v st1)))

@@ -9,19 +9,19 @@ use Rattle.bc_core.specs.Tree.{Exp, Num, Frame, Glob, Place, Load, Neg, Not, Bin
 use Rattle.bc_core.specs.Commands.{Variable, Initial, Vector, Command, Block, block, Items, no_item, command, case, default, label, Routine, Body, Gives, Does}
 use Rattle.bc_core.specs.Commands as commands
 use Rattle.bc_core.specs.Layout.{frame_size}
-use Rattle.bc_core.specs.Level.{argument_level, routine_level, side_level, level_in_for, level_behind_parameters, cells_declared}
+use Rattle.bc_core.specs.Level.{argument_level, routine_level, side_level, level_in_for, level_after_parameters, cells_declared}
 use Rattle.bc_core.specs.Map.{Placed}
 use Rattle.bc_core.specs.Store.{Cell, Dead, Unset, Set, cell_at}
 use Rattle.bc_core.specs.Outcome.{State, Outcome, Done, Ended, Going, Wild, Run, followed, then_do, choose, wild, taken, in_turn, content_of_cell, written, read, write, both, second_side, outweighed, Ending}
 use Rattle.bc_core.specs.Value.{has_call, given, sense, value, truth, assign}
 use Rattle.bc_core.specs.Exit.{Exit, Past, Broke, Looped, LeftCases, Returned, Resulted, Jumped}
-use Rattle.bc_core.specs.Lists.{Entry, Beginning, AtCase, AtDefault, AtLabel, behind_cases, has_label, meets_case, meets_default, meets_label, met}
+use Rattle.bc_core.specs.Lists.{Entry, Beginning, AtCase, AtDefault, AtLabel, after_cases, has_label, meets_case, meets_default, meets_label, met}
 use Rattle.bc_core.specs.Loop.{agrees, end_relation}
 use Rattle.bc_core.specs.Primitive.{primitive_frame, primitive_work}
 use Rattle.bc_core.specs.Meaning.{routine_value, valof_value, passed, with_arguments, Callee, OfSection, OfLibrary, callee}
 use Rattle.bc_core.specs.Laws.{IsCalm}
 use Rattle.bc_core.proofs.Calm.{CalmRun, calm, no_left, no_right}
-use Rattle.bc_interpret_defs.specs.Machine.{Spot, cell_of, Answer, Number, Verdict, Nothing, Left, Work, Evaluate, Decide, Argue, Store, Perform, Enter, Declare, Initialise, Listing, Round, Give, Rest, At, Step, go, give, quiet, to_valof, behind, spot_in, body_step, arrive, next, step}
+use Rattle.bc_interpret_defs.specs.Machine.{Spot, cell_of, Answer, Number, Verdict, Nothing, Left, Work, Evaluate, Decide, Argue, Store, Perform, Enter, Declare, Initialise, Listing, Round, Give, Rest, At, Step, go, give, quiet, to_valof, following, spot_in, body_step, arrive, next, step}
 use Rattle.bc_interpret_defs.specs.Machine as machine
 use Rattle.bc_interpret_defs.specs.Weight.{weight_of, valofs_at, weight_of_block, weight_of_valof, weight_of_rest, weight_of_rests, of_exit, of_answer, weight, Lessens}
 use Rattle.bc_interpret_defs.specs.Running.{Moves}
@@ -112,9 +112,9 @@ still_both first second f h k g = record { from = λ st. joined st (first st) (h
   joined st (Going streams) c = tt
   joined st Wild c = tt
 
--- what comes behind such a run
-behind_still : {A : Type 0} (r : Run A) (f : A → Step) (m : ℕ) (st : State) → Still r → ((x : A) (st1 : State) → Lessens st1.turns m (f x st1)) → Lessens st.turns m (then_do r f st)
-behind_still {A = A} r f m st h k = joined (r st) (h.from st) where
+-- what comes after such a run
+after_still : {A : Type 0} (r : Run A) (f : A → Step) (m : ℕ) (st : State) → Still r → ((x : A) (st1 : State) → Lessens st1.turns m (f x st1)) → Lessens st.turns m (then_do r f st)
+after_still {A = A} r f m st h k = joined (r st) (h.from st) where
   joined : (o : Outcome A) → Quiets st.turns o → Lessens st.turns m (followed o f)
   joined (Done x st1) q = subst (λ t. Lessens t m (f x st1)) q (k x st1)
   joined (Ended e streams) q = tt
@@ -158,12 +158,12 @@ less_more t m n (Ended e streams) l h = tt
 less_more t m n (Going streams) l h = tt
 less_more t m n Wild l h = tt
 
--- what is worked out at once
+-- what is computed at once
 valued_less : (E : Spot) (e : Exp) (s m : ℕ) (f : ℕ → Step) (st : State) → has_call e ≡ false → ((v : ℕ) (st1 : State) → Lessens st1.turns m (f v st1)) → Lessens st.turns m (then_do (value (quiet E) e E.frame s) f st)
-valued_less E e s m f st h k = behind_still (value (quiet E) e E.frame s) f m st (still_calm (value (quiet E) e E.frame s) (calm (quiet E) e h E.frame s).0) k
+valued_less E e s m f st h k = after_still (value (quiet E) e E.frame s) f m st (still_calm (value (quiet E) e E.frame s) (calm (quiet E) e h E.frame s).0) k
 
 judged_less : (E : Spot) (e : Exp) (s m : ℕ) (f : Bool → Step) (st : State) → has_call e ≡ false → ((v : Bool) (st1 : State) → Lessens st1.turns m (f v st1)) → Lessens st.turns m (then_do (truth (quiet E) e E.frame s) f st)
-judged_less E e s m f st h k = behind_still (truth (quiet E) e E.frame s) f m st (still_calm (truth (quiet E) e E.frame s) (calm (quiet E) e h E.frame s).1) k
+judged_less E e s m f st h k = after_still (truth (quiet E) e E.frame s) f m st (still_calm (truth (quiet E) e E.frame s) (calm (quiet E) e h E.frame s).1) k
 
 abbrev Less : List Placed → Work → List Rest → State → Type 0
 Less program w rs st = Lessens st.turns (weight w rs) (step program w rs st)
@@ -257,7 +257,7 @@ still_assign E v a s h =
 store_by : (E : Spot) (v a : Exp) (s : ℕ) (rs : List Rest) (st : State) (t : Bool) → (has_call v || has_call a) ≡ t → Lessens st.turns (weight (Store E v a s) rs) (by_test t (go (Evaluate E v (side_level a s)) (machine.Stores E a s ∷ rs)) (then_do (assign (quiet E) v a E.frame s) (λ u. give Nothing rs)) st)
 store_by E v a s rs st true h = (omega arith, λ le. omega arith)
 store_by E v a s rs st false h =
-    behind_still (assign (quiet E) v a E.frame s) (λ u. give Nothing rs) (weight (Store E v a s) rs) st (still_assign E v a s h) (λ u st1. (omega arith, λ le. omega arith))
+    after_still (assign (quiet E) v a E.frame s) (λ u. give Nothing rs) (weight (Store E v a s) rs) st (still_assign E v a s h) (λ u st1. (omega arith, λ le. omega arith))
 
 store_less : (program : List Placed) (E : Spot) (v a : Exp) (s : ℕ) (rs : List Rest) (st : State) → Less program (Store E v a s) rs st
 store_less program E v a s rs st = store_by E v a s rs st (has_call v || has_call a) refl
@@ -268,7 +268,7 @@ first_less_by : (E : Spot) (v a : Exp) (is : Items) (s : ℕ) (rs : List Rest) (
     → Lessens st.turns (weight (Listing E (command (commands.Assign v a) is) s Beginning) rs) (by_test t (go (Perform E (commands.Assign v a) s) (machine.Follows E is s ∷ rs)) (then_do (assign (quiet E) v a E.frame s) (λ u. machine.list_step E is s Beginning rs)) st)
 first_less_by E v a is s rs st true h k = (omega arith, λ le. omega arith)
 first_less_by E v a is s rs st false h k =
-    behind_still (assign (quiet E) v a E.frame s) (λ u. machine.list_step E is s Beginning rs) (weight (Listing E (command (commands.Assign v a) is) s Beginning) rs) st (still_assign E v a s h)
+    after_still (assign (quiet E) v a E.frame s) (λ u. machine.list_step E is s Beginning rs) (weight (Listing E (command (commands.Assign v a) is) s Beginning) rs) st (still_assign E v a s h)
     (λ u st1. less_more st1.turns (weight (Listing E is s Beginning) rs) (weight (Listing E (command (commands.Assign v a) is) s Beginning) rs) (machine.list_step E is s Beginning rs st1) (omega arith) (k st1))
 
 first_less : (E : Spot) (c : Command) (is : Items) (s : ℕ) (rs : List Rest) (st : State)
@@ -311,7 +311,7 @@ entered_less program E b s m rs st l = less_more st.turns (weight (Enter E b s) 
 evaluated_less : (program : List Placed) (E : Spot) (e : Exp) (s m : ℕ) (rs : List Rest) (st : State) → weight (Evaluate E e s) rs ≤ m → Lessens st.turns m (machine.evaluate E e s rs st)
 evaluated_less program E e s m rs st l = less_more st.turns (weight (Evaluate E e s) rs) m (machine.evaluate E e s rs st) l (evaluate_less program E e s rs st)
 
--- behind a test
+-- after a test
 tested_less : (E : Spot) (e : Exp) (s m : ℕ) (f : Bool → Step) (r : Rest) (rs : List Rest) (st : State) (t : Bool) → has_call e ≡ t → Lessens st.turns m (go (Decide E e s) (r ∷ rs) st) → ((v : Bool) (st1 : State) → Lessens st1.turns m (f v st1)) → Lessens st.turns m (by_test t (go (Decide E e s) (r ∷ rs)) (then_do (truth (quiet E) e E.frame s) f) st)
 tested_less E e s m f r rs st true h l k = l
 tested_less E e s m f r rs st false h l k = judged_less E e s m f st h k
@@ -348,14 +348,14 @@ initialise_less : (program : List Placed) (E : Spot) (vs : List Variable) (k s :
 initialise_less program E [] k s rs st = (omega arith, λ le. omega arith)
 initialise_less program E (Initial e ∷ vs) k s rs st = (omega arith, λ le. omega arith)
 initialise_less program E (Vector n ∷ vs) k s rs st =
-    behind_still (write (cell_of E k) (cell_of E (k + 1))) (λ u. go (Initialise E vs (k + (n + 2)) s) rs) (weight (Initialise E (Vector n ∷ vs) k s) rs) st
+    after_still (write (cell_of E k) (cell_of E (k + 1))) (λ u. go (Initialise E vs (k + (n + 2)) s) rs) (weight (Initialise E (Vector n ∷ vs) k s) rs) st
     (still_write (cell_of E k) (cell_of E (k + 1))) (λ u st1. (omega arith, λ le. omega arith))
 
 round_less : (program : List Placed) (E : Spot) (limit by : ℕ) (b : Block) (s : ℕ) (rs : List Rest) (st : State) → Less program (Round E limit by b s) rs st
 round_less program E limit by b s rs st =
     let m = weight (Round E limit by b s) rs in
     let within = machine.ForBody E limit by b s ∷ rs in
-    behind_still (read (cell_of E s)) (λ i. choose (holds (end_relation by) i limit) (give (Left Past) rs) (machine.enter E b (level_in_for s) within)) m st (still_read (cell_of E s))
+    after_still (read (cell_of E s)) (λ i. choose (holds (end_relation by) i limit) (give (Left Past) rs) (machine.enter E b (level_in_for s) within)) m st (still_read (cell_of E s))
     (λ i st1. less_choose (holds (end_relation by) i limit) (give (Left Past) rs) (machine.enter E b (level_in_for s) within) st1.turns m st1
     (omega arith, λ le. omega arith) (entered_less program E b (level_in_for s) m within st1 (omega arith)))
 
@@ -375,16 +375,16 @@ answer_shrinks (Number v) r rs = omega arith
 answer_shrinks (Verdict t) r rs = omega arith
 answer_shrinks Nothing r rs = omega arith
 
-behind_less : (again : Step) (r : Rest) (rs : List Rest) (st : State) → 1 ≤ weight_of_rest r → Lessens st.turns (0 + (weight_of_rest r + weight_of_rests rs) + 0) (again st) → (x : Exit) → Lessens st.turns (weight (Give (Left x)) (r ∷ rs)) (behind again x rs st)
-behind_less again r rs st l h Past = h
-behind_less again r rs st l h Looped = h
-behind_less again r rs st l h Broke = (omega arith, λ le. omega arith)
-behind_less again r rs st l h LeftCases = (omega arith, λ le. omega arith)
-behind_less again r rs st l h Returned = (omega arith, λ le. omega arith)
-behind_less again r rs st l h (Resulted v) = (omega arith, λ le. omega arith)
-behind_less again r rs st l h (Jumped k) = (omega arith, λ le. omega arith)
+after_less : (again : Step) (r : Rest) (rs : List Rest) (st : State) → 1 ≤ weight_of_rest r → Lessens st.turns (0 + (weight_of_rest r + weight_of_rests rs) + 0) (again st) → (x : Exit) → Lessens st.turns (weight (Give (Left x)) (r ∷ rs)) (following again x rs st)
+after_less again r rs st l h Past = h
+after_less again r rs st l h Looped = h
+after_less again r rs st l h Broke = (omega arith, λ le. omega arith)
+after_less again r rs st l h LeftCases = (omega arith, λ le. omega arith)
+after_less again r rs st l h Returned = (omega arith, λ le. omega arith)
+after_less again r rs st l h (Resulted v) = (omega arith, λ le. omega arith)
+after_less again r rs st l h (Jumped k) = (omega arith, λ le. omega arith)
 
-cases_less : (x : Exit) (rs : List Rest) (st : State) → Lessens st.turns (weight (Give (Left x)) (machine.Cases ∷ rs)) (then_do (behind_cases x) (λ y. give (Left y) rs) st)
+cases_less : (x : Exit) (rs : List Rest) (st : State) → Lessens st.turns (weight (Give (Left x)) (machine.Cases ∷ rs)) (then_do (after_cases x) (λ y. give (Left y) rs) st)
 cases_less Past rs st = (omega arith, λ le. omega arith)
 cases_less Looped rs st = (omega arith, λ le. omega arith)
 cases_less Broke rs st = (omega arith, λ le. omega arith)
@@ -408,7 +408,7 @@ jump_less program E is s l true rs st =
     less_more st.turns (weight (Listing E is s (AtLabel l)) within) (weight (Give (Left (Jumped l))) within) (machine.list_step E is s (AtLabel l) within st) (omega arith) (listing_less program E is s (AtLabel l) within st)
 jump_less program E is s l false rs st = (omega arith, λ le. omega arith)
 
-listed_less : (program : List Placed) (E : Spot) (is : Items) (s : ℕ) (x : Exit) (rs : List Rest) (st : State) → Lessens st.turns (weight (Give (Left x)) (machine.Listed E is s ∷ rs)) (machine.behind_listing E is s x rs st)
+listed_less : (program : List Placed) (E : Spot) (is : Items) (s : ℕ) (x : Exit) (rs : List Rest) (st : State) → Lessens st.turns (weight (Give (Left x)) (machine.Listed E is s ∷ rs)) (machine.after_listing E is s x rs st)
 listed_less program E is s (Jumped l) rs st = jump_less program E is s l (has_label is l) rs st
 listed_less program E is s Past rs st = (omega arith, λ le. omega arith)
 listed_less program E is s Looped rs st = (omega arith, λ le. omega arith)
@@ -431,9 +431,9 @@ given_keeps t Wild rs w = tt
 arrive_less : (c : Option Callee) (vs : List ℕ) (f m : ℕ) (rs : List Rest) (st : State) → Lessens st.turns m (arrive c vs f rs st)
 arrive_less None vs f m rs st = tt
 arrive_less (Some (OfSection section r)) vs f m rs st =
-    let work : Step = machine.with_passed r.parameters (f + 2) vs (body_step (spot_in section f) r.body (level_behind_parameters r.parameters) (machine.Closes r.parameters (f + 2) ∷ rs)) in
+    let work : Step = machine.with_passed r.parameters (f + 2) vs (body_step (spot_in section f) r.body (level_after_parameters r.parameters) (machine.Closes r.parameters (f + 2) ∷ rs)) in
     less_choose (nat_le (f + frame_size section.core.valofs r) 65536) (in_turn work) wild st.turns m st
-    (less_turn work m st (λ st1. body_keeps (spot_in section f) r.body (level_behind_parameters r.parameters) (machine.Closes r.parameters (f + 2) ∷ rs) (record st1 { cells = passed r.parameters (f + 2) vs st1.cells }))) tt
+    (less_turn work m st (λ st1. body_keeps (spot_in section f) r.body (level_after_parameters r.parameters) (machine.Closes r.parameters (f + 2) ∷ rs) (record st1 { cells = passed r.parameters (f + 2) vs st1.cells }))) tt
 arrive_less (Some (OfLibrary q)) vs f m rs st =
     let body = with_arguments 1 (f + 2) vs (primitive_work q f) in
     let work : Step = then_do body (λ v. give (Number v) rs) in
@@ -449,12 +449,12 @@ for_less : (E : Spot) (limit by : ℕ) (b : Block) (s m : ℕ) (rs : List Rest) 
 for_less E limit by b s m rs st =
     let a = cell_of E s in
     let last : Step = in_turn (go (Round E limit by b s) rs) in
-    behind_still (read a) (λ i. then_do (given (value_of operators.Add i by)) (λ w. then_do (write a w) (λ u. last))) m st (still_read a)
-    (λ i st1. behind_still (given (value_of operators.Add i by)) (λ w. then_do (write a w) (λ u. last)) m st1 (still_given (value_of operators.Add i by))
-    (λ w st2. behind_still (write a w) (λ u. last) m st2 (still_write a w) (λ u st3. turn_less (Round E limit by b s) m rs st3)))
+    after_still (read a) (λ i. then_do (given (value_of operators.Add i by)) (λ w. then_do (write a w) (λ u. last))) m st (still_read a)
+    (λ i st1. after_still (given (value_of operators.Add i by)) (λ w. then_do (write a w) (λ u. last)) m st1 (still_given (value_of operators.Add i by))
+    (λ w st2. after_still (write a w) (λ u. last) m st2 (still_write a w) (λ u st3. turn_less (Round E limit by b s) m rs st3)))
 
 next_less : (program : List Placed) (r : Rest) (a : Answer) (rs : List Rest) (st : State) → Lessens st.turns (weight (Give a) (r ∷ rs)) (next program r a rs st)
-next_less program machine.Loads (Number v) rs st = behind_still (read v) (λ w. give (Number w) rs) _ st (still_read v) (λ w st1. (omega arith, λ le. omega arith))
+next_less program machine.Loads (Number v) rs st = after_still (read v) (λ w. give (Number w) rs) _ st (still_read v) (λ w st1. (omega arith, λ le. omega arith))
 next_less program machine.Loads a rs st = tt
 next_less program machine.Negates (Number v) rs st = (omega arith, λ le. omega arith)
 next_less program machine.Negates a rs st = tt
@@ -466,7 +466,7 @@ next_less program machine.Tests (Number v) rs st = (omega arith, λ le. omega ar
 next_less program machine.Tests a rs st = tt
 next_less program (machine.Operates E op b s) (Number x) rs st = (omega arith, λ le. omega arith)
 next_less program (machine.Operates E op b s) a rs st = tt
-next_less program (machine.Operated op x) (Number y) rs st = behind_still (given (value_of op x y)) (λ w. give (Number w) rs) _ st (still_given (value_of op x y)) (λ w st1. (omega arith, λ le. omega arith))
+next_less program (machine.Operated op x) (Number y) rs st = after_still (given (value_of op x y)) (λ w. give (Number w) rs) _ st (still_given (value_of op x y)) (λ w st1. (omega arith, λ le. omega arith))
 next_less program (machine.Operated op x) a rs st = tt
 next_less program (machine.Conjoins E b s) (Verdict true) rs st = (omega arith, λ le. omega arith)
 next_less program (machine.Conjoins E b s) (Verdict false) rs st = (omega arith, λ le. omega arith)
@@ -483,18 +483,18 @@ next_less program (machine.Calls vs f) (Number r) rs st = arrive_less (callee pr
 next_less program (machine.Calls vs f) a rs st = tt
 next_less program (machine.Stores E address s) (Number w) rs st = (omega arith, λ le. omega arith)
 next_less program (machine.Stores E address s) a rs st = tt
-next_less program (machine.Stored w) (Number v) rs st = behind_still (write v w) (λ u. give Nothing rs) _ st (still_write v w) (λ u st1. (omega arith, λ le. omega arith))
+next_less program (machine.Stored w) (Number v) rs st = after_still (write v w) (λ u. give Nothing rs) _ st (still_write v w) (λ u st1. (omega arith, λ le. omega arith))
 next_less program (machine.Stored w) a rs st = tt
-next_less program (machine.StoresAt v) (Number w) rs st = behind_still (write v w) (λ u. give Nothing rs) _ st (still_write v w) (λ u st1. (omega arith, λ le. omega arith))
+next_less program (machine.StoresAt v) (Number w) rs st = after_still (write v w) (λ u. give Nothing rs) _ st (still_write v w) (λ u st1. (omega arith, λ le. omega arith))
 next_less program (machine.StoresAt v) a rs st = tt
 next_less program (machine.Closes m b) a rs st = let h = answer_shrinks a (machine.Closes m b) rs in (omega arith, λ le. omega arith)
 next_less program machine.Returns (Left x) rs st =
     let h = exit_shrinks x machine.Returns rs in
-    behind_still (routine_value x) (λ w. give (Number w) rs) _ st (still_routine x) (λ w st1. (omega arith, λ le. omega arith))
+    after_still (routine_value x) (λ w. give (Number w) rs) _ st (still_routine x) (λ w st1. (omega arith, λ le. omega arith))
 next_less program machine.Returns a rs st = tt
 next_less program machine.Results (Left x) rs st =
     let h = exit_shrinks x machine.Results rs in
-    behind_still (valof_value x) (λ w. give (Number w) rs) _ st (still_valof x) (λ w st1. (omega arith, λ le. omega arith))
+    after_still (valof_value x) (λ w. give (Number w) rs) _ st (still_valof x) (λ w st1. (omega arith, λ le. omega arith))
 next_less program machine.Results a rs st = tt
 next_less program machine.Drops (Number v) rs st = (omega arith, λ le. omega arith)
 next_less program machine.Drops a rs st = tt
@@ -513,13 +513,13 @@ next_less program (machine.Whiles E sense e b s) (Verdict t) rs st =
     less_choose (agrees sense t) (machine.enter E b s within) (give (Left Past) rs) st.turns m st (entered_less program E b s m within st (omega arith)) (omega arith, λ le. omega arith)
 next_less program (machine.Whiles E sense e b s) a rs st = tt
 next_less program (machine.WhileBody E sense e b s) (Left x) rs st =
-    behind_less (in_turn (go (Perform E (commands.While sense e b) s) rs)) (machine.WhileBody E sense e b s) rs st (omega arith) (turn_less (Perform E (commands.While sense e b) s) _ rs st) x
+    after_less (in_turn (go (Perform E (commands.While sense e b) s) rs)) (machine.WhileBody E sense e b s) rs st (omega arith) (turn_less (Perform E (commands.While sense e b) s) _ rs st) x
 next_less program (machine.WhileBody E sense e b s) a rs st = tt
 next_less program (machine.RepeatBody E b s) (Left x) rs st =
-    behind_less (in_turn (go (Perform E (commands.Repeat b) s) rs)) (machine.RepeatBody E b s) rs st (omega arith) (turn_less (Perform E (commands.Repeat b) s) _ rs st) x
+    after_less (in_turn (go (Perform E (commands.Repeat b) s) rs)) (machine.RepeatBody E b s) rs st (omega arith) (turn_less (Perform E (commands.Repeat b) s) _ rs st) x
 next_less program (machine.RepeatBody E b s) a rs st = tt
 next_less program (machine.RepeatWhileBody E b sense e s) (Left x) rs st =
-    behind_less (go (Decide E e s) (machine.RepeatWhiles E b sense e s ∷ rs)) (machine.RepeatWhileBody E b sense e s) rs st (omega arith) (omega arith, λ le. omega arith) x
+    after_less (go (Decide E e s) (machine.RepeatWhiles E b sense e s ∷ rs)) (machine.RepeatWhileBody E b sense e s) rs st (omega arith) (omega arith, λ le. omega arith) x
 next_less program (machine.RepeatWhileBody E b sense e s) a rs st = tt
 next_less program (machine.RepeatWhiles E b sense e s) (Verdict t) rs st =
     less_choose (agrees sense t) (in_turn (go (Perform E (commands.RepeatWhile b sense e) s) rs)) (give (Left Past) rs) st.turns _ st
@@ -530,7 +530,7 @@ next_less program (machine.Limits E limit by b s) a rs st = tt
 next_less program (machine.Fors E by b s) (Number m) rs st = (omega arith, λ le. omega arith)
 next_less program (machine.Fors E by b s) a rs st = tt
 next_less program (machine.ForBody E limit by b s) (Left x) rs st =
-    behind_less (then_do (read (cell_of E s)) (λ i. then_do (given (value_of operators.Add i by)) (λ w. then_do (write (cell_of E s) w) (λ u. in_turn (go (Round E limit by b s) rs))))) (machine.ForBody E limit by b s) rs st (omega arith)
+    after_less (then_do (read (cell_of E s)) (λ i. then_do (given (value_of operators.Add i by)) (λ w. then_do (write (cell_of E s) w) (λ u. in_turn (go (Round E limit by b s) rs))))) (machine.ForBody E limit by b s) rs st (omega arith)
     (for_less E limit by b s _ rs st) x
 next_less program (machine.ForBody E limit by b s) a rs st = tt
 next_less program (machine.Switches E is s) (Number v) rs st = (omega arith, λ le. omega arith)

@@ -5,18 +5,18 @@ use Rattle.bc_word.specs.declared.operator.Op.TheVariants.{Add}
 use Rattle.bc_word.specs.Words.{value_of}
 use Rattle.bc_core.specs.Commands.{Block, Items, Routine, Body, Gives, Does}
 use Rattle.bc_core.specs.Commands as commands
-use Rattle.bc_core.specs.Level.{operand_level, routine_level, side_level, level_in_for, level_behind_parameters}
+use Rattle.bc_core.specs.Level.{operand_level, routine_level, side_level, level_in_for, level_after_parameters}
 use Rattle.bc_core.specs.Layout.{frame_size}
 use Rattle.bc_core.specs.Map.{Placed}
 use Rattle.bc_core.specs.Outcome.{State, Outcome, Done, Ended, Going, Wild, Run, wild, followed, then_do, choose, in_turn, read, write, left, second_side, Again, Leave, next_round, repeated}
 use Rattle.bc_core.specs.Value.{given, value, truth, values}
 use Rattle.bc_core.specs.Exit.{Exit, Past, Broke, Looped, LeftCases, Returned, Resulted, Jumped, onward}
-use Rattle.bc_core.specs.Lists.{Entry, Beginning, AtLabel, has_case, has_label, entry_of, behind_list, listed, behind_cases}
-use Rattle.bc_core.specs.Loop.{LoopRound, back, leave, behind_body, agrees}
+use Rattle.bc_core.specs.Lists.{Entry, Beginning, AtLabel, has_case, has_label, entry_of, after_list, listed, after_cases}
+use Rattle.bc_core.specs.Loop.{LoopRound, back, leave, after_body, agrees}
 use Rattle.bc_core.specs.Command.{step_of_for, perform_block, perform_items}
 use Rattle.bc_core.specs.Primitive.{primitive_frame, primitive_work}
 use Rattle.bc_core.specs.Meaning.{Call as Calling, routine_value, valof_value, body_value, with_arguments, Callee, OfSection, OfLibrary, callee, entered, entered_of, calls}
-use Rattle.bc_interpret_defs.specs.Machine.{Spot, cell_of, Answer, Number, Verdict, Nothing, Left, Work, Evaluate, Decide, Perform, Enter, Listing, Give, Rest, At, Step, go, give, enter, behind, jump, follow, behind_listing, spot_in, body_step, with_passed, frame_taken, arrive, next, step}
+use Rattle.bc_interpret_defs.specs.Machine.{Spot, cell_of, Answer, Number, Verdict, Nothing, Left, Work, Evaluate, Decide, Perform, Enter, Listing, Give, Rest, At, Step, go, give, enter, following, jump, follow, after_listing, spot_in, body_step, with_passed, frame_taken, arrive, next, step}
 use Rattle.bc_interpret_defs.specs.Machine as machine
 use Rattle.bc_interpret_defs.specs.Resume.{context_at, number, verdict, nothing, out, while_round, repeat_round, test_round, repeat_while_round, for_step, for_round, list_round, around, rest, resume, meant}
 use Rattle.bc_interpret_defs.proofs.Joining.{join2, join3, join4, join5, join6, join_taken2, join_taken3, join_left, join_within, choose2, choose3}
@@ -37,7 +37,7 @@ arrive_kept : (call : Calling) (c : Option Callee) (vs : List ℕ) (f : ℕ) (rs
 arrive_kept call None vs f rs st = refl
 arrive_kept call (Some (OfSection section r)) vs f rs st =
     let n = r.parameters in
-    let s = level_behind_parameters r.parameters in
+    let s = level_after_parameters r.parameters in
     let body : Run ℕ = with_arguments n (f + 2) vs (body_value (context_at call (spot_in section f)) r.body f s) in
     let work : Step = with_passed n (f + 2) vs (body_step (spot_in section f) r.body s (machine.Closes n (f + 2) ∷ rs)) in
     choose2 (nat_le (f + frame_size section.core.valofs r) 65536) st (in_turn body) wild number (in_turn work) wild (resume call rs) (meant call)
@@ -53,15 +53,15 @@ call_kept program n vs f r rs st l =
     subst (λ z. followed (followed z number) (resume (calls program n) rs) ≡ followed (arrive (callee program r) vs f rs st) (meant (calls program n)))
     (sym (call_unrolled program n r vs f st l)) (arrive_kept (calls program n) (callee program r) vs f rs st)
 
--- behind a loop's body
-behind_kept : (call : Calling) (rs : List Rest) (f : Unit {0} → LoopRound) (r : LoopRound) (again : Step) (st : State) → followed (followed (followed (r st) (next_round (repeated f))) out) (resume call rs) ≡ followed (again st) (meant call) → (x : Exit) → followed (around f (behind_body r x) st) (resume call rs) ≡ followed (behind again x rs st) (meant call)
-behind_kept call rs f r again st h Past = h
-behind_kept call rs f r again st h Looped = h
-behind_kept call rs f r again st h Broke = refl
-behind_kept call rs f r again st h LeftCases = refl
-behind_kept call rs f r again st h Returned = refl
-behind_kept call rs f r again st h (Resulted v) = refl
-behind_kept call rs f r again st h (Jumped l) = refl
+-- after a loop's body
+after_kept : (call : Calling) (rs : List Rest) (f : Unit {0} → LoopRound) (r : LoopRound) (again : Step) (st : State) → followed (followed (followed (r st) (next_round (repeated f))) out) (resume call rs) ≡ followed (again st) (meant call) → (x : Exit) → followed (around f (after_body r x) st) (resume call rs) ≡ followed (following again x rs st) (meant call)
+after_kept call rs f r again st h Past = h
+after_kept call rs f r again st h Looped = h
+after_kept call rs f r again st h Broke = refl
+after_kept call rs f r again st h LeftCases = refl
+after_kept call rs f r again st h Returned = refl
+after_kept call rs f r again st h (Resulted v) = refl
+after_kept call rs f r again st h (Jumped l) = refl
 
 -- back to a loop's beginning
 back_kept : (call : Calling) (rs : List Rest) (f : Unit {0} → LoopRound) (w : Work) (st : State) → ((st1 : State) → followed (followed (repeated f tt st1) out) (resume call rs) ≡ meant call (record { work = w; rests = rs }) st1) → followed (followed (followed (back st) (next_round (repeated f))) out) (resume call rs) ≡ followed (in_turn (go w rs) st) (meant call)
@@ -97,22 +97,22 @@ jump_kept program call t E is s l rs st true =
     let C = context_at call E in
     let f = list_round C is E.frame s in
     from_round call rs f (AtLabel l) st _ (list_again C (context_alike call t E) is E.frame s (AtLabel l) st)
-    (join4 (perform_items C is E.frame s (AtLabel l) st) (behind_list (has_label is)) (next_round (repeated f)) out (resume call rs)
+    (join4 (perform_items C is E.frame s (AtLabel l) st) (after_list (has_label is)) (next_round (repeated f)) out (resume call rs)
     out (resume call (machine.Listed E is s ∷ rs)) (λ x st1. refl)
     ∙ listing_kept program call E is s (AtLabel l) (machine.Listed E is s ∷ rs) st)
 jump_kept program call t E is s l rs st false = refl
 
-switch_kept : (call : Calling) → AlikeCall 0 call call → (E : Spot) (is : Items) (s : ℕ) (at : Entry) (rs : List Rest) (st : State) → followed (followed (followed (listed (has_label is) (perform_items (context_at call E) is E.frame s) at st) behind_cases) out) (resume call rs) ≡ meant call (record { work = Listing E is s at; rests = machine.Listed E is s ∷ machine.Cases ∷ rs }) st
+switch_kept : (call : Calling) → AlikeCall 0 call call → (E : Spot) (is : Items) (s : ℕ) (at : Entry) (rs : List Rest) (st : State) → followed (followed (followed (listed (has_label is) (perform_items (context_at call E) is E.frame s) at st) after_cases) out) (resume call rs) ≡ meant call (record { work = Listing E is s at; rests = machine.Listed E is s ∷ machine.Cases ∷ rs }) st
 switch_kept call t E is s at rs st =
     let C = context_at call E in
     let f = list_round C is E.frame s in
     let R = resume call rs in
     let cases = resume call (machine.Cases ∷ rs) in
     let listing = resume call (machine.Listed E is s ∷ machine.Cases ∷ rs) in
-    subst (λ z. followed (followed (followed z behind_cases) out) R ≡ meant call (record { work = Listing E is s at; rests = machine.Listed E is s ∷ machine.Cases ∷ rs }) st)
+    subst (λ z. followed (followed (followed z after_cases) out) R ≡ meant call (record { work = Listing E is s at; rests = machine.Listed E is s ∷ machine.Cases ∷ rs }) st)
     (sym (list_again C (context_alike call t E) is E.frame s at st))
-    (join5 (perform_items C is E.frame s at st) (behind_list (has_label is)) (next_round (repeated f)) behind_cases out R out listing
-    (λ x st1. join3 (followed (behind_list (has_label is) x st1) (next_round (repeated f))) behind_cases out R out cases (λ y st2. refl)))
+    (join5 (perform_items C is E.frame s at st) (after_list (has_label is)) (next_round (repeated f)) after_cases out R out listing
+    (λ x st1. join3 (followed (after_list (has_label is) x st1) (next_round (repeated f))) after_cases out R out cases (λ y st2. refl)))
 
 follows_kept : (call : Calling) (E : Spot) (is : Items) (s : ℕ) (x : Exit) (rs : List Rest) (st : State) → followed (followed (onward (perform_items (context_at call E) is E.frame s Beginning) x st) out) (resume call rs) ≡ followed (follow E is s x rs st) (meant call)
 follows_kept call E is s Past rs st = refl
@@ -123,7 +123,7 @@ follows_kept call E is s Returned rs st = refl
 follows_kept call E is s (Resulted v) rs st = refl
 follows_kept call E is s (Jumped l) rs st = refl
 
-listed_kept : (program : List Placed) (call : Calling) → AlikeCall 0 call call → (E : Spot) (is : Items) (s : ℕ) (x : Exit) (rs : List Rest) (st : State) → followed (around (list_round (context_at call E) is E.frame s) (behind_list (has_label is) x) st) (resume call rs) ≡ followed (behind_listing E is s x rs st) (meant call)
+listed_kept : (program : List Placed) (call : Calling) → AlikeCall 0 call call → (E : Spot) (is : Items) (s : ℕ) (x : Exit) (rs : List Rest) (st : State) → followed (around (list_round (context_at call E) is E.frame s) (after_list (has_label is) x) st) (resume call rs) ≡ followed (after_listing E is s x rs st) (meant call)
 listed_kept program call t E is s Past rs st = refl
 listed_kept program call t E is s Broke rs st = refl
 listed_kept program call t E is s Looped rs st = refl
@@ -162,9 +162,9 @@ next_kept program n (machine.Selects E x y s) a rs st l = refl
 next_kept program n (machine.Argues E vs es level f m s) (Number v) rs st l =
     let call = calls program n in
     let C = context_at call E in
-    let behind : List ℕ → Run Answer = λ ws. then_do (value C f E.frame (routine_level s m)) (λ r. then_do (call r ws (E.frame + s)) number) in
+    let following : List ℕ → Run Answer = λ ws. then_do (value C f E.frame (routine_level s m)) (λ r. then_do (call r ws (E.frame + s)) number) in
     let moved : (ws : List ℕ) → vs ++ (v ∷ ws) ≡ (vs ++ (v ∷ [])) ++ ws = λ ws. sym (append_assoc vs (v ∷ []) ws) in
-    ap (λ g. followed (followed (values C es E.frame (level + 1) st) g) (resume call rs)) (λ i ws. behind (moved ws i))
+    ap (λ g. followed (followed (values C es E.frame (level + 1) st) g) (resume call rs)) (λ i ws. following (moved ws i))
 next_kept program n (machine.Argues E vs es level f m s) a rs st l = refl
 next_kept program n (machine.Calls vs f) (Number r) rs st l = call_kept program n vs f r rs st l
 next_kept program n (machine.Calls vs f) a rs st l = refl
@@ -198,26 +198,26 @@ next_kept program n (machine.Whiles E sense e b s) (Verdict t) rs st l =
     let call = calls program n in
     let C = context_at call E in
     let nr = next_round (repeated (while_round C sense e b E.frame s)) in
-    choose3 (agrees sense t) st (then_do (perform_block C b E.frame s) (behind_body back)) leave nr out
+    choose3 (agrees sense t) st (then_do (perform_block C b E.frame s) (after_body back)) leave nr out
     (enter E b s (machine.WhileBody E sense e b s ∷ rs)) (give (Left Past) rs) (resume call rs) (meant call)
-    (join4 (perform_block C b E.frame s st) (behind_body back) nr out (resume call rs) out (resume call (machine.WhileBody E sense e b s ∷ rs)) (λ x st1. refl)
+    (join4 (perform_block C b E.frame s st) (after_body back) nr out (resume call rs) out (resume call (machine.WhileBody E sense e b s ∷ rs)) (λ x st1. refl)
     ∙ enter_kept program call (alike_calls program 0 n n (omega arith) (omega arith)) E b s (machine.WhileBody E sense e b s ∷ rs) st) refl
 next_kept program n (machine.Whiles E sense e b s) a rs st l = refl
 next_kept program n (machine.WhileBody E sense e b s) (Left x) rs st l =
     let call = calls program n in
     let f = while_round (context_at call E) sense e b E.frame s in
-    behind_kept call rs f back (in_turn (go (Perform E (commands.While sense e b) s) rs)) st (back_kept call rs f (Perform E (commands.While sense e b) s) st (λ st1. refl)) x
+    after_kept call rs f back (in_turn (go (Perform E (commands.While sense e b) s) rs)) st (back_kept call rs f (Perform E (commands.While sense e b) s) st (λ st1. refl)) x
 next_kept program n (machine.WhileBody E sense e b s) a rs st l = refl
 next_kept program n (machine.RepeatBody E b s) (Left x) rs st l =
     let call = calls program n in
     let f = repeat_round (context_at call E) b E.frame s in
-    behind_kept call rs f back (in_turn (go (Perform E (commands.Repeat b) s) rs)) st (back_kept call rs f (Perform E (commands.Repeat b) s) st (λ st1. refl)) x
+    after_kept call rs f back (in_turn (go (Perform E (commands.Repeat b) s) rs)) st (back_kept call rs f (Perform E (commands.Repeat b) s) st (λ st1. refl)) x
 next_kept program n (machine.RepeatBody E b s) a rs st l = refl
 next_kept program n (machine.RepeatWhileBody E b sense e s) (Left x) rs st l =
     let call = calls program n in
     let C = context_at call E in
     let f = repeat_while_round C b sense e E.frame s in
-    behind_kept call rs f (test_round C sense e E.frame s) (go (Decide E e s) (machine.RepeatWhiles E b sense e s ∷ rs)) st
+    after_kept call rs f (test_round C sense e E.frame s) (go (Decide E e s) (machine.RepeatWhiles E b sense e s ∷ rs)) st
     (join4 (truth C e E.frame s st) (λ t. choose (agrees sense t) back leave) (next_round (repeated f)) out (resume call rs) verdict (resume call (machine.RepeatWhiles E b sense e s ∷ rs)) (λ t st1. refl)) x
 next_kept program n (machine.RepeatWhileBody E b sense e s) a rs st l = refl
 next_kept program n (machine.RepeatWhiles E b sense e s) (Verdict t) rs st l =
@@ -237,14 +237,14 @@ next_kept program n (machine.Fors E by b s) a rs st l = refl
 next_kept program n (machine.ForBody E limit by b s) (Left x) rs st l =
     let call = calls program n in
     let C = context_at call E in
-    behind_kept call rs (for_round C limit by b E.frame s) (for_step C by E.frame s)
+    after_kept call rs (for_round C limit by b E.frame s) (for_step C by E.frame s)
     (then_do (read (cell_of E s)) (λ i. then_do (given (value_of Add i by)) (λ w. then_do (write (cell_of E s) w) (λ u. in_turn (go (machine.Round E limit by b s) rs))))) st
     (for_step_kept call E limit by b s rs st) x
 next_kept program n (machine.ForBody E limit by b s) a rs st l = refl
 next_kept program n (machine.Switches E is s) (Number v) rs st l =
     switch_kept (calls program n) (alike_calls program 0 n n (omega arith) (omega arith)) E is s (entry_of (has_case is) v) rs st
 next_kept program n (machine.Switches E is s) a rs st l = refl
-next_kept program n machine.Cases (Left x) rs st l = join2 (behind_cases x st) out (resume (calls program n) rs) (λ y. give (Left y) rs) (meant (calls program n)) (λ y st1. refl)
+next_kept program n machine.Cases (Left x) rs st l = join2 (after_cases x st) out (resume (calls program n) rs) (λ y. give (Left y) rs) (meant (calls program n)) (λ y st1. refl)
 next_kept program n machine.Cases a rs st l = refl
 next_kept program n machine.Leaves (Number v) rs st l = refl
 next_kept program n machine.Leaves a rs st l = refl

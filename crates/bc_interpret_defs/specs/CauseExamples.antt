@@ -27,7 +27,7 @@ reads = refl
 reads_unset : of (at 1) ≡ Fails (causes.Unset 1)
 reads_unset = refl
 
--- what lies behind the last cell is dead
+-- what lies after the last cell is dead
 reads_dead : (of (at 0) ≡ Fails (causes.Dead 0)) × (of (at 4) ≡ Fails (causes.Dead 4))
 reads_dead = (refl, refl)
 

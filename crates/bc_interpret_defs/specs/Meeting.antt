@@ -11,9 +11,9 @@ use Rattle.bc_interpret_defs.specs.Machine.{Number, Work, Give, Rest, Calls, At,
 
 -- this value is called with these arguments, in the frame at f
 pub record IsCall (w : Work) (rs : List Rest) (value : ℕ) (arguments : List ℕ) (f : ℕ) : Type 0 where
-  pub behind : List Rest
+  pub following : List Rest
   pub work : w ≡ Give (Number value)
-  pub rests : rs ≡ Calls arguments f ∷ behind
+  pub rests : rs ≡ Calls arguments f ∷ following
 
 -- the cells of the frame of what is called
 abbrev pub frame_of : Callee → ℕ

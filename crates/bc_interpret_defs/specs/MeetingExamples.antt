@@ -57,15 +57,15 @@ not_malformed (ByForm e h) = let k = h all_set in cc
 
 -- `WRCH()`: its argument's cell, two above the frame, is live and unset
 writes_nothing : Meets [] (Give (Number 530)) (Calls [] 0 ∷ []) store (Unset 2)
-writes_nothing = ByArgument 530 [] 0 WriteByte (record { behind = []; work = refl; rests = refl }) refl refl
+writes_nothing = ByArgument 530 [] 0 WriteByte (record { following = []; work = refl; rests = refl }) refl refl
 
 -- 7 is called, in a frame at 0
 no_routine : Meets [] (Give (Number 7)) (Calls [] 0 ∷ []) store (NotRoutine 7)
-no_routine = ByCall 7 [] 0 (record { behind = []; work = refl; rests = refl }) (refl, refl)
+no_routine = ByCall 7 [] 0 (record { following = []; work = refl; rests = refl }) (refl, refl)
 
 -- WRCH is called in a frame at 65,534, which would take three cells
 no_room : Meets [] (Give (Number 530)) (Calls [] 65534 ∷ []) store (FrameTooLarge 65534)
-no_room = ByCall 530 [] 65534 (record { behind = []; work = refl; rests = refl }) (refl, omega arith)
+no_room = ByCall 530 [] 65534 (record { following = []; work = refl; rests = refl }) (refl, omega arith)
 
 -- cell 2 is given back, and then read: it is dead at the step that is wild, and wasn't at first
 read_after_closing : ComesTo [] (record { work = Give (Number 2); rests = Closes 1 2 ∷ Loads ∷ [] }) started (Dead 2)

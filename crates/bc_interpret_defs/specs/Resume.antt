@@ -7,8 +7,8 @@ use Rattle.bc_core.specs.Level.{operand_level, routine_level, side_level, level_
 use Rattle.bc_core.specs.Outcome.{Done, Run, then_do, choose, read, write, Round, next_round, repeated}
 use Rattle.bc_core.specs.Value.{Context, is_true, given, value, truth, values, assign}
 use Rattle.bc_core.specs.Exit.{Exit, Past, Resulted, onward}
-use Rattle.bc_core.specs.Lists.{Entry, Beginning, has_case, has_label, entry_of, behind_list, listed, behind_cases}
-use Rattle.bc_core.specs.Loop.{LoopRound, back, leave, behind_body, agrees, end_relation}
+use Rattle.bc_core.specs.Lists.{Entry, Beginning, has_case, has_label, entry_of, after_list, listed, after_cases}
+use Rattle.bc_core.specs.Loop.{LoopRound, back, leave, after_body, agrees, end_relation}
 use Rattle.bc_core.specs.Command.{initialise, declare, step_of_for, perform, perform_block, perform_items}
 use Rattle.bc_core.specs.Meaning.{Call, context, valofs_from, routine_value, valof_value}
 use Rattle.bc_interpret_defs.specs.Machine.{Spot, Answer, Number, Verdict, Nothing, Left, Work, Rest, At, Step, on_number, on_verdict, on_nothing, on_exit, shut}
@@ -31,16 +31,16 @@ out x = Done (Left x)
 
 -- the rounds of loops and lists
 abbrev pub while_round : Context → Bool → Exp → Block → (p s : ℕ) → Unit {0} → LoopRound
-while_round C sense e b p s u = then_do (truth C e p s) (λ t. choose (agrees sense t) (then_do (perform_block C b p s) (behind_body back)) leave)
+while_round C sense e b p s u = then_do (truth C e p s) (λ t. choose (agrees sense t) (then_do (perform_block C b p s) (after_body back)) leave)
 
 abbrev pub repeat_round : Context → Block → (p s : ℕ) → Unit {0} → LoopRound
-repeat_round C b p s u = then_do (perform_block C b p s) (behind_body back)
+repeat_round C b p s u = then_do (perform_block C b p s) (after_body back)
 
 abbrev pub test_round : Context → Bool → Exp → (p s : ℕ) → LoopRound
 test_round C sense e p s = then_do (truth C e p s) (λ t. choose (agrees sense t) back leave)
 
 abbrev pub repeat_while_round : Context → Block → Bool → Exp → (p s : ℕ) → Unit {0} → LoopRound
-repeat_while_round C b sense e p s u = then_do (perform_block C b p s) (behind_body (test_round C sense e p s))
+repeat_while_round C b sense e p s u = then_do (perform_block C b p s) (after_body (test_round C sense e p s))
 
 abbrev pub for_step : Context → ℕ → (p s : ℕ) → LoopRound
 for_step C by p s = then_do (assign C (step_of_for by s) (Frame s) p (level_in_for s)) (λ u. back)
@@ -48,12 +48,12 @@ for_step C by p s = then_do (assign C (step_of_for by s) (Frame s) p (level_in_f
 abbrev pub for_round : Context → (limit by : ℕ) → Block → (p s : ℕ) → Unit {0} → LoopRound
 for_round C limit by b p s u =
     then_do (value C (Load (Frame s)) p (level_in_for s)) (λ i.
-    choose (holds (end_relation by) i limit) leave (then_do (perform_block C b p (level_in_for s)) (behind_body (for_step C by p s))))
+    choose (holds (end_relation by) i limit) leave (then_do (perform_block C b p (level_in_for s)) (after_body (for_step C by p s))))
 
 abbrev pub list_round : Context → Items → (p s : ℕ) → Entry → Run (Round Entry Exit)
-list_round C is p s at = then_do (perform_items C is p s at) (behind_list (has_label is))
+list_round C is p s at = then_do (perform_items C is p s at) (after_list (has_label is))
 
--- what comes behind a round
+-- what comes after a round
 abbrev pub around : {A : Type 0} → (A → Run (Round A Exit)) → Run (Round A Exit) → Run Answer
 around f r = then_do (then_do r (next_round (repeated f))) out
 
@@ -107,12 +107,12 @@ rest call (machine.Chooses E b c s) a =
     on_verdict (λ t. then_do (choose t (perform_block (context_at call E) b E.frame s) (perform_block (context_at call E) c E.frame s)) out) a
 rest call (machine.Whiles E sense e b s) a =
     on_verdict (λ t. around (while_round (context_at call E) sense e b E.frame s)
-    (choose (agrees sense t) (then_do (perform_block (context_at call E) b E.frame s) (behind_body back)) leave)) a
+    (choose (agrees sense t) (then_do (perform_block (context_at call E) b E.frame s) (after_body back)) leave)) a
 rest call (machine.WhileBody E sense e b s) a =
-    on_exit (λ x. around (while_round (context_at call E) sense e b E.frame s) (behind_body back x)) a
-rest call (machine.RepeatBody E b s) a = on_exit (λ x. around (repeat_round (context_at call E) b E.frame s) (behind_body back x)) a
+    on_exit (λ x. around (while_round (context_at call E) sense e b E.frame s) (after_body back x)) a
+rest call (machine.RepeatBody E b s) a = on_exit (λ x. around (repeat_round (context_at call E) b E.frame s) (after_body back x)) a
 rest call (machine.RepeatWhileBody E b sense e s) a =
-    on_exit (λ x. around (repeat_while_round (context_at call E) b sense e E.frame s) (behind_body (test_round (context_at call E) sense e E.frame s) x)) a
+    on_exit (λ x. around (repeat_while_round (context_at call E) b sense e E.frame s) (after_body (test_round (context_at call E) sense e E.frame s) x)) a
 rest call (machine.RepeatWhiles E b sense e s) a =
     on_verdict (λ t. around (repeat_while_round (context_at call E) b sense e E.frame s) (choose (agrees sense t) back leave)) a
 rest call (machine.Limits E limit by b s) a =
@@ -120,16 +120,16 @@ rest call (machine.Limits E limit by b s) a =
     then_do (repeated (for_round (context_at call E) n by b E.frame s) tt) out)) a
 rest call (machine.Fors E by b s) a = on_number (λ n. then_do (repeated (for_round (context_at call E) n by b E.frame s) tt) out) a
 rest call (machine.ForBody E limit by b s) a =
-    on_exit (λ x. around (for_round (context_at call E) limit by b E.frame s) (behind_body (for_step (context_at call E) by E.frame s) x)) a
+    on_exit (λ x. around (for_round (context_at call E) limit by b E.frame s) (after_body (for_step (context_at call E) by E.frame s) x)) a
 rest call (machine.Switches E is s) a =
-    on_number (λ v. then_do (then_do (listed (has_label is) (perform_items (context_at call E) is E.frame s) (entry_of (has_case is) v)) behind_cases) out) a
-rest call machine.Cases a = on_exit (λ x. then_do (behind_cases x) out) a
+    on_number (λ v. then_do (then_do (listed (has_label is) (perform_items (context_at call E) is E.frame s) (entry_of (has_case is) v)) after_cases) out) a
+rest call machine.Cases a = on_exit (λ x. then_do (after_cases x) out) a
 rest call machine.Leaves a = on_number (λ v. out (Resulted v)) a
 rest call (machine.Declares E ds is s level) a =
     on_nothing (then_do (declare (context_at call E) ds E.frame s (listed (has_label is) (perform_items (context_at call E) is E.frame level) Beginning)) out) a
 rest call (machine.Initialises E vs k s) a = on_nothing (then_do (initialise (context_at call E) vs E.frame k s) nothing) a
 rest call (machine.Follows E is s) a = on_exit (λ x. then_do (onward (perform_items (context_at call E) is E.frame s Beginning) x) out) a
-rest call (machine.Listed E is s) a = on_exit (λ x. around (list_round (context_at call E) is E.frame s) (behind_list (has_label is) x)) a
+rest call (machine.Listed E is s) a = on_exit (λ x. around (list_round (context_at call E) is E.frame s) (after_list (has_label is) x)) a
 
 abbrev pub resume : Call → List Rest → Answer → Run Answer
 resume call [] a = Done a

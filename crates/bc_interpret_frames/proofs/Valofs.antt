@@ -35,14 +35,14 @@ cells_before first (w ∷ ws) n s h =
       onwards : cells_of_valofs (first + 1) (map valof_of ws) n s ≡ 0 → cells_branch first (valof_of w) (map valof_of ws) n s false ≡ 0
       onwards e = e
 
-pub cells_behind : (first : ℕ) (ws : List Valof) (n i s : ℕ) → n ≡ first + i → length ws ≤ i → cells_of_valofs first (map valof_of ws) n s ≡ 0
+pub cells_after : (first : ℕ) (ws : List Valof) (n i s : ℕ) → n ≡ first + i → length ws ≤ i → cells_of_valofs first (map valof_of ws) n s ≡ 0
 unfolding cells_branch
-cells_behind first [] n i s e h = refl
-cells_behind first (w ∷ ws) n zero s e h = absurd (omega arith)
-cells_behind first (w ∷ ws) n (suc i) s e h =
+cells_after first [] n i s e h = refl
+cells_after first (w ∷ ws) n zero s e h = absurd (omega arith)
+cells_after first (w ∷ ws) n (suc i) s e h =
     cells_branched first (valof_of w) (map valof_of ws) n s
     ∙ (ap (cells_branch first (valof_of w) (map valof_of ws) n s) (apart n first (λ q. omega (arith, e, q)))
-    ∙ onwards (cells_behind (first + 1) ws n i s (omega arith) (omega arith))) where
+    ∙ onwards (cells_after (first + 1) ws n i s (omega arith) (omega arith))) where
       onwards : cells_of_valofs (first + 1) (map valof_of ws) n s ≡ 0 → cells_branch first (valof_of w) (map valof_of ws) n s false ≡ 0
       onwards q = q
 

@@ -41,10 +41,10 @@ fn expression<'c>(
         }
         CoreExp::Call(arguments, routine) => {
             let first = above(s, 2)?;
-            let behind = above(first, arguments.len())?;
+            let following = above(first, arguments.len())?;
             put(Part::Arguments(within, arguments, first), waiting)?;
-            put(Part::Expression(within, routine, behind), waiting)?;
-            Ok(behind)
+            put(Part::Expression(within, routine, following), waiting)?;
+            Ok(following)
         }
         CoreExp::Valof(number) => valof(within, *number as usize, s, waiting),
     }
@@ -240,7 +240,7 @@ fn declarations<'c>(
     }
 }
 
-/// Variables of which this is the first, at the level behind them.
+/// Variables of which this is the first, at the level after them.
 fn first_variable<'c>(
     within: Within<'c>,
     first: &'c Variable,
@@ -266,7 +266,7 @@ fn first_variable<'c>(
     }
 }
 
-/// Variables, at the level behind them.
+/// Variables, at the level after them.
 fn variables<'c>(
     within: Within<'c>,
     all: &'c [Variable],

@@ -1,4 +1,4 @@
-//! How many cells the frame of a routine takes, worked out without native stack for the depth of the tree.
+//! How many cells the frame of a routine takes, computed without native stack for the depth of the tree.
 #![tactic(auto)]
 
 mod expand;

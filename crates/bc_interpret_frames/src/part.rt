@@ -25,7 +25,7 @@ pub(crate) enum Part<'c> {
     Items(Within<'c>, &'c [ListItem], usize),
 }
 
-/// Puts a part behind those that wait.
+/// Puts a part after those that wait.
 ///
 /// `Memory` comes where an allocation was refused.
 #[tactic(auto, using(crate::proofs::Waits::greatest_more, crate::proofs::Waits::weight_more))]
@@ -37,7 +37,7 @@ pub(crate) fn put<'c>(part: Part<'c>, waiting: &mut Vec<Part<'c>>) -> Result<(),
     Ok(())
 }
 
-/// Puts two parts behind those that wait.
+/// Puts two parts after those that wait.
 ///
 /// `Memory` comes where an allocation was refused.
 #[tactic(auto, using(crate::proofs::Waits::grown))]

@@ -1,4 +1,4 @@
--- Arguments that are worked out at once.
+-- Arguments that are computed at once.
 use Rattle.std.proofs.Common.{◌≡◌, ◌+◌, ℕ, true, false, List, [], ◌∷◌, ◌++◌, length, Option, Some, refl, sym, ap, subst, ◌∙◌, arith}
 use Rattle.bc_machine_defs.specs.Streams.{Content}
 use Rattle.bc_core.specs.Tree.{Exp, Call, Args, no_argument, argument}
@@ -11,10 +11,10 @@ use Rattle.bc_interpret_defs.specs.Machine as machine
 use Rattle.bc_interpret_defs.specs.Machine.{quiet, give, argue, evaluate_parts}
 use Rattle.bc_interpret_defs.specs.Quiet as quiet_forms
 use Rattle.bc_interpret_defs.specs.Quiet.{worth}
-use Rattle.bc_interpret_quiet.specs.declared.worth.Worth.{Worth}
-use Rattle.bc_interpret_quiet.specs.declared.worth.Worth.TheVariants as worths
-use Rattle.bc_interpret_quiet.specs.declared.sight.Cause.{Cause}
-use Rattle.bc_interpret_quiet.specs.Views.{seen, IsWorth}
+use Rattle.bc_interpret_pure.specs.declared.value.Worth.{Worth}
+use Rattle.bc_interpret_pure.specs.declared.value.Worth.TheVariants as worths
+use Rattle.bc_interpret_pure.specs.declared.context.Cause.{Cause}
+use Rattle.bc_interpret_pure.specs.Views.{seen, IsWorth}
 use Rattle.bc_interpret_steps.specs.declared.state.State.{State}
 use Rattle.bc_interpret_steps.specs.declared.forms.Progress.{Progress}
 use Rattle.bc_interpret_steps.specs.declared.forms.Progress.TheVariants as progress
@@ -22,7 +22,7 @@ use Rattle.bc_interpret_steps.specs.declared.forms.Ending.TheVariants as endings
 use Rattle.bc_interpret_steps.specs.declared.forms.Arguments.{Arguments}
 use Rattle.bc_interpret_steps.specs.declared.arguments.Given.{Given}
 use Rattle.bc_interpret_steps.specs.declared.arguments.Given.TheVariants as forms
-use Rattle.bc_interpret_steps.specs.declared.rests.Rest.{Rest}
+use Rattle.bc_interpret_steps.specs.declared.continuations.Rest.{Rest}
 use Rattle.bc_interpret_steps.specs.Code.{spot_of, given_for, stack, given}
 use Rattle.bc_interpret_steps.specs.Came.{state_of, Came, Goes, progress_of, sight}
 use Rattle.bc_interpret_steps.specs.Arrived.{Argued, ArguedLast, IsGivenOne}
@@ -76,15 +76,15 @@ pub last_calls : (st : State) (E : machine.Spot) (vs : List ℕ) (level : ℕ) (
 last_calls st E vs level f n s p rs rs1 ws calls h =
     came_true (has_call f) (last_waits E vs f n s rs) (then_do (value (quiet E) f E.frame (routine_level s n)) (called E vs s rs)) st p rs1 ws st calls h
 
--- what comes of an argument, or of the routine behind the last one, comes of all arguments
-pub argued_over : (a now : Arguments) (first : CoreExp) (behind : List CoreExp) (before cur after : List Rest) (st : State) (g : Given) (p : Progress) → IsGivenOne now first behind cur st g p after → g ≡ forms.Over → now.left.now ≡ first ∷ behind
+-- what comes of an argument, or of the routine after the last one, comes of all arguments
+pub argued_over : (a now : Arguments) (first : CoreExp) (following : List CoreExp) (before cur after : List Rest) (st : State) (g : Given) (p : Progress) → IsGivenOne now first following cur st g p after → g ≡ forms.Over → now.left.now ≡ first ∷ following
     → ((streams : Content) → Argued a before (stack before) (state_of st streams) ≡ Argued now cur (stack cur) (state_of st streams)) → Goes (Argued a before) before st p after st
-argued_over a now first behind before cur after st g p h is split kept =
-    let P : Given → Type 0 = λ x. IsGivenOne now first behind cur st x p after in
+argued_over a now first following before cur after st g p h is split kept =
+    let P : Given → Type 0 = λ x. IsGivenOne now first following cur st x p after in
     let E = spot_of now.spot in
     let vs = given_for now.fresh (given cur) in
     let rest : Args → machine.Step = λ es. argue E vs es now.level (exp now.routine.now) now.count now.s (stack cur) in
-    same_came (Argued a before (stack before)) (rest (argument (exp first) (args behind))) st p (stack after) (given after) st (λ streams. kept streams ∙ ap (λ xs. rest (args xs) (state_of st streams)) split) (subst P is h)
+    same_came (Argued a before (stack before)) (rest (argument (exp first) (args following))) st p (stack after) (given after) st (λ streams. kept streams ∙ ap (λ xs. rest (args xs) (state_of st streams)) split) (subst P is h)
 
 no_more : (es : List CoreExp) → length es ≡ 0 → es ≡ []
 no_more [] e = refl

@@ -10,9 +10,9 @@ use Rattle.bc_core.specs.Value.{has_call, value, assign}
 use Rattle.bc_interpret_defs.specs.Machine as machine
 use Rattle.bc_interpret_defs.specs.Machine.{quiet, first_command}
 use Rattle.bc_interpret_defs.specs.Quiet.{settled, worth}
-use Rattle.bc_interpret_quiet.specs.declared.worth.Worth.{Worth}
-use Rattle.bc_interpret_quiet.specs.declared.worth.Worth.TheVariants as worths
-use Rattle.bc_interpret_quiet.specs.Views.{seen}
+use Rattle.bc_interpret_pure.specs.declared.value.Worth.{Worth}
+use Rattle.bc_interpret_pure.specs.declared.value.Worth.TheVariants as worths
+use Rattle.bc_interpret_pure.specs.Views.{seen}
 use Rattle.bc_interpret_steps.specs.declared.state.State.{State}
 use Rattle.bc_interpret_steps.specs.declared.assign.Assigned.{Assigned}
 use Rattle.bc_interpret_steps.specs.Came.{state_of, sight}

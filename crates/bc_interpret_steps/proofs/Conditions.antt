@@ -11,13 +11,13 @@ use Rattle.bc_interpret_defs.specs.Machine as machine
 use Rattle.bc_interpret_defs.specs.Machine.{step, give, quiet, evaluate, evaluate_parts}
 use Rattle.bc_interpret_defs.specs.Quiet as quiet_forms
 use Rattle.bc_interpret_defs.specs.Quiet.{worth, chained}
-use Rattle.bc_interpret_quiet.specs.declared.sight.Cause.{Cause}
-use Rattle.bc_interpret_quiet.specs.declared.worth.Truth.TheVariants as truths
-use Rattle.bc_interpret_quiet.specs.Causes.{cause_of}
-use Rattle.bc_interpret_quiet.specs.Views.{seen}
-use Rattle.bc_interpret_steps.specs.declared.inward.FirstCall.{FirstCall}
+use Rattle.bc_interpret_pure.specs.declared.context.Cause.{Cause}
+use Rattle.bc_interpret_pure.specs.declared.value.Truth.TheVariants as truths
+use Rattle.bc_interpret_pure.specs.Causes.{cause_of}
+use Rattle.bc_interpret_pure.specs.Views.{seen}
+use Rattle.bc_interpret_steps.specs.declared.descend.FirstCall.{FirstCall}
 use Rattle.bc_interpret_steps.specs.declared.state.State.{State}
-use Rattle.bc_interpret_steps.specs.declared.rests.Rest.{Rest}
+use Rattle.bc_interpret_steps.specs.declared.continuations.Rest.{Rest}
 use Rattle.bc_interpret_steps.specs.declared.forms.Progress.{Progress}
 use Rattle.bc_interpret_steps.specs.declared.forms.Progress.TheVariants as progress
 use Rattle.bc_interpret_steps.specs.declared.forms.Ending.TheVariants as endings

@@ -12,14 +12,14 @@ use Rattle.bc_core.specs.declared.expression.CoreExp.{CoreExp}
 use Rattle.bc_interpret_defs.specs.Machine as machine
 use Rattle.bc_interpret_defs.specs.Machine.{argue, evaluate_parts}
 use Rattle.bc_interpret_defs.specs.Quiet as quiet_forms
-use Rattle.bc_interpret_quiet.specs.declared.worth.Worth.{Worth}
-use Rattle.bc_interpret_quiet.specs.declared.worth.Worth.TheVariants as worths
-use Rattle.bc_interpret_quiet.specs.Views.{IsWorth}
+use Rattle.bc_interpret_pure.specs.declared.value.Worth.{Worth}
+use Rattle.bc_interpret_pure.specs.declared.value.Worth.TheVariants as worths
+use Rattle.bc_interpret_pure.specs.Views.{IsWorth}
 use Rattle.bc_interpret_steps.specs.declared.state.State.{State}
 use Rattle.bc_interpret_steps.specs.declared.forms.Progress.{Progress}
 use Rattle.bc_interpret_steps.specs.declared.forms.Progress.TheVariants as progress
 use Rattle.bc_interpret_steps.specs.declared.forms.Work.TheVariants as works
-use Rattle.bc_interpret_steps.specs.declared.rests.Rest.{Rest}
+use Rattle.bc_interpret_steps.specs.declared.continuations.Rest.{Rest}
 use Rattle.bc_interpret_steps.specs.Code.{stack}
 use Rattle.bc_interpret_steps.specs.Came.{state_of, Came, sight}
 use Rattle.bc_interpret_steps.specs.Arrived.{Lands, AreWorth, IsWorkedOut, WorkedOut}
@@ -60,26 +60,26 @@ all_given st E ws (v ∷ vs) (argument e es) level f n s rs h streams =
     ∙ (all_given st E (ws ++ v ∷ []) vs es (level + 1) f n s rs h.2 streams
     ∙ ap (λ xs. argue E xs no_argument level f n s rs (state_of st streams)) (append_assoc ws (v ∷ []) vs))
 
--- the routine's value is called behind them
+-- the routine's value is called after them
 pub called_ran : (program : List Placed) (old : State) (E : machine.Spot) (es : Args) (f : Exp) (s frame v : ℕ) (vs : List ℕ) (rs : List machine.Rest) (p : Progress) (rs1 : List machine.Rest) (vs1 : List ℕ) (new : State)
     → IsWorkedOut (sight old E) es f (Some v) vs → frame ≡ E.frame + s → Lands (machine.arrive (callee program v) vs frame rs) (callee program v) v vs frame old p rs1 vs1 new
     → Ran program (evaluating E (Call es f) s rs) old p rs1 vs1 new
 called_ran program old E es f s frame v vs rs p rs1 vs1 new is at h =
     let from = evaluating E (Call es f) s rs in
-    let behind = machine.Calls vs (E.frame + s) ∷ rs in
+    let following = machine.Calls vs (E.frame + s) ∷ rs in
     let n = count es in
-    let last : Came (argue E vs no_argument (argument_level s) f n s rs) old (progress.On (works.Number v)) behind [] old =
-    last_valued old E vs (argument_level s) f n s rs behind [] (Some (worths.Is v)) (worths.Is v) (progress.On (works.Number v)) (is.1, is.2) refl refl refl in
-    let first : Passes program old from (from ∷ []) (giving v behind) =
+    let last : Came (argue E vs no_argument (argument_level s) f n s rs) old (progress.On (works.Number v)) following [] old =
+    last_valued old E vs (argument_level s) f n s rs following [] (Some (worths.Is v)) (worths.Is v) (progress.On (works.Number v)) (is.1, is.2) refl refl refl in
+    let first : Passes program old from (from ∷ []) (giving v following) =
     (refl, tt, λ streams. all_given old E [] vs es (argument_level s) f n s rs is.0 streams ∙ last streams) in
     record {
-      middle = giving v behind;
+      middle = giving v following;
       along = from ∷ [];
       passes = first;
-      comes = landed program v vs (E.frame + s) behind rs old p rs1 vs1 new refl (subst (λ a. Lands (machine.arrive (callee program v) vs a rs) (callee program v) v vs a old p rs1 vs1 new) at h);
+      comes = landed program v vs (E.frame + s) following rs old p rs1 vs1 new refl (subst (λ a. Lands (machine.arrive (callee program v) vs a rs) (callee program v) v vs a old p rs1 vs1 new) at h);
     }
 
--- the same where the values were worked out in the interpreter's list
+-- the same where the values were computed in the interpreter's list
 pub landed_at : (program : List Placed) (old : State) (E : machine.Spot) (es : Args) (f : Exp) (s frame v : ℕ) (us : List ℕ) (before middle : Vec Rest Global) (found : Option ℕ) (p : Progress) (rs1 : List machine.Rest) (vs1 : List ℕ) (new : State)
     → IsWorkedOut (sight old E) es f found (reverse us) → found ≡ Some v → middle ≡ before → frame ≡ E.frame + s → Lands (machine.arrive (callee program v) (reverse us) frame (stack middle.items)) (callee program v) v (reverse us) frame old p rs1 vs1 new
     → Ran program (evaluating E (Call es f) s (stack before.items)) old p rs1 vs1 new

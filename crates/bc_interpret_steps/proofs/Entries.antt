@@ -11,5 +11,5 @@ entry_if e es a t = elim t as (λ u. Option Callable) [ true ↦ Some e | false 
 pub found_here : (e : Callable) (es : List Callable) (a : ℕ) → e.address ≡ a → entry_among (e ∷ es) a ≡ Some e
 found_here e es a h = ap (entry_if e es a) (eq-eqb e.address a h)
 
-pub found_behind : (e : Callable) (es : List Callable) (a : ℕ) → ((e.address ≡ a) → ⊥) → entry_among (e ∷ es) a ≡ entry_among es a
-found_behind e es a h = elim (eqb_tells e.address a) [ inl q ↦ absurd (h q.1) | inr q ↦ ap (entry_if e es a) q.0 ]
+pub found_after : (e : Callable) (es : List Callable) (a : ℕ) → ((e.address ≡ a) → ⊥) → entry_among (e ∷ es) a ≡ entry_among es a
+found_after e es a h = elim (eqb_tells e.address a) [ inl q ↦ absurd (h q.1) | inr q ↦ ap (entry_if e es a) q.0 ]

@@ -1,8 +1,8 @@
 -- Arguments that are gathered.
 use Rattle.std.proofs.Common.{◌≡◌, ℕ, Bool, true, false, not, List, [], ◌∷◌, ◌++◌, reverse, refl, sym, ap, subst, ◌∙◌, append_assoc}
 use Rattle.std.proofs.lemmas.List.{append-nil, reverse-append}
-use Rattle.bc_interpret_steps.specs.declared.rests.Rest.{Rest}
-use Rattle.bc_interpret_steps.specs.declared.rests.Rest.TheVariants as rests
+use Rattle.bc_interpret_steps.specs.declared.continuations.Rest.{Rest}
+use Rattle.bc_interpret_steps.specs.declared.continuations.Rest.TheVariants as rests
 use Rattle.bc_interpret_steps.specs.Code.{given_for, stack, given, then_given, Gathering, TakesGiven}
 use Rattle.bc_interpret_steps.proofs.Piles.{given_more, dropped}
 

@@ -6,7 +6,7 @@ use Rattle.bc_core.specs.Meaning.{callee}
 use Rattle.bc_core.specs.Outcome as outcomes
 use Rattle.bc_interpret_defs.specs.Machine.{step, next}
 use Rattle.bc_interpret_defs.specs.Meeting.{IsCall, ByCell, ByCall, ByForm}
-use Rattle.bc_interpret_quiet.specs.declared.sight.Cause.TheVariants as causes
+use Rattle.bc_interpret_pure.specs.declared.context.Cause.TheVariants as causes
 use Rattle.bc_interpret_defs.specs.Running.{Moves}
 use Rattle.bc_interpret_steps.specs.declared.state.State.{State}
 use Rattle.bc_interpret_steps.specs.declared.forms.Progress.{Progress}
@@ -53,7 +53,7 @@ pub landed : (program : List Placed) (v : ℕ) (vs : List ℕ) (f : ℕ) (rs rs0
 landed program v vs f rs rs0 old p rs1 vs1 new e h =
     subst (λ q. Stepped program (machine.Give (machine.Number v)) q old p rs1 vs1 new) (sym e) (by_progress p h) where
       call : IsCall (machine.Give (machine.Number v)) (machine.Calls vs f ∷ rs0) v vs f
-      call = record { behind = rs0; work = refl; rests = refl }
+      call = record { following = rs0; work = refl; rests = refl }
 
       by_progress : (p : Progress) → Lands (machine.arrive (callee program v) vs f rs0) (callee program v) v vs f old p rs1 vs1 new → Stepped program (machine.Give (machine.Number v)) (machine.Calls vs f ∷ rs0) old p rs1 vs1 new
       by_progress (progress.On x) g = (tt, g)

@@ -1,7 +1,7 @@
 pub mod Argues
 pub mod Arrivals
 pub mod Assigns
-pub mod Behind
+pub mod After
 pub mod Conditions
 pub mod Counts
 pub mod Direct

@@ -13,7 +13,7 @@ use Rattle.bc_core.specs.View.{items, items_before, command as command_view}
 use Rattle.bc_interpret_defs.specs.Machine as machine
 use Rattle.bc_interpret_defs.specs.Machine.{list_step}
 use Rattle.bc_interpret_defs.specs.Causes.{Stood}
-use Rattle.bc_interpret_quiet.specs.declared.sight.Cause.{Cause}
+use Rattle.bc_interpret_pure.specs.declared.context.Cause.{Cause}
 use Rattle.bc_interpret_steps.specs.declared.state.State.{State}
 use Rattle.bc_interpret_steps.specs.declared.forms.Entry.{Entry}
 use Rattle.bc_interpret_steps.specs.declared.assign.Assigned.{Assigned}
@@ -22,7 +22,7 @@ use Rattle.bc_interpret_steps.specs.declared.lists.Next.TheVariants as nexts
 use Rattle.bc_interpret_steps.specs.declared.lists.Along.{Along}
 use Rattle.bc_interpret_steps.specs.declared.lists.Along.TheVariants as alongs
 use Rattle.bc_interpret_steps.specs.declared.forms.Progress.{Progress}
-use Rattle.bc_interpret_steps.specs.declared.rests.Rest.{Rest}
+use Rattle.bc_interpret_steps.specs.declared.continuations.Rest.{Rest}
 use Rattle.bc_interpret_steps.specs.Code.{entry_of, stack, given}
 use Rattle.bc_interpret_steps.specs.Came.{state_of, Came, CameOrMalformed, Goes}
 use Rattle.bc_interpret_steps.specs.ListItems.{IsAlong}
@@ -34,48 +34,48 @@ pub told_done : (E : machine.Spot) (c : commands.Command) (old : State) (found :
 told_done E c old found came new h is = let P : Option Assigned → Type 0 = λ o. IsDone E c old o new in subst P is h
 
 -- what comes of the first item
-pub passed : (E : machine.Spot) (s : ℕ) (behind : List ListItem) (first : ListItem) (at next : Entry) → IsNext (nexts.Passes next) first at
-    → (rs : List machine.Rest) (st : outcomes.State) → list_step E (items_before first (items behind)) s (entry_of at) rs st ≡ list_step E (items behind) s (entry_of next) rs st
-passed E s behind first at next h rs st = ap (λ r. r st) (h E (items behind) s rs)
+pub passed : (E : machine.Spot) (s : ℕ) (following : List ListItem) (first : ListItem) (at next : Entry) → IsNext (nexts.Passes next) first at
+    → (rs : List machine.Rest) (st : outcomes.State) → list_step E (items_before first (items following)) s (entry_of at) rs st ≡ list_step E (items following) s (entry_of next) rs st
+passed E s following first at next h rs st = ap (λ r. r st) (h E (items following) s rs)
 
-pub assigned : (E : machine.Spot) (s : ℕ) (behind : List ListItem) (first : ListItem) (at : Entry) (c : Bor Command) (old new : State) → IsNext (nexts.Does c) first at → IsDone E (command_view c.now) old (Some forms.Done) new
-    → (rs : List machine.Rest) (streams : Content) → list_step E (items_before first (items behind)) s (entry_of at) rs (state_of old streams) ≡ list_step E (items behind) s Beginning rs (state_of new streams)
-assigned E s behind first at c old new h d rs streams =
-    ap (λ r. r (state_of old streams)) (h E (items behind) s rs) ∙ d.0 (items behind) s rs (list_step E (items behind) s Beginning rs) streams
+pub assigned : (E : machine.Spot) (s : ℕ) (following : List ListItem) (first : ListItem) (at : Entry) (c : Bor Command) (old new : State) → IsNext (nexts.Does c) first at → IsDone E (command_view c.now) old (Some forms.Done) new
+    → (rs : List machine.Rest) (streams : Content) → list_step E (items_before first (items following)) s (entry_of at) rs (state_of old streams) ≡ list_step E (items following) s Beginning rs (state_of new streams)
+assigned E s following first at c old new h d rs streams =
+    ap (λ r. r (state_of old streams)) (h E (items following) s rs) ∙ d.0 (items following) s rs (list_step E (items following) s Beginning rs) streams
 
-pub divided : (E : machine.Spot) (s : ℕ) (behind : List ListItem) (first : ListItem) (at : Entry) (c : Bor Command) (old new : State) → IsNext (nexts.Does c) first at → IsDone E (command_view c.now) old (Some forms.Divides) new
-    → (rs : List machine.Rest) (streams : Content) → list_step E (items_before first (items behind)) s (entry_of at) rs (state_of old streams) ≡ outcomes.Ended outcomes.ZeroDivide streams
-divided E s behind first at c old new h d rs streams =
-    ap (λ r. r (state_of old streams)) (h E (items behind) s rs) ∙ d.0 (items behind) s rs (list_step E (items behind) s Beginning rs) streams
+pub divided : (E : machine.Spot) (s : ℕ) (following : List ListItem) (first : ListItem) (at : Entry) (c : Bor Command) (old new : State) → IsNext (nexts.Does c) first at → IsDone E (command_view c.now) old (Some forms.Divides) new
+    → (rs : List machine.Rest) (streams : Content) → list_step E (items_before first (items following)) s (entry_of at) rs (state_of old streams) ≡ outcomes.Ended outcomes.ZeroDivide streams
+divided E s following first at c old new h d rs streams =
+    ap (λ r. r (state_of old streams)) (h E (items following) s rs) ∙ d.0 (items following) s rs (list_step E (items following) s Beginning rs) streams
 
-pub failed : (E : machine.Spot) (s : ℕ) (behind : List ListItem) (first : ListItem) (at : Entry) (c : Bor Command) (cause : Cause) (old new : State) → IsNext (nexts.Does c) first at → IsDone E (command_view c.now) old (Some (forms.Fails cause)) new
-    → (rs : List machine.Rest) (streams : Content) → list_step E (items_before first (items behind)) s (entry_of at) rs (state_of old streams) ≡ outcomes.Wild
-failed E s behind first at c cause old new h d rs streams =
-    ap (λ r. r (state_of old streams)) (h E (items behind) s rs) ∙ d.0 (items behind) s rs (list_step E (items behind) s Beginning rs) streams
+pub failed : (E : machine.Spot) (s : ℕ) (following : List ListItem) (first : ListItem) (at : Entry) (c : Bor Command) (cause : Cause) (old new : State) → IsNext (nexts.Does c) first at → IsDone E (command_view c.now) old (Some (forms.Fails cause)) new
+    → (rs : List machine.Rest) (streams : Content) → list_step E (items_before first (items following)) s (entry_of at) rs (state_of old streams) ≡ outcomes.Wild
+failed E s following first at c cause old new h d rs streams =
+    ap (λ r. r (state_of old streams)) (h E (items following) s rs) ∙ d.0 (items following) s rs (list_step E (items following) s Beginning rs) streams
 
-pub performed : (E : machine.Spot) (s : ℕ) (behind : List ListItem) (first : ListItem) (at : Entry) (c : Bor Command) (old new : State) → IsNext (nexts.Does c) first at → IsDone E (command_view c.now) old None new
-    → (rs : List machine.Rest) (st : outcomes.State) → list_step E (items_before first (items behind)) s (entry_of at) rs st ≡ machine.go (machine.Perform E (command_view c.now) s) (machine.Follows E (items behind) s ∷ rs) st
-performed E s behind first at c old new h d rs st =
-    ap (λ r. r st) (h E (items behind) s rs) ∙ ap (λ r. r st) (d.0 (items behind) s rs (list_step E (items behind) s Beginning rs))
+pub performed : (E : machine.Spot) (s : ℕ) (following : List ListItem) (first : ListItem) (at : Entry) (c : Bor Command) (old new : State) → IsNext (nexts.Does c) first at → IsDone E (command_view c.now) old None new
+    → (rs : List machine.Rest) (st : outcomes.State) → list_step E (items_before first (items following)) s (entry_of at) rs st ≡ machine.go (machine.Perform E (command_view c.now) s) (machine.Follows E (items following) s ∷ rs) st
+performed E s following first at c old new h d rs st =
+    ap (λ r. r st) (h E (items following) s rs) ∙ ap (λ r. r st) (d.0 (items following) s rs (list_step E (items following) s Beginning rs))
 
 pub ruleset along_a_list = (passed, assigned, divided, failed, performed)
 
 -- what comes of an item comes of the whole list
-pub listed_on : (E : machine.Spot) (s : ℕ) (left behind : List ListItem) (first : ListItem) (at next : Entry) (before after : List Rest) (old new : State) (along : Along) (p : Progress) → IsAlong E first behind s at before old along p after new → along ≡ alongs.On next → left ≡ first ∷ behind
-    → (after ≡ before) × ((rs : List machine.Rest) (streams : Content) → list_step E (items left) s (entry_of at) rs (state_of old streams) ≡ list_step E (items behind) s (entry_of next) rs (state_of new streams)) × Stood old.store new.store
-listed_on E s left behind first at next before after old new along p h is split =
-    let P : Along → Type 0 = λ x. IsAlong E first behind s at before old x p after new in
+pub listed_on : (E : machine.Spot) (s : ℕ) (left following : List ListItem) (first : ListItem) (at next : Entry) (before after : List Rest) (old new : State) (along : Along) (p : Progress) → IsAlong E first following s at before old along p after new → along ≡ alongs.On next → left ≡ first ∷ following
+    → (after ≡ before) × ((rs : List machine.Rest) (streams : Content) → list_step E (items left) s (entry_of at) rs (state_of old streams) ≡ list_step E (items following) s (entry_of next) rs (state_of new streams)) × Stood old.store new.store
+listed_on E s left following first at next before after old new along p h is split =
+    let P : Along → Type 0 = λ x. IsAlong E first following s at before old x p after new in
     let on = subst P is h in
     (on.0, λ rs streams. ap (λ xs. list_step E (items xs) s (entry_of at) rs (state_of old streams)) split ∙ on.1 rs streams, on.2)
 
-pub listed_over : (E : machine.Spot) (s : ℕ) (all left behind : List ListItem) (first : ListItem) (entry at : Entry) (before cur after : List Rest) (st old new : State) (along : Along) (p : Progress) → IsAlong E first behind s at cur old along p after new → along ≡ alongs.Over → left ≡ first ∷ behind → cur ≡ before → Stood st.store old.store
+pub listed_over : (E : machine.Spot) (s : ℕ) (all left following : List ListItem) (first : ListItem) (entry at : Entry) (before cur after : List Rest) (st old new : State) (along : Along) (p : Progress) → IsAlong E first following s at cur old along p after new → along ≡ alongs.Over → left ≡ first ∷ following → cur ≡ before → Stood st.store old.store
     → ((rs : List machine.Rest) (streams : Content) → list_step E (items all) s (entry_of entry) rs (state_of st streams) ≡ list_step E (items left) s (entry_of at) rs (state_of old streams)) → Goes (list_step E (items all) s (entry_of entry)) before st p after new
-listed_over E s all left behind first entry at before cur after st old new along p h is split same stood kept =
-    let P : Along → Type 0 = λ x. IsAlong E first behind s at cur old x p after new in
-    moved_came (list_step E (items all) s (entry_of entry) (stack before)) (list_step E (items_before first (items behind)) s (entry_of at) (stack cur)) st old p (stack after) (given after) new stood
+listed_over E s all left following first entry at before cur after st old new along p h is split same stood kept =
+    let P : Along → Type 0 = λ x. IsAlong E first following s at cur old x p after new in
+    moved_came (list_step E (items all) s (entry_of entry) (stack before)) (list_step E (items_before first (items following)) s (entry_of at) (stack cur)) st old p (stack after) (given after) new stood
     (λ streams. kept (stack before) streams
     ∙ (ap (λ xs. list_step E (items xs) s (entry_of at) (stack before) (state_of old streams)) split
-    ∙ ap (λ q. list_step E (items_before first (items behind)) s (entry_of at) (stack q) (state_of old streams)) (sym same))) (subst P is h)
+    ∙ ap (λ q. list_step E (items_before first (items following)) s (entry_of at) (stack q) (state_of old streams)) (sym same))) (subst P is h)
 
 -- a list that a jump enters again
 pub listed_again : (program : List Placed) (E : machine.Spot) (is : List ListItem) (s l : ℕ) (rs rs1 rs2 : List machine.Rest) (old : State) (p : Progress) (vs : List ℕ) (new : State) → has_label (items is) l ≡ true → rs1 ≡ machine.Listed E (items is) s ∷ rs

@@ -9,7 +9,7 @@ use Rattle.bc_core.specs.Exit.{Exit, Past}
 use Rattle.bc_core.specs.Store.{Dead, Unset, Set, cell_at}
 use Rattle.bc_core.specs.Outcome as outcomes
 use Rattle.bc_core.specs.Outcome.{Wild, followed, then_do, choose, content_of_cell, write, in_turn}
-use Rattle.bc_interpret_defs.specs.Machine.{Spot, Rest, Step, cell_of, go, give, enter, Left, ForBody, Round, round_step, behind, next}
+use Rattle.bc_interpret_defs.specs.Machine.{Spot, Rest, Step, cell_of, go, give, enter, Left, ForBody, Round, round_step, following, next}
 use Rattle.bc_interpret_steps.specs.declared.state.State.{State}
 use Rattle.bc_interpret_steps.specs.declared.forms.Progress.{Progress}
 use Rattle.bc_interpret_steps.specs.Came.{state_of, Came}
@@ -38,7 +38,7 @@ pub round_goes : (E : Spot) (limit by : ℕ) (b : Block) (s i : ℕ) (rs : List 
 round_goes E limit by b s i rs old p rs1 vs new e t h =
     same_came (round_step E limit by b s rs) (enter E b (level_in_for s) (ForBody E limit by b s ∷ rs)) old p rs1 vs new (λ streams. round_on E limit by b s i rs (state_of old streams) e t) h
 
--- behind the body
+-- after the body
 abbrev added : Spot → (limit by : ℕ) → Block → ℕ → List Rest → ℕ → Step
 added E limit by b s rs i = then_do (write (cell_of E s) ((i + by) % 65536)) (λ u. in_turn (go (Round E limit by b s) rs))
 
@@ -48,7 +48,7 @@ stepped_dead program E limit by b s rs st e = ap (λ c. followed (content_of_cel
 pub stepped_unset : (program : List Placed) (E : Spot) (limit by : ℕ) (b : Block) (s : ℕ) (rs : List Rest) (st : outcomes.State) → Unset ≡ cell_at st.cells (cell_of E s) → next program (ForBody E limit by b s) (Left Past) rs st ≡ Wild
 stepped_unset program E limit by b s rs st e = ap (λ c. followed (content_of_cell c st) (added E limit by b s rs)) (sym e)
 
--- where control goes on behind the body, it goes on as past it
-pub for_behind : (program : List Placed) (E : Spot) (limit by : ℕ) (b : Block) (s : ℕ) (x : Exit) (rs : List Rest) → ((again : Step) (rs : List Rest) → behind again x rs ≡ again)
+-- where control goes on after the body, it goes on as past it
+pub for_after : (program : List Placed) (E : Spot) (limit by : ℕ) (b : Block) (s : ℕ) (x : Exit) (rs : List Rest) → ((again : Step) (rs : List Rest) → following again x rs ≡ again)
     → next program (ForBody E limit by b s) (Left Past) rs ≡ next program (ForBody E limit by b s) (Left x) rs
-for_behind program E limit by b s x rs h = sym (h (next program (ForBody E limit by b s) (Left Past) rs) rs)
+for_after program E limit by b s x rs h = sym (h (next program (ForBody E limit by b s) (Left Past) rs) rs)

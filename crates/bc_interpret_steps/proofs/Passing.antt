@@ -1,4 +1,4 @@
--- Steps that change nothing, one behind another.
+-- Steps that change nothing, one after another.
 use Rattle.std.proofs.Common.{◌≡◌, ◌⊎◌, inl, inr, ℕ, ◌+◌, ◌-◌, ◌<◌, true, List, [], ◌∷◌, ◌++◌, length, slice_get, Option, Some, None, MatchOption, option_to_list, refl, sym, ap, subst, arith, ◌∙◌, Vec, Result, OnOk}
 use Rattle.std.specs.declared.alloc.Global.{Global}
 use Rattle.std.proofs.lemmas.Grind.{common_steps}
@@ -20,19 +20,19 @@ use Rattle.bc_interpret_steps.specs.declared.forms.Exit.{Exit}
 use Rattle.bc_interpret_steps.specs.declared.forms.Exit.TheVariants as exit_forms
 use Rattle.bc_interpret_steps.specs.declared.forms.Ending.{Ending}
 use Rattle.bc_interpret_steps.specs.declared.forms.Primitive.{Primitive}
-use Rattle.bc_interpret_quiet.specs.declared.sight.Cause.{Cause}
+use Rattle.bc_interpret_pure.specs.declared.context.Cause.{Cause}
 use Rattle.bc_interpret_steps.specs.declared.forms.Work.TheVariants as works
 use Rattle.bc_interpret_steps.specs.declared.operands.Operator.{Operator}
-use Rattle.bc_interpret_steps.specs.declared.rests.NumberRest.TheVariants as number_rests
-use Rattle.bc_interpret_steps.specs.declared.rests.ExitRest.{ExitRest}
+use Rattle.bc_interpret_steps.specs.declared.continuations.NumberRest.TheVariants as number_rests
+use Rattle.bc_interpret_steps.specs.declared.continuations.ExitRest.{ExitRest}
 use Rattle.bc_interpret_steps.specs.declared.forms.Work.{Work}
 use Rattle.bc_interpret_steps.specs.declared.forms.Progress.{Progress}
 use Rattle.bc_interpret_steps.specs.declared.forms.Progress.TheVariants as progress
-use Rattle.bc_interpret_steps.specs.declared.rests.Rest.{Rest}
-use Rattle.bc_interpret_steps.specs.declared.rests.Rest.TheVariants as rests
+use Rattle.bc_interpret_steps.specs.declared.continuations.Rest.{Rest}
+use Rattle.bc_interpret_steps.specs.declared.continuations.Rest.TheVariants as rests
 use Rattle.bc_interpret_steps.specs.declared.sections.Callable.{Callable}
 use Rattle.bc_interpret_steps.specs.Code.{work_of, spot_of, exit_of, stacked, stack, given}
-use Rattle.bc_interpret_steps.specs.Came.{state_of, Came, CameOrMalformed, IsBehindCases}
+use Rattle.bc_interpret_steps.specs.Came.{state_of, Came, CameOrMalformed, IsAfterCases}
 use Rattle.bc_interpret_steps.specs.Stepped.{Stepped, StepsOver}
 use Rattle.bc_interpret_steps.specs.Passing.{work_next, Passes, Ran, RunsOver, evaluating, leaving, PassesOn, IsLeft, IsHandedOn, IsOperator, IsPassed, IsPassedBy}
 use Rattle.bc_interpret_steps.proofs.Handing.{stepped, stepped_loosely}
@@ -84,7 +84,7 @@ listed_out E is s exits.Returned rs n program old = (leaving exits.Returned (mac
 listed_out E is s (exits.Resulted v) rs n program old = (leaving (exits.Resulted v) (machine.Listed E is s ∷ rs) ∷ [], (refl, tt, λ streams. refl))
 listed_out E is s (exits.Jumped l) rs n program old = absurd (n l refl)
 
-pub cases_out : (x y : exits.Exit) (rs : List machine.Rest) → IsBehindCases y x → PassesOn x (machine.Cases ∷ rs) y rs
+pub cases_out : (x y : exits.Exit) (rs : List machine.Rest) → IsAfterCases y x → PassesOn x (machine.Cases ∷ rs) y rs
 cases_out x y rs h program old = (leaving x (machine.Cases ∷ rs) ∷ [], (refl, tt, λ streams. ap (λ o. followed o (λ z. give (machine.Left z) rs)) (h (state_of old streams))))
 
 pub none_left : (is : List ListItem) (x : Exit) → length is < 1 → IsLeft (items is) (exit_of x) true
@@ -111,7 +111,7 @@ left_list E is s rs x (inr (inr (inr (inl e)))) = subst (λ y. PassesOn (exit_of
 left_list E is s rs x (inr (inr (inr (inr (inl e))))) = subst (λ y. PassesOn (exit_of y) (machine.Listed E is s ∷ rs) (exit_of y) rs) (sym e) (listed_out E is s exits.Returned rs (λ l n. cc))
 left_list E is s rs x (inr (inr (inr (inr (inr e))))) = subst (λ y. PassesOn (exit_of y) (machine.Listed E is s ∷ rs) (exit_of y) rs) (sym e.1) (listed_out E is s (exits.Resulted e.0) rs (λ l n. cc))
 
--- one behind another
+-- one after another
 
 pub append : (program : List Placed) (old : State) (a b c : machine.At) (along more : List machine.At) → Passes program old a along b → Passes program old b more c → Passes program old a (more ++ along) c
 append program old a b c along [] h k = subst (λ z. Passes program old a along z) k h

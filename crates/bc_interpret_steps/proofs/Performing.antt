@@ -1,4 +1,4 @@
--- A command that is a call takes the same step as its call, behind which its number is dropped.
+-- A command that is a call takes the same step as its call, after which its number is dropped.
 use Rattle.std.proofs.Common.{◌≡◌, ℕ, List, [], ◌∷◌, refl, sym, subst}
 use Rattle.bc_core.specs.Commands as commands
 use Rattle.bc_core.specs.Map.{Placed}

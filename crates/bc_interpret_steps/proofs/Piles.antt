@@ -1,8 +1,8 @@
 -- The list of what is left to do, as the interpreter keeps it.
 use Rattle.std.proofs.Common.{◌≡◌, ℕ, Bool, List, [], ◌∷◌, ◌++◌, Some, refl, sym, ap, ◌∙◌}
 use Rattle.bc_interpret_defs.specs.Machine as machine
-use Rattle.bc_interpret_steps.specs.declared.rests.Rest.{Rest}
-use Rattle.bc_interpret_steps.specs.declared.rests.Rest.TheVariants as rests
+use Rattle.bc_interpret_steps.specs.declared.continuations.Rest.{Rest}
+use Rattle.bc_interpret_steps.specs.declared.continuations.Rest.TheVariants as rests
 use Rattle.bc_interpret_steps.specs.Code.{stacked, then_given, stack_on, given_on, stack, given, Taken}
 
 stack_on_more : (rs : List machine.Rest) (vs : List ℕ) (xs : List Rest) (x : Rest) → stack_on rs vs (xs ++ x ∷ []) ≡ stacked (stack_on rs vs xs) (given_on vs xs) x

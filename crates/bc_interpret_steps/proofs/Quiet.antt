@@ -1,4 +1,4 @@
--- What is worked out at once.
+-- What is computed at once.
 use Rattle.std.proofs.Common.{◌≡◌, ℕ, Bool, true, false, List, Option, Some, sym, ap, subst, ◌∷◌, ◌∙◌}
 use Rattle.bc_machine_defs.specs.Streams.{Content}
 use Rattle.bc_core.specs.Tree.{Exp, Cond}
@@ -13,16 +13,16 @@ use Rattle.bc_interpret_defs.specs.Causes.{StandsIn, Stood}
 use Rattle.bc_interpret_defs.specs.Laws.{FailsBy}
 use Rattle.bc_interpret_defs.proofs.Failures.{failures_stand}
 use Rattle.bc_interpret_defs.proofs.Worths.{worth_is_value}
-use Rattle.bc_interpret_quiet.specs.declared.worth.Worth.{Worth}
-use Rattle.bc_interpret_quiet.specs.declared.worth.Worth.TheVariants as worths
-use Rattle.bc_interpret_quiet.specs.declared.worth.Truth.{Truth}
-use Rattle.bc_interpret_quiet.specs.declared.worth.Truth.TheVariants as truths
-use Rattle.bc_interpret_quiet.specs.declared.sight.Cause.{Cause}
-use Rattle.bc_interpret_quiet.specs.declared.sight.Cause.TheVariants as causes
-use Rattle.bc_interpret_quiet.specs.Causes.{cause_of}
-use Rattle.bc_interpret_quiet.specs.Views.{seen, seen_truth, IsWorth, IsTruth}
+use Rattle.bc_interpret_pure.specs.declared.value.Worth.{Worth}
+use Rattle.bc_interpret_pure.specs.declared.value.Worth.TheVariants as worths
+use Rattle.bc_interpret_pure.specs.declared.value.Truth.{Truth}
+use Rattle.bc_interpret_pure.specs.declared.value.Truth.TheVariants as truths
+use Rattle.bc_interpret_pure.specs.declared.context.Cause.{Cause}
+use Rattle.bc_interpret_pure.specs.declared.context.Cause.TheVariants as causes
+use Rattle.bc_interpret_pure.specs.Causes.{cause_of}
+use Rattle.bc_interpret_pure.specs.Views.{seen, seen_truth, IsWorth, IsTruth}
 use Rattle.bc_interpret_steps.specs.declared.state.State.{State}
-use Rattle.bc_interpret_steps.specs.declared.rests.Rest.{Rest}
+use Rattle.bc_interpret_steps.specs.declared.continuations.Rest.{Rest}
 use Rattle.bc_interpret_steps.specs.declared.forms.Progress.{Progress}
 use Rattle.bc_interpret_steps.specs.declared.forms.Progress.TheVariants as progress
 use Rattle.bc_interpret_steps.specs.Code.{stack, given}
@@ -98,14 +98,14 @@ value_stands st E e w plain is = subst (λ x. FailsBy (λ c. StandsIn c st.store
 pub truth_stands : (st : State) (E : machine.Spot) (e : Exp) (w : Truth) → has_call e ≡ false → seen_truth w ≡ (worth (sight st E) e).truth → FailsBy (λ c. StandsIn c st.store) (seen_truth w)
 truth_stands st E e w plain is = subst (λ x. FailsBy (λ c. StandsIn c st.store) x) (sym is) (failures_stand (sight st E) e plain).1
 
--- what comes behind a value
+-- what comes after a value
 pub value_divides : (st : State) (E : machine.Spot) (e : Exp) (s : ℕ) (f : ℕ → machine.Step) (rs : List machine.Rest) (vs : List ℕ) (new : State) → has_call e ≡ false → quiet_forms.Divides ≡ (worth (sight st E) e).value → Came (then_do (value (quiet E) e E.frame s) f) st (progress.Ended endings.ZeroDivide) rs vs new
 value_divides st E e s f rs vs new plain is = λ streams. ap (λ o. followed o f) (quiet_value st E e s streams plain worths.Divides is)
 
 pub value_fails : (st : State) (E : machine.Spot) (e : Exp) (s : ℕ) (c : Cause) (f : ℕ → machine.Step) (rs : List machine.Rest) (vs : List ℕ) (new : State) → has_call e ≡ false → quiet_forms.Fails (cause_of c) ≡ (worth (sight st E) e).value → Came (then_do (value (quiet E) e E.frame s) f) st (progress.Wild c) rs vs new
 value_fails st E e s c f rs vs new plain is = (λ streams. ap (λ o. followed o f) (quiet_value st E e s streams plain (worths.Fails c) is), value_stands st E e (worths.Fails c) plain is)
 
--- what comes behind a truth
+-- what comes after a truth
 pub truth_on : (st : State) (E : machine.Spot) (e : Exp) (s : ℕ) (t : Bool) (f : Bool → machine.Step) (p : Progress) (rs : List machine.Rest) (vs : List ℕ) (new : State) → has_call e ≡ false → quiet_forms.Is t ≡ (worth (sight st E) e).truth → Came (f t) st p rs vs new → Came (then_do (truth (quiet E) e E.frame s) f) st p rs vs new
 truth_on st E e s t f p rs vs new plain is h =
     same_came (then_do (truth (quiet E) e E.frame s) f) (f t) st p rs vs new (λ streams. ap (λ o. followed o f) (quiet_truth st E e s streams plain (truths.Is t) is)) h
@@ -148,7 +148,7 @@ came_this t this that old p rs vs new e h = same_came (choose t this that) this 
 pub came_that : (t : Bool) (this that : machine.Step) (old : State) (p : Progress) (rs : List machine.Rest) (vs : List ℕ) (new : State) → t ≡ false → Came that old p rs vs new → Came (choose t this that) old p rs vs new
 came_that t this that old p rs vs new e h = same_came (choose t this that) that old p rs vs new (λ streams. ap (λ z. choose z this that (state_of old streams)) e) h
 
--- behind a test
+-- after a test
 pub tested_on : (E : machine.Spot) (e : Exp) (s : ℕ) (f : Bool → machine.Step) (r : machine.Rest) (rs : List machine.Rest) (old : State) (t : Bool) (p : Progress) (rs1 : List machine.Rest) (vs : List ℕ) (new : State) → has_call e ≡ false → quiet_forms.Is t ≡ (worth (sight old E) e).truth → Came (f t) old p rs1 vs new → Came (tested E e s f r rs) old p rs1 vs new
 tested_on E e s f r rs old t p rs1 vs new plain is h =
     came_false (has_call e) (machine.go (machine.Decide E e s) (r ∷ rs)) (then_do (truth (quiet E) e E.frame s) f) old p rs1 vs new plain (truth_on old E e s t f p rs1 vs new plain is h)

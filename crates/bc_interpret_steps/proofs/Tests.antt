@@ -1,4 +1,4 @@
--- Behind a test that is worked out at once.
+-- After a test that is computed at once.
 use Rattle.std.proofs.Common.{◌≡◌, ℕ, Bool, true, List, ◌∷◌, Option, Some, sym, ap}
 use Rattle.bc_core.specs.Tree.{Exp}
 use Rattle.bc_core.specs.Commands.{Block}
@@ -9,10 +9,10 @@ use Rattle.bc_core.specs.Outcome.{choose}
 use Rattle.bc_core.specs.Value.{has_call}
 use Rattle.bc_interpret_defs.specs.Machine as machine
 use Rattle.bc_interpret_defs.specs.Machine.{give, enter, perform_step}
-use Rattle.bc_interpret_quiet.specs.declared.sight.Cause.{Cause}
-use Rattle.bc_interpret_quiet.specs.declared.worth.Truth.{Truth}
-use Rattle.bc_interpret_quiet.specs.declared.worth.Truth.TheVariants as truths
-use Rattle.bc_interpret_quiet.specs.Views.{IsTruth}
+use Rattle.bc_interpret_pure.specs.declared.context.Cause.{Cause}
+use Rattle.bc_interpret_pure.specs.declared.value.Truth.{Truth}
+use Rattle.bc_interpret_pure.specs.declared.value.Truth.TheVariants as truths
+use Rattle.bc_interpret_pure.specs.Views.{IsTruth}
 use Rattle.bc_interpret_steps.specs.declared.state.State.{State}
 use Rattle.bc_interpret_steps.specs.declared.forms.Progress.{Progress}
 use Rattle.bc_interpret_steps.specs.declared.forms.Progress.TheVariants as progress

@@ -33,14 +33,14 @@ valof_before address p first (w ∷ ws) n s rs h =
       onwards : to_valof address p (first + 1) (map valof_of ws) n s rs ≡ wild → branch address p first (valof_of w) (map valof_of ws) n s rs false ≡ wild
       onwards e = e
 
-pub valof_behind : (address : ℕ → ℕ) (p first : ℕ) (ws : List Valof) (n i s : ℕ) (rs : List Rest) → n ≡ first + i → length ws ≤ i → to_valof address p first (map valof_of ws) n s rs ≡ wild
+pub valof_after : (address : ℕ → ℕ) (p first : ℕ) (ws : List Valof) (n i s : ℕ) (rs : List Rest) → n ≡ first + i → length ws ≤ i → to_valof address p first (map valof_of ws) n s rs ≡ wild
 unfolding branch
-valof_behind address p first [] n i s rs e h = refl
-valof_behind address p first (w ∷ ws) n zero s rs e h = absurd (omega arith)
-valof_behind address p first (w ∷ ws) n (suc i) s rs e h =
+valof_after address p first [] n i s rs e h = refl
+valof_after address p first (w ∷ ws) n zero s rs e h = absurd (omega arith)
+valof_after address p first (w ∷ ws) n (suc i) s rs e h =
     branched address p first (valof_of w) (map valof_of ws) n s rs
     ∙ (ap (branch address p first (valof_of w) (map valof_of ws) n s rs) (apart n first (λ q. omega (arith, e, q)))
-    ∙ onwards (valof_behind address p (first + 1) ws n i s rs (omega arith) (omega arith))) where
+    ∙ onwards (valof_after address p (first + 1) ws n i s rs (omega arith) (omega arith))) where
       onwards : to_valof address p (first + 1) (map valof_of ws) n s rs ≡ wild → branch address p first (valof_of w) (map valof_of ws) n s rs false ≡ wild
       onwards q = q
 
@@ -64,9 +64,9 @@ valof_at address p first (w ∷ ws) n (suc i) s rs d e h =
 pub none_before : (address : ℕ → ℕ) (p first : ℕ) (ws : List Valof) (n s : ℕ) (rs : List Rest) → n < first → to_valof address p first (map valof_of (drop first ws)) n s rs ≡ wild
 none_before address p first ws n s rs h = valof_before address p first (drop first ws) n s rs h
 
-pub none_behind : (address : ℕ → ℕ) (p first : ℕ) (ws : List Valof) (n s : ℕ) (rs : List Rest) → first ≤ n → length ws ≤ n → to_valof address p first (map valof_of (drop first ws)) n s rs ≡ wild
-none_behind address p first ws n s rs h k =
-    valof_behind address p first (drop first ws) n (n - first) s rs (omega (arith, h)) (omega (arith, h, k, length-drop first ws))
+pub none_after : (address : ℕ → ℕ) (p first : ℕ) (ws : List Valof) (n s : ℕ) (rs : List Rest) → first ≤ n → length ws ≤ n → to_valof address p first (map valof_of (drop first ws)) n s rs ≡ wild
+none_after address p first ws n s rs h k =
+    valof_after address p first (drop first ws) n (n - first) s rs (omega (arith, h)) (omega (arith, h, k, length-drop first ws))
 
 -- into its body
 pub valof_entered : (address : ℕ → ℕ) (p first : ℕ) (ws : List Valof) (n s next : ℕ) (v : Valof) (rs after : List Rest) (st : State) → first ≤ n → n < length ws → next ≡ n + 1 → after ≡ Results ∷ rs

@@ -6,7 +6,7 @@ use Rattle.bc_core.specs.Outcome as outcomes
 use Rattle.bc_core.specs.Outcome.{Done, written}
 use Rattle.bc_interpret_defs.specs.Causes as causes
 use Rattle.bc_interpret_defs.specs.Causes.{StandsIn, Stood}
-use Rattle.bc_interpret_quiet.specs.declared.sight.Cause.TheVariants as quiet_causes
+use Rattle.bc_interpret_pure.specs.declared.context.Cause.TheVariants as quiet_causes
 use Rattle.bc_interpret_steps.specs.declared.state.State.{State}
 use Rattle.bc_interpret_steps.specs.Came.{state_of, Wrote}
 
@@ -20,7 +20,7 @@ written_live Dead a w st n = absurd (n refl)
 written_live Unset a w st n = refl
 written_live (Set x) a w st n = refl
 
--- a cell that has no word behind a write had none before
+-- a cell that has no word after a write had none before
 still : (cells : List Cell) (a w b : ℕ) (c : Cell) → IsNoWord c → cell_at (slice_set cells a (Set w)) b ≡ c → cell_at cells b ≡ c
 still [] a w b c n e = e
 still (x ∷ xs) zero w zero c n e = absurd (subst IsNoWord (sym e) n)

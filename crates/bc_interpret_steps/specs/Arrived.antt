@@ -18,9 +18,9 @@ use Rattle.bc_interpret_defs.specs.Quiet as quiet
 use Rattle.bc_interpret_defs.specs.Quiet.{worth}
 use Rattle.bc_interpret_defs.specs.Machine.{give, arrive}
 use Rattle.bc_interpret_defs.specs.Meeting.{Refused}
-use Rattle.bc_interpret_quiet.specs.Causes.{cause_of}
+use Rattle.bc_interpret_pure.specs.Causes.{cause_of}
 use Rattle.bc_interpret_steps.specs.declared.forms.Arguments.{Arguments}
-use Rattle.bc_interpret_steps.specs.declared.rests.Rest.{Rest}
+use Rattle.bc_interpret_steps.specs.declared.continuations.Rest.{Rest}
 use Rattle.bc_interpret_steps.specs.declared.state.State.{State}
 use Rattle.bc_interpret_steps.specs.declared.state.Stacks.{Stacks}
 use Rattle.bc_interpret_steps.specs.declared.forms.Progress.{Progress}
@@ -30,7 +30,7 @@ use Rattle.bc_interpret_steps.specs.Code.{spot_of, given_for, stack, given}
 use Rattle.bc_interpret_steps.specs.Came.{state_of, primitive_of, Came, Goes}
 use Rattle.bc_interpret_steps.specs.Sections.{IsTable}
 
--- the arguments from here on, behind those that are given
+-- the arguments from here on, after those that are given
 abbrev pub Argued : Arguments → (before : List Rest) → List machine.Rest → machine.Step
 Argued a before rs = machine.argue (spot_of a.spot) (given_for a.fresh (given before)) (args a.left.now) a.level (exp a.routine.now) a.count a.s rs
 
@@ -39,18 +39,18 @@ ArguedLast a before rs = machine.argue (spot_of a.spot) (given_for a.fresh (give
 
 -- the first argument is given, and these are left; or this came of the step
 abbrev pub IsGivenOne : Arguments → CoreExp → List CoreExp → (before : List Rest) → State → Given → Progress → (after : List Rest) → Type 0
-IsGivenOne a first behind before st (forms.One next) p after =
-    (next.left.now ≡ behind)
+IsGivenOne a first following before st (forms.One next) p after =
+    (next.left.now ≡ following)
     × ((streams : Content)
-    → machine.argue (spot_of a.spot) (given_for a.fresh (given before)) (argument (exp first) (args behind)) a.level (exp a.routine.now) a.count a.s (stack
+    → machine.argue (spot_of a.spot) (given_for a.fresh (given before)) (argument (exp first) (args following)) a.level (exp a.routine.now) a.count a.s (stack
     before) (state_of st streams)
     ≡ Argued next after (stack after) (state_of st streams))
-IsGivenOne a first behind before st forms.Over p after =
-    Goes (machine.argue (spot_of a.spot) (given_for a.fresh (given before)) (argument (exp first) (args behind)) a.level (exp a.routine.now) a.count a.s)
+IsGivenOne a first following before st forms.Over p after =
+    Goes (machine.argue (spot_of a.spot) (given_for a.fresh (given before)) (argument (exp first) (args following)) a.level (exp a.routine.now) a.count a.s)
     before st p after st
 
--- A primitive is called: its turn is taken, it has its argument, and its work stands in front of what is left, with its argument's cell
--- given back behind it.
+-- A primitive is called: its turn is taken, it has its argument, and its work stands before what is left, with its argument's cell
+-- given back after it.
 pub record IsServed (r : machine.Step) (called : Option Callee) (arguments : List ℕ) (f : ℕ) (q : primitives.Primitive) (g : ℕ)
     (old : State) (rs : List machine.Rest) (new : State) : Type 0 where
   pub comes : (streams : Content)

@@ -6,7 +6,7 @@ use Rattle.bc_core.specs.Commands.{Command, Items}
 use Rattle.bc_core.specs.Lists.{Beginning}
 use Rattle.bc_interpret_defs.specs.Laws.{FailsBy}
 use Rattle.bc_interpret_defs.specs.Causes.{StandsIn, Stood}
-use Rattle.bc_interpret_quiet.specs.Causes.{cause_of}
+use Rattle.bc_interpret_pure.specs.Causes.{cause_of}
 use Rattle.bc_core.specs.Outcome.{Outcome, Done, Ended, Wild, ZeroDivide, followed, second_side, write}
 use Rattle.bc_core.specs.Value.{has_call, assign}
 use Rattle.bc_core.specs.View.{command as command_view, items_before}
@@ -63,8 +63,8 @@ IsDone E c old (Some done) new =
 -- what comes next in a list whose first item this is, and which is entered so
 abbrev pub IsNext : Next → ListItem → Entry → Type 0
 IsNext (nexts.Passes next) i at =
-    (E : machine.Spot) (behind : Items) (s : ℕ) (rs : List machine.Rest) → list_step E (items_before i behind) s (entry_of at) rs ≡ list_step E behind s
+    (E : machine.Spot) (following : Items) (s : ℕ) (rs : List machine.Rest) → list_step E (items_before i following) s (entry_of at) rs ≡ list_step E following s
     (entry_of next) rs
 IsNext (nexts.Does c) i at =
-    (E : machine.Spot) (behind : Items) (s : ℕ) (rs : List machine.Rest)
-    → list_step E (items_before i behind) s (entry_of at) rs ≡ first_command E (command_view c.now) behind s rs (list_step E behind s Beginning rs)
+    (E : machine.Spot) (following : Items) (s : ℕ) (rs : List machine.Rest)
+    → list_step E (items_before i following) s (entry_of at) rs ≡ first_command E (command_view c.now) following s rs (list_step E following s Beginning rs)

@@ -8,13 +8,13 @@ use Rattle.bc_interpret_defs.specs.Quiet as quiet
 use Rattle.bc_core.specs.Exit as exits
 use Rattle.bc_core.specs.Lists as lists
 use Rattle.bc_core.specs.Primitive as primitives
-use Rattle.bc_interpret_quiet.specs.declared.sight.Cause.{Cause}
-use Rattle.bc_interpret_quiet.specs.declared.sight.Cause.TheVariants as causes
-use Rattle.bc_interpret_quiet.specs.Causes.{cause_of}
-use Rattle.bc_interpret_quiet.specs.declared.worth.Worth.{Worth}
-use Rattle.bc_interpret_quiet.specs.declared.worth.Worth.TheVariants as worths
-use Rattle.bc_interpret_quiet.specs.declared.worth.Truth.{Truth}
-use Rattle.bc_interpret_quiet.specs.declared.worth.Truth.TheVariants as truths
+use Rattle.bc_interpret_pure.specs.declared.context.Cause.{Cause}
+use Rattle.bc_interpret_pure.specs.declared.context.Cause.TheVariants as causes
+use Rattle.bc_interpret_pure.specs.Causes.{cause_of}
+use Rattle.bc_interpret_pure.specs.declared.value.Worth.{Worth}
+use Rattle.bc_interpret_pure.specs.declared.value.Worth.TheVariants as worths
+use Rattle.bc_interpret_pure.specs.declared.value.Truth.{Truth}
+use Rattle.bc_interpret_pure.specs.declared.value.Truth.TheVariants as truths
 use Rattle.bc_interpret_steps.specs.declared.state.State.{State}
 use Rattle.bc_interpret_steps.specs.declared.calls.Fit.{Fit}
 use Rattle.bc_interpret_steps.specs.declared.calls.Fit.TheVariants as fits
@@ -28,8 +28,8 @@ use Rattle.bc_interpret_steps.specs.declared.forms.Exit.{Exit}
 use Rattle.bc_interpret_steps.specs.declared.forms.Progress.{Progress}
 use Rattle.bc_interpret_steps.specs.declared.forms.Progress.TheVariants as progress
 use Rattle.bc_interpret_defs.specs.Machine as machine
-use Rattle.bc_interpret_defs.specs.Machine.{give, behind, frame_taken}
-use Rattle.bc_interpret_steps.specs.declared.rests.Rest.{Rest}
+use Rattle.bc_interpret_defs.specs.Machine.{give, following, frame_taken}
+use Rattle.bc_interpret_steps.specs.declared.continuations.Rest.{Rest}
 use Rattle.bc_interpret_steps.specs.Code.{work_of, exit_of, stacked, then_given, stack, given}
 
 abbrev pub state_of : State → Content → outcomes.State
@@ -67,9 +67,9 @@ Goes f before old p after new = Came (f (stack before)) old p (stack after) (giv
 abbrev pub GoesOrMalformed : (List machine.Rest → machine.Step) → (before : List Rest) → (old : State) → Progress → (after : List Rest) → (new : State) → Type 0
 GoesOrMalformed f before old p after new = CameOrMalformed (f (stack before)) old p (stack after) (given after) new
 
--- this comes next, and that is left to do behind it
-abbrev pub StandsBehind : Rest → Progress → (before : List Rest) → Progress → (after : List Rest) → Type 0
-StandsBehind r next before p after =
+-- this comes next, and that is left to do after it
+abbrev pub StandsAfter : Rest → Progress → (before : List Rest) → Progress → (after : List Rest) → Type 0
+StandsAfter r next before p after =
     (stack after ≡ stacked (stack before) (given before) r) × (given after ≡ then_given (given before) r) × (p ≡ next)
 
 -- a turn was taken, or none is left
@@ -98,14 +98,14 @@ progress_of_truth (truths.Fails c) = progress.Wild c
 abbrev pub sight : State → machine.Spot → quiet.Sight
 sight st E = record { cells = st.store; address = E.address; frame = E.frame }
 
--- what comes behind a loop's body that control leaves so
-abbrev pub IsBehind : Option Exit → exits.Exit → Type 0
-IsBehind None x = (again : machine.Step) (rs : List machine.Rest) → behind again x rs ≡ again
-IsBehind (Some y) x = (again : machine.Step) (rs : List machine.Rest) → behind again x rs ≡ give (machine.Left (exit_of y)) rs
+-- what comes after a loop's body that control leaves so
+abbrev pub IsAfter : Option Exit → exits.Exit → Type 0
+IsAfter None x = (again : machine.Step) (rs : List machine.Rest) → following again x rs ≡ again
+IsAfter (Some y) x = (again : machine.Step) (rs : List machine.Rest) → following again x rs ≡ give (machine.Left (exit_of y)) rs
 
 -- how control leaves a SWITCHON whose list it leaves so
-abbrev pub IsBehindCases : (out within : exits.Exit) → Type 0
-IsBehindCases out within = (st : outcomes.State) → lists.behind_cases within st ≡ outcomes.Done out st
+abbrev pub IsAfterCases : (out within : exits.Exit) → Type 0
+IsAfterCases out within = (st : outcomes.State) → lists.after_cases within st ≡ outcomes.Done out st
 
 -- whether a call goes on in a frame at f
 abbrev pub Framed : Fit → (f size : ℕ) → State → State → Type 0

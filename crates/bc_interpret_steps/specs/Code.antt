@@ -1,4 +1,4 @@
--- What the interpreter's values stand for.
+-- What the interpreter's values mean.
 use Rattle.std.specs.Prelude.{◌≡◌, ℕ, Bool, true, false, List, [], ◌∷◌, ◌++◌, map, drop, reverse, slice_index_or, Option, Some, None}
 use Rattle.bc_core.specs.View.{exp, args, items, variable, declarations, command, block_of, valof_of}
 use Rattle.bc_core.specs.Commands as commands
@@ -12,18 +12,18 @@ use Rattle.bc_interpret_steps.specs.declared.forms.Entry.{Entry}
 use Rattle.bc_interpret_steps.specs.declared.forms.Entry.TheVariants as entries
 use Rattle.bc_interpret_steps.specs.declared.forms.Work.{Work}
 use Rattle.bc_interpret_steps.specs.declared.forms.Work.TheVariants as works
-use Rattle.bc_interpret_steps.specs.declared.rests.NumberRest.{NumberRest}
-use Rattle.bc_interpret_steps.specs.declared.rests.NumberRest.TheVariants as number_rests
-use Rattle.bc_interpret_steps.specs.declared.rests.ValueRest.{ValueRest}
-use Rattle.bc_interpret_steps.specs.declared.rests.ValueRest.TheVariants as value_rests
-use Rattle.bc_interpret_steps.specs.declared.rests.TruthRest.{TruthRest}
-use Rattle.bc_interpret_steps.specs.declared.rests.TruthRest.TheVariants as truth_rests
-use Rattle.bc_interpret_steps.specs.declared.rests.NothingRest.{NothingRest}
-use Rattle.bc_interpret_steps.specs.declared.rests.NothingRest.TheVariants as nothing_rests
-use Rattle.bc_interpret_steps.specs.declared.rests.ExitRest.{ExitRest}
-use Rattle.bc_interpret_steps.specs.declared.rests.ExitRest.TheVariants as exit_rests
-use Rattle.bc_interpret_steps.specs.declared.rests.Rest.{Rest}
-use Rattle.bc_interpret_steps.specs.declared.rests.Rest.TheVariants as rests
+use Rattle.bc_interpret_steps.specs.declared.continuations.NumberRest.{NumberRest}
+use Rattle.bc_interpret_steps.specs.declared.continuations.NumberRest.TheVariants as number_rests
+use Rattle.bc_interpret_steps.specs.declared.continuations.ValueRest.{ValueRest}
+use Rattle.bc_interpret_steps.specs.declared.continuations.ValueRest.TheVariants as value_rests
+use Rattle.bc_interpret_steps.specs.declared.continuations.TruthRest.{TruthRest}
+use Rattle.bc_interpret_steps.specs.declared.continuations.TruthRest.TheVariants as truth_rests
+use Rattle.bc_interpret_steps.specs.declared.continuations.NothingRest.{NothingRest}
+use Rattle.bc_interpret_steps.specs.declared.continuations.NothingRest.TheVariants as nothing_rests
+use Rattle.bc_interpret_steps.specs.declared.continuations.ExitRest.{ExitRest}
+use Rattle.bc_interpret_steps.specs.declared.continuations.ExitRest.TheVariants as exit_rests
+use Rattle.bc_interpret_steps.specs.declared.continuations.Rest.{Rest}
+use Rattle.bc_interpret_steps.specs.declared.continuations.Rest.TheVariants as rests
 
 abbrev pub spot_of : Spot → machine.Spot
 spot_of E =

@@ -12,30 +12,30 @@ use Rattle.bc_interpret_steps.specs.declared.state.State.{State}
 use Rattle.bc_interpret_steps.specs.declared.forms.Entry.{Entry}
 use Rattle.bc_interpret_steps.specs.declared.forms.Entry.TheVariants as entries
 use Rattle.bc_interpret_steps.specs.declared.forms.Progress.{Progress}
-use Rattle.bc_interpret_steps.specs.declared.rests.Rest.{Rest}
+use Rattle.bc_interpret_steps.specs.declared.continuations.Rest.{Rest}
 use Rattle.bc_interpret_steps.specs.declared.lists.Along.{Along}
 use Rattle.bc_interpret_steps.specs.declared.lists.Along.TheVariants as forms
 use Rattle.bc_interpret_steps.specs.Code.{entry_of}
 use Rattle.bc_interpret_steps.specs.Came.{state_of, Goes}
 
--- the items behind it are entered so, what is left to do stays, and what is unset or not live was so before; or this came of the step
+-- the items after it are entered so, what is left to do stays, and what is unset or not live was so before; or this came of the step
 abbrev pub IsAlong :
-    machine.Spot → (first : ListItem) → (behind : List ListItem) → (s : ℕ) → Entry → (before : List Rest) → (old : State) → Along → Progress
+    machine.Spot → (first : ListItem) → (following : List ListItem) → (s : ℕ) → Entry → (before : List Rest) → (old : State) → Along → Progress
     → (after : List Rest) → (new : State) → Type 0
-IsAlong E first behind s at before old (forms.On next) p after new =
+IsAlong E first following s at before old (forms.On next) p after new =
     (after ≡ before)
     × ((rs : List machine.Rest) (streams : Content)
-    → list_step E (items_before first (items behind)) s (entry_of at) rs (state_of old streams) ≡ list_step E (items behind) s (entry_of next) rs (state_of new
+    → list_step E (items_before first (items following)) s (entry_of at) rs (state_of old streams) ≡ list_step E (items following) s (entry_of next) rs (state_of new
     streams))
     × Stood old.store new.store
-IsAlong E first behind s at before old forms.Over p after new = Goes (list_step E (items_before first (items behind)) s (entry_of at)) before old p after new
+IsAlong E first following s at before old forms.Over p after new = Goes (list_step E (items_before first (items following)) s (entry_of at)) before old p after new
 
 -- whether the item is the place at which a list is entered so, which is not at its beginning
 abbrev pub IsEntry : Bool → ListItem → Entry → Type 0
 IsEntry here i entries.Beginning = Unit {0}
 IsEntry here i at =
-    (E : machine.Spot) (behind : Items) (s : ℕ) (rs : List machine.Rest)
-    → list_step E (items_before i behind) s (entry_of at) rs ≡ list_step E behind s (met here (entry_of at)) rs
+    (E : machine.Spot) (following : Items) (s : ℕ) (rs : List machine.Rest)
+    → list_step E (items_before i following) s (entry_of at) rs ≡ list_step E following s (met here (entry_of at)) rs
 
 -- these items are left of a list, of which none so far is the place
 abbrev pub IsBeforeEntry : (left all : List ListItem) → Entry → Type 0
@@ -43,10 +43,10 @@ IsBeforeEntry left all entries.Beginning = Unit {0}
 IsBeforeEntry left all at =
     (E : machine.Spot) (s : ℕ) (rs : List machine.Rest) → list_step E (items all) s (entry_of at) rs ≡ list_step E (items left) s (entry_of at) rs
 
--- these are behind the place
-abbrev pub IsBehindEntry : (left all : List ListItem) → Entry → Type 0
-IsBehindEntry left all entries.Beginning = Unit {0}
-IsBehindEntry left all at =
+-- these are after the place
+abbrev pub IsAfterEntry : (left all : List ListItem) → Entry → Type 0
+IsAfterEntry left all entries.Beginning = Unit {0}
+IsAfterEntry left all at =
     (E : machine.Spot) (s : ℕ) (rs : List machine.Rest) → list_step E (items all) s (entry_of at) rs ≡ list_step E (items left) s Beginning rs
 
 -- the list, entered so, is these from their beginning on

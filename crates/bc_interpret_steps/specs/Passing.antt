@@ -1,4 +1,4 @@
--- For proofs: steps that change no cell and take no turn, one behind another, and a last one behind them.
+-- For proofs: steps that change no cell and take no turn, one after another, and a last one after them.
 use Rattle.std.specs.Prelude.{ℕ, ◌≡◌, ◌⊎◌, ◌-◌, ◌<◌, slice_get, Bool, true, false, List, [], ◌∷◌, ◌++◌, length, Option, Some, None, Vec, Result, OnOk}
 use Rattle.std.specs.declared.alloc.Global.{Global}
 use Rattle.bc_core.specs.Commands.{Items}
@@ -9,8 +9,8 @@ use Rattle.bc_core.specs.Tree.{Exp, Bin, Call}
 use Rattle.bc_core.specs.View.{exp, args}
 use Rattle.bc_core.specs.Value.{has_call}
 use Rattle.bc_interpret_defs.specs.Quiet.{worth}
-use Rattle.bc_interpret_quiet.specs.declared.worth.Worth.{Worth}
-use Rattle.bc_interpret_quiet.specs.Views.{seen}
+use Rattle.bc_interpret_pure.specs.declared.value.Worth.{Worth}
+use Rattle.bc_interpret_pure.specs.Views.{seen}
 use Rattle.bc_interpret_defs.specs.Machine as machine
 use Rattle.bc_machine_defs.specs.Streams.{Content}
 use Rattle.bc_interpret_defs.specs.Machine.{step}
@@ -21,12 +21,12 @@ use Rattle.bc_interpret_steps.specs.declared.forms.Work.{Work}
 use Rattle.bc_interpret_steps.specs.declared.forms.Work.TheVariants as works
 use Rattle.bc_interpret_steps.specs.declared.forms.Progress.{Progress}
 use Rattle.bc_interpret_steps.specs.declared.forms.Progress.TheVariants as progress
-use Rattle.bc_interpret_steps.specs.declared.inward.FirstCall.{FirstCall}
+use Rattle.bc_interpret_steps.specs.declared.descend.FirstCall.{FirstCall}
 use Rattle.bc_interpret_steps.specs.declared.operands.Operator.{Operator}
-use Rattle.bc_interpret_steps.specs.declared.rests.NumberRest.TheVariants as number_rests
-use Rattle.bc_interpret_steps.specs.declared.rests.ExitRest.{ExitRest}
-use Rattle.bc_interpret_steps.specs.declared.rests.Rest.{Rest}
-use Rattle.bc_interpret_steps.specs.declared.rests.Rest.TheVariants as rests
+use Rattle.bc_interpret_steps.specs.declared.continuations.NumberRest.TheVariants as number_rests
+use Rattle.bc_interpret_steps.specs.declared.continuations.ExitRest.{ExitRest}
+use Rattle.bc_interpret_steps.specs.declared.continuations.Rest.{Rest}
+use Rattle.bc_interpret_steps.specs.declared.continuations.Rest.TheVariants as rests
 use Rattle.bc_interpret_steps.specs.declared.sections.Callable.{Callable}
 use Rattle.bc_interpret_steps.specs.Came.{state_of, sight, progress_of}
 use Rattle.bc_interpret_steps.specs.Code.{exit_of, exit_rest, stack, given}
@@ -104,12 +104,12 @@ leaving x rs = record { work = machine.Give (machine.Left x); rests = rs }
 abbrev pub PassesOn : exits.Exit → List machine.Rest → exits.Exit → List machine.Rest → Type 0
 PassesOn x rs y rs1 = (program : List Placed) (old : State) → (along : List machine.At) × Passes program old (leaving x rs) along (leaving y rs1)
 
--- the items behind a command that control leaves so do nothing
+-- the items after a command that control leaves so do nothing
 abbrev pub IsLeft : Items → exits.Exit → Bool → Type 0
 IsLeft is x false = Unit {0}
 IsLeft is x true = (E : machine.Spot) (s : ℕ) (rs : List machine.Rest) → PassesOn x (machine.Follows E is s ∷ rs) x rs
 
--- whatever is behind it
+-- whatever is after it
 abbrev pub IsHandedOn : exits.Exit → ExitRest → Option Exit → Type 0
 IsHandedOn x r None = Unit {0}
 IsHandedOn x r (Some y) = (rs : List machine.Rest) → PassesOn x (exit_rest r ∷ rs) (exit_of y) rs

@@ -9,12 +9,12 @@ use Rattle.bc_core.specs.Outcome as outcomes
 use Rattle.bc_core.specs.Primitive as primitives
 use Rattle.bc_interpret_defs.specs.Machine.{step, next}
 use Rattle.bc_interpret_defs.specs.Meeting.{IsCall, Meets}
-use Rattle.bc_interpret_quiet.specs.Causes.{cause_of}
+use Rattle.bc_interpret_pure.specs.Causes.{cause_of}
 use Rattle.bc_interpret_defs.specs.Running.{Moves}
 use Rattle.bc_interpret_steps.specs.declared.state.State.{State}
 use Rattle.bc_interpret_steps.specs.declared.forms.Progress.{Progress}
 use Rattle.bc_interpret_steps.specs.declared.forms.Progress.TheVariants as progress
-use Rattle.bc_interpret_steps.specs.declared.rests.Rest.{Rest}
+use Rattle.bc_interpret_steps.specs.declared.continuations.Rest.{Rest}
 use Rattle.bc_interpret_steps.specs.declared.sections.Callable.{Callable}
 use Rattle.bc_interpret_steps.specs.Code.{stack, given}
 use Rattle.bc_interpret_steps.specs.Came.{state_of, primitive_of, Came, CameOrMalformed, Goes, GoesOrMalformed}
@@ -64,7 +64,7 @@ abbrev pub TakesOrMalformed :
 TakesOrMalformed r a before old result p after new =
     (program : List Placed) → OnOk result (GoesOrMalformed (next program r a) before.items old p after.items new)
 
--- which leaves what is behind it alone,
+-- which leaves what is after it alone,
 abbrev pub Gives : machine.Rest → machine.Answer → (old : State) → Progress → (new : State) → Type 0
 Gives r a old p new = (program : List Placed) (rs : List machine.Rest) (vs : List ℕ) → Came (next program r a rs) old p rs vs new
 

@@ -6,14 +6,14 @@ ghost use Rattle.bc_interpret_steps.specs.Stepped.{StepsOver};
 ghost use Rattle.bc_interpret_steps.specs.Passing.{RunsOver};
 
 use crate::calls::arrive;
+use crate::conditions::truth_taken;
+use crate::continuations::Rest;
 use crate::exits::{exit_taken, nothing_taken};
 use crate::forms::{Exit, Progress, Work};
 use crate::numbers::{number_taken, value_taken};
-use crate::rests::Rest;
 use crate::sections::Callable;
 use crate::state::{Stacks, State};
-use crate::truths::truth_taken;
-use bc_interpret_quiet::Cause;
+use bc_interpret_pure::Cause;
 use bc_word::Memory;
 
 /// A number is handed on.
@@ -79,7 +79,7 @@ pub(crate) fn give_verdict<'c>(
     }
 }
 
-/// What is left behind a store or an initialiser goes on.
+/// What is left after a store or an initialiser goes on.
 pub(crate) fn give_nothing<'c>(
     table: &[Callable<'c>],
     stacks: &mut Stacks<'c>,
@@ -112,7 +112,7 @@ pub(crate) fn give_nothing<'c>(
     }
 }
 
-/// Control has left a command. What does nothing behind it is passed at once.
+/// Control has left a command. What does nothing after it is passed at once.
 #[inline(always)]
 pub(crate) fn give_exit<'c>(
     table: &[Callable<'c>],

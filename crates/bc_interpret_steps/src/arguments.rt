@@ -8,15 +8,15 @@ ghost use Rattle.bc_interpret_steps.specs.Arrived.{Argued, ArguedLast, IsGivenOn
 ghost use Rattle.bc_interpret_steps.specs.Came.{sight};
 ghost use Rattle.bc_interpret_steps.specs.Stepped.{Proceeds};
 
+use crate::continuations::{NumberRest, Rest, above, put, take};
 use crate::evaluate::{settled, worth_at};
 use crate::forms::{Arguments, Ending, Progress, Spot, Work};
-use crate::rests::{NumberRest, Rest, above, put, take};
 use crate::state::{Stacks, State};
 use bc_core::CoreExp;
-use bc_interpret_quiet::{Room, Worth};
+use bc_interpret_pure::{Room, Worth};
 use bc_word::Memory;
 
-/// One step into the arguments that are left, and then into the routine's value. Those with no call in them are worked out at once.
+/// One step into the arguments that are left, and then into the routine's value. Those with no call in them are computed at once.
 pub(crate) fn argue<'c>(
     arguments: Arguments<'c>,
     stacks: &mut Stacks<'c>,
@@ -25,8 +25,8 @@ pub(crate) fn argue<'c>(
     ensures { Proceeds (Argued arguments.entry stacks.old.rests.items) stacks.old.rests state.now result stacks.new.next stacks.new.rests state.now }
 {
     let mut now = arguments;
-    while let [first, behind @ ..] = now.left {
-        let given = give_argument(now, first, behind, stacks, state)?;
+    while let [first, following @ ..] = now.left {
+        let given = give_argument(now, first, following, stacks, state)?;
         match given {
             Given::One(next) => now = next,
             Given::Over => return Ok(()),
@@ -50,54 +50,54 @@ enum Given<'c> {
 fn give_argument<'c>(
     arguments: Arguments<'c>,
     first: &'c CoreExp,
-    behind: &'c [CoreExp],
+    following: &'c [CoreExp],
     stacks: &mut Stacks<'c>,
     state: &State,
 ) -> Result<Given<'c>, Memory>
     ensures { IfOk result (λ given.
-        IsGivenOne arguments.entry first.now behind.now stacks.old.rests.items state.now given stacks.new.next stacks.new.rests.items) }
+        IsGivenOne arguments.entry first.now following.now stacks.old.rests.items state.now given stacks.new.next stacks.new.rests.items) }
 {
     match worth_at(&arguments.spot, first, &mut stacks.room, state)? {
         Some(Worth::Is(v)) => {
             put(Rest::Given(v, arguments.fresh), &mut stacks.rests)?;
             Ok(Given::One(Arguments {
-                left: behind,
+                left: following,
                 level: above(arguments.level, 1)?,
                 fresh: false,
                 ..arguments
             }))
         }
         Some(Worth::Divides) => {
-            put_argues(arguments, behind, &mut stacks.rests)?;
+            put_argues(arguments, following, &mut stacks.rests)?;
             stacks.next = Progress::Ended(Ending::ZeroDivide);
             Ok(Given::Over)
         }
         Some(Worth::Fails(cause)) => {
-            put_argues(arguments, behind, &mut stacks.rests)?;
+            put_argues(arguments, following, &mut stacks.rests)?;
             stacks.next = Progress::Wild(cause);
             Ok(Given::Over)
         }
         None => {
-            put_argues(arguments, behind, &mut stacks.rests)?;
+            put_argues(arguments, following, &mut stacks.rests)?;
             stacks.next = Progress::On(Work::Evaluate(arguments.spot, first, arguments.level));
             Ok(Given::Over)
         }
     }
 }
 
-/// Puts what is left to do behind the first argument.
+/// Puts what is left to do after the first argument.
 fn put_argues<'c>(
     arguments: Arguments<'c>,
-    behind: &'c [CoreExp],
+    following: &'c [CoreExp],
     rests: &mut Vec<Rest<'c>>,
 ) -> Result<(), Memory>
     ensures { OnOk result (stack rests.new.items
-        ≡ machine.Argues (spot_of arguments.entry.spot) (given_for arguments.entry.fresh (given rests.old.items)) (args behind.now) arguments.entry.level
+        ≡ machine.Argues (spot_of arguments.entry.spot) (given_for arguments.entry.fresh (given rests.old.items)) (args following.now) arguments.entry.level
         (exp arguments.entry.routine.now) arguments.entry.count arguments.entry.s ∷ stack rests.old.items) }
 {
     put(
         Rest::Number(NumberRest::Argues(Arguments {
-            left: behind,
+            left: following,
             ..arguments
         })),
         rests,

@@ -3,14 +3,14 @@
 ghost use Rattle.std.specs.Prelude.{ℕ, IfOk};
 ghost use Rattle.bc_core.specs.View.{exp, command as command_view};
 ghost use Rattle.bc_interpret_steps.specs.Code.{spot_of};
-ghost use Rattle.bc_interpret_quiet.specs.Views.{seen};
+ghost use Rattle.bc_interpret_pure.specs.Views.{seen};
 ghost use Rattle.bc_interpret_steps.specs.Assigns.{BothWorth, IsAssigned, IsDone};
 
 use crate::evaluate::worth_at;
 use crate::forms::Spot;
 use crate::state::{State, put_word};
 use bc_core::{Command, CoreExp};
-use bc_interpret_quiet::{Cause, Room, Worth};
+use bc_interpret_pure::{Cause, Room, Worth};
 use bc_word::Memory;
 
 /// What came of an assignment without call.

@@ -10,13 +10,13 @@ ghost use Rattle.bc_interpret_steps.specs.Code.{spot_of};
 ghost use Rattle.bc_interpret_steps.specs.Passing.{RunsInto};
 ghost use Rattle.bc_interpret_steps.specs.Sections.{IsSized, callee_of};
 
+use crate::continuations::{ExitRest, Rest, above, put};
 use crate::evaluate::call;
 use crate::forms::{Primitive, Progress, Spot, Work};
-use crate::rests::{ExitRest, Rest, above, put};
 use crate::sections::{Callable, routine_at};
 use crate::state::{Called, Stacks, State, turn};
 use bc_core::{Body, CoreExp};
-use bc_interpret_quiet::Cause;
+use bc_interpret_pure::Cause;
 use bc_machine_defs::Side;
 use bc_word::Memory;
 

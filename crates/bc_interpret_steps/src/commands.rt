@@ -9,26 +9,26 @@ ghost use Rattle.bc_interpret_defs.specs.Machine as machine;
 ghost use Rattle.bc_core.specs.Level.{level_in_for, cells_of as cells_of_variable, cells_of_all as cells_of_variables, cells_declared as cells_of_declarations};
 ghost use Rattle.bc_core.specs.View.{exp, variable, declarations as declarations_view, command as command_view, items as items_view, block_of};
 ghost use Rattle.bc_core.specs.Commands as commands;
-ghost use Rattle.bc_interpret_steps.specs.declared.rests.TruthRest.TheVariants as truth_rests;
+ghost use Rattle.bc_interpret_steps.specs.declared.continuations.TruthRest.TheVariants as truth_rests;
 ghost use Rattle.bc_interpret_steps.specs.declared.state.State.{State as StateValue};
 ghost use Rattle.bc_interpret_steps.specs.Code.{spot_of, value_rest, truth_rest};
 ghost use Rattle.bc_interpret_steps.specs.Came.{Came};
 ghost use Rattle.bc_interpret_steps.specs.Stepped.{Proceeds, ProceedsOrMalformed};
 
 use crate::assign::{Assigned, assign_at_once};
+use crate::conditions::agrees;
+use crate::continuations::{ExitRest, NothingRest, Rest, TruthRest, ValueRest, above, put};
 use crate::evaluate::{decide, decide_part, evaluate, truth_at};
 use crate::forms::{Ending, Entry, Exit, Progress, Spot, Work};
 use crate::lists::listing;
 use crate::numbers::side_level;
-use crate::rests::{ExitRest, NothingRest, Rest, TruthRest, ValueRest, above, put};
-use crate::state::{Stacks, State, put_behind, put_word, turn};
-use crate::truths::agrees;
+use crate::state::{Stacks, State, put_after, put_word, turn};
 use bc_core::{Block, Command, Condition, CoreExp, Declaration, ListItem, Variable};
-use bc_interpret_quiet::{Cause, Truth, cell_of};
+use bc_interpret_pure::{Cause, Truth, cell_of};
 use bc_interpret_store::Cell;
 use bc_word::Memory;
 
-/// One step into an assignment, which is passed behind it.
+/// One step into an assignment, which is passed after it.
 #[inline(always)]
 fn assign<'c>(
     spot: Spot<'c>,
@@ -70,7 +70,7 @@ pub(crate) fn perform<'c>(
         (command_view command.now) s) stacks.old.rests state.old result stacks.new.next stacks.new.rests state.new }
 {
     match command {
-        Command::Call(call) => behind_value(ValueRest::Drops, spot, call, s, stacks, state),
+        Command::Call(call) => after_value(ValueRest::Drops, spot, call, s, stacks, state),
         Command::Assign { value, address } => assign(spot, value, address, s, stacks),
         Command::If(condition, body) => if_so(spot, condition, body, s, stacks, state),
         Command::Test(test, this, that) => test_which(spot, test, (this, that), s, stacks, state),
@@ -83,7 +83,7 @@ pub(crate) fn perform<'c>(
             by,
             body,
         } => for_loop(spot, (start, limit), by.get(), body, s, stacks, state),
-        Command::SwitchOn(value, items) => behind_value(
+        Command::SwitchOn(value, items) => after_value(
             ValueRest::Switches(spot, items, s),
             spot,
             value,
@@ -107,7 +107,7 @@ pub(crate) fn perform<'c>(
             stacks.next = Progress::On(Work::Left(Exit::Returned));
             Ok(())
         }
-        Command::ResultIs(value) => behind_value(ValueRest::Leaves, spot, value, s, stacks, state),
+        Command::ResultIs(value) => after_value(ValueRest::Leaves, spot, value, s, stacks, state),
         Command::Finish => {
             stacks.next = Progress::Ended(Ending::Finished);
             Ok(())
@@ -149,8 +149,8 @@ fn for_loop<'c>(
     Ok(())
 }
 
-/// One step into an expression in front of this.
-fn behind_value<'c>(
+/// One step into an expression before this.
+fn after_value<'c>(
     rest: ValueRest<'c>,
     spot: Spot<'c>,
     e: &'c CoreExp,
@@ -230,7 +230,7 @@ pub(crate) fn enter_either<'c>(
     Ok(enter(spot, that, s, stacks, state)?)
 }
 
-/// Into the body of a WHILE or UNTIL, behind which the loop goes on.
+/// Into the body of a WHILE or UNTIL, after which the loop goes on.
 #[inline(always)]
 fn while_body<'c>(
     spot: Spot<'c>,
@@ -292,12 +292,12 @@ fn if_so<'c>(
             let holds = agrees(condition.sense, t);
             enter_if(holds, spot, body, s, stacks, state)
         }
-        Some(Truth::Divides) => put_behind(
+        Some(Truth::Divides) => put_after(
             Rest::Truth(TruthRest::Ifs(spot, condition.sense, body, s)),
             Progress::Ended(Ending::ZeroDivide),
             stacks,
         ),
-        Some(Truth::Fails(cause)) => put_behind(
+        Some(Truth::Fails(cause)) => put_after(
             Rest::Truth(TruthRest::Ifs(spot, condition.sense, body, s)),
             Progress::Wild(cause),
             stacks,
@@ -331,12 +331,12 @@ pub(crate) fn while_loop<'c>(
             let holds = agrees(condition.sense, t);
             enter_while(holds, spot, condition, body, s, stacks, state)
         }
-        Some(Truth::Divides) => put_behind(
+        Some(Truth::Divides) => put_after(
             Rest::Truth(TruthRest::Whiles(spot, condition, body, s)),
             Progress::Ended(Ending::ZeroDivide),
             stacks,
         ),
-        Some(Truth::Fails(cause)) => put_behind(
+        Some(Truth::Fails(cause)) => put_after(
             Rest::Truth(TruthRest::Whiles(spot, condition, body, s)),
             Progress::Wild(cause),
             stacks,
@@ -509,14 +509,14 @@ pub(crate) fn declare<'c>(
         [first, left @ ..] => {
             let cells = cells_of_all(&first.variables)?;
             let from = above(spot.frame, s)?;
-            let behind = above(s, cells)?;
+            let following = above(s, cells)?;
             state.store.open(cells as usize, from as usize);
             put(Rest::Closes(cells, from), &mut stacks.rests)?;
             put(
-                Rest::Nothing(NothingRest::Declares(spot, left, items, behind, level)),
+                Rest::Nothing(NothingRest::Declares(spot, left, items, following, level)),
                 &mut stacks.rests,
             )?;
-            stacks.next = Progress::On(Work::Initialise(spot, &first.variables, s, behind));
+            stacks.next = Progress::On(Work::Initialise(spot, &first.variables, s, following));
             Ok(())
         }
     }
@@ -552,11 +552,11 @@ pub(crate) fn initialise<'c>(
             Ok(())
         }
         [Variable::Vector(greatest), left @ ..] => {
-            let behind = above(k, u32::from(greatest.get()) + 2)?;
+            let following = above(k, u32::from(greatest.get()) + 2)?;
             let first = cell_of(spot.frame as usize, above(k, 1)? as usize)?;
             match put_word(state, cell_of(spot.frame as usize, k as usize)?, first) {
                 None => {
-                    stacks.next = Progress::On(Work::Initialise(spot, left, behind, s));
+                    stacks.next = Progress::On(Work::Initialise(spot, left, following, s));
                     Ok(())
                 }
                 Some(cause) => {
@@ -614,7 +614,7 @@ pub(crate) fn round<'c>(
     }
 }
 
-/// Into the body of a FOR with this limit and this step, behind which the loop goes on.
+/// Into the body of a FOR with this limit and this step, after which the loop goes on.
 #[inline(always)]
 fn for_body<'c>(
     spot: Spot<'c>,

@@ -5,19 +5,19 @@ ghost use Rattle.bc_core.specs.View.{exp, args};
 ghost use Rattle.bc_core.specs.Tree as tree;
 ghost use Rattle.bc_interpret_defs.specs.Machine as machine;
 ghost use Rattle.bc_interpret_steps.specs.Code.{spot_of, number_rest, truth_rest, given};
-ghost use Rattle.bc_interpret_quiet.specs.Views.{IsWorth, IsTruth};
+ghost use Rattle.bc_interpret_pure.specs.Views.{IsWorth, IsTruth};
 ghost use Rattle.bc_interpret_steps.specs.declared.state.State.{State as StateValue};
 ghost use Rattle.bc_interpret_steps.specs.Came.{progress_of, progress_of_truth, sight};
 ghost use Rattle.bc_interpret_steps.specs.Stepped.{Proceeds, ProceedsOrMalformed};
 
 use crate::arguments::argue;
+use crate::conditions::branch_next;
+use crate::continuations::{ExitRest, NumberRest, Rest, TruthRest, above, put};
+use crate::descend::selects;
 use crate::forms::{Arguments, Ending, Progress, Spot, Work};
-use crate::inward::selects;
-use crate::rests::{ExitRest, NumberRest, Rest, TruthRest, above, put};
 use crate::state::{Stacks, State};
-use crate::truths::branch_next;
 use bc_core::CoreExp;
-use bc_interpret_quiet::{Cause, Room, Sight, Truth, Worth, truth_of, worth_of};
+use bc_interpret_pure::{Cause, Room, Sight, Truth, Worth, truth_of, worth_of};
 use bc_word::{Memory, Op};
 
 /// What an expression is worth, or none where a call stands in it.
@@ -86,7 +86,7 @@ pub(crate) fn verdict<'c>(truth: Truth) -> Progress<'c>
     }
 }
 
-/// One step into an expression whose value is wanted. One with no call in it is worked out at once.
+/// One step into an expression whose value is wanted. One with no call in it is computed at once.
 #[inline(always)]
 #[tactic(auto, using(crate::proofs::Quiet::valued, crate::proofs::Quiet::value_parts))]
 pub(crate) fn evaluate<'c>(
@@ -263,7 +263,7 @@ fn valof<'c>(spot: Spot<'c>, number: u32, s: u32, stacks: &mut Stacks<'c>) -> Re
     Ok(())
 }
 
-/// One step into an expression whose truth is wanted. One with no call in it is worked out at once.
+/// One step into an expression whose truth is wanted. One with no call in it is computed at once.
 #[inline(always)]
 #[tactic(auto, using(crate::proofs::Quiet::judged, crate::proofs::Quiet::truth_parts))]
 pub(crate) fn decide<'c>(

@@ -1,4 +1,4 @@
-// What is done where control leaves a command, and behind a store.
+// What is done where control leaves a command, and after a store.
 
 ghost use Rattle.std.specs.Prelude.{ℕ, List};
 ghost use Rattle.bc_core.specs.Exit.{Past};
@@ -8,22 +8,22 @@ ghost use Rattle.bc_interpret_defs.specs.Machine as machine;
 ghost use Rattle.bc_interpret_steps.specs.declared.state.State.{State as StateValue};
 ghost use Rattle.bc_interpret_steps.specs.Code.{spot_of, exit_of, exit_rest, nothing_rest, work_of, stack};
 ghost use Rattle.bc_interpret_steps.specs.Passing.{IsHandedOn, IsLeft, IsPassed, PassesOn};
-ghost use Rattle.bc_interpret_steps.specs.Came.{IsBehind, IsBehindCases, CameOrMalformed};
+ghost use Rattle.bc_interpret_steps.specs.Came.{IsAfter, IsAfterCases, CameOrMalformed};
 ghost use Rattle.bc_interpret_steps.specs.Stepped.{Takes, TakesOrMalformed, GivesOrMalformed, GivesIfOk};
 
+use crate::continuations::{ExitRest, NothingRest, Rest, TruthRest, ValueRest, above, put};
 use crate::forms::{Entry, Exit, Progress, Spot, Work};
 use crate::lists::{has_label, listing};
-use crate::rests::{ExitRest, NothingRest, Rest, TruthRest, ValueRest, above, put};
 use crate::state::{Stacks, State, put_word, turn};
 use bc_core::{Block, Condition, CoreExp, ListItem};
-use bc_interpret_quiet::{Cause, cell_of};
+use bc_interpret_pure::{Cause, cell_of};
 use bc_interpret_store::Cell;
 use bc_word::Memory;
 
-/// What comes behind a loop's body: none where the loop goes on, else how it is left.
+/// What comes after a loop's body: none where the loop goes on, else how it is left.
 #[inline(always)]
-fn behind(exit: Exit) -> Option<Exit>
-    ensures { IsBehind result (exit_of exit) }
+fn following(exit: Exit) -> Option<Exit>
+    ensures { IsAfter result (exit_of exit) }
 {
     match exit {
         Exit::Past | Exit::Looped => None,
@@ -35,7 +35,7 @@ fn behind(exit: Exit) -> Option<Exit>
     }
 }
 
-/// A FOR goes on behind its body: its variable is stepped, which takes a turn.
+/// A FOR goes on after its body: its variable is stepped, which takes a turn.
 #[tactic(auto, using(crate::proofs::Loops::stepped_dead, crate::proofs::Loops::stepped_unset))]
 fn step_variable<'c>(
     spot: Spot<'c>,
@@ -62,7 +62,7 @@ fn step_variable<'c>(
     Ok(Progress::On(Work::Round(spot, limit, by, body, s)))
 }
 
-/// Whether nothing is done behind a command, with these items behind it, that control leaves so.
+/// Whether nothing is done after a command, with these items after it, that control leaves so.
 #[inline(always)]
 fn is_left(items: &[ListItem], exit: Exit) -> bool
     ensures { IsLeft (items_view items.now) (exit_of exit) result }
@@ -81,7 +81,7 @@ fn is_left(items: &[ListItem], exit: Exit) -> bool
     }
 }
 
-/// How control leaves this where nothing is done behind it: a command of a list with none behind it, or which is left for good, a list to
+/// How control leaves this where nothing is done after it: a command of a list with none after it, or which is left for good, a list to
 /// which no jump leads, and a SWITCHON.
 #[inline(always)]
 fn handed_on(rest: &ExitRest<'_>, exit: Exit) -> Option<Exit>
@@ -104,7 +104,7 @@ fn handed_on(rest: &ExitRest<'_>, exit: Exit) -> Option<Exit>
             | Exit::Returned
             | Exit::Resulted(_) => Some(exit),
         },
-        ExitRest::Cases => Some(behind_cases(exit)),
+        ExitRest::Cases => Some(after_cases(exit)),
         ExitRest::Returns
         | ExitRest::Results
         | ExitRest::WhileBody(_, _, _, _)
@@ -114,7 +114,7 @@ fn handed_on(rest: &ExitRest<'_>, exit: Exit) -> Option<Exit>
     }
 }
 
-/// How control leaves what is left to do first, where nothing is done behind it.
+/// How control leaves what is left to do first, where nothing is done after it.
 #[inline(always)]
 fn passed(exit: Exit, rests: &[Rest<'_>]) -> Option<Exit>
     ensures { IsPassed (exit_of exit) rests.now result }
@@ -125,7 +125,7 @@ fn passed(exit: Exit, rests: &[Rest<'_>]) -> Option<Exit>
     }
 }
 
-/// Control leaves what is left to do first, as long as nothing is done behind it. How it leaves the last of that is given.
+/// Control leaves what is left to do first, as long as nothing is done after it. How it leaves the last of that is given.
 #[inline(always)]
 fn pass<'c>(exit: Exit, rests: &mut Vec<Rest<'c>>) -> Exit
     ensures { PassesOn (exit_of exit) (stack rests.old.items) (exit_of result) (stack rests.new.items) }
@@ -139,7 +139,7 @@ fn pass<'c>(exit: Exit, rests: &mut Vec<Rest<'c>>) -> Exit
 }
 
 impl<'c> Stacks<'c> {
-    /// Control leaves what is left to do first, as long as nothing is done behind it. How it leaves the last of that is given.
+    /// Control leaves what is left to do first, as long as nothing is done after it. How it leaves the last of that is given.
     #[inline(always)]
     pub(crate) fn pass(&mut self, exit: Exit) -> Exit
         ensures { PassesOn (exit_of exit) (stack self.old.rests.items) (exit_of result) (stack self.new.rests.items) }
@@ -181,7 +181,7 @@ pub(crate) fn exit_taken<'c>(
             step_on(*spot, (*limit, *by), body, *s, exit, stacks, state)
         }
         ExitRest::Cases => {
-            stacks.next = Progress::On(Work::Left(behind_cases(exit)));
+            stacks.next = Progress::On(Work::Left(after_cases(exit)));
             Ok(())
         }
         ExitRest::Follows(spot, items, s) => {
@@ -195,10 +195,10 @@ pub(crate) fn exit_taken<'c>(
 /// A WHILE or a REPEAT whose body control leaves so: it goes on with this, which takes a turn, or is left.
 #[inline(always)]
 fn loop_on<'c>(exit: Exit, again: Work<'c>, state: &mut State) -> Progress<'c>
-    ensures { (rs : List machine.Rest) (vs : List ℕ) → CameOrMalformed (machine.behind (in_turn (machine.go (work_of vs again.entry) rs))
+    ensures { (rs : List machine.Rest) (vs : List ℕ) → CameOrMalformed (machine.following (in_turn (machine.go (work_of vs again.entry) rs))
         (exit_of exit) rs) state.old result rs vs state.new }
 {
-    match behind(exit) {
+    match following(exit) {
         Some(left) => Progress::On(Work::Left(left)),
         None => {
             if !turn(state) {
@@ -222,7 +222,7 @@ fn decide_on<'c>(
     ensures { (st : StateValue) → TakesOrMalformed (machine.RepeatWhileBody (spot_of spot.entry) (block_of body.now) condition.now.sense (exp
         condition.now.test) s) (machine.Left (exit_of exit)) stacks.old.rests st result stacks.new.next stacks.new.rests st }
 {
-    match behind(exit) {
+    match following(exit) {
         Some(left) => {
             stacks.next = Progress::On(Work::Left(left));
             Ok(())
@@ -253,7 +253,7 @@ fn step_on<'c>(
         state.old result stacks.new.next stacks.new.rests state.new }
 {
     let (limit, by) = bounds;
-    match behind(exit) {
+    match following(exit) {
         Some(left) => {
             stacks.next = Progress::On(Work::Left(left));
             Ok(())
@@ -265,7 +265,7 @@ fn step_on<'c>(
     }
 }
 
-/// The items behind a command that control leaves so: they come next where it goes past.
+/// The items after a command that control leaves so: they come next where it goes past.
 #[inline(always)]
 fn follow<'c>(spot: Spot<'c>, items: &'c [ListItem], s: u32, exit: Exit) -> Progress<'c>
     ensures { (st : StateValue) → GivesOrMalformed (machine.Follows (spot_of spot.entry) (items_view items.now) s) (machine.Left (exit_of exit)) st result st }
@@ -342,8 +342,8 @@ fn resulted<'c>(exit: Exit) -> Progress<'c>
 }
 
 /// How control leaves a SWITCHON whose list it leaves so.
-fn behind_cases(exit: Exit) -> Exit
-    ensures { IsBehindCases (exit_of result) (exit_of exit) }
+fn after_cases(exit: Exit) -> Exit
+    ensures { IsAfterCases (exit_of result) (exit_of exit) }
 {
     match exit {
         Exit::LeftCases => Exit::Past,
@@ -378,7 +378,7 @@ fn limits<'c>(
     Ok(())
 }
 
-/// What is done behind a store or an initialiser.
+/// What is done after a store or an initialiser.
 pub(crate) fn nothing_taken<'c>(
     rest: &NothingRest<'c>,
     stacks: &mut Stacks<'c>,

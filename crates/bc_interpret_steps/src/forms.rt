@@ -2,7 +2,7 @@
 
 use crate::sections::Section;
 use bc_core::{Block, Command, Condition, CoreExp, Declaration, ListItem, Variable};
-use bc_interpret_quiet::Cause;
+use bc_interpret_pure::Cause;
 use bc_machine_defs::Side;
 
 /// Where a part of the source is worked on: its section, the number of the first VALOF that stands within it, and the address of the
@@ -35,7 +35,7 @@ pub enum Entry {
     AtLabel(u16),
 }
 
-/// A call whose arguments are worked out: those that are left, the first of them at this level, the routine, how many arguments there are
+/// A call whose arguments are computed: those that are left, the first of them at this level, the routine, how many arguments there are
 /// in all, and whether none is given yet.
 #[derive(Clone, Copy)]
 pub struct Arguments<'c> {

@@ -7,19 +7,19 @@ ghost use Rattle.bc_core.specs.Lists.{has_case as has_case_of, has_label as has_
 ghost use Rattle.bc_interpret_defs.specs.Machine as machine;
 ghost use Rattle.bc_interpret_steps.specs.Code.{spot_of, entry_of};
 ghost use Rattle.bc_interpret_steps.specs.Assigns.{IsNext};
-ghost use Rattle.bc_interpret_steps.specs.ListItems.{IsAlong, IsEntry, IsBehindEntry, IsEntered};
+ghost use Rattle.bc_interpret_steps.specs.ListItems.{IsAlong, IsEntry, IsAfterEntry, IsEntered};
 ghost use Rattle.bc_interpret_steps.specs.Stepped.{Proceeds};
 
 use crate::assign::{Assigned, command_at_once};
+use crate::continuations::{ExitRest, NothingRest, Rest, put};
 use crate::forms::{Ending, Entry, Exit, Progress, Spot, Work};
-use crate::rests::{ExitRest, NothingRest, Rest, put};
 use crate::state::{Stacks, State};
 use bc_core::{Command, ListItem};
 use bc_word::Memory;
 
 /// Whether an item is a CASE with this value.
 fn is_case(item: &ListItem, v: u16) -> bool
-    ensures { (behind : Items) → has_case_of (items_before item.now behind) v ≡ (result || has_case_of behind v) }
+    ensures { (following : Items) → has_case_of (items_before item.now following) v ≡ (result || has_case_of following v) }
 {
     match item {
         ListItem::Case(k) => k.get() == v,
@@ -29,7 +29,7 @@ fn is_case(item: &ListItem, v: u16) -> bool
 
 /// Whether an item is this label.
 fn is_label(item: &ListItem, label: u16) -> bool
-    ensures { (behind : Items) → has_label_of (items_before item.now behind) label ≡ (result || has_label_of behind label) }
+    ensures { (following : Items) → has_label_of (items_before item.now following) label ≡ (result || has_label_of following label) }
 {
     match item {
         ListItem::Label(k) => *k == label,
@@ -68,7 +68,7 @@ pub(crate) fn has_label(items: &[ListItem], label: u16) -> bool
 /// What comes next in a list.
 #[derive(Clone, Copy)]
 enum Next<'c> {
-    /// The items behind, entered so.
+    /// The items after, entered so.
     Passes(Entry),
     Does(&'c Command),
 }
@@ -112,16 +112,16 @@ fn is_entry(item: &ListItem, at: Entry) -> bool
     }
 }
 
-/// The items behind the place at which a list is entered so, which is not at its beginning.
-fn behind_entry<'c>(items: &'c [ListItem], at: Entry) -> &'c [ListItem]
-    ensures { IsBehindEntry result.now items.now at }
+/// The items after the place at which a list is entered so, which is not at its beginning.
+fn after_entry<'c>(items: &'c [ListItem], at: Entry) -> &'c [ListItem]
+    ensures { IsAfterEntry result.now items.now at }
 {
     let mut left = items;
-    while let [first, behind @ ..] = left {
+    while let [first, following @ ..] = left {
         if is_entry(first, at) {
-            return behind;
+            return following;
         }
-        left = behind;
+        left = following;
     }
     left
 }
@@ -134,19 +134,19 @@ fn entered<'c>(items: &'c [ListItem], at: Entry) -> &'c [ListItem]
 {
     match at {
         Entry::Beginning => items,
-        Entry::AtCase(_) | Entry::AtDefault | Entry::AtLabel(_) => behind_entry(items, at),
+        Entry::AtCase(_) | Entry::AtDefault | Entry::AtLabel(_) => after_entry(items, at),
     }
 }
 
-/// Puts what is left to do where an assignment is wild, or divides by zero: to pass it, and then the items behind it. By these its place
+/// Puts what is left to do where an assignment is wild, or divides by zero: to pass it, and then the items after it. By these its place
 /// is found.
 fn stop<'c>(
     spot: Spot<'c>,
-    behind: &'c [ListItem],
+    following: &'c [ListItem],
     s: u32,
     rests: &mut Vec<Rest<'c>>,
 ) -> Result<(), Memory> {
-    put(Rest::Exit(ExitRest::Follows(spot, behind, s)), rests)?;
+    put(Rest::Exit(ExitRest::Follows(spot, following, s)), rests)?;
     put(Rest::Nothing(NothingRest::Passes), rests)?;
     Ok(())
 }
@@ -154,7 +154,7 @@ fn stop<'c>(
 /// What comes of the first item of a list.
 #[derive(Clone, Copy)]
 enum Along {
-    /// The items behind it are entered so.
+    /// The items after it are entered so.
     On(Entry),
     /// The step is over.
     Over,
@@ -174,24 +174,24 @@ fn list_item<'c>(
     ensures { IfOk result (λ along. IsAlong (spot_of spot.entry) list.entry.0.now list.entry.1.now s at stacks.old.rests.items state.old along
         stacks.new.next stacks.new.rests.items state.new) }
 {
-    let (first, behind) = list;
+    let (first, following) = list;
     match next_of(first, at) {
         Next::Passes(next) => Ok(Along::On(next)),
         Next::Does(command) => match command_at_once(&spot, command, &mut stacks.room, state)? {
             Some(Assigned::Done) => Ok(Along::On(Entry::Beginning)),
             Some(Assigned::Divides) => {
-                stop(spot, behind, s, &mut stacks.rests)?;
+                stop(spot, following, s, &mut stacks.rests)?;
                 stacks.next = Progress::Ended(Ending::ZeroDivide);
                 Ok(Along::Over)
             }
             Some(Assigned::Fails(cause)) => {
-                stop(spot, behind, s, &mut stacks.rests)?;
+                stop(spot, following, s, &mut stacks.rests)?;
                 stacks.next = Progress::Wild(cause);
                 Ok(Along::Over)
             }
             None => {
                 put(
-                    Rest::Exit(ExitRest::Follows(spot, behind, s)),
+                    Rest::Exit(ExitRest::Follows(spot, following, s)),
                     &mut stacks.rests,
                 )?;
                 stacks.next = Progress::On(Work::Perform(spot, command, s));
@@ -215,13 +215,13 @@ pub(crate) fn listing<'c>(
 {
     let mut left = entered(items, entry);
     let mut at = Entry::Beginning;
-    while let [first, behind @ ..] = left {
-        let along = list_item(spot, (first, behind), s, at, stacks, state)?;
+    while let [first, following @ ..] = left {
+        let along = list_item(spot, (first, following), s, at, stacks, state)?;
         match along {
             Along::On(next) => at = next,
             Along::Over => return Ok(()),
         }
-        left = behind;
+        left = following;
     }
     stacks.next = Progress::On(Work::Left(Exit::Past));
     Ok(())

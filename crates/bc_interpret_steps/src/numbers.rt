@@ -5,17 +5,17 @@ ghost use Rattle.bc_core.specs.Level.{side_level as level_of_side};
 ghost use Rattle.bc_core.specs.Lists.{has_case as has_case_of, entry_of as entry_of_switch};
 ghost use Rattle.bc_core.specs.View.{exp, items as items_view};
 ghost use Rattle.bc_interpret_defs.specs.Machine as machine;
-ghost use Rattle.bc_interpret_steps.specs.declared.rests.NumberRest.TheVariants as number_rests;
+ghost use Rattle.bc_interpret_steps.specs.declared.continuations.NumberRest.TheVariants as number_rests;
 ghost use Rattle.bc_interpret_steps.specs.declared.state.State.{State as StateValue};
 ghost use Rattle.bc_interpret_steps.specs.Code.{number_rest, value_rest, given, spot_of, entry_of};
 ghost use Rattle.bc_interpret_steps.specs.Stepped.{Takes, Gives};
 
+use crate::continuations::{ExitRest, NumberRest, Rest, ValueRest, above, put};
 use crate::forms::{Arguments, Ending, Entry, Exit, Progress, Spot, Work};
 use crate::lists::has_case;
-use crate::rests::{ExitRest, NumberRest, Rest, ValueRest, above, put};
 use crate::state::{Stacks, State, put_word};
 use bc_core::{CoreExp, ListItem, operand};
-use bc_interpret_quiet::Cause;
+use bc_interpret_pure::Cause;
 use bc_interpret_store::Cell;
 use bc_word::{Memory, Op, Word, apply};
 
@@ -63,7 +63,7 @@ fn operated<'c>(op: Op, x: u16, v: u16) -> Progress<'c>
     }
 }
 
-/// An argument is given, and those behind it come next.
+/// An argument is given, and those after it come next.
 #[inline(always)]
 fn argues<'c>(arguments: &Arguments<'c>, v: u16, stacks: &mut Stacks<'c>) -> Result<(), Memory>
     ensures { (st : StateValue) → Takes (number_rest (given stacks.old.rests.items) (number_rests.Argues arguments.now)) (machine.Number v)

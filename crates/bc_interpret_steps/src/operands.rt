@@ -1,19 +1,19 @@
-// The second operand of an operator, which comes at once behind the first.
+// The second operand of an operator, which comes at once after the first.
 
 ghost use Rattle.std.specs.Prelude.{Some};
 ghost use Rattle.bc_interpret_defs.specs.Machine as machine;
 ghost use Rattle.bc_interpret_steps.specs.Passing.{RunsOver, IsOperator};
 
 use crate::answers::give_number;
+use crate::continuations::{NumberRest, Rest, above, put};
+use crate::descend::go_over;
 use crate::forms::Spot;
-use crate::inward::go_over;
-use crate::rests::{NumberRest, Rest, above, put};
 use crate::sections::Callable;
 use crate::state::{Stacks, State};
 use bc_core::CoreExp;
 use bc_word::{Memory, Op};
 
-/// An operator whose first operand is worked out, with the second one and the operator's level.
+/// An operator whose first operand is computed, with the second one and the operator's level.
 #[derive(Clone, Copy)]
 pub(crate) struct Operator<'c> {
     pub(crate) spot: Spot<'c>,

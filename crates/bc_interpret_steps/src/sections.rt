@@ -23,7 +23,7 @@ pub struct Callable<'c> {
 }
 
 /// The routine with this address.
-#[tactic(auto, using(crate::proofs::Entries::found_here, crate::proofs::Entries::found_behind))]
+#[tactic(auto, using(crate::proofs::Entries::found_here, crate::proofs::Entries::found_after))]
 pub(crate) fn routine_at<'c>(table: &[Callable<'c>], address: u16) -> Option<Callable<'c>>
     ensures { IsFound table.now address result }
 {

@@ -1,11 +1,11 @@
 // The store and the turns of a run, and memory that serves again.
 
 ghost use Rattle.std.specs.Prelude.{◌≡◌, OnOk};
-ghost use Rattle.bc_interpret_steps.specs.Came.{Turned, Wrote, StandsBehind};
+ghost use Rattle.bc_interpret_steps.specs.Came.{Turned, Wrote, StandsAfter};
 
+use crate::continuations::{Rest, put};
 use crate::forms::Progress;
-use crate::rests::{Rest, put};
-use bc_interpret_quiet::{Cause, Room};
+use bc_interpret_pure::{Cause, Room};
 use bc_interpret_store::Store;
 use bc_word::Memory;
 
@@ -63,16 +63,16 @@ pub(crate) fn put_word(state: &mut State, address: u16, word: u16) -> Option<Cau
     }
 }
 
-/// This comes next, and that is left to do behind it.
+/// This comes next, and that is left to do after it.
 ///
 /// `Memory` comes where an allocation was refused.
 #[inline(always)]
-pub(crate) fn put_behind<'c>(
+pub(crate) fn put_after<'c>(
     rest: Rest<'c>,
     next: Progress<'c>,
     stacks: &mut Stacks<'c>,
 ) -> Result<(), Memory>
-    ensures { OnOk result (StandsBehind rest.entry next.entry stacks.old.rests.items stacks.new.next stacks.new.rests.items) }
+    ensures { OnOk result (StandsAfter rest.entry next.entry stacks.old.rests.items stacks.new.next stacks.new.rests.items) }
 {
     put(rest, &mut stacks.rests)?;
     stacks.next = next;

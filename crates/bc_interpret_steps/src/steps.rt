@@ -5,11 +5,11 @@ ghost use Rattle.bc_interpret_steps.specs.Passing.{RunsOver, work_next};
 
 use crate::answers::{give_exit, give_nothing, give_verdict};
 use crate::arguments::argue;
-use crate::carrying::carry_out;
+use crate::call_command::carry_out;
 use crate::commands::{declare, enter, initialise, repeat, repeat_while, round, store, while_loop};
+use crate::descend::go_into;
 use crate::evaluate::decide;
 use crate::forms::{Progress, Work};
-use crate::inward::go_into;
 use crate::lists::listing;
 use crate::operands::hand_number;
 use crate::sections::Callable;

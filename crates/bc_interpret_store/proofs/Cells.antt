@@ -16,7 +16,7 @@ cell_seen cells a = get_or-map cell_view cells a Dead
 pub cell_put : (cells : List Cell) (a : ℕ) (c : Cell) → map cell_view (slice_set cells a c) ≡ slice_set (map cell_view cells) a (cell_view c)
 cell_put cells a c = map-set cell_view cells a c
 
--- behind the last cell nothing is put
+-- after the last cell nothing is put
 pub put_beyond : (cells : List store.Cell) (a : ℕ) (c : store.Cell) → length cells ≤ a → slice_set cells a c ≡ cells
 put_beyond cells a c h = set_out cells a c h
 

@@ -6,7 +6,7 @@ ghost use Rattle.bc_interpret_store.specs.Cells.{cell_view, IsNext};
 use crate::cell::Cell;
 use std::marker::Model;
 
-/// The cells, by address. What lies behind the last one is dead.
+/// The cells, by address. What lies after the last one is dead.
 ///
 /// Contracts see the list of the cells.
 #[derive(Drop)]
@@ -64,7 +64,7 @@ impl Store {
         }
     }
 
-    /// Puts a cell in the place of the one at this address, and nothing behind the last one.
+    /// Puts a cell instead of the one at this address, and nothing after the last one.
     #[inline(always)]
     #[tactic(auto, using(crate::proofs::Cells::cell_put, crate::proofs::Cells::beyond))]
     fn put(&mut self, address: usize, cell: Cell)

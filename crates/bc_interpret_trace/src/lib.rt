@@ -1,7 +1,7 @@
-//! Where a run of a resolved program stands: the calls that led there, and how much of each body is behind the place.
+//! Where a run of a resolved program stands: the calls that led there, and how much of each body is after the place.
 #![tactic(auto)]
 
-mod behind;
+mod remaining;
 mod roots;
 mod trace;
 

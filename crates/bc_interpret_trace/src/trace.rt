@@ -1,6 +1,6 @@
 // The calls of a run, and the first branches of TESTs that it is in.
 
-use crate::behind::clue_of;
+use crate::remaining::clue_of;
 use crate::roots::roots_of_block;
 use bc_core::Block;
 use bc_interpret_steps::{Progress, Rest, Stacks, TruthRest, Work};
@@ -32,8 +32,8 @@ pub struct Standing {
     pub frame: usize,
     /// The number of the VALOF of its section in whose body it stands, if it does.
     pub valof: Option<usize>,
-    /// How many expressions, tests and assignments of the body stand behind the place.
-    pub behind: u64,
+    /// How many expressions, tests and assignments of the body stand after the place.
+    pub following: u64,
 }
 
 /// What a run has gone into and not left: its calls, and the first branches of TESTs.
@@ -68,7 +68,7 @@ impl<'c> Trace<'c> {
         }
     }
 
-    /// Follows a run into what the last step called, behind the step.
+    /// Follows a run into what the last step called, after the step.
     ///
     /// `Memory` comes where an allocation was refused.
     #[inline(always)]
@@ -159,7 +159,7 @@ impl<'c> Trace<'c> {
 #[derive(Clone, Copy)]
 struct Above {
     next: usize,
-    behind: u64,
+    following: u64,
     first: Option<usize>,
     is_done: bool,
 }
@@ -168,7 +168,7 @@ impl Above {
     fn new(next: usize) -> Above {
         Above {
             next,
-            behind: 0,
+            following: 0,
             first: None,
             is_done: false,
         }
@@ -189,7 +189,7 @@ impl Above {
             return;
         }
         let clue = clue_of(rest);
-        self.behind = self.behind.saturating_add(clue.behind);
+        self.following = self.following.saturating_add(clue.following);
         if self.first.is_none() {
             self.first = clue.first;
         }
@@ -200,7 +200,7 @@ impl Above {
     fn branch(&mut self, place: usize, that: &Block, rests: &[Rest<'_>]) {
         self.down_to(place, rests);
         if !self.is_done {
-            self.behind = self.behind.saturating_add(roots_of_block(that));
+            self.following = self.following.saturating_add(roots_of_block(that));
         }
     }
 
@@ -212,7 +212,7 @@ impl Above {
                 Some(first) => first.checked_sub(1),
                 None => None,
             },
-            behind: self.behind,
+            following: self.following,
         }
     }
 }

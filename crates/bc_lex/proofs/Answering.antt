@@ -60,7 +60,7 @@ at_most files levels file before at line bytes tokens ending (Next l f b a i gap
     let ih : b + 1 + length others ≤ 60000 = at_most files l f (b + 1) (a + length gap + length text) false after others e next_read (omega arith) in
     omega arith
 at_most files levels file before at line bytes tokens ending (TooMany l f b a i gap text after kind g lex ne full) h = omega arith
-at_most files levels file before at line bytes tokens ending (Fault l f b a i gap rest kind behind g faulty) h = omega arith
+at_most files levels file before at line bytes tokens ending (Fault l f b a i gap rest kind following g faulty) h = omega arith
 at_most files levels file before at line bytes tokens ending (Get l f b a i gap space string after name named inner others e g get first deep next_read) h =
     let below : b + length inner ≤ 60000 = at_most files l named b 0 true _ inner _ deep h in
     let ih : b + length inner + length others ≤ 60000 = at_most files _ f (b + length inner) _ true after others e next_read below in
@@ -71,7 +71,7 @@ at_most files levels file before at line bytes tokens ending (GetFault l f b a i
 at_most files levels file before at line bytes tokens ending (GetTooDeep f b a i gap space string after name named g get first) h = omega arith
 at_most files levels file before at line bytes tokens ending (GetUnnamed l f b a i gap space string after name g get unnamed) h = omega arith
 at_most files levels file before at line bytes tokens ending (GetNoString l f b a i gap space after g end space_gap none) h = omega arith
-at_most files levels file before at line bytes tokens ending (GetFaulty l f b a i gap space rest kind behind g end space_gap faulty) h = omega arith
+at_most files levels file before at line bytes tokens ending (GetFaulty l f b a i gap space rest kind following g end space_gap faulty) h = omega arith
 
 pub answers_few : {X : Type 0} (files : List File) (main : ℕ) (view : X → List Lexeme) (r : Result X LexError) → lexing.ReadsAs view r (read_of files main) → IfOk r (λ v. length (view v) ≤ 60000)
 answers_few files main view (Ok v) h =

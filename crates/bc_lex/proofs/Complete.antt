@@ -27,7 +27,7 @@ use Rattle.bc_lex.proofs.Runs.{length-append_ℕ}
 use Rattle.bc_lex.proofs.Gapping.{NoBlank, gap_whole, gap_cut}
 use Rattle.bc_lex.proofs.LexemicBack.{lexeme_no_blank, lexeme_found, Refused, refused, string_whole, string_faulty}
 use Rattle.bc_lex.proofs.Naming.{Names, string_names, source_first, source_unnamed}
-use Rattle.bc_lex.proofs.Sound.{drop_behind, part_is, text_positive, append-none, length-append_ℕ', append-nil}
+use Rattle.bc_lex.proofs.Sound.{drop_after, part_is, text_positive, append-none, length-append_ℕ', append-nil}
 
 -- blanks
 
@@ -56,16 +56,16 @@ record At (files : List File) (file at : ℕ) (bytes : List ℕ) : Type 0 where
   there : drop at (text_of files file) ≡ bytes
   sum : at + length bytes ≡ length (text_of files file)
 
-behind_at : (files : List File) (file at : ℕ) (front rest : List ℕ) → At files file at (front ++ rest) → At files file (at + length front) rest
-behind_at files file at front rest h =
+after_at : (files : List File) (file at : ℕ) (front rest : List ℕ) → At files file at (front ++ rest) → At files file (at + length front) rest
+after_at files file at front rest h =
     let l : length (front ++ rest) ≡ length front + length rest = length-append_ℕ front rest in
     let s : at + length (front ++ rest) ≡ length (text_of files file) = h.sum in
-    record { there = drop_behind (text_of files file) front rest at (length front) h.there refl; sum = omega arith }
+    record { there = drop_after (text_of files file) front rest at (length front) h.there refl; sum = omega arith }
 
--- the item that stands behind blanks
-item_behind : (files : List File) (file at : ℕ) (line : Bool) (gap rest : List ℕ) → At files file at (gap ++ rest) → IsGap gap rest → NoBlank rest → 1 ≤ length rest → item_of files file (place_at at line) ≡ (lexeme_at file (text_of files file) (at + length gap) >>= item_by files file (text_of files file) (place_at at line) (at + length gap))
+-- the item that stands after blanks
+item_after : (files : List File) (file at : ℕ) (line : Bool) (gap rest : List ℕ) → At files file at (gap ++ rest) → IsGap gap rest → NoBlank rest → 1 ≤ length rest → item_of files file (place_at at line) ≡ (lexeme_at file (text_of files file) (at + length gap) >>= item_by files file (text_of files file) (place_at at line) (at + length gap))
 unfolding item_of
-item_behind files file at line gap rest h g no_blank some =
+item_after files file at line gap rest h g no_blank some =
     let text = text_of files file in
     let l : length (gap ++ rest) ≡ length gap + length rest = length-append_ℕ gap rest in
     let s : at + length (gap ++ rest) ≡ length (text_of files file) = h.sum in
@@ -89,13 +89,13 @@ unfolding item_by
 item_token files file at line gap text after kind h g lex ne =
     let whole = text_of files file in
     let start = at + length gap in
-    let behind = behind_at files file at gap (text ++ after) h in
+    let following = after_at files file at gap (text ++ after) h in
     let l : length (text ++ after) ≡ length text + length after = length-append_ℕ text after in
     let some : 1 ≤ length text = text_positive text after kind lex in
-    let word : part whole start (start + length text) ≡ text = part_is whole text after start (start + length text) behind.there refl in
+    let word : part whole start (start + length text) ≡ text = part_is whole text after start (start + length text) following.there refl in
     let space : part whole at start ≡ gap = part_is whole gap (text ++ after) at start h.there refl in
-    item_behind files file at line gap (text ++ after) h g (lexeme_no_blank text after kind lex) (omega arith)
-    ∙ ap (λ r. r >>= item_by files file whole (place_at at line) start) (word_at file whole start (text ++ after) kind (length text) behind.there (lexeme_found text after kind lex))
+    item_after files file at line gap (text ++ after) h g (lexeme_no_blank text after kind lex) (omega arith)
+    ∙ ap (λ r. r >>= item_by files file whole (place_at at line) start) (word_at file whole start (text ++ after) kind (length text) following.there (lexeme_found text after kind lex))
     ∙ cond-false (is_get kind) _ _ (apart_get kind ne)
     ∙ rw (word, space) refl
 
@@ -108,10 +108,10 @@ unfolding item_by
 item_get files file at line gap after h g end =
     let whole = text_of files file in
     let start = at + length gap in
-    let behind = behind_at files file at gap (codes "GET" ++ after) h in
+    let following = after_at files file at gap (codes "GET" ++ after) h in
     let lex : IsLexeme (codes "GET") after (Sign symbol.Get) = Word (codes "GET") after symbol.Get (refl, refl) end get_spelling in
-    item_behind files file at line gap (codes "GET" ++ after) h g (refl, refl, refl) (omega arith)
-    ∙ ap (λ r. r >>= item_by files file whole (place_at at line) start) (word_at file whole start (codes "GET" ++ after) (Sign symbol.Get) 3 behind.there (lexeme_found (codes "GET") after (Sign symbol.Get) lex))
+    item_after files file at line gap (codes "GET" ++ after) h g (refl, refl, refl) (omega arith)
+    ∙ ap (λ r. r >>= item_by files file whole (place_at at line) start) (word_at file whole start (codes "GET" ++ after) (Sign symbol.Get) 3 following.there (lexeme_found (codes "GET") after (Sign symbol.Get) lex))
 
 item_cut : (files : List File) (file at : ℕ) (line : Bool) (gap rest : List ℕ) → At files file at (gap ++ (codes "/*" ++ rest)) → IsGap gap (codes "/*" ++ rest) → (Holds (codes "*/") rest → ⊥) → item_of files file (place_at at line) ≡ Err (errors.Unterminated file (at + length gap))
 unfolding item_of
@@ -125,9 +125,9 @@ item_fault files file at line gap bytes kind n h g faulty =
           let e : errors.Unterminated file (at + length gap) ≡ error_of kind file (at + length gap + n) = rw (p.3, ← z) refl in
           item_cut files file at line gap p.0 (rw p.1 at h) (rw p.1 at g) p.2 ∙ ap Err e
       | inr r ↦
-          let behind = behind_at files file at gap bytes h in
-          item_behind files file at line gap bytes h g r.no_blank r.some
-          ∙ ap (λ q. q >>= item_by files file (text_of files file) (place_at at line) (at + length gap)) (fault_in file (text_of files file) (at + length gap) bytes kind n behind.there r.read)
+          let following = after_at files file at gap bytes h in
+          item_after files file at line gap bytes h g r.no_blank r.some
+          ∙ ap (λ q. q >>= item_by files file (text_of files file) (place_at at line) (at + length gap)) (fault_in file (text_of files file) (at + length gap) bytes kind n following.there r.read)
     ]
 
 -- the file that a GET names
@@ -162,11 +162,11 @@ target_string files file start at space string after name h get =
     let quote = at + length space in
     let front : string ++ after ≡ 34 ∷ (get.text ++ 34 ∷ after) = ap (λ ys. ys ++ after) get.quotes ∙ ap (λ ys. 34 ∷ ys) (append_assoc get.text (34 ∷ []) after) in
     let no_blank : NoBlank (string ++ after) = rw front (refl, refl, refl) in
-    let behind = behind_at files file at space (string ++ after) h in
+    let following = after_at files file at space (string ++ after) h in
     let n : length (34 ∷ (get.text ++ 34 ∷ [])) ≡ length string = ap length (sym get.quotes) in
-    let piece : part whole quote (quote + length string) ≡ string = part_is whole string after quote (quote + length string) behind.there refl in
+    let piece : part whole quote (quote + length string) ≡ string = part_is whole string after quote (quote + length string) following.there refl in
     target_skips files file start at space (string ++ after) h get.space no_blank
-    ∙ string_ends files file start quote (get.text ++ 34 ∷ after) (length (34 ∷ (get.text ++ 34 ∷ []))) (behind.there ∙ front) (string_whole get.text name after get.spelled get.short)
+    ∙ string_ends files file start quote (get.text ++ 34 ∷ after) (length (34 ∷ (get.text ++ 34 ∷ []))) (following.there ∙ front) (string_whole get.text name after get.spelled get.short)
     ∙ ap (λ m. named_on files file whole start quote (quote + m)) n
     ∙ ap (λ ys. found_or (errors.GetMissing file start) (source_from ys 0 files) >>= λ named. Ok (named, quote + length string)) piece
 
@@ -174,7 +174,7 @@ get_names : (space string after name : List ℕ) → IsGet space string after na
 get_names space string after name get = rw get.quotes (string_names get.text name get.spelled)
 
 abbrev target_of_found : ℕ → ℕ → ℕ → Option ℕ → Result (ℕ × ℕ) LexError
-target_of_found file start behind o = found_or (errors.GetMissing file start) o >>= λ named. Ok (named, behind)
+target_of_found file start following o = found_or (errors.GetMissing file start) o >>= λ named. Ok (named, following)
 
 target_first : (files : List File) (file start at : ℕ) (space string after name : List ℕ) (named : ℕ) → At files file at (space ++ (string ++ after)) → IsGet space string after name → IsFirstNamed files name named → target_of files file (text_of files file) start at ≡ Ok (named, at + length space + length string)
 target_first files file start at space string after name named h get first =
@@ -193,9 +193,9 @@ no_string (b ∷ bs) h = ((h.0, h.1, h.2), ne_eqb b 34 h.3)
 
 target_none : (files : List File) (file start at : ℕ) (space rest : List ℕ) → At files file at (space ++ rest) → IsGap space rest → IsNoString rest → target_of files file (text_of files file) start at ≡ Err (errors.GetMissing file start)
 target_none files file start at space rest h g none =
-    let behind = behind_at files file at space rest h in
+    let following = after_at files file at space rest h in
     let p = no_string rest none in
-    let begin : begins 34 (drop (at + length space) (text_of files file)) ≡ false = ap (begins 34) behind.there ∙ p.1 in
+    let begin : begins 34 (drop (at + length space) (text_of files file)) ≡ false = ap (begins 34) following.there ∙ p.1 in
     target_skips files file start at space rest h g p.0 ∙ cond-false (begins 34 (drop (at + length space) (text_of files file))) _ _ begin
 
 target_cut : (files : List File) (file start at : ℕ) (space rest : List ℕ) → At files file at (space ++ (codes "/*" ++ rest)) → IsGap space (codes "/*" ++ rest) → (Holds (codes "*/") rest → ⊥) → target_of files file (text_of files file) start at ≡ Err (errors.Unterminated file (at + length space))
@@ -207,10 +207,10 @@ target_bad : (files : List File) (file start at : ℕ) (space bytes : List ℕ) 
 target_bad files file start at space [] kind n h g begin r = let m : false ≡ true = begin in cc
 target_bad files file start at space (b ∷ bs) kind n h g begin r =
     let b_is : b ≡ 34 = eqb-true b 34 begin in
-    let behind = behind_at files file at space (b ∷ bs) h in
+    let following = after_at files file at space (b ∷ bs) h in
     let read : lexeme_in_front (34 ∷ bs) ≡ Err (fault_at kind n) = ap (λ c. lexeme_in_front (c ∷ bs)) (sym b_is) ∙ r.read in
     target_skips files file start at space (b ∷ bs) h g r.no_blank
-    ∙ string_fails files file start (at + length space) bs kind n (behind.there ∙ ap (λ c. c ∷ bs) b_is) (string_faulty bs (fault_at kind n) read)
+    ∙ string_fails files file start (at + length space) bs kind n (following.there ∙ ap (λ c. c ∷ bs) b_is) (string_faulty bs (fault_at kind n) read)
 
 blocks_apart : (bytes : List ℕ) → NoBlank bytes → opens_block bytes ≡ true → ⊥
 blocks_apart [] h e = let n : false ≡ true = e in cc
@@ -241,7 +241,7 @@ turn_fails deeper files file k place before x some e =
     let s : k ≡ suc (k - 1) = omega arith in
     ap (λ n. rest_of deeper files file n place before) s ∙ ap (λ r. r >>= found_on (rest_of deeper files file (k - 1)) deeper file before) e
 
--- how a reading ends, behind tokens
+-- how a reading ends, after tokens
 abbrev outcome : List Lexeme → List Lexeme → Ending → Result (List Lexeme) LexError
 outcome before tokens Whole = Ok (before ++ tokens)
 outcome before tokens (Faulty e) = Err e
@@ -274,9 +274,9 @@ get_item : (files : List File) (file at : ℕ) (line : Bool) (gap after : List �
 get_item files file at line gap after target h g end e =
     item_get files file at line gap after h g end ∙ ap (λ r. r >>= λ t. Ok (lexing.Get (at + length gap) t.0 t.1)) e
 
--- behind a GET's word
-behind_word : (files : List File) (file at : ℕ) (gap after : List ℕ) → At files file at (gap ++ (codes "GET" ++ after)) → At files file (at + length gap + 3) after
-behind_word files file at gap after h = behind_at files file (at + length gap) (codes "GET") after (behind_at files file at gap (codes "GET" ++ after) h)
+-- after a GET's word
+after_word : (files : List File) (file at : ℕ) (gap after : List ℕ) → At files file at (gap ++ (codes "GET" ++ after)) → At files file (at + length gap + 3) after
+after_word files file at gap after h = after_at files file (at + length gap) (codes "GET") after (after_at files file at gap (codes "GET" ++ after) h)
 
 word_short : (gap after : List ℕ) (k : ℕ) → length (gap ++ (codes "GET" ++ after)) ≤ k → (1 ≤ k) × (length after + 1 ≤ k)
 word_short gap after k h =
@@ -285,7 +285,7 @@ word_short gap after k h =
 
 first_item : (files : List File) (file at : ℕ) (line : Bool) (gap space string after name : List ℕ) (named : ℕ) → At files file at (gap ++ (codes "GET" ++ (space ++ (string ++ after)))) → IsGap gap (codes "GET" ++ (space ++ (string ++ after))) → IsGet space string after name → IsFirstNamed files name named → item_of files file (place_at at line) ≡ Ok (lexing.Get (at + length gap) named (at + length gap + 3 + length space + length string))
 first_item files file at line gap space string after name named h g get first =
-    get_item files file at line gap (space ++ (string ++ after)) (Ok (named, at + length gap + 3 + length space + length string)) h g get.word (target_first files file (at + length gap) (at + length gap + 3) space string after name named (behind_word files file at gap (space ++ (string ++ after)) h) get first)
+    get_item files file at line gap (space ++ (string ++ after)) (Ok (named, at + length gap + 3 + length space + length string)) h g get.word (target_first files file (at + length gap) (at + length gap + 3) space string after name named (after_word files file at gap (space ++ (string ++ after)) h) get first)
 
 deeper_suc : (files : List File) (levels file start named : ℕ) (before : List Lexeme) → deeper_of files (suc levels) file start named before ≡ rest_of (deeper_of files levels) files named (length (text_of files named)) (place_at 0 true) before
 unfolding deeper_of file_to_end
@@ -313,10 +313,10 @@ complete files levels file before at line bytes tokens ending (Next levels' file
     let m : length (text ++ after) ≡ length text + length after = length-append_ℕ text after in
     let some : 1 ≤ length text = text_positive text after kind lex in
     let one : length (acc ++ t ∷ []) ≡ before' + 1 = let s : length (acc ++ t ∷ []) ≡ length acc + 1 = length-append_ℕ' acc (t ∷ []) in omega arith in
-    let behind = behind_at files file' (at' + length gap) text after (behind_at files file' at' gap (text ++ after) here) in
+    let following = after_at files file' (at' + length gap) text after (after_at files file' at' gap (text ++ after) here) in
     turn_is (deeper_of files levels') files file' k (place_at at' line') acc (lexing.Token t) (omega arith) (item_token files file' at' line' gap text after kind here g lex ne)
     ∙ ap (λ r. r >>= rest_of (deeper_of files levels') files file' (k - 1) (place_at t.end false)) (pushed_some t acc (omega arith))
-    ∙ complete files levels' file' (before' + 1) (at' + length gap + length text) false after others ending' h (acc ++ t ∷ []) one (k - 1) (omega arith) behind
+    ∙ complete files levels' file' (before' + 1) (at' + length gap + length text) false after others ending' h (acc ++ t ∷ []) one (k - 1) (omega arith) following
     ∙ outcome_more acc (t ∷ []) others ending'
 complete files levels file before at line bytes tokens ending (TooMany levels' file' before' at' line' gap text after kind g lex ne full) acc n k few here =
     let t = token file' (at' + length gap) (line' || breaks gap) kind text in
@@ -325,23 +325,23 @@ complete files levels file before at line bytes tokens ending (TooMany levels' f
     let some : 1 ≤ length text = text_positive text after kind lex in
     turn_is (deeper_of files levels') files file' k (place_at at' line') acc (lexing.Token t) (omega arith) (item_token files file' at' line' gap text after kind here g lex ne)
     ∙ ap (λ r. r >>= rest_of (deeper_of files levels') files file' (k - 1) (place_at t.end false)) (pushed_none t acc (omega arith))
-complete files levels file before at line bytes tokens ending (FaultHere levels' file' before' at' line' gap rest kind behind g faulty) acc n k few here =
+complete files levels file before at line bytes tokens ending (FaultHere levels' file' before' at' line' gap rest kind following g faulty) acc n k few here =
     let l : length (gap ++ rest) ≡ length gap + length rest = length-append_ℕ gap rest in
-    let some : 1 ≤ length rest = faulty_some rest kind behind faulty in
-    turn_fails (deeper_of files levels') files file' k (place_at at' line') acc _ (omega arith) (item_fault files file' at' line' gap rest kind behind here g faulty)
+    let some : 1 ≤ length rest = faulty_some rest kind following faulty in
+    turn_fails (deeper_of files levels') files file' k (place_at at' line') acc _ (omega arith) (item_fault files file' at' line' gap rest kind following here g faulty)
 complete files levels file before at line bytes tokens ending (Get levels' file' before' at' line' gap space string after name named inner others ending' g get first deep h) acc n k few here =
     let start = at' + length gap in
     let end = start + 3 + length space + length string in
     let w = word_short gap (space ++ (string ++ after)) k few in
     let s : length (space ++ (string ++ after)) ≡ length space + length (string ++ after) = length-append_ℕ space (string ++ after) in
     let m : length (string ++ after) ≡ length string + length after = length-append_ℕ string after in
-    let behind = behind_at files file' (start + 3 + length space) string after (behind_at files file' (start + 3) space (string ++ after) (behind_word files file' at' gap (space ++ (string ++ after)) here)) in
+    let following = after_at files file' (start + 3 + length space) string after (after_at files file' (start + 3) space (string ++ after) (after_word files file' at' gap (space ++ (string ++ after)) here)) in
     let sum : length (acc ++ inner) ≡ before' + length inner = let q : length (acc ++ inner) ≡ length acc + length inner = length-append_ℕ' acc inner in omega arith in
     let below : deeper_of files (suc levels') file' start named acc ≡ Ok (acc ++ inner) =
     deeper_suc files levels' file' start named acc ∙ complete files levels' named before' 0 true (text_of files named) inner Whole deep acc n (length (text_of files named)) (omega arith) (whole_at files named) in
     turn_is (deeper_of files (suc levels')) files file' k (place_at at' line') acc (lexing.Get start named end) w.0 (first_item files file' at' line' gap space string after name named here g get first)
     ∙ ap (λ r. r >>= rest_of (deeper_of files (suc levels')) files file' (k - 1) (place_at end true)) below
-    ∙ complete files (suc levels') file' (before' + length inner) end true after others ending' h (acc ++ inner) sum (k - 1) (omega arith) behind
+    ∙ complete files (suc levels') file' (before' + length inner) end true after others ending' h (acc ++ inner) sum (k - 1) (omega arith) following
     ∙ outcome_more acc inner others ending'
 complete files levels file before at line bytes tokens ending (GetFault levels' file' before' at' line' gap space string after name named inner e g get first deep) acc n k few here =
     let start = at' + length gap in
@@ -359,13 +359,13 @@ complete files levels file before at line bytes tokens ending (GetTooDeep file' 
     ∙ ap (λ r. r >>= rest_of (deeper_of files zero) files file' (k - 1) (place_at end true)) (deeper_zero files file' start named acc)
 complete files levels file before at line bytes tokens ending (GetUnnamed levels' file' before' at' line' gap space string after name g get unnamed) acc n k few here =
     let w = word_short gap (space ++ (string ++ after)) k few in
-    turn_fails (deeper_of files levels') files file' k (place_at at' line') acc _ w.0 (get_item files file' at' line' gap (space ++ (string ++ after)) _ here g get.word (target_unnamed files file' (at' + length gap) (at' + length gap + 3) space string after name (behind_word files file' at' gap (space ++ (string ++ after)) here) get unnamed))
+    turn_fails (deeper_of files levels') files file' k (place_at at' line') acc _ w.0 (get_item files file' at' line' gap (space ++ (string ++ after)) _ here g get.word (target_unnamed files file' (at' + length gap) (at' + length gap + 3) space string after name (after_word files file' at' gap (space ++ (string ++ after)) here) get unnamed))
 complete files levels file before at line bytes tokens ending (GetNoString levels' file' before' at' line' gap space after g end space_gap none) acc n k few here =
     let w = word_short gap (space ++ after) k few in
-    turn_fails (deeper_of files levels') files file' k (place_at at' line') acc _ w.0 (get_item files file' at' line' gap (space ++ after) _ here g end (target_none files file' (at' + length gap) (at' + length gap + 3) space after (behind_word files file' at' gap (space ++ after) here) space_gap none))
-complete files levels file before at line bytes tokens ending (GetFaulty levels' file' before' at' line' gap space rest kind behind g end space_gap faulty) acc n k few here =
+    turn_fails (deeper_of files levels') files file' k (place_at at' line') acc _ w.0 (get_item files file' at' line' gap (space ++ after) _ here g end (target_none files file' (at' + length gap) (at' + length gap + 3) space after (after_word files file' at' gap (space ++ after) here) space_gap none))
+complete files levels file before at line bytes tokens ending (GetFaulty levels' file' before' at' line' gap space rest kind following g end space_gap faulty) acc n k few here =
     let w = word_short gap (space ++ rest) k few in
-    turn_fails (deeper_of files levels') files file' k (place_at at' line') acc _ w.0 (get_item files file' at' line' gap (space ++ rest) _ here g end (target_faulty files file' (at' + length gap) (at' + length gap + 3) space rest kind behind (behind_word files file' at' gap (space ++ rest) here) space_gap faulty))
+    turn_fails (deeper_of files levels') files file' k (place_at at' line') acc _ w.0 (get_item files file' at' line' gap (space ++ rest) _ here g end (target_faulty files file' (at' + length gap) (at' + length gap + 3) space rest kind following (after_word files file' at' gap (space ++ rest) here) space_gap faulty))
 
 -- what is read of a source
 

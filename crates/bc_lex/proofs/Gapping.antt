@@ -20,7 +20,7 @@ no_empty : (front back : List ℕ) → [] ≡ front ++ (sign ++ back) → ⊥
 no_empty [] back e = cc
 no_empty (x ∷ front) back e = cc
 
--- a sign occurs at the front or behind it
+-- a sign occurs at the front or after it
 holds_cases : (b : ℕ) (bs : List ℕ) → Holds sign (b ∷ bs) → ((b ≡ 42) × (begins 47 bs ≡ true)) ⊎ Holds sign bs
 holds_cases b bs ([], back, e) =
     let b_is : b ≡ 42 = cc in

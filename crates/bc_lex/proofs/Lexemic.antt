@@ -14,7 +14,7 @@ use Rattle.bc_lex.specs.Bytes.{is_letter, is_digit, is_name_byte, is_space}
 use Rattle.bc_lex.specs.Tags.{has_tag}
 use Rattle.bc_lex.specs.Gaps.{begins, opens_line, opens_block}
 use Rattle.bc_lex.specs.Quotes.{IsCharacter}
-use Rattle.bc_lex.specs.Lexemes.{Ends, IsName, is_digit_of, value_behind, IsNumber, Decimal, Octal, Hexadecimal, IsSign, IsLexeme, Word, Named, Numeral, Constant, Literal, Marked, Bracket}
+use Rattle.bc_lex.specs.Lexemes.{Ends, IsName, is_digit_of, value_after, IsNumber, Decimal, Octal, Hexadecimal, IsSign, IsLexeme, Word, Named, Numeral, Constant, Literal, Marked, Bracket}
 use Rattle.bc_lex.specs.Faults.{is_sign_byte, NoDigits, IsFaulty, LargeNumber, NoNumber, LongString, OpenString, BadString, BadConstant, OpenConstant, NoToken}
 use Rattle.bc_lex.specs.Reading.{fault_at, number_of, string_of, string_from, character_by, quoted_of}
 use Rattle.bc_lex.specs.Lexeme.{◌>>=◌, named, word_of, short_of, long_of, string_at, number_at, character_at, sign_at, lexeme_in_front}
@@ -60,25 +60,25 @@ word_complete (b ∷ bs) after name end =
 decimal_read : (b : ℕ) (bs : List ℕ) (read : Result (ℕ × ℕ) Fault) → is_digit b ≡ true → DigitsRead 10 0 (b ∷ bs) read → LexemeRead (b ∷ bs) (read >>= λ x. Ok (Number x.0, x.1))
 decimal_read b bs read h (NoDigit end) = absurd (both_ways (is_digit_of 10 b) end (digit_ten b h))
 decimal_read b bs read h (Small d ds after n e all end small n_is) =
-    Found (d ∷ ds) after (Number (value_behind 10 0 (d ∷ ds))) n e (Numeral (d ∷ ds) after (value_behind 10 0 (d ∷ ds)) (Decimal d ds after all end) small) (omega arith)
+    Found (d ∷ ds) after (Number (value_after 10 0 (d ∷ ds))) n e (Numeral (d ∷ ds) after (value_after 10 0 (d ∷ ds)) (Decimal d ds after all end) small) (omega arith)
 decimal_read b bs read h (Large d ds after e all end large) =
-    rw e (Faulty faults.NumberTooLarge 0 (LargeNumber (d ∷ ds) after (value_behind 10 0 (d ∷ ds)) (Decimal d ds after all end) large))
+    rw e (Faulty faults.NumberTooLarge 0 (LargeNumber (d ∷ ds) after (value_after 10 0 (d ∷ ds)) (Decimal d ds after all end) large))
 
 octal_read : (bs : List ℕ) (read : Result (ℕ × ℕ) Fault) → begins 88 bs ≡ false → DigitsRead 8 1 bs read → LexemeRead (35 ∷ bs) (read >>= λ x. Ok (Number x.0, x.1))
 octal_read bs read h (NoDigit end) =
     Faulty faults.BadCharacter 0 (NoNumber bs (end, λ rest e. absurd (both_ways (begins 88 bs) h (rw e refl))))
 octal_read bs read h (Small d ds after n e all end small n_is) =
-    Found (35 ∷ d ∷ ds) after (Number (value_behind 8 0 (d ∷ ds))) n (ap (λ ys. 35 ∷ ys) e) (Numeral (35 ∷ d ∷ ds) after (value_behind 8 0 (d ∷ ds)) (Octal d ds after all end) small) (omega arith)
+    Found (35 ∷ d ∷ ds) after (Number (value_after 8 0 (d ∷ ds))) n (ap (λ ys. 35 ∷ ys) e) (Numeral (35 ∷ d ∷ ds) after (value_after 8 0 (d ∷ ds)) (Octal d ds after all end) small) (omega arith)
 octal_read bs read h (Large d ds after e all end large) =
-    rw e (Faulty faults.NumberTooLarge 0 (LargeNumber (35 ∷ d ∷ ds) after (value_behind 8 0 (d ∷ ds)) (Octal d ds after all end) large))
+    rw e (Faulty faults.NumberTooLarge 0 (LargeNumber (35 ∷ d ∷ ds) after (value_after 8 0 (d ∷ ds)) (Octal d ds after all end) large))
 
 hexadecimal_read : (bs : List ℕ) (read : Result (ℕ × ℕ) Fault) → DigitsRead 16 2 bs read → LexemeRead (35 ∷ 88 ∷ bs) (read >>= λ x. Ok (Number x.0, x.1))
 hexadecimal_read bs read (NoDigit end) =
     Faulty faults.BadCharacter 0 (NoNumber (88 ∷ bs) (refl, λ rest e. let same : bs ≡ rest = cc in rw (← same) end))
 hexadecimal_read bs read (Small d ds after n e all end small n_is) =
-    Found (35 ∷ 88 ∷ d ∷ ds) after (Number (value_behind 16 0 (d ∷ ds))) n (ap (λ ys. 35 ∷ 88 ∷ ys) e) (Numeral (35 ∷ 88 ∷ d ∷ ds) after (value_behind 16 0 (d ∷ ds)) (Hexadecimal d ds after all end) small) (omega arith)
+    Found (35 ∷ 88 ∷ d ∷ ds) after (Number (value_after 16 0 (d ∷ ds))) n (ap (λ ys. 35 ∷ 88 ∷ ys) e) (Numeral (35 ∷ 88 ∷ d ∷ ds) after (value_after 16 0 (d ∷ ds)) (Hexadecimal d ds after all end) small) (omega arith)
 hexadecimal_read bs read (Large d ds after e all end large) =
-    rw e (Faulty faults.NumberTooLarge 0 (LargeNumber (35 ∷ 88 ∷ d ∷ ds) after (value_behind 16 0 (d ∷ ds)) (Hexadecimal d ds after all end) large))
+    rw e (Faulty faults.NumberTooLarge 0 (LargeNumber (35 ∷ 88 ∷ d ∷ ds) after (value_after 16 0 (d ∷ ds)) (Hexadecimal d ds after all end) large))
 
 hash_reads : (bs : List ℕ) (t : Bool) → begins 88 bs ≡ t → LexemeRead (35 ∷ bs) (cond t (read_digits 16 2 (drop 1 bs)) (read_digits 8 1 bs) >>= λ x. Ok (Number x.0, x.1))
 hash_reads [] true h = let n : false ≡ true = h in cc
@@ -112,7 +112,7 @@ number_splits text after n (Decimal b bs rest all end) =
     let apart : nat_eq b 35 ≡ false = test_apart is_digit b 35 digit refl in
     let go = dispatch_number b (bs ++ rest) (digit_no_letter b digit) (or_left_true (is_digit b) (nat_eq b 35) digit) in
     let of : number_of (b ∷ (bs ++ rest)) ≡ read_digits 10 0 ((b ∷ bs) ++ rest) = cond-false (nat_eq b 35) _ _ apart in (
-      (λ small. go ∙ number_found b (bs ++ rest) (value_behind 10 0 (b ∷ bs)) (0 + length (b ∷ bs)) (length (b ∷ bs)) (of ∙ digits_small 10 0 b bs rest (λ m. omega arith) all end small) (omega arith)),
+      (λ small. go ∙ number_found b (bs ++ rest) (value_after 10 0 (b ∷ bs)) (0 + length (b ∷ bs)) (length (b ∷ bs)) (of ∙ digits_small 10 0 b bs rest (λ m. omega arith) all end small) (omega arith)),
       (λ large. go ∙ number_refused b (bs ++ rest) (fault_at faults.NumberTooLarge 0) (of ∙ digits_large 10 0 b bs rest all end large)),
     )
 number_splits text after n (Octal b bs rest all end) =
@@ -120,12 +120,12 @@ number_splits text after n (Octal b bs rest all end) =
     let apart : nat_eq b 88 ≡ false = test_apart (is_digit_of 8) b 88 first refl in
     let go = dispatch_number 35 (b ∷ (bs ++ rest)) refl refl in
     let of : number_of (35 ∷ b ∷ (bs ++ rest)) ≡ read_digits 8 1 ((b ∷ bs) ++ rest) = cond-false (nat_eq b 88) _ _ apart in (
-      (λ small. go ∙ number_found 35 (b ∷ (bs ++ rest)) (value_behind 8 0 (b ∷ bs)) (1 + length (b ∷ bs)) (length (35 ∷ b ∷ bs)) (of ∙ digits_small 8 1 b bs rest (λ m. omega arith) all end small) (omega arith)),
+      (λ small. go ∙ number_found 35 (b ∷ (bs ++ rest)) (value_after 8 0 (b ∷ bs)) (1 + length (b ∷ bs)) (length (35 ∷ b ∷ bs)) (of ∙ digits_small 8 1 b bs rest (λ m. omega arith) all end small) (omega arith)),
       (λ large. go ∙ number_refused 35 (b ∷ (bs ++ rest)) (fault_at faults.NumberTooLarge 0) (of ∙ digits_large 8 1 b bs rest all end large)),
     )
 number_splits text after n (Hexadecimal b bs rest all end) =
     let go = dispatch_number 35 (88 ∷ b ∷ (bs ++ rest)) refl refl in (
-      (λ small. go ∙ number_found 35 (88 ∷ b ∷ (bs ++ rest)) (value_behind 16 0 (b ∷ bs)) (2 + length (b ∷ bs)) (length (35 ∷ 88 ∷ b ∷ bs)) (digits_small 16 2 b bs rest (λ m. omega arith) all end small) (omega arith)),
+      (λ small. go ∙ number_found 35 (88 ∷ b ∷ (bs ++ rest)) (value_after 16 0 (b ∷ bs)) (2 + length (b ∷ bs)) (length (35 ∷ 88 ∷ b ∷ bs)) (digits_small 16 2 b bs rest (λ m. omega arith) all end small) (omega arith)),
       (λ large. go ∙ number_refused 35 (88 ∷ b ∷ (bs ++ rest)) (fault_at faults.NumberTooLarge 0) (digits_large 16 2 b bs rest all end large)),
     )
 

@@ -102,20 +102,20 @@ constant_found text rest c ch =
     let cut : drop (1 + length text) (39 ∷ bs) ≡ 39 ∷ rest = ap (λ n. drop n (39 ∷ bs)) s ∙ drop-front text (39 ∷ rest) in
     ap (λ q. as_character (character_by (39 ∷ bs) q)) front ∙ ap (λ ys. as_character (cond (begins 39 ys) (Ok (c, length text + 2)) (Err (fault_at faults.Unterminated 0)))) cut
 
--- a string of fewer than 256 characters goes on with what stands behind them
-string_behind : (text cs rest : List ℕ) → Spells 34 text cs → length cs < 256 → (j : ℕ) × (string_of (34 ∷ (text ++ rest)) ≡ string_on (string_from j) (1 + length text) rest (quoted_of 34 rest))
+-- a string of fewer than 256 characters goes on with what stands after them
+string_after : (text cs rest : List ℕ) → Spells 34 text cs → length cs < 256 → (j : ℕ) × (string_of (34 ∷ (text ++ rest)) ≡ string_on (string_from j) (1 + length text) rest (quoted_of 34 rest))
 unfolding string_of
-string_behind text cs rest sp short =
+string_after text cs rest sp short =
     let j = 255 - length cs in
     let e : 256 ≡ length cs + suc j = omega arith in
     (j, string_skips text cs sp 256 (suc j) 1 rest e)
 
 pub string_whole : (text cs rest : List ℕ) → Spells 34 text cs → length cs < 256 → string_of (34 ∷ (text ++ 34 ∷ rest)) ≡ Ok (length (34 ∷ (text ++ 34 ∷ [])))
 string_whole text cs rest sp short =
-    let behind = string_behind text cs (34 ∷ rest) sp short in
+    let following = string_after text cs (34 ∷ rest) sp short in
     let l : length (text ++ 34 ∷ []) ≡ length text + 1 = length-append_ℕ text (34 ∷ []) in
     let n : 1 + length text + 1 ≡ length (34 ∷ (text ++ 34 ∷ [])) = omega arith in
-    behind.1 ∙ ap Ok n
+    following.1 ∙ ap Ok n
 
 string_lexeme : (whole rest bs : List ℕ) (n : ℕ) → bs ≡ whole ++ rest → n ≡ length whole → string_of bs ≡ Ok n → string_at bs ≡ Ok (String whole, n)
 string_lexeme whole rest bs n same n_is of =
@@ -259,18 +259,18 @@ refused bs kind at (LongString text after cs sp long) = inr (record {
   read = string_refused (text ++ after) (fault_at faults.StringTooLong 0) (long_string text cs after sp long);
 })
 refused bs kind at (OpenString text after cs sp short cut) =
-    let behind = string_behind text cs after sp short in
+    let following = string_after text cs after sp short in
     inr (record {
       some = omega arith;
       no_blank = (refl, refl, refl);
-      read = string_refused (text ++ after) (fault_at faults.Unterminated 0) (behind.1 ∙ ap (string_on (string_from behind.0) (1 + length text) after) (quoted_cut 34 after refl cut));
+      read = string_refused (text ++ after) (fault_at faults.Unterminated 0) (following.1 ∙ ap (string_on (string_from following.0) (1 + length text) after) (quoted_cut 34 after refl cut));
     })
 refused bs kind at (BadString text after cs sp short bad) =
-    let behind = string_behind text cs after sp short in
+    let following = string_after text cs after sp short in
     inr (record {
       some = omega arith;
       no_blank = (refl, refl, refl);
-      read = string_refused (text ++ after) (fault_at faults.BadEscape (1 + length text)) (behind.1 ∙ ap (string_on (string_from behind.0) (1 + length text) after) (quoted_bad 34 after refl bad));
+      read = string_refused (text ++ after) (fault_at faults.BadEscape (1 + length text)) (following.1 ∙ ap (string_on (string_from following.0) (1 + length text) after) (quoted_bad 34 after refl bad));
     })
 refused bs kind at (BadConstant after bad) = inr (record {
   some = omega arith;

@@ -6,7 +6,7 @@ use Rattle.bc_lex.specs.declared.fault.FaultKind.TheVariants as faults
 use Rattle.bc_lex.specs.declared.quoted.Quoted.{Quoted}
 use Rattle.bc_lex.specs.declared.quoted.Quoted.TheVariants as quoted
 use Rattle.bc_lex.specs.Bytes.{escaped}
-use Rattle.bc_lex.specs.Quotes.{IsCharacter, Plain, Escape, Spells, Empty, More, IsCut, End, Break, EndBehind, BreakBehind, IsBadEscape, Bad}
+use Rattle.bc_lex.specs.Quotes.{IsCharacter, Plain, Escape, Spells, Empty, More, IsCut, End, Break, EndAfter, BreakAfter, IsBadEscape, Bad}
 use Rattle.bc_lex.specs.Reading.{fault_at, escape_of, quoted_of, string_from, string_on}
 use Rattle.bc_lex.proofs.Runs.{drop-front, length-append_ℕ}
 
@@ -21,13 +21,13 @@ front_escaped : (close b : ℕ) (bs : List ℕ) (o : Option ℕ) → escaped b �
 front_escaped close b bs (Some v) e ne = Stands (42 ∷ b ∷ []) bs v (Escape b v e)
 front_escaped close b bs None e ne = Spoils (42 ∷ b ∷ bs) (Bad b bs ne e)
 
-front_behind : (close b : ℕ) (bs : List ℕ) (t : Bool) → nat_eq b 10 ≡ t → Front close (42 ∷ b ∷ bs) (cond t quoted.Cut (elim (escaped b) [ Some v ↦ quoted.Character v 2 | None ↦ quoted.BadEscape ]))
-front_behind close b bs true e = Cuts (42 ∷ b ∷ bs) (rw (eqb-true b 10 e) (BreakBehind bs))
-front_behind close b bs false e = front_escaped close b bs (escaped b) refl (eqb-false b 10 e)
+front_after : (close b : ℕ) (bs : List ℕ) (t : Bool) → nat_eq b 10 ≡ t → Front close (42 ∷ b ∷ bs) (cond t quoted.Cut (elim (escaped b) [ Some v ↦ quoted.Character v 2 | None ↦ quoted.BadEscape ]))
+front_after close b bs true e = Cuts (42 ∷ b ∷ bs) (rw (eqb-true b 10 e) (BreakAfter bs))
+front_after close b bs false e = front_escaped close b bs (escaped b) refl (eqb-false b 10 e)
 
 front_star : (close : ℕ) (bs : List ℕ) → Front close (42 ∷ bs) (escape_of bs)
-front_star close [] = Cuts (42 ∷ []) EndBehind
-front_star close (b ∷ bs) = front_behind close b bs (nat_eq b 10) refl
+front_star close [] = Cuts (42 ∷ []) EndAfter
+front_star close (b ∷ bs) = front_after close b bs (nat_eq b 10) refl
 
 front_other : (close b : ℕ) (bs : List ℕ) (t : Bool) → nat_eq b 42 ≡ t → b ≢ 10 → b ≢ close → Front close (b ∷ bs) (cond t (escape_of bs) (quoted.Character b 1))
 front_other close b bs true e ne nc = rw (eqb-true b 42 e) (front_star close bs)
@@ -55,8 +55,8 @@ quoted_character close text rest c apart (Escape b v e) = rw (apart, ne_eqb b 10
 pub quoted_cut : (close : ℕ) (bs : List ℕ) → nat_eq 42 close ≡ false → IsCut bs → quoted_of close bs ≡ quoted.Cut
 quoted_cut close bs apart End = refl
 quoted_cut close bs apart (Break rest) = refl
-quoted_cut close bs apart EndBehind = rw apart refl
-quoted_cut close bs apart (BreakBehind rest) = rw apart refl
+quoted_cut close bs apart EndAfter = rw apart refl
+quoted_cut close bs apart (BreakAfter rest) = rw apart refl
 
 pub quoted_bad : (close : ℕ) (bs : List ℕ) → nat_eq 42 close ≡ false → IsBadEscape bs → quoted_of close bs ≡ quoted.BadEscape
 quoted_bad close bs apart (Bad b rest ne e) = rw (apart, ne_eqb b 10 ne, e) refl

@@ -3,7 +3,7 @@ use Rattle.std.proofs.Common.{◌≡◌, refl, ap, arith, ℕ, suc, ◌+◌, ◌
 use Rattle.std.specs.List.{list_all, prefix_len}
 use Rattle.std.proofs.lemmas.Bool.{and_parts, le-ltb, ltb-false}
 use Rattle.bc_lex.specs.Bytes.{digit_of}
-use Rattle.bc_lex.specs.Lexemes.{Ends, value_behind}
+use Rattle.bc_lex.specs.Lexemes.{Ends, value_after}
 use Rattle.bc_lex.specs.Reading.{value_from}
 
 run_step : (p : ℕ → Bool) (x : ℕ) (xs : List ℕ) (n : ℕ) (b : Bool) → p x ≡ b → (list_all p (take n xs) ≡ true) × Ends p (drop n xs) → (list_all p (take (cond b (1 + n) 0) (x ∷ xs)) ≡ true) × Ends p (drop (cond b (1 + n) 0) (x ∷ xs))
@@ -50,19 +50,19 @@ length-append_ℕ [] ys = omega arith
 length-append_ℕ (x ∷ xs) ys = let ih : length (xs ++ ys) ≡ length xs + length ys = length-append_ℕ xs ys in omega arith
 
 -- a value only grows
-grows : (base : ℕ) → ((m : ℕ) → m ≤ m * base) → (n : ℕ) (ds : List ℕ) → n ≤ value_behind base n ds
+grows : (base : ℕ) → ((m : ℕ) → m ≤ m * base) → (n : ℕ) (ds : List ℕ) → n ≤ value_after base n ds
 grows base mono n [] = omega arith
 grows base mono n (d ∷ ds) =
     let m = n * base + unwrap_or (digit_of base d) 0 in
     let one : n ≤ n * base = mono n in
-    let ih : m ≤ value_behind base m ds = grows base mono m ds in
+    let ih : m ≤ value_after base m ds = grows base mono m ds in
     omega arith
 
-pub value_small : (base : ℕ) → ((m : ℕ) → m ≤ m * base) → (n : ℕ) (ds : List ℕ) → value_behind base n ds ≤ 65535 → value_from base n ds ≡ Some (value_behind base n ds)
+pub value_small : (base : ℕ) → ((m : ℕ) → m ≤ m * base) → (n : ℕ) (ds : List ℕ) → value_after base n ds ≤ 65535 → value_from base n ds ≡ Some (value_after base n ds)
 value_small base mono n [] h = refl
 value_small base mono n (d ∷ ds) h =
     let m = n * base + unwrap_or (digit_of base d) 0 in
-    let up : m ≤ value_behind base m ds = grows base mono m ds in
+    let up : m ≤ value_after base m ds = grows base mono m ds in
     let small : nat_lt 65535 m ≡ false = le-ltb 65535 m (omega arith) in
     rw small (value_small base mono m ds h)
 
@@ -70,7 +70,7 @@ value_step : (base m : ℕ) (ds : List ℕ) (b : Bool) → (b ≡ false → valu
 value_step base m ds true f = refl
 value_step base m ds false f = f refl
 
-pub value_large : (base : ℕ) → (n : ℕ) (ds : List ℕ) → n ≤ 65535 → 65535 < value_behind base n ds → value_from base n ds ≡ None
+pub value_large : (base : ℕ) → (n : ℕ) (ds : List ℕ) → n ≤ 65535 → 65535 < value_after base n ds → value_from base n ds ≡ None
 value_large base n [] s h = absurd (omega arith)
 value_large base n (d ∷ ds) s h =
     let m = n * base + unwrap_or (digit_of base d) 0 in

@@ -32,9 +32,9 @@ use Rattle.bc_lex.proofs.Shapes.{Shape, Letters, One, Two, shape, get_spelled}
 use Rattle.bc_lex.proofs.Lexemic.{LexemeRead, Found as LexemeFound, Faulty as LexemeFaulty, lexeme_reads}
 use Rattle.bc_lex.proofs.Naming.{Names, string_names, source_some, source_none}
 
--- behind a front
-pub drop_behind : (text front rest : List ℕ) (at n : ℕ) → drop at text ≡ front ++ rest → n ≡ length front → drop (at + n) text ≡ rest
-drop_behind text front rest at n e n_is = sym (drop-drop n at text) ∙ ap (drop n) e ∙ ap (λ k. drop k (front ++ rest)) n_is ∙ drop-front front rest
+-- after a front
+pub drop_after : (text front rest : List ℕ) (at n : ℕ) → drop at text ≡ front ++ rest → n ≡ length front → drop (at + n) text ≡ rest
+drop_after text front rest at n e n_is = sym (drop-drop n at text) ∙ ap (drop n) e ∙ ap (λ k. drop k (front ++ rest)) n_is ∙ drop-front front rest
 
 -- the part of a text from a place on
 pub part_is : (text front rest : List ℕ) (from to : ℕ) → drop from text ≡ front ++ rest → to ≡ from + length front → part text from to ≡ front
@@ -51,7 +51,7 @@ pub data SkipRead (file : ℕ) (text : List ℕ) (at : ℕ) : Result ℕ LexErro
 skip_by : (file : ℕ) (text : List ℕ) (at : ℕ) (read : Result ℕ Fault) → GapRead 0 (drop at text) read → SkipRead file text at (located file at read >>= λ n. Ok (at + n))
 skip_by file text at read (GapWhole gap rest n e g no_blank n_is) =
     let m : n ≡ length gap = omega arith in
-    Skipped gap rest (at + n) e g no_blank (omega arith) (drop_behind text gap rest at n e m)
+    Skipped gap rest (at + n) e g no_blank (omega arith) (drop_after text gap rest at n e m)
 skip_by file text at read (GapCut gap rest n e g unclosed n_is) = Unclosed gap rest n e g unclosed (omega arith)
 
 skip_reads : (file : ℕ) (text : List ℕ) (at : ℕ) → SkipRead file text at (skipped file text at)
@@ -61,17 +61,17 @@ skip_reads file text at = skip_by file text at (gap_of (drop at text)) (gap_read
 -- the file that a GET names
 
 pub data TargetRead (files : List File) (file start : ℕ) (after : List ℕ) : Result (ℕ × ℕ) LexError → Type 0 where
-  Target : (space string rest name : List ℕ) (named behind : ℕ) → after ≡ space ++ (string ++ rest) → IsGet space string rest name → IsFirstNamed files name named → behind ≡ start + 3 + length space + length string → TargetRead files file start after (Ok (named, behind))
+  Target : (space string rest name : List ℕ) (named following : ℕ) → after ≡ space ++ (string ++ rest) → IsGet space string rest name → IsFirstNamed files name named → following ≡ start + 3 + length space + length string → TargetRead files file start after (Ok (named, following))
   Unnamed : (space string rest name : List ℕ) → after ≡ space ++ (string ++ rest) → IsGet space string rest name → IsUnnamed files name → TargetRead files file start after (Err (errors.GetMissing file start))
   NoString : (space rest : List ℕ) → after ≡ space ++ rest → IsGap space rest → IsNoString rest → TargetRead files file start after (Err (errors.GetMissing file start))
-  BadString' : (space bytes : List ℕ) (kind : FaultKind) (behind place : ℕ) → after ≡ space ++ bytes → IsGap space bytes → IsFaultyString bytes kind behind → place ≡ start + 3 + length space + behind → TargetRead files file start after (Err (error_of kind file place))
+  BadString' : (space bytes : List ℕ) (kind : FaultKind) (following place : ℕ) → after ≡ space ++ bytes → IsGap space bytes → IsFaultyString bytes kind following → place ≡ start + 3 + length space + following → TargetRead files file start after (Err (error_of kind file place))
 
-target_found : (files : List File) (file start : ℕ) (after space string rest name : List ℕ) (behind : ℕ) (o : Option ℕ) → after ≡ space ++ (string ++ rest) → IsGet space string rest name → Names string name → behind ≡ start + 3 + length space + length string → source_from string 0 files ≡ o → TargetRead files file start after (found_or (errors.GetMissing file start) o >>= λ named. Ok (named, behind))
-target_found files file start after space string rest name behind (Some named) e get names b_is o =
+target_found : (files : List File) (file start : ℕ) (after space string rest name : List ℕ) (following : ℕ) (o : Option ℕ) → after ≡ space ++ (string ++ rest) → IsGet space string rest name → Names string name → following ≡ start + 3 + length space + length string → source_from string 0 files ≡ o → TargetRead files file start after (found_or (errors.GetMissing file start) o >>= λ named. Ok (named, following))
+target_found files file start after space string rest name following (Some named) e get names b_is o =
     let found = source_some string name names 0 files named o in
     let k : named ≡ found.0 = let k' : named ≡ 0 + found.0 = found.1 in omega arith in
-    Target space string rest name named behind e get (rw k found.2) b_is
-target_found files file start after space string rest name behind None e get names b_is o =
+    Target space string rest name named following e get (rw k found.2) b_is
+target_found files file start after space string rest name following None e get names b_is o =
     Unnamed space string rest name e get (source_none string name names 0 files o)
 
 target_string : (files : List File) (file : ℕ) (text : List ℕ) (start quote : ℕ) (after space bs : List ℕ) (read : Result ℕ Fault) → after ≡ space ++ (34 ∷ bs) → IsGap space (34 ∷ bs) → Ends is_name_byte after → quote ≡ start + 3 + length space → drop quote text ≡ 34 ∷ bs → StringRead 256 1 bs read → TargetRead files file start after (located file quote read >>= (λ n. Ok (quote + n)) >>= named_on files file text start quote)
@@ -121,12 +121,12 @@ target_reads : (files : List File) (file : ℕ) (text : List ℕ) (start end : �
 unfolding target_of
 target_reads files file text start end after there end_is ends = target_by files file text start end after (skipped file text end) there end_is ends (skip_reads file text end)
 
--- what comes first behind a place
+-- what comes first after a place
 
 pub data ItemRead (files : List File) (file at : ℕ) (line : Bool) (bytes : List ℕ) : Result Found LexError → Type 0 where
   AtEnd : IsGap bytes [] → ItemRead files file at line bytes (Ok lexing.End)
   AToken : (gap text after : List ℕ) (kind : Kind) (t : Lexeme) → bytes ≡ gap ++ (text ++ after) → IsGap gap (text ++ after) → IsLexeme text after kind → kind ≢ Sign symbol.Get → t ≡ token file (at + length gap) (line || breaks gap) kind text → ItemRead files file at line bytes (Ok (lexing.Token t))
-  AGet : (gap space string after name : List ℕ) (start named behind : ℕ) → bytes ≡ gap ++ (codes "GET" ++ (space ++ (string ++ after))) → IsGap gap (codes "GET" ++ (space ++ (string ++ after))) → IsGet space string after name → IsFirstNamed files name named → start ≡ at + length gap → behind ≡ at + length gap + 3 + length space + length string → ItemRead files file at line bytes (Ok (lexing.Get start named behind))
+  AGet : (gap space string after name : List ℕ) (start named following : ℕ) → bytes ≡ gap ++ (codes "GET" ++ (space ++ (string ++ after))) → IsGap gap (codes "GET" ++ (space ++ (string ++ after))) → IsGet space string after name → IsFirstNamed files name named → start ≡ at + length gap → following ≡ at + length gap + 3 + length space + length string → ItemRead files file at line bytes (Ok (lexing.Get start named following))
   Wrong : (e : LexError) → ((levels before : ℕ) → Reads files levels file before at line bytes [] (Faulty e)) → ItemRead files file at line bytes (Err e)
 
 -- a GET's text and what follows it
@@ -148,15 +148,15 @@ get_word text after kind (Bracket bracket tag rest s spelled has all end) e =
     let n : false ≡ true = ap has_tag (sym s_is) ∙ has in cc
 
 item_get : (files : List File) (file at : ℕ) (line : Bool) (bytes gap after : List ℕ) (start : ℕ) (read : Result (ℕ × ℕ) LexError) → bytes ≡ gap ++ (codes "GET" ++ after) → IsGap gap (codes "GET" ++ after) → Ends is_name_byte after → start ≡ at + length gap → TargetRead files file start after read → ItemRead files file at line bytes (read >>= λ t. Ok (lexing.Get start t.0 t.1))
-item_get files file at line bytes gap after start read e g end s_is (Target space string rest name named behind after_is get first b_is) =
-    AGet gap space string rest name start named behind (e ∙ ap (λ ys. gap ++ (codes "GET" ++ ys)) after_is) (rw after_is at g) get first s_is (omega arith)
+item_get files file at line bytes gap after start read e g end s_is (Target space string rest name named following after_is get first b_is) =
+    AGet gap space string rest name start named following (e ∙ ap (λ ys. gap ++ (codes "GET" ++ ys)) after_is) (rw after_is at g) get first s_is (omega arith)
 item_get files file at line bytes gap after start read e g end s_is (Unnamed space string rest name after_is get unnamed) =
     Wrong (errors.GetMissing file start) (λ levels before. rw (e, after_is, s_is) (GetUnnamed levels file before at line gap space string rest name (rw after_is at g) get unnamed))
 item_get files file at line bytes gap after start read e g end s_is (NoString space rest after_is space_gap none) =
     Wrong (errors.GetMissing file start) (λ levels before. rw (e, after_is, s_is) (GetNoString levels file before at line gap space rest (rw after_is at g) (rw after_is at end) space_gap none))
-item_get files file at line bytes gap after start read e g end s_is (BadString' space rest kind behind place after_is space_gap faulty place_is) =
-    let p : place ≡ at + length gap + 3 + length space + behind = omega arith in
-    Wrong (error_of kind file place) (λ levels before. rw (e, after_is, p) (GetFaulty levels file before at line gap space rest kind behind (rw after_is at g) (rw after_is at end) space_gap faulty))
+item_get files file at line bytes gap after start read e g end s_is (BadString' space rest kind following place after_is space_gap faulty place_is) =
+    let p : place ≡ at + length gap + 3 + length space + following = omega arith in
+    Wrong (error_of kind file place) (λ levels before. rw (e, after_is, p) (GetFaulty levels file before at line gap space rest kind following (rw after_is at g) (rw after_is at end) space_gap faulty))
 
 pub no_get : (kind : Kind) → is_get kind ≡ false → kind ≢ Sign symbol.Get
 no_get kind h e = let n : is_get (Sign symbol.Get) ≡ false = rw e at h in let m : true ≡ false = n in cc
@@ -165,8 +165,8 @@ item_kind : (files : List File) (file : ℕ) (whole : List ℕ) (place : Place) 
 item_kind files file whole place bytes gap text after kind start end true is is_kind there e g lex s_is end_is at_start =
     let w = get_word text after kind lex (is_kind is) in
     let end_three : end ≡ start + 3 = end_is ∙ ap (λ ys. start + length ys) w.0 in
-    let behind : drop end whole ≡ after = ap (λ k. drop k whole) end_is ∙ drop_behind whole text after start (length text) at_start refl in
-    item_get files file place.at place.line bytes gap after start (target_of files file whole start end) (e ∙ ap (λ ys. gap ++ (ys ++ after)) w.0) (rw w.0 at g) w.1 s_is (target_reads files file whole start end after behind end_three w.1)
+    let following : drop end whole ≡ after = ap (λ k. drop k whole) end_is ∙ drop_after whole text after start (length text) at_start refl in
+    item_get files file place.at place.line bytes gap after start (target_of files file whole start end) (e ∙ ap (λ ys. gap ++ (ys ++ after)) w.0) (rw w.0 at g) w.1 s_is (target_reads files file whole start end after following end_three w.1)
 item_kind files file whole place bytes gap text after kind start end false is is_kind there e g lex s_is end_is at_start =
     let word : part whole start end ≡ text = part_is whole text after start end at_start end_is in
     let space : part whole place.at start ≡ gap = part_is whole gap (text ++ after) place.at start (there ∙ e) s_is in
@@ -240,7 +240,7 @@ pub data DeepRead (files : List File) (levels file start named : ℕ) (before : 
 abbrev Deep : List File → ℕ → Type 0
 Deep files levels = (file start named : ℕ) (before : List Lexeme) → DeepRead files levels file start named before (deeper_of files levels file start named before)
 
--- the rest of a file behind any place of it, once it is read in fewer turns
+-- the rest of a file after any place of it, once it is read in fewer turns
 abbrev Again : List File → ℕ → ℕ → (Place → List Lexeme → Result (List Lexeme) LexError) → ℕ → Type 0
 Again files levels file again k = (place : Place) (before : List Lexeme) → place.at ≤ length (text_of files file) → length (drop place.at (text_of files file)) ≤ k → RestRead files levels file before place.at place.line (drop place.at (text_of files file)) (again place before)
 
@@ -285,13 +285,13 @@ token_all files levels file at line before bytes gap text after kind t read room
     let P : Lexeme → Type 0 = λ y. Reads files levels file (length before) at line (gap ++ (text ++ after)) (y ∷ tokens) (Faulty x) in
     Fails (t ∷ tokens) x (rw e (subst P (sym t_is) step))
 
-get_all : (files : List File) (l file at : ℕ) (line : Bool) (before inner middle : List Lexeme) (bytes gap space string after name : List ℕ) (named behind : ℕ) (read : Result (List Lexeme) LexError) → bytes ≡ gap ++ (codes "GET" ++ (space ++ (string ++ after))) → IsGap gap (codes "GET" ++ (space ++ (string ++ after))) → IsGet space string after name → IsFirstNamed files name named → behind ≡ at + length gap + 3 + length space + length string → middle ≡ before ++ inner → Reads files l named (length before) 0 true (text_of files named) inner Whole → RestRead files (suc l) file middle behind true after read → RestRead files (suc l) file before at line bytes read
-get_all files l file at line before inner middle bytes gap space string after name named behind read e g get first b_is m_is deep (All tokens all all_is h) =
+get_all : (files : List File) (l file at : ℕ) (line : Bool) (before inner middle : List Lexeme) (bytes gap space string after name : List ℕ) (named following : ℕ) (read : Result (List Lexeme) LexError) → bytes ≡ gap ++ (codes "GET" ++ (space ++ (string ++ after))) → IsGap gap (codes "GET" ++ (space ++ (string ++ after))) → IsGet space string after name → IsFirstNamed files name named → following ≡ at + length gap + 3 + length space + length string → middle ≡ before ++ inner → Reads files l named (length before) 0 true (text_of files named) inner Whole → RestRead files (suc l) file middle following true after read → RestRead files (suc l) file before at line bytes read
+get_all files l file at line before inner middle bytes gap space string after name named following read e g get first b_is m_is deep (All tokens all all_is h) =
     let n : length middle ≡ length before + length inner = ap length m_is ∙ length-append_ℕ' before inner in
     let h' : Reads files (suc l) file (length before + length inner) (at + length gap + 3 + length space + length string) true after tokens Whole = rw (n, b_is) at h in
     let step = Get l file (length before) at line gap space string after name named inner tokens Whole g get first deep h' in
     All (inner ++ tokens) all (all_is ∙ ap (λ ys. ys ++ tokens) m_is ∙ append_assoc before inner tokens) (rw e step)
-get_all files l file at line before inner middle bytes gap space string after name named behind read e g get first b_is m_is deep (Fails tokens x h) =
+get_all files l file at line before inner middle bytes gap space string after name named following read e g get first b_is m_is deep (Fails tokens x h) =
     let n : length middle ≡ length before + length inner = ap length m_is ∙ length-append_ℕ' before inner in
     let h' : Reads files (suc l) file (length before + length inner) (at + length gap + 3 + length space + length string) true after tokens (Faulty x) = rw (n, b_is) at h in
     let step = Get l file (length before) at line gap space string after name named inner tokens (Faulty x) g get first deep h' in
@@ -313,12 +313,12 @@ record Stands (files : List File) (file k : ℕ) (place : Place) (bytes : List �
 
 again_at : (files : List File) (levels file : ℕ) (again : Place → List Lexeme → Result (List Lexeme) LexError) (k : ℕ) (place : Place) (bytes : List ℕ) → Again files levels file again k → Stands files file k place bytes → (front after : List ℕ) (at : ℕ) (line : Bool) (before : List Lexeme) → bytes ≡ front ++ after → 1 ≤ length front → at ≡ place.at + length front → RestRead files levels file before at line after (again (place_at at line) before)
 again_at files levels file again k place bytes go here front after at line before e some at_is =
-    let behind : drop at (text_of files file) ≡ after = ap (λ n. drop n (text_of files file)) at_is ∙ drop_behind (text_of files file) front after place.at (length front) (here.there ∙ e) refl in
+    let following : drop at (text_of files file) ≡ after = ap (λ n. drop n (text_of files file)) at_is ∙ drop_after (text_of files file) front after place.at (length front) (here.there ∙ e) refl in
     let l : length bytes ≡ length front + length after = ap length e ∙ length-append_ℕ front after in
     let sum : place.at + length bytes ≡ length (text_of files file) = here.sum in
     let few : length bytes ≤ suc k = here.few in
-    let n : length (drop at (text_of files file)) ≡ length after = ap length behind in
-    rw behind at (go (place_at at line) before (omega arith) (omega arith))
+    let n : length (drop at (text_of files file)) ≡ length after = ap length following in
+    rw following at (go (place_at at line) before (omega arith) (omega arith))
 
 push_read : (files : List File) (levels file : ℕ) (again : Place → List Lexeme → Result (List Lexeme) LexError) (k : ℕ) (place : Place) (bytes : List ℕ) (before : List Lexeme) (gap text after : List ℕ) (kind : Kind) (t : Lexeme) (b : Bool) → nat_lt (length before) 60000 ≡ b → Again files levels file again k → Stands files file k place bytes → bytes ≡ gap ++ (text ++ after) → IsGap gap (text ++ after) → IsLexeme text after kind → kind ≢ Sign symbol.Get → t ≡ token file (place.at + length gap) (place.line || breaks gap) kind text → RestRead files levels file before place.at place.line bytes (cond b (Ok (before ++ t ∷ [])) (Err (errors.TooManyTokens t.file t.start)) >>= again (place_at t.end false))
 push_read files levels file again k place bytes before gap text after kind t true room go here e g lex ne t_is =
@@ -333,27 +333,27 @@ push_read files levels file again k place bytes before gap text after kind t fal
     let x : errors.TooManyTokens t.file t.start ≡ errors.TooManyTokens file (place.at + length gap) = ap (λ y. errors.TooManyTokens y.file y.start) t_is in
     Fails [] (errors.TooManyTokens t.file t.start) (rw (e, x) (TooMany levels file (length before) place.at place.line gap text after kind g lex ne n))
 
-deep_read : (files : List File) (levels file : ℕ) (again : Place → List Lexeme → Result (List Lexeme) LexError) (k : ℕ) (place : Place) (bytes : List ℕ) (before : List Lexeme) (gap space string after name : List ℕ) (start named behind : ℕ) (read : Result (List Lexeme) LexError) → Again files levels file again k → Stands files file k place bytes → bytes ≡ gap ++ (codes "GET" ++ (space ++ (string ++ after))) → IsGap gap (codes "GET" ++ (space ++ (string ++ after))) → IsGet space string after name → IsFirstNamed files name named → start ≡ place.at + length gap → behind ≡ place.at + length gap + 3 + length space + length string → DeepRead files levels file start named before read → RestRead files levels file before place.at place.line bytes (read >>= again (place_at behind true))
-deep_read files levels file again k place bytes before gap space string after name start named behind read go here e g get first s_is b_is (TooDeep zero_is) =
+deep_read : (files : List File) (levels file : ℕ) (again : Place → List Lexeme → Result (List Lexeme) LexError) (k : ℕ) (place : Place) (bytes : List ℕ) (before : List Lexeme) (gap space string after name : List ℕ) (start named following : ℕ) (read : Result (List Lexeme) LexError) → Again files levels file again k → Stands files file k place bytes → bytes ≡ gap ++ (codes "GET" ++ (space ++ (string ++ after))) → IsGap gap (codes "GET" ++ (space ++ (string ++ after))) → IsGet space string after name → IsFirstNamed files name named → start ≡ place.at + length gap → following ≡ place.at + length gap + 3 + length space + length string → DeepRead files levels file start named before read → RestRead files levels file before place.at place.line bytes (read >>= again (place_at following true))
+deep_read files levels file again k place bytes before gap space string after name start named following read go here e g get first s_is b_is (TooDeep zero_is) =
     Fails [] (errors.GetTooDeep file start) (rw (e, zero_is, s_is) (GetTooDeep file (length before) place.at place.line gap space string after name named g get first))
-deep_read files levels file again k place bytes before gap space string after name start named behind read go here e g get first s_is b_is (Deeper' l inner_read l_is (All inner middle m_is deep)) =
+deep_read files levels file again k place bytes before gap space string after name start named following read go here e g get first s_is b_is (Deeper' l inner_read l_is (All inner middle m_is deep)) =
     let front = gap ++ (codes "GET" ++ (space ++ string)) in
     let e' : bytes ≡ front ++ after = e ∙ sym (append_assoc gap (codes "GET" ++ (space ++ string)) after ∙ ap (λ ys. gap ++ (codes "GET" ++ ys)) (append_assoc space string after)) in
     let n : length front ≡ length gap + length (codes "GET" ++ (space ++ string)) = length-append_ℕ gap (codes "GET" ++ (space ++ string)) in
     let m : length (space ++ string) ≡ length space + length string = length-append_ℕ space string in
-    let next_read = again_at files levels file again k place bytes go here front after behind true middle e' (omega arith) (omega arith) in
-    let P : ℕ → Type 0 = λ x. RestRead files x file middle behind true after (again (place_at behind true) middle) → RestRead files x file before place.at place.line bytes (again (place_at behind true) middle) in
-    let go_on : P (suc l) = λ h. get_all files l file place.at place.line before inner middle bytes gap space string after name named behind (again (place_at behind true) middle) e g get first b_is m_is deep h in
+    let next_read = again_at files levels file again k place bytes go here front after following true middle e' (omega arith) (omega arith) in
+    let P : ℕ → Type 0 = λ x. RestRead files x file middle following true after (again (place_at following true) middle) → RestRead files x file before place.at place.line bytes (again (place_at following true) middle) in
+    let go_on : P (suc l) = λ h. get_all files l file place.at place.line before inner middle bytes gap space string after name named following (again (place_at following true) middle) e g get first b_is m_is deep h in
     subst P (sym l_is) go_on next_read
-deep_read files levels file again k place bytes before gap space string after name start named behind read go here e g get first s_is b_is (Deeper' l inner_read l_is (Fails inner x deep)) =
+deep_read files levels file again k place bytes before gap space string after name start named following read go here e g get first s_is b_is (Deeper' l inner_read l_is (Fails inner x deep)) =
     Fails inner x (rw (e, l_is) (GetFault l file (length before) place.at place.line gap space string after name named inner x g get first deep))
 
 turn_read : (files : List File) (levels file : ℕ) (again : Place → List Lexeme → Result (List Lexeme) LexError) (k : ℕ) (place : Place) (bytes : List ℕ) (before : List Lexeme) (read : Result Found LexError) → Deep files levels → Again files levels file again k → Stands files file k place bytes → ItemRead files file place.at place.line bytes read → RestRead files levels file before place.at place.line bytes (read >>= found_on again (deeper_of files levels) file before)
 turn_read files levels file again k place bytes before read deep go here (AtEnd g) = All [] before (sym (append-none before)) (End levels file (length before) place.at place.line bytes g)
 turn_read files levels file again k place bytes before read deep go here (AToken gap text after kind t e g lex ne t_is) =
     push_read files levels file again k place bytes before gap text after kind t (nat_lt (length before) 60000) refl go here e g lex ne t_is
-turn_read files levels file again k place bytes before read deep go here (AGet gap space string after name start named behind e g get first s_is b_is) =
-    deep_read files levels file again k place bytes before gap space string after name start named behind (deeper_of files levels file start named before) go here e g get first s_is b_is (deep file start named before)
+turn_read files levels file again k place bytes before read deep go here (AGet gap space string after name start named following e g get first s_is b_is) =
+    deep_read files levels file again k place bytes before gap space string after name start named following (deeper_of files levels file start named before) go here e g get first s_is b_is (deep file start named before)
 turn_read files levels file again k place bytes before read deep go here (Wrong e h) = Fails [] e (h levels (length before))
 
 rest_reads : (files : List File) (levels file : ℕ) → Deep files levels → (k : ℕ) → Again files levels file (rest_of (deeper_of files levels) files file k) k

@@ -1,4 +1,4 @@
--- For proofs: blanks, line breaks and comments in front of a list of bytes, read from left to right.
+-- For proofs: blanks, line breaks and comments before a list of bytes, read from left to right.
 use Rattle.std.specs.Prelude.{ℕ, zero, suc, ◌+◌, Bool, false, not, ◌==◌, ◌&&◌, List, [], ◌∷◌, length, drop, Option, Some, None, option_map, Result, Ok, Err, if◌then◌else◌}
 use Rattle.std.specs.List.{prefix_len}
 use Rattle.bc_lex.specs.declared.fault.Fault.{Fault}
@@ -27,7 +27,7 @@ blank_of (b ∷ bs) =
     else (if opens_block (b ∷ bs) then option_map (λ n. 2 + n) (closing_from 0 (drop 1 bs))
     else (if is_space b then Some 1 else Some 0))
 
--- goes on behind at bytes, by what stands in front of the rest
+-- goes on after at bytes, by what stands before the rest
 abbrev pub gap_on : (ℕ → List ℕ → Result ℕ Fault) → ℕ → List ℕ → Option ℕ → Result ℕ Fault
 gap_on again at bs None = Err (fault_at faults.Unterminated at)
 gap_on again at bs (Some n) = if n == 0 then Ok at else again (at + n) (drop n bs)

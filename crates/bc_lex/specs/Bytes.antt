@@ -36,7 +36,7 @@ below base (Some n) = if nat_lt n base then Some n else None
 abbrev pub digit_of : ℕ → ℕ → Option ℕ
 digit_of base b = below base (digit_value b)
 
--- what stands behind * for another byte: N T S B P C in either case, and the two signs and * for themselves
+-- what stands after * for another byte: N T S B P C in either case, and the two signs and * for themselves
 abbrev pub escaped : ℕ → Option ℕ
 escaped b =
     if (b == 78) || (b == 110) then Some 10

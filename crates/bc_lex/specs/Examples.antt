@@ -6,12 +6,12 @@ use Rattle.bc_lex_tokens.specs.Spelling.{symbol_of}
 use Rattle.bc_lex_tokens.specs.Token.{Sign, Name}
 use Rattle.bc_lex.specs.Gaps.{IsBlank, Space, Line, Nothing, More}
 use Rattle.bc_lex.specs.Quotes.{IsCharacter, Escape, IsBadEscape, Bad}
-use Rattle.bc_lex.specs.Lexemes.{IsNumber, Octal, Hexadecimal, value_behind, IsLexeme, Word, Named}
+use Rattle.bc_lex.specs.Lexemes.{IsNumber, Octal, Hexadecimal, value_after, IsLexeme, Word, Named}
 use Rattle.bc_lex.specs.Files.{File}
 use Rattle.bc_lex.specs.Tokens.{token, End, Next, Whole, HasTokens}
 
 -- 12, #17 and #X1F
-twelve : value_behind 10 0 (codes "12") ≡ 12
+twelve : value_after 10 0 (codes "12") ≡ 12
 twelve = refl
 
 octal : IsNumber (codes "#17") (codes "8") 15
@@ -28,7 +28,7 @@ line_break = Escape 110 10 refl
 bad_escape : IsBadEscape (codes "*Q\"")
 bad_escape = Bad 81 (codes "\"") (λ e. cc) refl
 
--- a comment up to the end of its line, which stands behind it
+-- a comment up to the end of its line, which stands after it
 comment : IsBlank (codes "// a") (10 ∷ codes "B")
 comment = Line 47 47 (codes " a") (10 ∷ codes "B") refl refl refl
 

@@ -1,4 +1,4 @@
--- What is wrong at a place that no blank begins, and how many bytes behind it the fault stands.
+-- What is wrong at a place that no blank begins, and how many bytes after it the fault stands.
 use Rattle.std.specs.Prelude.{◌≡◌, ℕ, ◌+◌, ◌<◌, Bool, true, false, not, ◌==◌, ◌||◌, List, ◌∷◌, ◌++◌, length, Some, codes}
 use Rattle.bc_lex_tokens.specs.declared.symbol.Symbol.{Symbol}
 use Rattle.bc_lex_tokens.specs.Spelling.{symbol_of}
@@ -13,7 +13,7 @@ use Rattle.bc_lex.specs.Lexemes.{Ends, is_digit_of, IsNumber}
 abbrev pub is_sign_byte : ℕ → Bool
 is_sign_byte b = not (is_letter b || is_digit b || (b == 35) || (b == 34) || (b == 39) || is_space b)
 
--- behind a #: no octal digit, and no X with a hexadecimal digit
+-- after a #: no octal digit, and no X with a hexadecimal digit
 abbrev pub NoDigits : List ℕ → Type 0
 NoDigits bs = Ends (is_digit_of 8) bs × ((rest : List ℕ) → bs ≡ 88 ∷ rest → Ends (is_digit_of 16) rest)
 
@@ -33,7 +33,7 @@ pub data IsFaulty : List ℕ → FaultKind → ℕ → Type 0 where
       (1 + length text)
   -- a character constant that begins with a bad escape
   BadConstant : (after : List ℕ) → IsBadEscape after → IsFaulty (39 ∷ after) faults.BadEscape 1
-  -- anything else behind a ' than one character and a '
+  -- anything else after a ' than one character and a '
   OpenConstant : (after : List ℕ) → (IsBadEscape after → ⊥) → ((text rest : List ℕ) (c : ℕ) → after ≡ text ++ 39 ∷ rest → IsCharacter 39 text c → ⊥)
       → IsFaulty (39 ∷ after) faults.Unterminated 0
   -- a byte that begins no token

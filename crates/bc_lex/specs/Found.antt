@@ -1,4 +1,4 @@
--- For proofs: what the code found behind a place, without where it lies in memory.
+-- For proofs: what the code found after a place, without where it lies in memory.
 use Rattle.std.specs.Prelude.{ℕ, ◌<◌, ◌≤◌, List, length}
 use Rattle.bc_lex_tokens.specs.Token.{lexeme_of}
 use Rattle.bc_lex.specs.declared.source.Source.{Source}
@@ -10,10 +10,10 @@ use Rattle.bc_lex.specs.Lexing.{Found, End, Token, Get}
 abbrev pub found : code.Found → Found
 found item.End = End
 found (item.Token t) = Token (lexeme_of t)
-found (item.Get start named behind) = Get start named behind
+found (item.Get start named following) = Get start named following
 
--- the place behind what was found is in the file, and the file that a GET names is there
+-- the place after what was found is in the file, and the file that a GET names is there
 abbrev pub IsWithin : List Source → ℕ → code.Found → Type 0
 IsWithin sources file item.End = Unit {0}
 IsWithin sources file (item.Token t) = t.end ≤ length (text_of (files_of sources) file)
-IsWithin sources file (item.Get start named behind) = (named < length sources) × (behind ≤ length (text_of (files_of sources) file))
+IsWithin sources file (item.Get start named following) = (named < length sources) × (following ≤ length (text_of (files_of sources) file))

@@ -1,4 +1,4 @@
--- For proofs: the lexeme in front of a list of bytes, read from left to right.
+-- For proofs: the lexeme before a list of bytes, read from left to right.
 use Rattle.std.specs.Prelude.{◌≡◌, ℕ, ◌+◌, ◌==◌, ◌||◌, nat_lt, List, [], ◌∷◌, length, take, drop, Option, Some, None, Result, Ok, Err, if◌then◌else◌}
 use Rattle.std.specs.List.{prefix_len}
 use Rattle.bc_lex_tokens.specs.declared.symbol.Symbol.{Symbol}

@@ -22,22 +22,22 @@ IsName (b ∷ bs) = (is_letter b ≡ true) × (list_all is_name_byte bs ≡ true
 abbrev pub is_digit_of : ℕ → ℕ → Bool
 is_digit_of base b = is_some (digit_of base b)
 
--- the value of digits behind those of a value
-abbrev pub value_behind : ℕ → ℕ → List ℕ → ℕ
-value_behind base n [] = n
-value_behind base n (b ∷ bs) = value_behind base (n * base + unwrap_or (digit_of base b) 0) bs
+-- the value of digits after those of a value
+abbrev pub value_after : ℕ → ℕ → List ℕ → ℕ
+value_after base n [] = n
+value_after base n (b ∷ bs) = value_after base (n * base + unwrap_or (digit_of base b) 0) bs
 
--- digits of a base behind the base's prefix
+-- digits of a base after the base's prefix
 pub data IsNumber : List ℕ → List ℕ → ℕ → Type 0 where
   -- 12
   Decimal : (b : ℕ) (bs after : List ℕ) → list_all (is_digit_of 10) (b ∷ bs) ≡ true → Ends (is_digit_of 10) after
-      → IsNumber (b ∷ bs) after (value_behind 10 0 (b ∷ bs))
+      → IsNumber (b ∷ bs) after (value_after 10 0 (b ∷ bs))
   -- #17
   Octal : (b : ℕ) (bs after : List ℕ) → list_all (is_digit_of 8) (b ∷ bs) ≡ true → Ends (is_digit_of 8) after
-      → IsNumber (35 ∷ b ∷ bs) after (value_behind 8 0 (b ∷ bs))
+      → IsNumber (35 ∷ b ∷ bs) after (value_after 8 0 (b ∷ bs))
   -- #X1F
   Hexadecimal : (b : ℕ) (bs after : List ℕ) → list_all (is_digit_of 16) (b ∷ bs) ≡ true → Ends (is_digit_of 16) after
-      → IsNumber (35 ∷ 88 ∷ b ∷ bs) after (value_behind 16 0 (b ∷ bs))
+      → IsNumber (35 ∷ 88 ∷ b ∷ bs) after (value_after 16 0 (b ∷ bs))
 
 -- no letter begins a text
 abbrev pub NoLetter : List ℕ → Type 0

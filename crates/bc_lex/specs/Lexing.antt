@@ -30,7 +30,7 @@ abbrev pub ReadsAs : {X Y : Type 0} → (X → Y) → Result X LexError → Resu
 ReadsAs view (Ok x) read = read ≡ Ok (view x)
 ReadsAs view (Err e) read = Fails e read
 
--- a fault behind a place becomes an error of the file
+-- a fault after a place becomes an error of the file
 abbrev pub located : {X : Type 0} → ℕ → ℕ → Result X Fault → Result X LexError
 located file at (Ok x) = Ok x
 located file at (Err f) = Err (error_of f.kind file (at + f.at))
@@ -39,15 +39,15 @@ abbrev pub found_or : {X : Type 0} → LexError → Option X → Result X LexErr
 found_or e None = Err e
 found_or e (Some x) = Ok x
 
--- the place behind blanks, line breaks and comments
+-- the place after blanks, line breaks and comments
 unfoldable pub skipped : ℕ → List ℕ → ℕ → Result ℕ LexError
 skipped file text at = located file at (gap_of (drop at text)) >>= λ n. Ok (at + n)
 
--- the place behind a string
+-- the place after a string
 unfoldable pub string_end_of : ℕ → List ℕ → ℕ → Result ℕ LexError
 string_end_of file text at = located file at (string_of (drop at text)) >>= λ n. Ok (at + n)
 
--- a lexeme, and the place behind it
+-- a lexeme, and the place after it
 unfoldable pub lexeme_at : ℕ → List ℕ → ℕ → Result (Kind × ℕ) LexError
 lexeme_at file text at = located file at (lexeme_in_front (drop at text)) >>= λ x. Ok (x.0, at + x.1)
 
@@ -57,8 +57,8 @@ part text from to = take (to - from) (drop from text)
 
 -- the file that a string names, from a place to another
 abbrev pub named_on : List File → ℕ → List ℕ → ℕ → ℕ → ℕ → Result (ℕ × ℕ) LexError
-named_on files file text start quote behind =
-    found_or (errors.GetMissing file start) (source_from (part text quote behind) 0 files) >>= λ named. Ok (named, behind)
+named_on files file text start quote following =
+    found_or (errors.GetMissing file start) (source_from (part text quote following) 0 files) >>= λ named. Ok (named, following)
 
 -- the file that a GET at start names, with what stands at a place as its string
 abbrev pub target_on : List File → ℕ → List ℕ → ℕ → ℕ → Result (ℕ × ℕ) LexError
@@ -67,12 +67,12 @@ target_on files file text start quote =
     then string_end_of file text quote >>= named_on files file text start quote
     else Err (errors.GetMissing file start)
 
--- the file that a GET names, from start to end, and the place behind its string
+-- the file that a GET names, from start to end, and the place after its string
 unfoldable pub target_of : List File → ℕ → List ℕ → ℕ → ℕ → Result (ℕ × ℕ) LexError
 target_of files file text start end = skipped file text end >>= target_on files file text start
 
--- what comes first behind a place: the end, a token, or a GET with its place, the file that it names, and the place
--- behind its string
+-- what comes first after a place: the end, a token, or a GET with its place, the file that it names, and the place
+-- after its string
 pub data Found : Type 0 where
   End : Found
   Token : Lexeme → Found
@@ -82,7 +82,7 @@ abbrev pub is_get : Kind → Bool
 is_get (Sign symbol.Get) = true
 is_get _ = false
 
--- what a lexeme from start to end gives, behind a place
+-- what a lexeme from start to end gives, after a place
 unfoldable pub item_by : List File → ℕ → List ℕ → Place → ℕ → Kind × ℕ → Result Found LexError
 item_by files file text place start x =
     if is_get x.0
@@ -116,11 +116,11 @@ Deeper = ℕ → ℕ → ℕ → List Lexeme → Result (List Lexeme) LexError
 abbrev pub place_at : ℕ → Bool → Place
 place_at at line = record { at = at; line = line }
 
--- goes on behind what was found
+-- goes on after what was found
 abbrev pub found_on : (Place → List Lexeme → Result (List Lexeme) LexError) → Deeper → ℕ → List Lexeme → Found → Result (List Lexeme) LexError
 found_on again deeper file tokens End = Ok tokens
 found_on again deeper file tokens (Token token) = pushed token tokens >>= again (place_at token.end false)
-found_on again deeper file tokens (Get start named behind) = deeper file start named tokens >>= again (place_at behind true)
+found_on again deeper file tokens (Get start named following) = deeper file start named tokens >>= again (place_at following true)
 
 -- the rest of a file, in at most this many turns
 abbrev pub rest_of : Deeper → List File → ℕ → ℕ → Place → List Lexeme → Result (List Lexeme) LexError
@@ -128,7 +128,7 @@ rest_of deeper files file zero place tokens = Ok tokens
 rest_of deeper files file (suc k) place tokens =
     item_of files file place >>= found_on (rest_of deeper files file k) deeper file tokens
 
--- a file to its end, behind a line break or not
+-- a file to its end, after a line break or not
 unfoldable pub file_to_end : Deeper → List File → ℕ → Bool → List Lexeme → Result (List Lexeme) LexError
 file_to_end deeper files file line tokens =
     rest_of deeper files file (length (text_of files file)) (place_at 0 line) tokens

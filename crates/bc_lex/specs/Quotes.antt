@@ -12,13 +12,13 @@ pub data Spells (close : ℕ) : List ℕ → List ℕ → Type 0 where
   Empty : Spells close [] []
   More : (first rest : List ℕ) (c : ℕ) (cs : List ℕ) → IsCharacter close first c → Spells close rest cs → Spells close (first ++ rest) (c ∷ cs)
 
--- a line break or the end of the file comes before the character, or behind its *
+-- a line break or the end of the file comes before the character, or after its *
 pub data IsCut : List ℕ → Type 0 where
   End : IsCut []
   Break : (rest : List ℕ) → IsCut (10 ∷ rest)
-  EndBehind : IsCut (42 ∷ [])
-  BreakBehind : (rest : List ℕ) → IsCut (42 ∷ 10 ∷ rest)
+  EndAfter : IsCut (42 ∷ [])
+  BreakAfter : (rest : List ℕ) → IsCut (42 ∷ 10 ∷ rest)
 
--- a * with a byte behind it that no escape has
+-- a * with a byte after it that no escape has
 pub data IsBadEscape : List ℕ → Type 0 where
   Bad : (b : ℕ) (rest : List ℕ) → b ≢ 10 → escaped b ≡ None → IsBadEscape (42 ∷ b ∷ rest)

@@ -1,4 +1,4 @@
--- For proofs: what stands in front of a list of bytes, read from left to right.
+-- For proofs: what stands before a list of bytes, read from left to right.
 use Rattle.std.specs.Prelude.{ℕ, zero, suc, ◌+◌, ◌*◌, ◌≤◌, ◌==◌, nat_lt, List, [], ◌∷◌, length, take, drop, Option, Some, None, is_some, unwrap_or, Result, Ok, Err, if◌then◌else◌}
 use Rattle.std.specs.List.{prefix_len}
 use Rattle.bc_lex.specs.declared.fault.Fault.{Fault}
@@ -37,7 +37,7 @@ number_of bs =
     then (if begins 88 (drop 1 bs) then based_of 16 2 bs else based_of 8 1 bs)
     else based_of 10 0 bs
 
--- behind a *
+-- after a *
 abbrev pub escape_of : List ℕ → Quoted
 escape_of [] = quoted.Cut
 escape_of (c ∷ cs) = if c == 10 then quoted.Cut else (elim (escaped c) [ Some v ↦ quoted.Character v 2 | None ↦ quoted.BadEscape ])
@@ -57,7 +57,7 @@ Fits bs quoted.Cut = Unit {0}
 Fits bs quoted.BadEscape = 2 ≤ length bs
 Fits bs (quoted.Character v n) = (1 ≤ n) × (n ≤ length bs)
 
--- goes on reading a string of which at bytes are read, by what stands in front of the rest
+-- goes on reading a string of which at bytes are read, by what stands before the rest
 abbrev pub string_on : (ℕ → List ℕ → Result ℕ Fault) → ℕ → List ℕ → Quoted → Result ℕ Fault
 string_on again at bs quoted.Closed = Ok (at + 1)
 string_on again at bs quoted.Cut = Err (fault_at faults.Unterminated 0)
@@ -72,7 +72,7 @@ string_from (suc k) at bs = string_on (string_from k) at bs (quoted_of 34 bs)
 unfoldable pub string_of : List ℕ → Result ℕ Fault
 string_of bs = string_from 256 1 (drop 1 bs)
 
--- a character constant, by what stands behind its first sign
+-- a character constant, by what stands after its first sign
 abbrev pub character_by : List ℕ → Quoted → Result (ℕ × ℕ) Fault
 character_by bs quoted.Closed = Err (fault_at faults.Unterminated 0)
 character_by bs quoted.Cut = Err (fault_at faults.Unterminated 0)

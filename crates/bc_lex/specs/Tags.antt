@@ -1,4 +1,4 @@
--- The symbols behind which a tag may stand.
+-- The symbols after which a tag may stand.
 use Rattle.std.specs.Prelude.{Bool, true, false}
 use Rattle.bc_lex_tokens.specs.declared.symbol.Symbol.{Symbol}
 use Rattle.bc_lex_tokens.specs.declared.symbol.Symbol.TheVariants as symbol

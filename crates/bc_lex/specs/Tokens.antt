@@ -28,7 +28,7 @@ abbrev pub IsNoString : List ℕ → Type 0
 IsNoString [] = Unit {0}
 IsNoString (b ∷ bs) = (is_space b ≡ false) × (opens_line (b ∷ bs) ≡ false) × (opens_block (b ∷ bs) ≡ false) × (b ≢ 34)
 
--- what is faulty behind a GET in place of its string
+-- what is faulty after a GET in place of its string
 abbrev pub IsFaultyString : List ℕ → FaultKind → ℕ → Type 0
 IsFaultyString bytes kind at = ((begins 34 bytes ≡ true) ⊎ (opens_block bytes ≡ true)) × IsFaulty bytes kind at
 
@@ -61,14 +61,14 @@ pub data Reads (files : List File) : ℕ → ℕ → ℕ → ℕ → Bool → Li
       → IsGap gap (text ++ after) → IsLexeme text after kind → kind ≢ Sign symbol.Get → before < 60000
       → Reads files levels file (before + 1) (at + length gap + length text) false after tokens ending
       → Reads files levels file before at line (gap ++ (text ++ after)) (token file (at + length gap) (line || breaks gap) kind text ∷ tokens) ending
-  -- The token behind a gap is one too many.
+  -- The token after a gap is one too many.
   TooMany : (levels file before at : ℕ) (line : Bool) (gap text after : List ℕ) (kind : Kind) → IsGap gap (text ++ after) → IsLexeme text after kind
       → kind ≢ Sign symbol.Get → 60000 ≤ before
       → Reads files levels file before at line (gap ++ (text ++ after)) [] (Faulty (errors.TooManyTokens file (at + length gap)))
-  -- Behind a gap stands something faulty.
-  Fault : (levels file before at : ℕ) (line : Bool) (gap bytes : List ℕ) (kind : FaultKind) (behind : ℕ) → IsGap gap bytes → IsFaulty bytes kind behind
-      → Reads files levels file before at line (gap ++ bytes) [] (Faulty (error_of kind file (at + length gap + behind)))
-  -- A gap and a GET with its string: first the tokens of the named file, which begins behind a line break, then those of
+  -- After a gap stands something faulty.
+  Fault : (levels file before at : ℕ) (line : Bool) (gap bytes : List ℕ) (kind : FaultKind) (following : ℕ) → IsGap gap bytes → IsFaulty bytes kind following
+      → Reads files levels file before at line (gap ++ bytes) [] (Faulty (error_of kind file (at + length gap + following)))
+  -- A gap and a GET with its string: first the tokens of the named file, which begins after a line break, then those of
   -- what follows, which does so too. The named file may hold GETs of one level less.
   Get : (levels file before at : ℕ) (line : Bool) (gap space string after name : List ℕ) (named : ℕ) (inner tokens : List Lexeme) (ending : Ending)
       → IsGap gap (codes "GET" ++ (space ++ (string ++ after))) → IsGet space string after name → IsFirstNamed files name named
@@ -88,15 +88,15 @@ pub data Reads (files : List File) : ℕ → ℕ → ℕ → ℕ → Bool → Li
   GetUnnamed : (levels file before at : ℕ) (line : Bool) (gap space string after name : List ℕ) → IsGap gap (codes "GET" ++ (space ++ (string ++ after)))
       → IsGet space string after name → IsUnnamed files name
       → Reads files levels file before at line (gap ++ (codes "GET" ++ (space ++ (string ++ after)))) [] (Faulty (errors.GetMissing file (at + length gap)))
-  -- A GET behind which something else than a string stands.
+  -- A GET after which something else than a string stands.
   GetNoString : (levels file before at : ℕ) (line : Bool) (gap space after : List ℕ) → IsGap gap (codes "GET" ++ (space ++ after))
       → Ends is_name_byte (space ++ after) → IsGap space after → IsNoString after
       → Reads files levels file before at line (gap ++ (codes "GET" ++ (space ++ after))) [] (Faulty (errors.GetMissing file (at + length gap)))
-  -- A GET behind which a comment or a string is faulty.
-  GetFaulty : (levels file before at : ℕ) (line : Bool) (gap space bytes : List ℕ) (kind : FaultKind) (behind : ℕ)
-      → IsGap gap (codes "GET" ++ (space ++ bytes)) → Ends is_name_byte (space ++ bytes) → IsGap space bytes → IsFaultyString bytes kind behind
+  -- A GET after which a comment or a string is faulty.
+  GetFaulty : (levels file before at : ℕ) (line : Bool) (gap space bytes : List ℕ) (kind : FaultKind) (following : ℕ)
+      → IsGap gap (codes "GET" ++ (space ++ bytes)) → Ends is_name_byte (space ++ bytes) → IsGap space bytes → IsFaultyString bytes kind following
       → Reads files levels file before at line (gap ++ (codes "GET" ++ (space ++ bytes))) []
-      (Faulty (error_of kind file (at + length gap + 3 + length space + behind)))
+      (Faulty (error_of kind file (at + length gap + 3 + length space + following)))
 
 -- the token list of a source, at most 60,000 tokens
 abbrev pub HasTokens : List File → ℕ → List Lexeme → Type 0

@@ -3,7 +3,7 @@ ghost use Rattle.bc_lex.specs.Blank.{ends_comment, closing_from, blank_of, gap_o
 
 use crate::byte::is_space;
 use crate::fault::{Fault, FaultKind};
-use crate::run::{behind, line_bytes};
+use crate::run::{following, line_bytes};
 
 /// Whether a block comment ends in front.
 fn closes(bytes: &[u8]) -> bool
@@ -18,7 +18,7 @@ fn closing(bytes: &[u8]) -> Option<usize>
     ensures within { IfSome result (λ n. n ≤ length bytes.now) }
 {
     for at in 0..bytes.len() {
-        if closes(behind(bytes, at)) {
+        if closes(following(bytes, at)) {
             return Some(at + 2);
         }
     }
@@ -32,8 +32,8 @@ fn blank(bytes: &[u8]) -> Option<usize>
     ensures within { IfSome result (λ n. n ≤ length bytes.now) }
 {
     match bytes {
-        [b'/', b'/', ..] | [b'|', b'|', ..] => Some(2 + line_bytes(behind(bytes, 2))),
-        [b'/', b'*', ..] => closing(behind(bytes, 2)).map(|count| 2 + count),
+        [b'/', b'/', ..] | [b'|', b'|', ..] => Some(2 + line_bytes(following(bytes, 2))),
+        [b'/', b'*', ..] => closing(following(bytes, 2)).map(|count| 2 + count),
         [byte, ..] if is_space(*byte) => Some(1),
         _ => Some(0),
     }
@@ -49,7 +49,7 @@ pub fn gap(bytes: &[u8]) -> Result<usize, Fault>
     let mut at = 0;
     // Each turn goes on by a byte at least.
     for _ in 0..bytes.len() {
-        match blank(behind(bytes, at)) {
+        match blank(following(bytes, at)) {
             Some(0) => return Ok(at),
             Some(count) => at += count,
             None => {

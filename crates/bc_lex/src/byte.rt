@@ -8,7 +8,7 @@ pub fn is_letter(byte: u8) -> bool
     byte.is_ascii_alphabetic()
 }
 
-/// Whether the byte may stand in a name or a tag behind its beginning.
+/// Whether the byte may stand in a name or a tag after its beginning.
 pub fn is_name_byte(byte: u8) -> bool
     ensures { result ≡ name_byte byte }
 {
@@ -45,7 +45,7 @@ pub fn digit(base: u32, byte: u8) -> Option<u32>
     }
 }
 
-/// The byte that stands behind `*` for another one, or `None` where nothing is written so.
+/// The byte that stands after `*` for another one, or `None` where nothing is written so.
 pub fn escaped(byte: u8) -> Option<u8>
     ensures { result ≡ escape byte }
 {

@@ -21,16 +21,16 @@ pub enum LexError {
     /// The comment, the string or the character constant that begins at the place is not closed.
     #[error("what begins at offset {1} of file {0} is not closed")]
     Unterminated(usize, usize),
-    /// Behind the `*` at the place stands no escape.
+    /// After the `*` at the place stands no escape.
     #[error("no escape goes on behind the * at offset {1} of file {0}")]
     BadEscape(usize, usize),
-    /// Behind the GET at the place stands no string, or no source has the name that it spells.
+    /// After the GET at the place stands no string, or no source has the name that it spells.
     #[error("the GET at offset {1} of file {0} names no file")]
     GetMissing(usize, usize),
     /// The GET at the place stands in a file that eight GETs led to.
     #[error("the GET at offset {1} of file {0} is nested too deep")]
     GetTooDeep(usize, usize),
-    /// The token at the place comes behind 60,000 others.
+    /// The token at the place comes after 60,000 others.
     #[error("the token at offset {1} of file {0} is one too many")]
     TooManyTokens(usize, usize),
     /// An allocation was refused.

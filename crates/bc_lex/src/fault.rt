@@ -10,7 +10,7 @@ pub enum FaultKind {
     BadEscape,
 }
 
-/// A fault, and how many bytes it stands behind the place that was looked at.
+/// A fault, and how many bytes it stands after the place that was looked at.
 #[derive(Clone, Copy, Debug, PartialEq, Eq)]
 pub struct Fault {
     pub kind: FaultKind,

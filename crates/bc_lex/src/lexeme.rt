@@ -7,7 +7,7 @@ use crate::byte::is_letter;
 use crate::fault::{Fault, FaultKind};
 use crate::number::number;
 use crate::quoted::{character, string};
-use crate::run::{behind, name_bytes};
+use crate::run::{following, name_bytes};
 use crate::symbols::spelled;
 use bc_lex_tokens::{Symbol, TokenKind};
 

@@ -20,7 +20,7 @@ fn value(base: u32, digits: &[u8]) -> Option<u16>
     Some(value as u16)
 }
 
-/// The number of this base behind a prefix, with the number of its bytes.
+/// The number of this base after a prefix, with the number of its bytes.
 fn based(base: u32, prefix: usize, bytes: &[u8]) -> Result<(u16, usize), Fault>
     requires base { base ≤ 16 }
     requires prefix { prefix ≤ length bytes.now }

@@ -3,16 +3,16 @@ ghost use Rattle.bc_lex.specs.Reading.{quoted_of, string_from, string_of, charac
 
 use crate::byte::escaped;
 use crate::fault::{Fault, FaultKind};
-use crate::run::behind;
+use crate::run::following;
 
 /// What stands in front in a string or a character constant.
 #[derive(Clone, Copy, Debug, PartialEq, Eq)]
 pub enum Quoted {
     /// The closing sign.
     Closed,
-    /// A line break or the end of the file, also behind a `*`.
+    /// A line break or the end of the file, also after a `*`.
     Cut,
-    /// A `*` behind which no escape goes on.
+    /// A `*` after which no escape goes on.
     BadEscape,
     /// A character, with the number of bytes that it is spelled with.
     Character(u8, usize),
@@ -46,7 +46,7 @@ pub fn string(bytes: &[u8]) -> Result<usize, Fault>
     let mut at = 1;
     // A string has at most 255 characters, and then its end.
     for _ in 0..256usize {
-        match next_quoted(b'"', behind(bytes, at)) {
+        match next_quoted(b'"', following(bytes, at)) {
             Quoted::Closed => return Ok(at + 1),
             Quoted::Cut => return Err(Fault::here(FaultKind::Unterminated)),
             Quoted::BadEscape => {
@@ -68,13 +68,13 @@ pub fn character(bytes: &[u8]) -> Result<(u16, usize), Fault>
     ensures within { IfOk result (λ x. x.1 ≤ length bytes.now) }
     ensures fault { IfErr result (λ f. f.at ≤ length bytes.now) }
 {
-    match next_quoted(b'\'', behind(bytes, 1)) {
+    match next_quoted(b'\'', following(bytes, 1)) {
         Quoted::Closed | Quoted::Cut => Err(Fault::here(FaultKind::Unterminated)),
         Quoted::BadEscape => Err(Fault {
             kind: FaultKind::BadEscape,
             at: 1,
         }),
-        Quoted::Character(byte, count) => match behind(bytes, 1 + count) {
+        Quoted::Character(byte, count) => match following(bytes, 1 + count) {
             [b'\'', ..] => Ok((byte as u16, count + 2)),
             _ => Err(Fault::here(FaultKind::Unterminated)),
         },

@@ -11,7 +11,7 @@ use crate::blank::gap;
 use crate::error::LexError;
 use crate::lexeme::lexeme;
 use crate::quoted::string;
-use crate::run::behind;
+use crate::run::following;
 use crate::source::{Source, source_named, text_at};
 use bc_lex_tokens::{Symbol, Token, TokenKind};
 use std::alloc::Global;
@@ -29,35 +29,35 @@ pub struct Place {
     pub line: bool,
 }
 
-/// The place behind the blanks, line breaks and comments that begin at a place.
+/// The place after the blanks, line breaks and comments that begin at a place.
 #[tactic(auto, unfolding(crate::specs::Lexing::skipped))]
 fn skip(file: usize, text: &[u8], at: usize) -> Result<usize, LexError>
     requires { at ≤ length text.now }
     ensures value { ReadsAs (λ x. x) result (skipped file text.now at) }
     ensures within { IfOk result (λ x. (at ≤ x) × (x ≤ length text.now)) }
 {
-    match gap(behind(text, at)) {
+    match gap(following(text, at)) {
         Ok(count) => Ok(at + count),
         Err(fault) => Err(fault.in_file(file, at)),
     }
 }
 
-/// The place behind the string that begins at a place.
+/// The place after the string that begins at a place.
 #[tactic(auto, unfolding(crate::specs::Lexing::string_end_of))]
 fn string_end(file: usize, text: &[u8], at: usize) -> Result<usize, LexError>
     requires { at < length text.now }
     ensures value { ReadsAs (λ x. x) result (string_end_of file text.now at) }
     ensures within { IfOk result (λ x. (at < x) × (x ≤ length text.now)) }
 {
-    match string(behind(text, at)) {
+    match string(following(text, at)) {
         Ok(count) => Ok(at + count),
         Err(fault) => Err(fault.in_file(file, at)),
     }
 }
 
-/// The lexeme that begins at a place, and the place behind it.
+/// The lexeme that begins at a place, and the place after it.
 #[tactic(auto, unfolding(crate::specs::Lexing::lexeme_at))]
-fn lexeme_behind<'s>(
+fn lexeme_after<'s>(
     file: usize,
     text: &'s [u8],
     at: usize,
@@ -66,7 +66,7 @@ fn lexeme_behind<'s>(
     ensures value { ReadsAs (λ x. (kind_of x.0, x.1)) result (lexeme_at file text.now at) }
     ensures within { IfOk result (λ x. (at ≤ x.1) × (x.1 ≤ length text.now)) }
 {
-    match lexeme(behind(text, at)) {
+    match lexeme(following(text, at)) {
         Ok((kind, count)) => Ok((kind, at + count)),
         Err(fault) => Err(fault.in_file(file, at)),
     }
@@ -80,7 +80,7 @@ fn has_quote(bytes: &[u8]) -> bool
     matches!(bytes, [b'"', ..])
 }
 
-/// The index of the file that a GET names, and the place behind the GET's string. The GET begins at `start` and ends
+/// The index of the file that a GET names, and the place after the GET's string. The GET begins at `start` and ends
 /// at `end`.
 #[tactic(auto, unfolding(crate::specs::Lexing::target_of))]
 fn target(
@@ -96,28 +96,28 @@ fn target(
     ensures within { IfOk result (λ x. x.1 ≤ length text.now) }
 {
     let quote = skip(file, text, end)?;
-    if !has_quote(behind(text, quote)) {
+    if !has_quote(following(text, quote)) {
         return Err(LexError::GetMissing(file, start));
     }
-    let behind = string_end(file, text, quote)?;
-    match source_named(sources, &text[quote..behind]) {
-        Some(named) => Ok((named, behind)),
+    let following = string_end(file, text, quote)?;
+    match source_named(sources, &text[quote..following]) {
+        Some(named) => Ok((named, following)),
         None => Err(LexError::GetMissing(file, start)),
     }
 }
 
-/// What comes first behind a place.
+/// What comes first after a place.
 #[derive(Clone, Copy, Debug)]
 enum Found<'s> {
     /// The end of the file.
     End,
     /// A token.
     Token(Token<'s>),
-    /// A GET that begins at `start`, with the index of the file that it names, and the place behind its string.
+    /// A GET that begins at `start`, with the index of the file that it names, and the place after its string.
     Get {
         start: usize,
         named: usize,
-        behind: usize,
+        following: usize,
     },
 }
 
@@ -135,7 +135,7 @@ fn is_get(kind: TokenKind) -> bool
     matches!(kind, TokenKind::Symbol(Symbol::Get))
 }
 
-/// What comes first behind a place, blanks, line breaks and comments aside.
+/// What comes first after a place, blanks, line breaks and comments aside.
 #[tactic(auto, unfolding(crate::specs::Lexing::item_of, crate::specs::Lexing::item_by))]
 fn find<'s>(sources: &[Source<'s>], file: usize, place: Place) -> Result<Found<'s>, LexError>
     requires file { file < length sources.now }
@@ -148,13 +148,13 @@ fn find<'s>(sources: &[Source<'s>], file: usize, place: Place) -> Result<Found<'
     if start == text.len() {
         return Ok(Found::End);
     }
-    let (kind, end) = lexeme_behind(file, text, start)?;
+    let (kind, end) = lexeme_after(file, text, start)?;
     if is_get(kind) {
-        let (named, behind) = target(sources, file, text, start, end)?;
+        let (named, following) = target(sources, file, text, start, end)?;
         return Ok(Found::Get {
             start,
             named,
-            behind,
+            following,
         });
     }
     Ok(Found::Token(Token {
@@ -206,14 +206,14 @@ fn read_file<'s>(
             Found::Get {
                 start,
                 named,
-                behind,
+                following,
             } => {
                 if levels == 0 {
                     return Err(LexError::GetTooDeep(file, start));
                 }
                 read_file(sources, levels - 1, named, true, tokens)?;
                 place = Place {
-                    at: behind,
+                    at: following,
                     line: true,
                 };
             }
@@ -233,7 +233,7 @@ fn read<'s>(alloc: Global, sources: &[Source<'s>], main: usize) -> Result<Vec<To
     Ok(tokens)
 }
 
-/// The tokens of a source, whose index among the sources is `main`: at most 60,000. Each GET and its string stand for
+/// The tokens of a source, whose index among the sources is `main`: at most 60,000. Each GET and its string mean
 /// the tokens of the file that the string names, the first source of that name; up to eight GETs may lead to a file.
 /// The tokens' texts are slices of their files, and nothing is copied.
 ///

@@ -23,7 +23,7 @@ pub fn digits(base: u32, bytes: &[u8]) -> usize
         .count()
 }
 
-/// How many bytes stand in front of a line break, or of the end.
+/// How many bytes stand before a line break, or of the end.
 pub fn line_bytes(bytes: &[u8]) -> usize
     ensures value { result ≡ prefix_len (λ b. not (b == 10)) bytes.now }
     ensures within { result ≤ length bytes.now }
@@ -32,7 +32,7 @@ pub fn line_bytes(bytes: &[u8]) -> usize
 }
 
 /// The bytes from a place on.
-pub fn behind(bytes: &[u8], at: usize) -> &[u8]
+pub fn following(bytes: &[u8], at: usize) -> &[u8]
     requires { at ≤ length bytes.now }
     ensures rest { result.now ≡ drop at bytes.now }
     ensures len { length result.now + at ≡ length bytes.now }

@@ -4,7 +4,7 @@ ghost use Rattle.bc_lex.specs.Files.{files_of, text_of};
 ghost use Rattle.bc_lex.specs.Search.{is_closed, same_of, spells_name, source_from};
 
 use crate::quoted::{Quoted, next_quoted};
-use crate::run::behind;
+use crate::run::following;
 
 /// A text that can be read, and the name by which a GET finds it.
 #[derive(Clone, Copy, Debug)]
@@ -39,12 +39,12 @@ fn names(string: &[u8], name: &[u8]) -> bool
 {
     let mut at = 1;
     for expected in name {
-        match same_character(*expected, behind(string, at)) {
+        match same_character(*expected, following(string, at)) {
             Some(count) => at += count,
             None => return false,
         }
     }
-    closes(behind(string, at))
+    closes(following(string, at))
 }
 
 /// The index of the first source that has the name that the string spells.

@@ -12,7 +12,7 @@ abbrev pub label_here : ℕ → Item → List (ℕ × ℕ)
 label_here at (Label m) = (m, at) ∷ []
 label_here at item = []
 
--- the words of a byte and what stands behind it
+-- the words of a byte and what stands after it
 pub size_of_all-Byte : (high : ℕ) (items : List Item) → size_of_all (Byte high ∷ items) ≡ 1 + size_of_all (uncounted true items)
 size_of_all-Byte high [] = refl
 size_of_all-Byte high (Byte low ∷ items) = refl
@@ -46,7 +46,7 @@ size_of_all_step false (DataLabel m) items = refl
 size_of_all_step false (Operation f i b n) items = refl
 size_of_all_step false (Global g m) items = refl
 
--- the places of the labels behind an item that is no label are those of the items behind it
+-- the places of the labels after an item that is no label are those of the items after it
 pub label_places_step : (half : Bool) (at : ℕ) (item : Item) (items : List Item) → label_places at (uncounted half (item ∷ items)) ≡ label_here at item ++ label_places (at + words_begun half item) (uncounted (leaves_half half item) items)
 label_places_step true at (Byte low) items = ap (λ a. label_places a items) (sym (add-zero at))
 label_places_step false at (Byte high) items = label_places-Byte at high items

@@ -11,7 +11,7 @@ use Rattle.bc_link.specs.Layout.{size_of_segments, stack_base_of, place_at, plac
 use Rattle.bc_link.specs.Laws.{IsSegment, PlacesAreStarts, RangesLieBetween, RangesAreDisjoint, WordsStandAtStarts, StoreIsWhole}
 use Rattle.bc_link.specs.Store.{boot, words_from, with_settings, with_globals_from, globals_of, store_of}
 
--- the words in front of the segment of this number
+-- the words before the segment of this number
 abbrev front_of : List (List Item) → ℕ → ℕ
 front_of segments k = size_of_segments (take k segments)
 
@@ -23,7 +23,7 @@ place start (s ∷ ss) (suc k) segment h = place (start + size_of_all s) ss k se
 pub places_are_starts : PlacesAreStarts
 places_are_starts segments k segment h = place 520 segments k segment h
 
--- what stands in front of a segment, and the segment, are no more than all
+-- what stands before a segment, and the segment, are no more than all
 front-size-le : (segments : List (List Item)) (k : ℕ) (segment : List Item) → IsSegment segments k segment → front_of segments k + size_of_all segment ≤ size_of_segments segments
 front-size-le [] k segment h = cc
 front-size-le (s ∷ ss) zero segment h = let e : s ≡ segment = cc in let f = ap size_of_all e in omega arith
@@ -68,8 +68,8 @@ stands start (s ∷ ss) (suc k) segment h =
     let f = label_address (label_places start s) in
     let rest = words_from (start + size_of_all s) ss in
     let n = front_of ss k in
-    let behind : drop (size_of_all s + n) (assembled f s ++ rest) ≡ drop n rest = ap (λ m. drop (m + n) (assembled f s ++ rest)) (sym (length-assembled f s)) ∙ drop-append-add (assembled f s) rest n in
-    ap (take (size_of_all segment)) behind ∙ stands (start + size_of_all s) ss k segment h ∙ ap (λ m. assembled (label_address (label_places m segment)) segment) (add_assoc start (size_of_all s) n)
+    let following : drop (size_of_all s + n) (assembled f s ++ rest) ≡ drop n rest = ap (λ m. drop (m + n) (assembled f s ++ rest)) (sym (length-assembled f s)) ∙ drop-append-add (assembled f s) rest n in
+    ap (take (size_of_all segment)) following ∙ stands (start + size_of_all s) ss k segment h ∙ ap (λ m. assembled (label_address (label_places m segment)) segment) (add_assoc start (size_of_all s) n)
 
 -- the cells stay as many as they are
 length-with_settings : (address : ℕ → ℕ) (settings : List (ℕ × ℕ)) (cells : List ℕ) → length (with_settings address settings cells) ≡ length cells
@@ -95,11 +95,11 @@ zeros segments = replicate (65536 - stack_base_of segments) 0
 length-front : (segments : List (List Item)) → length (low ++ globals_of segments) ≡ 520
 length-front segments = let g = length-globals_of segments in let l = length-append low (globals_of segments) in omega arith
 
--- the store, in front of the segments and behind
+-- the store, before the segments and after
 store-parts : (segments : List (List Item)) → store_of segments ≡ (low ++ globals_of segments) ++ (words_from 520 segments ++ zeros segments)
 store-parts segments = append_assoc (low ++ globals_of segments) (words_from 520 segments) (zeros segments)
 
--- a part of what stands in front of an append
+-- a part of what stands before an append
 part-of-append : (xs ys : List ℕ) (n size : ℕ) → n + size ≤ length xs → take size (drop n (xs ++ ys)) ≡ take size (drop n xs)
 part-of-append xs ys n size fits =
     let l = length-drop n xs in
@@ -112,8 +112,8 @@ words_stand_at_starts segments k segment h =
     let size = length-words_from 520 segments in
     let front = low ++ globals_of segments in
     let code = words_from 520 segments ++ zeros segments in
-    let behind : drop (520 + n) (store_of segments) ≡ drop n code = ap (drop (520 + n)) (store-parts segments) ∙ ap (λ m. drop (m + n) (front ++ code)) (sym (length-front segments)) ∙ drop-append-add front code n in
-    ap (take (size_of_all segment)) behind ∙ part-of-append (words_from 520 segments) (zeros segments) n (size_of_all segment) (omega arith) ∙ stands 520 segments k segment h
+    let following : drop (520 + n) (store_of segments) ≡ drop n code = ap (drop (520 + n)) (store-parts segments) ∙ ap (λ m. drop (m + n) (front ++ code)) (sym (length-front segments)) ∙ drop-append-add front code n in
+    ap (take (size_of_all segment)) following ∙ part-of-append (words_from 520 segments) (zeros segments) n (size_of_all segment) (omega arith) ∙ stands 520 segments k segment h
 
 pub store_is_whole : StoreIsWhole
 store_is_whole segments =

@@ -12,8 +12,8 @@ use Rattle.bc_link.specs.Refusals.{first_unset}
 abbrev lacks : ℕ → List ℕ → Bool
 lacks m labels = not (list_any (λ y. eqb m y) labels)
 
-behind : (m n : ℕ) (at : ℕ) (places : List (ℕ × ℕ)) (labels : List ℕ) → is_none (address_in m places) ≡ lacks m labels → is_none (address_in m ((n, at) ∷ places)) ≡ lacks m (n ∷ labels)
-behind m n at places labels h = by (eqb m n)
+following : (m n : ℕ) (at : ℕ) (places : List (ℕ × ℕ)) (labels : List ℕ) → is_none (address_in m places) ≡ lacks m labels → is_none (address_in m ((n, at) ∷ places)) ≡ lacks m (n ∷ labels)
+following m n at places labels h = by (eqb m n)
   where
     by : (b : Bool) → is_none (cond b (Some at) (address_in m places)) ≡ not (b || list_any (λ y. eqb m y) labels)
     by true = refl
@@ -21,7 +21,7 @@ behind m n at places labels h = by (eqb m n)
 
 pub is_none-address_in : (m at : ℕ) (items : List Item) → is_none (address_in m (label_places at items)) ≡ lacks m (labels_of items)
 is_none-address_in m at [] = refl
-is_none-address_in m at (Label n ∷ items) = behind m n at (label_places at items) (labels_of items) (is_none-address_in m at items)
+is_none-address_in m at (Label n ∷ items) = following m n at (label_places at items) (labels_of items) (is_none-address_in m at items)
 is_none-address_in m at (Data n ∷ items) = is_none-address_in m (at + 1) items
 is_none-address_in m at (DataLabel n ∷ items) = is_none-address_in m (at + 1) items
 is_none-address_in m at (Operation f i b n ∷ items) = is_none-address_in m (at + size (Operation f i b n)) items

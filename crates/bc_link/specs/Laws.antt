@@ -7,7 +7,7 @@ use Rattle.bc_link.specs.Labels.{label_address}
 use Rattle.bc_link.specs.Layout.{stack_base_of, place_at, places_from}
 use Rattle.bc_link.specs.Store.{boot, globals_of, store_of}
 
--- where the segment of this number starts: behind those in front of it
+-- where the segment of this number starts: after those before it
 abbrev pub start_of : List (List Item) → ℕ → ℕ
 start_of segments k = stack_base_of (take k segments)
 
@@ -20,12 +20,12 @@ abbrev pub PlacesAreStarts : Type 0
 PlacesAreStarts = (segments : List (List Item)) (k : ℕ) (segment : List Item) → IsSegment segments k segment → slice_get (places_from 520 segments) k
     ≡ Some (place_at (start_of segments k) segment)
 
--- the range of a segment lies behind the globals and in front of the stack
+-- the range of a segment lies after the globals and before the stack
 abbrev pub RangesLieBetween : Type 0
 RangesLieBetween = (segments : List (List Item)) (k : ℕ) (segment : List Item) → IsSegment segments k segment
     → (520 ≤ start_of segments k) × (start_of segments k + size_of_all segment ≤ stack_base_of segments)
 
--- the range of a segment ends in front of those of the segments behind it
+-- the range of a segment ends before those of the segments after it
 abbrev pub RangesAreDisjoint : Type 0
 RangesAreDisjoint = (segments : List (List Item)) (j k : ℕ) (segment : List Item) → j < k → IsSegment segments j segment
     → start_of segments j + size_of_all segment ≤ start_of segments k

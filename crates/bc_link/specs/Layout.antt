@@ -11,7 +11,7 @@ abbrev pub size_of_segments : List (List Item) → ℕ
 size_of_segments [] = 0
 size_of_segments (segment ∷ segments) = size_of_all segment + size_of_segments segments
 
--- the first segment stands at 520, behind the globals; the stack begins behind the last segment
+-- the first segment stands at 520, after the globals; the stack begins after the last segment
 abbrev pub stack_base_of : List (List Item) → ℕ
 stack_base_of segments = 520 + size_of_segments segments
 
@@ -19,7 +19,7 @@ stack_base_of segments = 520 + size_of_segments segments
 abbrev pub place_at : ℕ → List Item → SegmentPlace
 place_at start segment = record { start = start; labels = label_places start segment }
 
--- the places of segments that stand one behind another from `start` on
+-- the places of segments that stand one after another from `start` on
 abbrev pub places_from : ℕ → List (List Item) → List SegmentPlace
 places_from start [] = []
 places_from start (segment ∷ segments) = place_at start segment ∷ places_from (start + size_of_all segment) segments

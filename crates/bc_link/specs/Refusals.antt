@@ -14,13 +14,13 @@ abbrev pub first_of : {X : Type 0} → Option X → Option X → Option X
 first_of None second = second
 first_of (Some x) second = Some x
 
--- the first number that stands in front of itself already, where `before` stands in front of all
-abbrev pub repeated_behind : List ℕ → List ℕ → Option ℕ
-repeated_behind before [] = None
-repeated_behind before (x ∷ xs) = cond (list_any (λ y. x == y) before) (Some x) (repeated_behind (before ++ x ∷ []) xs)
+-- the first number that stands before itself already, where `before` stands before all
+abbrev pub repeated_after : List ℕ → List ℕ → Option ℕ
+repeated_after before [] = None
+repeated_after before (x ∷ xs) = cond (list_any (λ y. x == y) before) (Some x) (repeated_after (before ++ x ∷ []) xs)
 
 abbrev pub first_repeated : List ℕ → Option ℕ
-first_repeated xs = repeated_behind [] xs
+first_repeated xs = repeated_after [] xs
 
 -- the numbers of the globals that items set, in their order
 abbrev pub globals_set : List Item → List ℕ

@@ -4,7 +4,7 @@ use Rattle.bc_text_items.specs.Sizes.{size}
 use Rattle.bc_text_items.specs.declared.item.Item.{Item}
 use Rattle.bc_text_items.specs.declared.item.Item.TheVariants.{Byte}
 
--- the items whose words are still to be counted, where a byte in front of them may have left the low half of its word free
+-- the items whose words are still to be counted, where a byte before them may have left the low half of its word free
 abbrev pub uncounted : Bool → List Item → List Item
 uncounted true (Byte low ∷ items) = items
 uncounted half items = items
@@ -19,7 +19,7 @@ abbrev pub leaves_half : Bool → Item → Bool
 leaves_half false (Byte high) = true
 leaves_half half item = false
 
--- the items with a byte in front of them that waits for its neighbour
+-- the items with a byte before them that waits for its neighbour
 abbrev pub with_waiting : Option ℕ → List Item → List Item
 with_waiting None items = items
 with_waiting (Some high) items = Byte high ∷ items

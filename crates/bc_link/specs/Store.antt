@@ -16,7 +16,7 @@ boot_items = Operation functions.Load true bases.G 1 ∷ Operation functions.Cal
 abbrev pub boot : List ℕ
 boot = assembled (λ label. 0) boot_items
 
--- The words of segments that stand one behind another from `start` on. The labels of each are its own.
+-- The words of segments that stand one after another from `start` on. The labels of each are its own.
 abbrev pub words_from : ℕ → List (List Item) → List ℕ
 words_from start [] = []
 words_from start (segment ∷ segments) = assembled (label_address (label_places start segment)) segment ++ words_from (start + size_of_all segment) segments

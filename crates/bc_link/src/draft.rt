@@ -56,7 +56,7 @@ fn boot_words(alloc: Global) -> Result<Vec<Word>, Memory>
     Ok(words)
 }
 
-/// Puts zeros behind the words, up to this number of words.
+/// Puts zeros after the words, up to this number of words.
 fn fill_up(words: &mut Vec<Word>, length: usize) -> Result<(), Memory>
     requires { vec_len words.old ≤ length }
     ensures words { OnOk result (words.new.items ≡ words.old.items ++ replicate (length - vec_len words.old) 0) }
@@ -128,10 +128,10 @@ impl Draft {
         Ok(draft)
     }
 
-    /// The image, whose stack begins behind the last segment.
+    /// The image, whose stack begins after the last segment.
     pub fn into_image(self, alloc: Global, stack_base: u16) -> Result<Image, Memory>
         requires cells { vec_len self.globals ≡ 512 }
-        requires behind { stack_base ≡ next_start self }
+        requires following { stack_base ≡ next_start self }
         ensures { IfOk result (λ image. IsImageOf self stack_base image) }
     {
         let mut words = boot_words(alloc)?;

@@ -2,7 +2,7 @@
 
 ghost use Rattle.bc_link.specs.Laws.{PlacesAreStarts, RangesLieBetween, RangesAreDisjoint, WordsStandAtStarts, StoreIsWhole};
 
-/// An image's place of a segment starts behind the segments in front of it.
+/// An image's place of a segment starts after the segments before it.
 pub fn places_are_starts()
     ensures { PlacesAreStarts }
 {}

@@ -40,7 +40,7 @@ fn size(item: &Item) -> u16
     }
 }
 
-/// How many words the item begins, where the low half of the word in front of it may be free for a byte.
+/// How many words the item begins, where the low half of the word before it may be free for a byte.
 fn words_begun(half_free: bool, item: &Item) -> u16
     ensures of_item { result ≡ words_begun half_free item.now }
     ensures small { result ≤ 2 }
@@ -62,8 +62,8 @@ fn leaves_half(half_free: bool, item: &Item) -> bool
 }
 
 #[tactic(auto, using(crate::proofs::Bytes::size_of_all_step))]
-/// The address behind the items, where they stand from `start` on; none where it is over 65,472.
-fn address_behind(start: u16, items: &[Item]) -> Option<u16>
+/// The address after the items, where they stand from `start` on; none where it is over 65,472.
+fn address_after(start: u16, items: &[Item]) -> Option<u16>
     requires { start ≤ 65472 }
     ensures { SomeIff result (start + size_of_all items.now ≤ 65472) (start + size_of_all items.now) }
 {
@@ -80,13 +80,13 @@ fn address_behind(start: u16, items: &[Item]) -> Option<u16>
     Some(next)
 }
 
-/// Where the stack begins, behind the segments; none where that is over 65,472.
+/// Where the stack begins, after the segments; none where that is over 65,472.
 pub fn stack_base(segments: &[Segment]) -> Option<u16>
     ensures { SomeIff result (stack_base_of segments.now ≤ 65472) (stack_base_of segments.now) }
 {
     let mut next = FIRST_ADDRESS;
     for segment in segments {
-        next = address_behind(next, segment.items())?;
+        next = address_after(next, segment.items())?;
     }
     Some(next)
 }

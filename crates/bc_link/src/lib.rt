@@ -1,4 +1,4 @@
-//! The linker: INTCODE segments, assembled one behind another, become the image that the machine starts from.
+//! The linker: INTCODE segments, assembled one after another, become the image that the machine starts from.
 #![tactic(auto)]
 
 mod draft;

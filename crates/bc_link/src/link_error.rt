@@ -15,7 +15,7 @@ pub enum LinkError {
     /// This global is set twice.
     #[error("a global is set twice")]
     GlobalTwice(GlobalNumber),
-    /// The segments would end behind address 65,472, and leave too little for the stack.
+    /// The segments would end after address 65,472, and leave too little for the stack.
     #[error("the segments take more words than the store has for them")]
     TooLarge,
     /// An allocation was refused.

@@ -23,7 +23,7 @@ fn refuse_repeated_labels(alloc: Global, segments: &[Segment]) -> Result<(), Lin
     Ok(())
 }
 
-/// Assembles the segments one behind another from address 520 on, and makes the image that the machine starts from:
+/// Assembles the segments one after another from address 520 on, and makes the image that the machine starts from:
 /// boot at 0 to 2, the cells of the globals at 8 to 519, and 0 everywhere else. Each segment has labels of its own.
 ///
 /// Of the refusals `LabelTwice` comes first, then `GlobalTwice`, then `TooLarge`, then `LabelUnset`; of one kind

@@ -2,7 +2,7 @@
 
 ghost use Rattle.std.specs.Prelude.{◌≡◌, ℕ, List, ◌++◌, IfOk};
 ghost use Rattle.bc_link.specs.Labels.{labels_of};
-ghost use Rattle.bc_link.specs.Refusals.{first_of, first_repeated, repeated_behind, globals_set, repeated_global_of};
+ghost use Rattle.bc_link.specs.Refusals.{first_of, first_repeated, repeated_after, globals_set, repeated_global_of};
 
 use bc_text_items::{GlobalNumber, Item, Segment};
 use bc_word::{Memory, Word};
@@ -29,8 +29,8 @@ fn note_globals(
     seen: &mut IndexSet<GlobalNumber>,
     items: &[Item],
 ) -> Result<Option<GlobalNumber>, Memory>
-    ensures { IfOk result (λ global. (rest : List ℕ) → repeated_behind seen.old.keys (globals_set items.now ++ rest)
-        ≡ first_of global (repeated_behind seen.new.keys rest)) }
+    ensures { IfOk result (λ global. (rest : List ℕ) → repeated_after seen.old.keys (globals_set items.now ++ rest)
+        ≡ first_of global (repeated_after seen.new.keys rest)) }
 {
     for item in items {
         if let Item::Global { number, .. } = item {

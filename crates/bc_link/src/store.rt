@@ -35,7 +35,7 @@ fn instruction(function: Function, indirect: bool, base: Base, low: u16) -> Word
     Word::new(8192 * code + indirection + base_bit + low)
 }
 
-/// Puts the words of an operation behind the words.
+/// Puts the words of an operation after the words.
 fn push_operation(
     words: &mut Vec<Word>,
     function: Function,
@@ -58,7 +58,7 @@ fn push_operation(
     Ok(())
 }
 
-/// Puts the words of an item that stands alone behind the words.
+/// Puts the words of an item that stands alone after the words.
 fn push_item(words: &mut Vec<Word>, item: &Item, labels: &LabelTable) -> Result<(), Memory>
     ensures { OnOk result (words.new.items ≡ words.old.items ++ words_of_item (label_address labels.now) item.now) }
 {
@@ -83,7 +83,7 @@ fn two_bytes(high: u8, low: u8) -> Word
     Word::new(u16::from(high) * 256 + u16::from(low))
 }
 
-/// Puts the words of an item behind the words, and before them the word of a byte that waited in front of it.
+/// Puts the words of an item after the words, and before them the word of a byte that waited before it.
 /// Gives the byte that waits now.
 fn push_next(
     words: &mut Vec<Word>,
@@ -112,7 +112,7 @@ fn push_next(
     }
 }
 
-/// Puts the words of the items behind the words.
+/// Puts the words of the items after the words.
 pub fn push_items(words: &mut Vec<Word>, items: &[Item], labels: &LabelTable) -> Result<(), Memory>
     ensures { OnOk result (words.new.items ≡ words.old.items ++ assembled (label_address labels.now) items.now) }
 {

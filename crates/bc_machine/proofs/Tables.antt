@@ -4,7 +4,7 @@ use Rattle.std.specs.Option.{option_map}
 use Rattle.std.proofs.lemmas.Option.{slice_get_read, slice_get-map}
 use Rattle.std.proofs.lemmas.List.{map-set}
 use Rattle.bc_machine_defs.specs.Streams.{Input, Output, Content, numbered}
-use Rattle.bc_machine_defs.specs.StreamCalls.{next_byte, behind_byte, read_byte, after_read, after_write, end_stream, more_written, byte_of_input, with_input_read, with_output_written, with_input_ended, with_output_ended}
+use Rattle.bc_machine_defs.specs.StreamCalls.{next_byte, after_byte, read_byte, after_read, after_write, end_stream, more_written, byte_of_input, with_input_read, with_output_written, with_input_ended, with_output_ended}
 use Rattle.bc_machine_defs.specs.declared.streams.Side.TheVariants as sides
 
 abbrev pub content : List Input → List Output → ℕ → ℕ → Content
@@ -29,7 +29,7 @@ read_byte-at inputs outputs n output i h = ap byte_of_input h
 
 pub after_read-at : (inputs : List Input) (outputs : List Output) (n output : ℕ) (i : Input) → numbered inputs n ≡ Some i
     → after_read (content inputs outputs n output)
-    ≡ content (slice_set inputs (n - 1) (record i { rest = behind_byte i.ended i.rest })) outputs n output
+    ≡ content (slice_set inputs (n - 1) (record i { rest = after_byte i.ended i.rest })) outputs n output
 after_read-at inputs outputs n output i h = ap (λ o. with_input_read o (content inputs outputs n output)) h
 
 pub after_write-at : (inputs : List Input) (outputs : List Output) (input n byte : ℕ) (o : Output) → numbered outputs n ≡ Some o
@@ -52,7 +52,7 @@ module _ {X : Type 0} (f : X → Input) (table : List X) (outputs : List Output)
   pub reads : (byte : Option ℕ) → byte ≡ next_byte (f x).ended (f x).rest → byte ≡ read_byte (content (map f table) outputs n output)
   reads byte h = h ∙ sym (read_byte-at (map f table) outputs n output (f x) (numbered-map f table n x some within is))
 
-  pub reads_on : (y : X) → f y ≡ record (f x) { rest = behind_byte (f x).ended (f x).rest }
+  pub reads_on : (y : X) → f y ≡ record (f x) { rest = after_byte (f x).ended (f x).rest }
       → content (map f (set table (n - 1) y)) outputs n output ≡ after_read (content (map f table) outputs n output)
   reads_on y h =
       ap (λ inputs. content inputs outputs n output) (map-set f table (n - 1) y ∙ ap (set (map f table) (n - 1)) h)

@@ -30,7 +30,7 @@ memory_content m = record {
 abbrev pub IsKnown : MemoryStreams → Type 0
 IsKnown m = HoldBytes (memory_content m).inputs
 
--- what was written, each byte behind the number of its output
+-- what was written, each byte after the number of its output
 abbrev pub memory_written : MemoryStreams → List (ℕ × ℕ)
 memory_written m = m.written.items
 

@@ -13,6 +13,6 @@ given_names {T} named = map (λ (n : Named T). n.name.items) named
 abbrev pub bytes_of : List Bytes → List (List ℕ)
 bytes_of names = map (λ (name : Bytes). name.items) names
 
--- each name and the bytes behind it
+-- each name and the bytes after it
 abbrev pub named_bytes : List (Named Bytes) → List (List ℕ × List ℕ)
 named_bytes named = map (λ (n : Named Bytes). (n.name.items, n.device.items)) named

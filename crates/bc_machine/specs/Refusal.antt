@@ -5,7 +5,7 @@ use Rattle.std.specs.Str.{bytes_eq}
 use Rattle.bc_machine.specs.declared.faults.StreamsError.{StreamsError}
 use Rattle.bc_machine.specs.declared.faults.StreamsError.TheVariants.{NameTwice, NameTooLong}
 
--- the first fault of the names of a table behind these: one of more than 255 bytes, or one that stands before
+-- the first fault of the names of a table after these: one of more than 255 bytes, or one that stands before
 abbrev pub refusal_from : List (List ℕ) → List (List ℕ) → Option StreamsError
 refusal_from before [] = None
 refusal_from before (name ∷ names) =

@@ -29,7 +29,7 @@ impl<R> HasName for FileInput<R> {
 
 impl<R: Read> FileInput<R> {
     ghost use Rattle.std.specs.Prelude.{◌≡◌, IsSome, IfOk, OnOk, OnErr};
-    ghost use Rattle.bc_machine_defs.specs.StreamCalls.{next_byte, behind_byte};
+    ghost use Rattle.bc_machine_defs.specs.StreamCalls.{next_byte, after_byte};
     ghost use Rattle.bc_machine.specs.FileContent.{file_input};
 
     /// The next byte, or `None` at the end and after an end. A reader that gave nothing once is at
@@ -38,7 +38,7 @@ impl<R: Read> FileInput<R> {
         ensures byte { IsSome (R.remaining self.old.reader) → IfOk result (λ byte. byte ≡ next_byte self.old.ended (file_input R.remaining self.old).rest) }
         ensures ok { IsSome (R.remaining self.old.reader)
             → OnOk result (file_input R.remaining self.new
-            ≡ record (file_input R.remaining self.old) { rest = behind_byte self.old.ended (file_input R.remaining self.old).rest }) }
+            ≡ record (file_input R.remaining self.old) { rest = after_byte self.old.ended (file_input R.remaining self.old).rest }) }
         ensures err { IsSome (R.remaining self.old.reader) → OnErr result (file_input R.remaining self.new ≡ file_input R.remaining self.old) }
         ensures known { IsSome (R.remaining self.old.reader) → IsSome (R.remaining self.new.reader) }
     {

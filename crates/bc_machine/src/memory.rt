@@ -26,13 +26,13 @@ impl HasName for MemoryInput {
 
 impl MemoryInput {
     ghost use Rattle.std.specs.Prelude.{◌≡◌};
-    ghost use Rattle.bc_machine_defs.specs.StreamCalls.{next_byte, behind_byte};
+    ghost use Rattle.bc_machine_defs.specs.StreamCalls.{next_byte, after_byte};
     ghost use Rattle.bc_machine.specs.MemoryContent.{memory_input};
 
     /// The next byte, or `None` at the end and after an end.
     fn next_byte(&mut self) -> Option<u8>
         ensures byte { result ≡ next_byte self.old.ended (memory_input self.old).rest }
-        ensures after { memory_input self.new ≡ record (memory_input self.old) { rest = behind_byte self.old.ended (memory_input self.old).rest } }
+        ensures after { memory_input self.new ≡ record (memory_input self.old) { rest = after_byte self.old.ended (memory_input self.old).rest } }
     {
         if self.ended || self.at >= self.bytes.len() {
             return None;
@@ -169,7 +169,7 @@ impl MemoryStreams {
         })
     }
 
-    /// The bytes that were written, in order, each behind the number of its output.
+    /// The bytes that were written, in order, each after the number of its output.
     pub fn written(&self) -> &[(Word, u8)]
         ensures { result.now ≡ memory_written self.now }
     {

@@ -32,7 +32,7 @@ reads_end = refl
 ended_reads_nothing : read_byte (select_stream sides.Input 1 (end_stream sides.Input small)) ≡ None
 ended_reads_nothing = refl
 
--- a byte written behind an end is dropped
+-- a byte written after an end is dropped
 writes : output_of (after_write 8 (select_stream sides.Output 1 (end_stream sides.Output (after_write 7 small)))) ≡ (7 ∷ []) ∷ []
 writes = refl
 

@@ -5,10 +5,10 @@ use Rattle.bc_word.specs.declared.operator.Op.{Op}
 use Rattle.bc_machine_defs.specs.Operation.{operation_of}
 use Rattle.bc_machine_defs.specs.declared.operation.Operation.TheVariants.{Operate}
 
--- the operation of X with an operator's number is to work out that operator
+-- the operation of X with an operator's number is to compute that operator
 abbrev pub OperatorsAreOperations : Type 0
 OperatorsAreOperations = (op : Op) → operation_of (number_of op) ≡ Operate op
 
--- an operation of X that works out an operator has that operator's number
+-- an operation of X that computes an operator has that operator's number
 abbrev pub OperationsAreOperators : Type 0
 OperationsAreOperators = (d : ℕ) (op : Op) → operation_of d ≡ Operate op → d ≡ number_of op

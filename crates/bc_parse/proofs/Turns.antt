@@ -52,7 +52,7 @@ pub turns_at_once : {X : Type 0} (step : Piece X → Result (Piece X × Bool) Fa
 unfolding turns
 turns_at_once step n s is = let k : n + 1 ≡ suc n = omega arith in rw (k, is) refl
 
--- no REPEAT word behind a command
+-- no REPEAT word after a command
 pub repeats_none : (E : Reader) (nest round : ℕ) (s : Piece Command) → None ≡ word_in repeat_word_of s.rest → repeats_read E nest round s ≡ Ok s
 unfolding repeats_read repeat_turn
 repeats_none E nest round s is = turns_at_once (repeat_turn E nest round) (length s.rest) s (once is)
@@ -65,6 +65,6 @@ ok_is x y r is_x is_y = cc
 
 -- a choice whose first two parts are read
 pub choice_is : (E : Reader) (nest round begin height high place most : ℕ) (left test this : Exp) (ts rest : List Part) → height < nest → E (nest - 1) round 1 ts ≡ Ok (piece this high rest) → left ≡ test → most ≡ max height high
-    → suffix_read E nest round begin (Choice ts) left height place ≡ ((expect_of sign.Comma rest >>= λ behind. E (nest - 1) round 1 behind >>= λ that. Ok (piece (tree.Condition test this that.tree) (max most that.height + 1) that.rest)) >>= λ p. Ok (piece (p.tree, 1) p.height p.rest))
+    → suffix_read E nest round begin (Choice ts) left height place ≡ ((expect_of sign.Comma rest >>= λ remaining. E (nest - 1) round 1 remaining >>= λ that. Ok (piece (tree.Condition test this that.tree) (max most that.height + 1) that.rest)) >>= λ p. Ok (piece (p.tree, 1) p.height p.rest))
 unfolding suffix_read with_choice
 choice_is E nest round begin height high place most left test this ts rest lt is same top = rw (lt-ltb height nest lt, is, same, top) refl

@@ -1,4 +1,4 @@
--- What labels, constants and commands stand for as they are made.
+-- What labels, constants and commands mean as they are made.
 use Rattle.std.proofs.Common.{◌≡◌, ◌∙◌, ℕ, List, Vec, sym, ap}
 use Rattle.std.specs.Borrow.{Bor}
 use Rattle.std.specs.declared.alloc.Global.{Global}

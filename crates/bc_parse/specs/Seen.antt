@@ -21,7 +21,7 @@ Fails faults.Memory read = Unit {0}
 Fails (faults.Expected n) read = read ≡ Err (Expected n)
 Fails (faults.TooDeep n) read = read ≡ Err (TooDeep n)
 
--- a reading, and what is read behind it
+-- a reading, and what is read after it
 infixl 10 ◌~>◌
 abbrev pub ◌~>◌ : {A B : Type 0} → Result A Fault → (A → Result B Fault) → Result B Fault
 r ~> next = r >>= next
@@ -35,14 +35,14 @@ Gives view (Err e) read = Fails e read
 abbrev pub seen : Rest → List Part
 seen rest = parts rest.parts.now
 
--- what a box and what a list stand for
+-- what a box and what a list mean
 abbrev pub box_view : {X Y : Type 0} → (X → Y) → Box X Global → Y
 box_view view b = view b.value
 
 abbrev pub list_view : {X Y : Type 0} → (List X → Y) → Vec X Global → Y
 list_view view list = view list.items
 
--- what was read, with its tree as what it stands for
+-- what was read, with its tree as what it means
 abbrev pub read_view : {X Y : Type 0} → (X → Y) → Read X → Piece Y
 read_view view r = piece (view r.tree) r.height (seen r.rest)
 

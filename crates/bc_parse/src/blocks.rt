@@ -20,7 +20,7 @@ use crate::declarations::declaration;
 use crate::expressions::exp_apart;
 use crate::fault::ReadFault;
 use crate::read::{Answer, Read, Room, Turn};
-use crate::{apart, cursor, made};
+use crate::{boxes, construction, cursor};
 use bc_lex_tokens::Symbol;
 use bc_parse_defs::words::{DeclarationWord, Places};
 use bc_parse_tree::{Block, Command, Declaration, Item, Label, Section};
@@ -33,7 +33,7 @@ pub struct Parts<'s> {
     pub items: Vec<Item<'s>>,
 }
 
-/// What is in a block, behind its bracket.
+/// What is in a block, after its bracket.
 #[cycle(parser)]
 #[tactic(auto, unfolding(bc_parse_defs::specs::Reading::block_read))]
 pub fn block<'s, 't>(room: Room, rest: Rest<'s, 't>) -> Answer<'s, 't, Block<'s>>
@@ -41,7 +41,7 @@ pub fn block<'s, 't>(room: Room, rest: Rest<'s, 't>) -> Answer<'s, 't, Block<'s>
         Reads block_view result (block_read (exp_of n) (command_of n) (definition_of n) room.nest room.round (seen rest.entry)) }
     ensures low { IfOk result (λ x. x.height ≤ room.nest) }
 {
-    made::block_from(room, places(room, Places::Block, rest))
+    construction::block_from(room, places(room, Places::Block, rest))
 }
 
 /// A block that is a body, unless a REPEAT word follows it.
@@ -57,14 +57,14 @@ fn block_body<'s, 't>(room: Room, inner: Read<'s, 't, Block<'s>>) -> Answer<'s, 
         return Ok(inner);
     }
     if inner.height >= room.nest {
-        return Err(apart::too_deep(inner));
+        return Err(boxes::too_deep(inner));
     }
     let first = Read {
         tree: Command::Block(inner.tree),
         height: inner.height + 1,
         rest: inner.rest,
     };
-    made::body_of(room, repeats(room, first))
+    construction::body_of(room, repeats(room, first))
 }
 
 /// A block, or one command as the block that it is.
@@ -79,10 +79,10 @@ pub fn body<'s, 't>(room: Room, rest: Rest<'s, 't>) -> Answer<'s, 't, Block<'s>>
         let inner = block(room, then)?;
         return block_body(room, inner);
     }
-    made::body_of(room, command(room, rest))
+    construction::body_of(room, command(room, rest))
 }
 
-/// A body behind a line break and DO, which may be left out.
+/// A body after a line break and DO, which may be left out.
 #[cycle(parser)]
 #[tactic(auto, unfolding(bc_parse_defs::specs::Reading::do_read))]
 pub fn do_body<'s, 't>(room: Room, rest: Rest<'s, 't>) -> Answer<'s, 't, Block<'s>>
@@ -110,13 +110,13 @@ pub fn body_from<'s, 't>(
             rest,
         }),
         other => {
-            let tree = apart::block_of(alloc, other)?;
+            let tree = boxes::block_of(alloc, other)?;
             Ok(Read { tree, height, rest })
         }
     }
 }
 
-/// The labels in front of a command.
+/// The labels before a command.
 #[cycle(parser)]
 #[tactic(auto, unfolding(bc_parse_defs::specs::Reading::labels_read))]
 fn labels<'s, 't>(room: Room, rest: Rest<'s, 't>) -> Answer<'s, 't, Vec<Label<'s>>>
@@ -135,7 +135,7 @@ fn labels<'s, 't>(room: Room, rest: Rest<'s, 't>) -> Answer<'s, 't, Vec<Label<'s
             Turn::More(list) => found = list,
         }
     }
-    Err(apart::spent(found))
+    Err(boxes::spent(found))
 }
 
 #[cycle(parser)]
@@ -152,13 +152,13 @@ fn label_step<'s, 't>(
 {
     match cursor::label_at(list.rest) {
         LabelAt::No => Ok(Turn::Last(list)),
-        LabelAt::Case(rest) => made::case_of(room, exp_apart(room, 2, rest), list),
+        LabelAt::Case(rest) => construction::case_of(room, exp_apart(room, 2, rest), list),
         LabelAt::Default(rest) => default_label(list, rest),
         LabelAt::Name(name, rest) => name_label(list, name, rest),
     }
 }
 
-/// `DEFAULT:`, behind its word.
+/// `DEFAULT:`, after its word.
 #[tactic(auto, unfolding(bc_parse_defs::specs::Reading::label_read))]
 fn default_label<'s, 't>(
     list: Read<'s, 't, Vec<Label<'s>>>,
@@ -170,7 +170,7 @@ fn default_label<'s, 't>(
     ensures low { (m : ℕ) → list.entry.height ≤ m → IfOk result (λ x. turn_height x ≤ m) }
 {
     let rest = cursor::expect(Symbol::Colon, rest)?;
-    let tree = apart::default_added(list.tree)?;
+    let tree = boxes::default_added(list.tree)?;
     Ok(Turn::More(Read {
         tree,
         height: list.height,
@@ -190,7 +190,7 @@ fn name_label<'s, 't>(
         (label_read (exp_of n) nest round (read_view (list_view labels_view) list.entry) (NameLabel name.entry.now (seen rest.entry))) }
     ensures low { (m : ℕ) → list.entry.height ≤ m → IfOk result (λ x. turn_height x ≤ m) }
 {
-    let tree = apart::name_added(list.tree, name)?;
+    let tree = boxes::name_added(list.tree, name)?;
     Ok(Turn::More(Read {
         tree,
         height: list.height,
@@ -223,7 +223,7 @@ fn item_part<'s, 't>(
     if has_label(&found.tree) && cursor::is_place_end_at(found.rest) {
         return labels_part(list, found);
     }
-    made::command_item(room, command(room, found.rest), list, found)
+    construction::command_item(room, command(room, found.rest), list, found)
 }
 
 /// One more item, of these labels alone.
@@ -242,7 +242,7 @@ fn labels_part<'s, 't>(
         declarations,
         items,
     } = list.tree;
-    let items = apart::labels_added(items, found.tree)?;
+    let items = boxes::labels_added(items, found.tree)?;
     let tree = Parts {
         declarations,
         items,
@@ -269,7 +269,7 @@ fn part_of<'s, 't>(
     ensures low { IfOk result (λ x. x.height ≤ room.nest) }
 {
     match declared(mode, has_no_item(&list.tree.items), list.rest) {
-        Some((word, then)) => made::declared(room, declaration(room, word, then), list),
+        Some((word, then)) => construction::declared(room, declaration(room, word, then), list),
         None => item_part(room, mode, list),
     }
 }
@@ -297,7 +297,7 @@ fn place_step<'s, 't>(
     ended(mode, found)
 }
 
-/// What was read as a turn: the last one where the list ends behind it.
+/// What was read as a turn: the last one where the list ends after it.
 fn ended<'s, 't>(
     mode: Places,
     found: Read<'s, 't, Parts<'s>>,
@@ -336,7 +336,7 @@ pub fn places<'s, 't>(room: Room, mode: Places, rest: Rest<'s, 't>) -> Answer<'s
             Turn::More(list) => found = list,
         }
     }
-    Err(apart::spent(found))
+    Err(boxes::spent(found))
 }
 
 /// Whether there is a label.
@@ -384,14 +384,14 @@ fn declared<'s, 't>(
     }
 }
 
-/// What stands behind an element of a list of places: a separator, or the end of the list.
+/// What stands after an element of a list of places: a separator, or the end of the list.
 #[derive(Clone, Copy)]
 pub enum PlaceEnd<'s, 't> {
     More(Rest<'s, 't>),
     Last(Rest<'s, 't>),
 }
 
-/// The parts behind an element of a list of places, and whether the list ends there.
+/// The parts after an element of a list of places, and whether the list ends there.
 pub fn place_end_at<'s, 't>(mode: Places, rest: Rest<'s, 't>) -> Result<PlaceEnd<'s, 't>, ReadFault>
     ensures { Gives end_view result (place_end mode (seen rest.entry)) }
 {

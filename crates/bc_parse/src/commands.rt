@@ -20,7 +20,7 @@ use crate::cursor::Rest;
 use crate::expressions::{exp, exp_apart, exp_count, exps};
 use crate::fault::ReadFault;
 use crate::read::{Answer, Read, Room, Turn};
-use crate::{apart, cursor, made};
+use crate::{boxes, construction, cursor};
 use bc_lex_tokens::Symbol;
 use bc_parse_defs::words;
 use bc_parse_defs::words::{CommandWord, Places, RepeatWord, SimpleWord, Tested};
@@ -49,7 +49,7 @@ fn worded<'s, 't>(room: Room, rest: Rest<'s, 't>) -> Answer<'s, 't, Command<'s>>
 {
     match cursor::command_word(rest) {
         None => repeatable(room, rest),
-        Some((word, behind)) => compound(room, word, behind),
+        Some((word, remaining)) => compound(room, word, remaining),
     }
 }
 
@@ -77,11 +77,11 @@ fn unrepeated<'s, 't>(room: Room, rest: Rest<'s, 't>) -> Answer<'s, 't, Command<
 {
     match cursor::simple_word(rest) {
         None => assigned(room, rest),
-        Some((word, behind)) => simple(room, word, behind),
+        Some((word, remaining)) => simple(room, word, remaining),
     }
 }
 
-/// A command with the REPEAT words behind it.
+/// A command with the REPEAT words after it.
 #[cycle(parser)]
 pub fn repeats<'s, 't>(room: Room, first: Read<'s, 't, Command<'s>>) -> Answer<'s, 't, Command<'s>>
     requires { first.height ≤ room.nest }
@@ -95,7 +95,7 @@ pub fn repeats<'s, 't>(room: Room, first: Read<'s, 't, Command<'s>>) -> Answer<'
     }
 }
 
-/// The same where a REPEAT word stands behind the command.
+/// The same where a REPEAT word stands after the command.
 #[cycle(parser)]
 fn repeats_apart<'s, 't>(
     room: Room,
@@ -108,7 +108,7 @@ fn repeats_apart<'s, 't>(
 {
     let height = first.height;
     let rest = first.rest;
-    let tree = apart::command(room.alloc, first.tree)?;
+    let tree = boxes::command(room.alloc, first.tree)?;
     let whole = repeats_from(room, Read { tree, height, rest })?;
     Ok(Read {
         tree: Box::into_inner(whole.tree),
@@ -153,11 +153,11 @@ fn repeat_step<'s, 't>(
 {
     match cursor::repeat_word(whole.rest) {
         None => Ok(Turn::Last(whole)),
-        Some((word, behind)) => {
+        Some((word, remaining)) => {
             if whole.height >= room.nest {
                 return Err(ReadFault::TooDeep(whole.rest.parts.len()));
             }
-            repeat_by(room, word, whole, behind)
+            repeat_by(room, word, whole, remaining)
         }
     }
 }
@@ -182,8 +182,8 @@ fn repeat_by<'s, 't>(
     };
     match word {
         RepeatWord::Repeat => repeat_always(room, whole, rest),
-        RepeatWord::While => made::while_of(room, whole, exp(inner, 1, rest)),
-        RepeatWord::Until => made::until_of(room, whole, exp(inner, 1, rest)),
+        RepeatWord::While => construction::while_of(room, whole, exp(inner, 1, rest)),
+        RepeatWord::Until => construction::until_of(room, whole, exp(inner, 1, rest)),
     }
 }
 
@@ -199,7 +199,7 @@ fn repeat_always<'s, 't>(
         (repeated (exp_of n) room.nest room.round repeat_word.Repeat (read_view (box_view command_view) whole.entry) (seen rest.entry)) }
     ensures low { IfOk result (λ x. turn_height x ≤ room.nest) }
 {
-    let tree = apart::command(room.alloc, Command::Repeat(whole.tree))?;
+    let tree = boxes::command(room.alloc, Command::Repeat(whole.tree))?;
     Ok(Turn::More(Read {
         tree,
         height: whole.height + 1,
@@ -225,7 +225,7 @@ fn assigned<'s, 't>(room: Room, rest: Rest<'s, 't>) -> Answer<'s, 't, Command<'s
         None => call_of(room, targets),
         Some(then) => {
             let limit = exp_count(&targets.tree);
-            made::assignment(room, targets, exps(inner, 1, limit, then))
+            construction::assignment(room, targets, exps(inner, 1, limit, then))
         }
     }
 }
@@ -276,13 +276,13 @@ fn simple<'s, 't>(room: Room, word: SimpleWord, rest: Rest<'s, 't>) -> Answer<'s
         ..room
     };
     match word {
-        SimpleWord::Block => made::compound(room, block(inner, rest)),
+        SimpleWord::Block => construction::compound(room, block(inner, rest)),
         SimpleWord::Break => Ok(alone(Command::Break, rest)),
         SimpleWord::Loop => Ok(alone(Command::Loop, rest)),
         SimpleWord::EndCase => Ok(alone(Command::EndCase, rest)),
         SimpleWord::Return => Ok(alone(Command::Return, rest)),
         SimpleWord::Finish => Ok(alone(Command::Finish, rest)),
-        SimpleWord::ResultIs => made::result_of(room, exp(inner, 1, rest)),
+        SimpleWord::ResultIs => construction::result_of(room, exp(inner, 1, rest)),
         SimpleWord::Goto => goto(rest),
     }
 }
@@ -340,8 +340,8 @@ fn tested<'s, 't>(room: Room, word: Tested, rest: Rest<'s, 't>) -> Answer<'s, 't
         ..room
     };
     let test = exp_apart(inner, 1, rest)?;
-    let behind = test.rest;
-    made::tested(room, word, test, do_body(inner, behind))
+    let remaining = test.rest;
+    construction::tested(room, word, test, do_body(inner, remaining))
 }
 
 /// IF, UNLESS, WHILE or UNTIL.
@@ -384,8 +384,8 @@ fn test_else<'s, 't>(
     requires test { test.height < room.nest }
     requires this { this.height < room.nest }
     ensures read { (n : ℕ) → room.nest + room.round ≤ n + 1 →
-        Reads command_view result (expect_of sign.Else (seen this.entry.rest) ~> λ behind.
-        body_read (exp_of n) (command_of n) (definition_of n) (room.nest - 1) room.round behind ~> λ d.
+        Reads command_view result (expect_of sign.Else (seen this.entry.rest) ~> λ remaining.
+        body_read (exp_of n) (command_of n) (definition_of n) (room.nest - 1) room.round remaining ~> λ d.
         Ok (piece (tree.Test (exp_view test.entry.tree.value) (block_view this.entry.tree) d.tree)
         (max (max test.entry.height this.entry.height) d.height + 1) d.rest)) }
     ensures low { IfOk result (λ x. x.height ≤ room.nest) }
@@ -395,7 +395,7 @@ fn test_else<'s, 't>(
         ..room
     };
     let rest = cursor::expect(Symbol::Else, this.rest)?;
-    made::test(room, test, this, body(inner, rest))
+    construction::test(room, test, this, body(inner, rest))
 }
 
 pub fn test_of<'s>(test: Box<Exp<'s>>, this: Block<'s>, that: Block<'s>) -> Command<'s>
@@ -547,7 +547,7 @@ fn switch_cases<'s, 't>(
         ..room
     };
     let rest = cursor::expect(Symbol::OpenSection, rest)?;
-    made::switch(room, value, places(inner, Places::Cases, rest))
+    construction::switch(room, value, places(inner, Places::Cases, rest))
 }
 
 pub fn switch_of<'s>(value: Box<Exp<'s>>, found: Parts<'s>) -> Command<'s>

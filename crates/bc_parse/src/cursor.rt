@@ -31,7 +31,7 @@ fn symbol<'s, 't>(rest: Rest<'s, 't>) -> Option<(Symbol, Rest<'s, 't>)>
     ensures { option_map (λ x. (x.0, seen x.1)) result ≡ word_in Some (seen rest.entry) }
 {
     match first(rest) {
-        Some((Part::Symbol(symbol), behind)) => Some((*symbol, behind)),
+        Some((Part::Symbol(symbol), remaining)) => Some((*symbol, remaining)),
         _ => None,
     }
 }
@@ -41,8 +41,8 @@ pub fn after<'s, 't>(wanted: Symbol, rest: Rest<'s, 't>) -> Option<Rest<'s, 't>>
     ensures { option_map (λ x. seen x) result ≡ after_of wanted (seen rest.entry) }
 {
     match first(rest) {
-        Some((Part::Symbol(symbol), behind)) => if symbol.is(wanted) {
-            Some(behind)
+        Some((Part::Symbol(symbol), remaining)) => if symbol.is(wanted) {
+            Some(remaining)
         } else {
             None
         },
@@ -50,12 +50,12 @@ pub fn after<'s, 't>(wanted: Symbol, rest: Rest<'s, 't>) -> Option<Rest<'s, 't>>
     }
 }
 
-/// The parts after a semicolon, or after a line break that stands for one.
+/// The parts after a semicolon, or after a line break that means one.
 pub fn separator<'s, 't>(rest: Rest<'s, 't>) -> Option<Rest<'s, 't>>
     ensures { option_map (λ x. seen x) result ≡ separator_of (seen rest.entry) }
 {
     match first(rest) {
-        Some((Part::NewLine, behind)) => Some(behind),
+        Some((Part::NewLine, remaining)) => Some(remaining),
         _ => after(Symbol::Semicolon, rest),
     }
 }
@@ -75,7 +75,7 @@ pub fn name<'s, 't>(rest: Rest<'s, 't>) -> Result<(&'s [u8], Rest<'s, 't>), Read
     ensures { Gives (λ x. (x.0.now, seen x.1)) result (name_of (seen rest.entry)) }
 {
     match first(rest) {
-        Some((Part::Name(name), behind)) => Ok((*name, behind)),
+        Some((Part::Name(name), remaining)) => Ok((*name, remaining)),
         _ => Err(ReadFault::Expected(rest.parts.len())),
     }
 }
@@ -85,12 +85,15 @@ pub fn leaf<'s, 't>(rest: Rest<'s, 't>) -> Option<(Exp<'s>, Rest<'s, 't>)>
     ensures { option_map (λ x. (exp_view x.0, seen x.1)) result ≡ leaf_of (seen rest.entry) }
 {
     match first(rest) {
-        Some((Part::Name(name), behind)) => Some((Exp::Name(*name), behind)),
-        Some((Part::Number(word), behind)) => Some((Exp::Number(Word::new(*word)), behind)),
-        Some((Part::Character(word), behind)) => Some((Exp::Character(Word::new(*word)), behind)),
-        Some((Part::String(text), behind)) => Some((Exp::String(*text), behind)),
-        Some((Part::Symbol(Symbol::True), behind)) => Some((Exp::True, behind)),
-        Some((Part::Symbol(Symbol::False), behind)) => Some((Exp::False, behind)),
+        Some((Part::Name(name), remaining)) => Some((Exp::Name(*name), remaining)),
+        Some((Part::Number(word), remaining)) => Some((Exp::Number(Word::new(*word)), remaining)),
+        Some((Part::Character(word), remaining)) => Some((
+            Exp::Character(Word::new(*word)),
+            remaining,
+        )),
+        Some((Part::String(text), remaining)) => Some((Exp::String(*text), remaining)),
+        Some((Part::Symbol(Symbol::True), remaining)) => Some((Exp::True, remaining)),
+        Some((Part::Symbol(Symbol::False), remaining)) => Some((Exp::False, remaining)),
         _ => None,
     }
 }
@@ -98,39 +101,39 @@ pub fn leaf<'s, 't>(rest: Rest<'s, 't>) -> Option<(Exp<'s>, Rest<'s, 't>)>
 pub fn start_word<'s, 't>(rest: Rest<'s, 't>) -> Option<(Start, Rest<'s, 't>)>
     ensures { option_map (λ x. (x.0, seen x.1)) result ≡ word_in start_of (seen rest.entry) }
 {
-    let (symbol, behind) = symbol(rest)?;
-    Some((words::start_word(symbol)?, behind))
+    let (symbol, remaining) = symbol(rest)?;
+    Some((words::start_word(symbol)?, remaining))
 }
 
 pub fn command_word<'s, 't>(rest: Rest<'s, 't>) -> Option<(CommandWord, Rest<'s, 't>)>
     ensures { option_map (λ x. (x.0, seen x.1)) result ≡ word_in command_word_of (seen rest.entry) }
 {
-    let (symbol, behind) = symbol(rest)?;
-    Some((words::command_word(symbol)?, behind))
+    let (symbol, remaining) = symbol(rest)?;
+    Some((words::command_word(symbol)?, remaining))
 }
 
 pub fn simple_word<'s, 't>(rest: Rest<'s, 't>) -> Option<(SimpleWord, Rest<'s, 't>)>
     ensures { option_map (λ x. (x.0, seen x.1)) result ≡ word_in simple_word_of (seen rest.entry) }
 {
-    let (symbol, behind) = symbol(rest)?;
-    Some((words::simple_word(symbol)?, behind))
+    let (symbol, remaining) = symbol(rest)?;
+    Some((words::simple_word(symbol)?, remaining))
 }
 
 pub fn repeat_word<'s, 't>(rest: Rest<'s, 't>) -> Option<(RepeatWord, Rest<'s, 't>)>
     ensures { option_map (λ x. (x.0, seen x.1)) result ≡ word_in repeat_word_of (seen rest.entry) }
 {
-    let (symbol, behind) = symbol(rest)?;
-    Some((words::repeat_word(symbol)?, behind))
+    let (symbol, remaining) = symbol(rest)?;
+    Some((words::repeat_word(symbol)?, remaining))
 }
 
 pub fn declaration_word<'s, 't>(rest: Rest<'s, 't>) -> Option<(DeclarationWord, Rest<'s, 't>)>
     ensures { option_map (λ x. (x.0, seen x.1)) result ≡ word_in declaration_word_of (seen rest.entry) }
 {
-    let (symbol, behind) = symbol(rest)?;
-    Some((words::declaration_word(symbol)?, behind))
+    let (symbol, remaining) = symbol(rest)?;
+    Some((words::declaration_word(symbol)?, remaining))
 }
 
-/// What goes on behind an operand.
+/// What goes on after an operand.
 #[derive(Clone, Copy)]
 pub enum Follow<'s, 't> {
     Ends,
@@ -139,27 +142,27 @@ pub enum Follow<'s, 't> {
     Choice(Rest<'s, 't>),
 }
 
-/// What goes on behind an operand of the level `top`, in an expression of this level.
+/// What goes on after an operand of the level `top`, in an expression of this level.
 pub fn following_at<'s, 't>(level: usize, top: usize, rest: Rest<'s, 't>) -> Follow<'s, 't>
     ensures { follow_view result ≡ following level top (seen rest.entry) }
 {
     match first(rest) {
-        Some((Part::Symbol(Symbol::OpenBracket), behind)) => {
+        Some((Part::Symbol(Symbol::OpenBracket), remaining)) => {
             if top < 12 {
                 Follow::Ends
             } else {
-                Follow::Arguments(behind)
+                Follow::Arguments(remaining)
             }
         }
-        Some((Part::Symbol(Symbol::Arrow), behind)) => {
+        Some((Part::Symbol(Symbol::Arrow), remaining)) => {
             if 1 < level || top < 2 {
                 Follow::Ends
             } else {
-                Follow::Choice(behind)
+                Follow::Choice(remaining)
             }
         }
-        Some((Part::Symbol(symbol), behind)) => match words::dyadic(*symbol) {
-            Some(op) => operator(level, top, op, behind),
+        Some((Part::Symbol(symbol), remaining)) => match words::dyadic(*symbol) {
+            Some(op) => operator(level, top, op, remaining),
             None => Follow::Ends,
         },
         _ => Follow::Ends,
@@ -189,9 +192,9 @@ pub fn label_at<'s, 't>(rest: Rest<'s, 't>) -> LabelAt<'s, 't>
     ensures { label_at_view result ≡ label_start (seen rest.entry) }
 {
     match first(rest) {
-        Some((Part::Symbol(Symbol::Case), behind)) => LabelAt::Case(behind),
-        Some((Part::Symbol(Symbol::Default), behind)) => LabelAt::Default(behind),
-        Some((Part::Name(name), behind)) => match after(Symbol::Colon, behind) {
+        Some((Part::Symbol(Symbol::Case), remaining)) => LabelAt::Case(remaining),
+        Some((Part::Symbol(Symbol::Default), remaining)) => LabelAt::Default(remaining),
+        Some((Part::Name(name), remaining)) => match after(Symbol::Colon, remaining) {
             Some(then) => LabelAt::Name(*name, then),
             None => LabelAt::No,
         },
@@ -211,7 +214,7 @@ pub fn shape_at<'s, 't>(rest: Rest<'s, 't>) -> ShapeAt<'s, 't>
     ensures { shape_view result ≡ shape_of (seen rest.entry) }
 {
     match first(rest) {
-        Some((Part::Symbol(Symbol::OpenBracket), behind)) => ShapeAt::Parameters(behind),
+        Some((Part::Symbol(Symbol::OpenBracket), remaining)) => ShapeAt::Parameters(remaining),
         _ => match after(Symbol::Equal, rest) {
             None => ShapeAt::Values,
             Some(then) => match after(Symbol::Vector, then) {
@@ -228,7 +231,7 @@ pub fn skip_do<'s, 't>(rest: Rest<'s, 't>) -> Rest<'s, 't>
 {
     let line = skip_line(rest);
     match after(Symbol::Do, line) {
-        Some(behind) => behind,
+        Some(remaining) => remaining,
         None => line,
     }
 }
@@ -237,7 +240,7 @@ fn skip_line<'s, 't>(rest: Rest<'s, 't>) -> Rest<'s, 't>
     ensures { seen result ≡ past_line (seen rest.entry) }
 {
     match first(rest) {
-        Some((Part::NewLine, behind)) => behind,
+        Some((Part::NewLine, remaining)) => remaining,
         _ => rest,
     }
 }
@@ -268,7 +271,7 @@ pub fn constant_sign<'s, 't>(rest: Rest<'s, 't>) -> Result<Rest<'s, 't>, ReadFau
     ensures { Gives (λ x. seen x) result (constant_sign_of (seen rest.entry)) }
 {
     match after(Symbol::Equal, rest) {
-        Some(behind) => Ok(behind),
+        Some(remaining) => Ok(remaining),
         None => expect(Symbol::Colon, rest),
     }
 }

@@ -18,12 +18,12 @@ use crate::expressions::{exp, exps};
 use crate::fault::ReadFault;
 use crate::names::{name_count, names, parameters};
 use crate::read::{Answer, Read, Room, Turn};
-use crate::{apart, cursor, made};
+use crate::{boxes, construction, cursor};
 use bc_lex_tokens::Symbol;
 use bc_parse_defs::words::{DeclarationWord, Places};
 use bc_parse_tree::{Constant, Declaration, Definition, Storage};
 
-/// A declaration, behind its word.
+/// A declaration, after its word.
 #[cycle(parser)]
 #[tactic(auto, unfolding(bc_parse_defs::specs::Reading::declaration_read))]
 pub fn declaration<'s, 't>(
@@ -36,7 +36,7 @@ pub fn declaration<'s, 't>(
     ensures low { IfOk result (λ x. x.height ≤ room.nest) }
 {
     match word {
-        DeclarationWord::Let => made::let_of(room, definitions(room, rest)),
+        DeclarationWord::Let => construction::let_of(room, definitions(room, rest)),
         DeclarationWord::Constants(storage) => constants(room, storage, rest),
     }
 }
@@ -55,7 +55,7 @@ fn constants<'s, 't>(
     ensures low { IfOk result (λ x. x.height ≤ room.nest) }
 {
     let rest = cursor::expect(Symbol::OpenSection, rest)?;
-    made::constants(room, storage, entries(room, rest))
+    construction::constants(room, storage, entries(room, rest))
 }
 
 /// Names with their constants, up to the section bracket.
@@ -77,7 +77,7 @@ fn entries<'s, 't>(room: Room, rest: Rest<'s, 't>) -> Answer<'s, 't, Vec<Constan
             Turn::More(list) => found = list,
         }
     }
-    Err(apart::spent(found))
+    Err(boxes::spent(found))
 }
 
 #[cycle(parser)]
@@ -101,7 +101,7 @@ fn entry_step<'s, 't>(
     ended(found)
 }
 
-/// What was read as a turn: the last one where the list ends behind it.
+/// What was read as a turn: the last one where the list ends after it.
 fn ended<'s, 't>(
     found: Read<'s, 't, Vec<Constant<'s>>>,
 ) -> Result<Turn<'s, 't, Vec<Constant<'s>>>, ReadFault>
@@ -128,7 +128,7 @@ fn entry<'s, 't>(
 {
     let (name, rest) = cursor::name(list.rest)?;
     let rest = cursor::constant_sign(rest)?;
-    made::constant(room, name, exp(room, 2, rest), list)
+    construction::constant(room, name, exp(room, 2, rest), list)
 }
 
 /// The definitions of a LET, which AND joins.
@@ -145,12 +145,12 @@ fn definitions<'s, 't>(room: Room, rest: Rest<'s, 't>) -> Answer<'s, 't, Vec<Def
         rest,
     };
     for _ in 0..rest.parts.len() + 1 {
-        match made::definitions_more(room, definition(room, found.rest), found)? {
+        match construction::definitions_more(room, definition(room, found.rest), found)? {
             Turn::Last(list) => return Ok(list),
             Turn::More(list) => found = list,
         }
     }
-    Err(apart::spent(found))
+    Err(boxes::spent(found))
 }
 
 /// A definition.
@@ -178,10 +178,10 @@ fn defined<'s, 't>(room: Room, rest: Rest<'s, 't>) -> Answer<'s, 't, Definition<
         nest: room.nest - 1,
         ..room
     };
-    let (name, behind) = cursor::name(rest)?;
-    match cursor::shape_at(behind) {
-        ShapeAt::Parameters(then) => routine(room, name, behind.parts.len(), then),
-        ShapeAt::Size(then) => made::vector(room, name, exp(inner, 2, then)),
+    let (name, remaining) = cursor::name(rest)?;
+    match cursor::shape_at(remaining) {
+        ShapeAt::Parameters(then) => routine(room, name, remaining.parts.len(), then),
+        ShapeAt::Size(then) => construction::vector(room, name, exp(inner, 2, then)),
         ShapeAt::Values => variables(room, rest),
     }
 }
@@ -201,7 +201,7 @@ fn variables<'s, 't>(room: Room, rest: Rest<'s, 't>) -> Answer<'s, 't, Definitio
     let found = names(room.alloc, rest)?;
     let rest = cursor::expect(Symbol::Equal, found.rest)?;
     let limit = name_count(&found.tree);
-    made::variables(room, found.tree, exps(inner, 1, limit, rest))
+    construction::variables(room, found.tree, exps(inner, 1, limit, rest))
 }
 
 #[cycle(parser)]
@@ -227,7 +227,7 @@ fn routine<'s, 't>(
     };
     let found = parameters(room.alloc, rest)?;
     match cursor::after(Symbol::Equal, found.rest) {
-        Some(then) => made::function(room, name, found.tree, exp(inner, 1, then)),
+        Some(then) => construction::function(room, name, found.tree, exp(inner, 1, then)),
         None => procedure(room, name, found.tree, found.rest),
     }
 }
@@ -242,8 +242,8 @@ fn procedure<'s, 't>(
 ) -> Answer<'s, 't, Definition<'s>>
     requires { 0 < room.nest }
     ensures read { (n : ℕ) → room.nest + room.round ≤ n + 1 →
-        Reads definition_view result (expect_of sign.Be (seen rest.entry) ~> λ behind.
-        body_read (exp_of n) (command_of n) (definition_of n) (room.nest - 1) room.round behind ~> λ b.
+        Reads definition_view result (expect_of sign.Be (seen rest.entry) ~> λ remaining.
+        body_read (exp_of n) (command_of n) (definition_of n) (room.nest - 1) room.round remaining ~> λ b.
         Ok (piece (tree.Routine name.entry.now (names_view found.entry.items) b.tree) (b.height + 1) b.rest)) }
     ensures low { IfOk result (λ x. x.height ≤ room.nest) }
 {
@@ -252,5 +252,5 @@ fn procedure<'s, 't>(
         ..room
     };
     let rest = cursor::expect(Symbol::Be, rest)?;
-    made::routine(room, name, found, body(inner, rest))
+    construction::routine(room, name, found, body(inner, rest))
 }

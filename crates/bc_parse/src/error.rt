@@ -1,6 +1,6 @@
 use thiserror::Error;
 
-/// Why tokens are no section. A token is named by its index; the number of tokens stands for the end.
+/// Why tokens are no section. A token is named by its index; the number of tokens means the end.
 #[derive(Clone, Copy, Debug, PartialEq, Eq, Error)]
 pub enum ParseError {
     /// Another token is wanted here.

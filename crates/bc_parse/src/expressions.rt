@@ -15,7 +15,7 @@ use crate::blocks::body;
 use crate::cursor::{Follow, Rest};
 use crate::fault::ReadFault;
 use crate::read::{Answer, Read, Room, Turn};
-use crate::{apart, cursor, made};
+use crate::{boxes, construction, cursor};
 use bc_lex_tokens::Symbol;
 use bc_parse_defs::words;
 use bc_parse_defs::words::Start;
@@ -52,7 +52,7 @@ pub fn exp_apart<'s, 't>(
     ensures read { (n : ℕ) → room.nest + room.round ≤ n → Reads (box_view exp_view) result (exp_of n room.nest room.round level (seen rest.entry)) }
     ensures low { IfOk result (λ x. x.height ≤ room.nest) }
 {
-    made::exp_kept(room, exp(room, level, rest))
+    construction::exp_kept(room, exp(room, level, rest))
 }
 
 /// An operand.
@@ -74,7 +74,7 @@ fn operand<'s, 't>(room: Room, rest: Rest<'s, 't>) -> Answer<'s, 't, Levelled<'s
     }
     match cursor::start_word(rest) {
         None => Err(ReadFault::Expected(rest.parts.len())),
-        Some((word, behind)) => started(room, rest.parts.len(), word, behind),
+        Some((word, remaining)) => started(room, rest.parts.len(), word, remaining),
     }
 }
 
@@ -97,10 +97,10 @@ fn started<'s, 't>(
     };
     match word {
         Start::Bracket => bracket(room, place, rest),
-        Start::Table => made::table_of(room, exps(inner, 2, rest.parts.len() + 1, rest)),
-        Start::Valof => made::valof_of(room, body(inner, rest)),
+        Start::Table => construction::table_of(room, exps(inner, 2, rest.parts.len() + 1, rest)),
+        Start::Valof => construction::valof_of(room, body(inner, rest)),
         Start::Monadic(op) => {
-            made::monadic_of(room, op, exp_apart(inner, words::level_behind(op), rest))
+            construction::monadic_of(room, op, exp_apart(inner, words::level_after(op), rest))
         }
     }
 }
@@ -119,10 +119,10 @@ fn bracket<'s, 't>(room: Room, place: usize, rest: Rest<'s, 't>) -> Answer<'s, '
         round: room.round - 1,
         ..room
     };
-    made::bracket_of(room, exp(inner, 1, rest))
+    construction::bracket_of(room, exp(inner, 1, rest))
 }
 
-/// An expression from its first operand on: operators, calls and choices behind it.
+/// An expression from its first operand on: operators, calls and choices after it.
 #[cycle(parser)]
 #[tactic(auto, unfolding(bc_parse_defs::specs::Reading::grow_read))]
 fn grow<'s, 't>(
@@ -150,7 +150,7 @@ fn grow<'s, 't>(
             Turn::More(longer) => left = longer,
         }
     }
-    Err(apart::spent(left))
+    Err(boxes::spent(left))
 }
 
 #[cycle(parser)]
@@ -168,9 +168,9 @@ fn grow_step<'s, 't>(
 {
     match cursor::following_at(level, left.tree.level, left.rest) {
         Follow::Ends => Ok(Turn::Last(left)),
-        Follow::Operator(op, rest) => made::grown(room, operated(room, op, left, rest)),
-        Follow::Arguments(rest) => made::grown(room, called(room, left, rest)),
-        Follow::Choice(rest) => made::grown(room, chosen(room, begin, left, rest)),
+        Follow::Operator(op, rest) => construction::grown(room, operated(room, op, left, rest)),
+        Follow::Arguments(rest) => construction::grown(room, called(room, left, rest)),
+        Follow::Choice(rest) => construction::grown(room, chosen(room, begin, left, rest)),
     }
 }
 
@@ -188,7 +188,7 @@ fn operated<'s, 't>(
     ensures low { IfOk result (λ x. x.height ≤ room.nest) }
 {
     if left.height >= room.nest {
-        return Err(apart::too_deep(left));
+        return Err(boxes::too_deep(left));
     }
     let inner = Room {
         nest: room.nest - 1,
@@ -196,8 +196,8 @@ fn operated<'s, 't>(
     };
     let level = words::level(op);
     let height = left.height;
-    let left = apart::exp(room.alloc, left.tree.exp)?;
-    made::dyadic_of(room, op, height, left, exp_apart(inner, level + 1, rest))
+    let left = boxes::exp(room.alloc, left.tree.exp)?;
+    construction::dyadic_of(room, op, height, left, exp_apart(inner, level + 1, rest))
 }
 
 #[cycle(parser)]
@@ -213,7 +213,7 @@ fn called<'s, 't>(
     ensures low { IfOk result (λ x. x.height ≤ room.nest) }
 {
     if left.height >= room.nest || room.round == 0 {
-        return Err(apart::too_deep(left));
+        return Err(boxes::too_deep(left));
     }
     let inner = Room {
         nest: room.nest - 1,
@@ -221,8 +221,8 @@ fn called<'s, 't>(
         ..room
     };
     let height = left.height;
-    let routine = apart::exp(room.alloc, left.tree.exp)?;
-    made::call_from(room, height, routine, arguments(inner, rest))
+    let routine = boxes::exp(room.alloc, left.tree.exp)?;
+    construction::call_from(room, height, routine, arguments(inner, rest))
 }
 
 #[cycle(parser)]
@@ -239,14 +239,14 @@ fn chosen<'s, 't>(
     ensures low { IfOk result (λ x. x.height ≤ room.nest) }
 {
     if left.height >= room.nest {
-        return Err(apart::too_deep_at(begin, left));
+        return Err(boxes::too_deep_at(begin, left));
     }
     let inner = Room {
         nest: room.nest - 1,
         ..room
     };
     let height = left.height;
-    let test = apart::exp(room.alloc, left.tree.exp)?;
+    let test = boxes::exp(room.alloc, left.tree.exp)?;
     let this = exp_apart(inner, 1, rest)?;
     otherwise(room, height.max(this.height), test, this)
 }
@@ -261,8 +261,8 @@ fn otherwise<'s, 't>(
 ) -> Answer<'s, 't, Levelled<'s>>
     requires { height < room.nest }
     ensures read { (n : ℕ) → room.nest + room.round ≤ n + 1 →
-        Reads levelled_view result ((expect_of sign.Comma (seen this.entry.rest) ~> λ behind.
-        exp_of n (room.nest - 1) room.round 1 behind ~> λ y.
+        Reads levelled_view result ((expect_of sign.Comma (seen this.entry.rest) ~> λ remaining.
+        exp_of n (room.nest - 1) room.round 1 remaining ~> λ y.
         Ok (piece (tree.Condition (exp_view test.entry.value) (exp_view this.entry.tree.value) y.tree) (max height y.height + 1) y.rest)) ~> λ p.
         Ok (piece (p.tree, 1) p.height p.rest)) }
     ensures low { IfOk result (λ x. x.height ≤ room.nest) }
@@ -272,7 +272,7 @@ fn otherwise<'s, 't>(
         ..room
     };
     let rest = cursor::expect(Symbol::Comma, this.rest)?;
-    made::condition_of(room, height, test, this.tree, exp_apart(inner, 1, rest))
+    construction::condition_of(room, height, test, this.tree, exp_apart(inner, 1, rest))
 }
 
 #[cycle(parser)]
@@ -314,12 +314,12 @@ pub fn exps<'s, 't>(
         rest,
     };
     for _ in 0..rest.parts.len() + 1 {
-        match made::exps_more(room, limit, exp(room, level, found.rest), found)? {
+        match construction::exps_more(room, limit, exp(room, level, found.rest), found)? {
             Turn::Last(list) => return Ok(list),
             Turn::More(list) => found = list,
         }
     }
-    Err(apart::spent(found))
+    Err(boxes::spent(found))
 }
 
 /// How many expressions a list has.

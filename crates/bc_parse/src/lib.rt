@@ -1,15 +1,15 @@
 //! From tokens to trees, and back by `bc_parse_spell`.
 #![tactic(auto)]
 
-mod apart;
 mod blocks;
+mod boxes;
 mod commands;
+mod construction;
 mod cursor;
 mod declarations;
 mod error;
 mod expressions;
 mod fault;
-mod made;
 mod names;
 mod read;
 mod section;

@@ -47,7 +47,7 @@ pub fn names<'s, 't>(alloc: Global, rest: Rest<'s, 't>) -> Answer<'s, 't, Vec<&'
     Err(ReadFault::Expected(found.rest.parts.len()))
 }
 
-/// The parameters of a routine, behind the first bracket, and the parts behind the other.
+/// The parameters of a routine, after the first bracket, and the parts after the other.
 #[tactic(auto, unfolding(bc_parse_defs::specs::Reading::parameters_read))]
 pub fn parameters<'s, 't>(alloc: Global, rest: Rest<'s, 't>) -> Answer<'s, 't, Vec<&'s [u8]>>
     ensures { Reads (list_view names_view) result (parameters_read (seen rest.entry)) }

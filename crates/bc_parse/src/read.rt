@@ -13,7 +13,7 @@ pub struct Room {
     pub round: usize,
 }
 
-/// What was read, how deep it nests, and the parts behind it.
+/// What was read, how deep it nests, and the parts after it.
 #[derive(Drop)]
 pub struct Read<'s, 't, T> {
     pub tree: T,

@@ -377,13 +377,13 @@ IsShape ts Values = Unit {0}
 vector_shapes : (ts : List Part) → IsShape ts (vector_shape (after_of sign.Equal ts))
 vector_shapes ts = go (after_of sign.Equal ts) refl
   where
-    behind : (us : List Part) → ts ≡ A sign.Equal ∷ us → (o : Option (List Part)) → after_of sign.Vector us ≡ o → IsShape ts (elim o [ None ↦ Values | Some vs ↦ Size vs ])
-    behind us e None f = tt
-    behind us e (Some vs) f = e ∙ ap (λ (r : List Part). A sign.Equal ∷ r) (after_is sign.Vector us vs f)
+    remaining : (us : List Part) → ts ≡ A sign.Equal ∷ us → (o : Option (List Part)) → after_of sign.Vector us ≡ o → IsShape ts (elim o [ None ↦ Values | Some vs ↦ Size vs ])
+    remaining us e None f = tt
+    remaining us e (Some vs) f = e ∙ ap (λ (r : List Part). A sign.Equal ∷ r) (after_is sign.Vector us vs f)
 
     go : (o : Option (List Part)) → after_of sign.Equal ts ≡ o → IsShape ts (vector_shape o)
     go None e = tt
-    go (Some us) e = behind us (after_is sign.Equal ts us e) (after_of sign.Vector us) refl
+    go (Some us) e = remaining us (after_is sign.Equal ts us e) (after_of sign.Vector us) refl
 
 pub shapes : (ts : List Part) → IsShape ts (shape_of ts)
 shapes [] = tt
@@ -417,7 +417,7 @@ do_front (Character n ∷ ts) = do_word false (Character n ∷ ts) (Character n 
 do_front (String n ∷ ts) = do_word false (String n ∷ ts) (String n ∷ ts) refl
 do_front (NewLine ∷ ts) = do_word true (NewLine ∷ ts) ts refl
 
--- `=` or `:` behind a constant's name
+-- `=` or `:` after a constant's name
 pub record Signed (ts rest : List Part) : Type 0 where
   pub symbol : Symbol
   pub split : ts ≡ A symbol ∷ rest

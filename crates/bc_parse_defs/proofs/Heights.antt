@@ -251,7 +251,7 @@ module _ (E : Reader) (C : CommandReader) (D : DefinitionReader)
   item_high nest round ts =
       then (labels_read E nest round ts) _ _ _ (labels_high E exp_high nest round ts) (λ (ls : Piece Labels) h.
       branch (some_label ls.tree && is_place_end ls.rest) _ _ _ (λ alone. h)
-      (λ more_behind. then (C nest round ls.rest) _ _ _ (command_high nest round ls.rest) (λ (c : Piece Command) g. record { is = omega arith; low = omega arith })))
+      (λ more_after. then (C nest round ls.rest) _ _ _ (command_high nest round ls.rest) (λ (c : Piece Command) g. record { is = omega arith; low = omega arith })))
 
   abbrev HighDefinitions : ℕ → Piece Definitions → Type 0
   HighDefinitions nest p = High p.height (definitions_height p.tree) nest

@@ -39,11 +39,11 @@ case_of (token.Number n) = other refl refl refl
 case_of (token.Character n) = other refl refl refl
 case_of (token.String n) = other refl refl refl
 
--- what one part puts in front of a balanced list
-balanced_behind : (b : Bool) (n : ℕ) (p : Part) (at : ℕ) (rest : List Placed) → Balanced n (parts_in ((p, at) ∷ rest))
+-- what one part puts before a balanced list
+balanced_after : (b : Bool) (n : ℕ) (p : Part) (at : ℕ) (rest : List Placed) → Balanced n (parts_in ((p, at) ∷ rest))
     → Balanced n (parts_in (cond b ((NewLine, at) ∷ (p, at) ∷ []) ((p, at) ∷ []) ++ rest))
-balanced_behind true n p at rest h = passes n NewLine (p ∷ parts_in rest) refl h
-balanced_behind false n p at rest h = h
+balanced_after true n p at rest h = passes n NewLine (p ∷ parts_in rest) refl h
+balanced_after false n p at rest h = h
 
 -- one part more
 part_put : (line : ℕ → Bool) (at n m : ℕ) (ends : Bool) (p : Part) (t : Lexeme) (ts : List Lexeme) (rest : List Placed) → line at ≡ t.line_before → kind_part t.kind ≡ p → is_break p ≡ false
@@ -54,7 +54,7 @@ part_put line at n m ends p t ts rest same is plain balance made = record {
   breaks = rw (made.breaks, sym same) refl;
   plain = (plain, made.plain);
   tokens = rw is (kept (p, at) (placed_from (at + 1) ts) made.qs made.tokens);
-  brackets = balanced_behind (ends && t.line_before && begins_command p) n p at rest (balance (parts_in rest) made.brackets);
+  brackets = balanced_after (ends && t.line_before && begins_command p) n p at rest (balance (parts_in rest) made.brackets);
 }
 
 -- closing brackets more
@@ -141,7 +141,7 @@ closed_made line [] at [] ends lines = record { qs = []; breaks = refl; plain = 
 closed_made line [] at (o ∷ opened) ends lines = tt
 closed_made line (t ∷ ts) at opened ends lines =
     then (token_step at opened ends t) _ _ _ (step_made line at opened ends t t.kind refl (case_of t.kind)) (λ (s : Step) front.
-    then (closed (at + 1) s.opened s.ends ts) _ _ _ (closed_made line ts (at + 1) s.opened s.ends lines.1) (λ (rest : List Placed) behind. front ts rest lines.0 behind))
+    then (closed (at + 1) s.opened s.ends ts) _ _ _ (closed_made line ts (at + 1) s.opened s.ends lines.1) (λ (rest : List Placed) remaining. front ts rest lines.0 remaining))
 
 found : (front : List Lexeme) (t : Lexeme) (ts : List Lexeme) → slice_get (front ++ t ∷ ts) (length front) ≡ Some t
 found [] t ts = refl

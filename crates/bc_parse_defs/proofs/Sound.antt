@@ -79,7 +79,7 @@ named_more [] n h = absurd (omega arith)
 named_more (m ∷ []) n h = refl
 named_more (m ∷ k ∷ ns) n h = ap (λ (r : List Part). Name m ∷ A sign.Comma ∷ r) (named_more (k ∷ ns) n (omega arith))
 
--- the names so far, and a comma behind them
+-- the names so far, and a comma after them
 pub record NamesSoFar (ts : List Part) (s : Piece (List (List ℕ))) : Type 0 where
   pub used : List Part
   pub split : ts ≡ used ++ s.rest
@@ -402,7 +402,7 @@ Fits places.Section ds is = is ≡ no_items
 Fits places.Block ds is = Unit {0}
 Fits places.Cases ds is = ds ≡ no_declarations
 
--- behind the last place
+-- after the last place
 abbrev pub AtEnd : Places → List Part → List Part → Type 0
 AtEnd places.Section ts rest = (ts ≡ []) × (rest ≡ [])
 AtEnd places.Block ts rest = ts ≡ A sign.CloseSection ∷ rest
@@ -426,9 +426,9 @@ pub record PlacesSoFar (mode : Places) (ts : List Part) (s : Piece (Declarations
 
 pub record AllPlaces (mode : Places) (ts : List Part) (s : Piece (Declarations × Items)) : Type 0 where
   pub used : List Part
-  pub behind : List Part
-  pub split : ts ≡ used ++ behind
-  pub end : AtEnd mode behind s.rest
+  pub remaining : List Part
+  pub split : ts ≡ used ++ remaining
+  pub end : AtEnd mode remaining s.rest
   pub spelled : SpellsPlaces s.tree.0 s.tree.1 used
   pub fits : Fits mode s.tree.0 s.tree.1
 
@@ -437,7 +437,7 @@ pub record PlacesMore (mode : Places) (ts : List Part) (s : Piece (Declarations 
   pub used : List Part
   pub split : ts ≡ used ++ s.rest
   pub last : SpellsPlaces s.tree.0 s.tree.1 used
-  pub more_behind : (x : Part) → IsSeparator x → SpellsEnded s.tree.0 s.tree.1 (used ++ x ∷ [])
+  pub more_after : (x : Part) → IsSeparator x → SpellsEnded s.tree.0 s.tree.1 (used ++ x ∷ [])
   pub fits : Fits mode s.tree.0 s.tree.1
 
 declares_is : (mode : Places) (is_first : Bool) (ts : List Part) (w : DeclarationWord × List Part) → declares mode is_first ts ≡ Some w → (is_first ≡ true) × Worded declaration_word_of ts w.0 w.1
@@ -471,7 +471,7 @@ module _ (E : Reader) (C : CommandReader) (D : DefinitionReader)
       then (labels_read E nest round ts) _ _ _ (labels_sound E exp_sound nest round ts) (λ (ls : Piece Labels) found.
       branch (some_label ls.tree && is_place_end ls.rest) _ _ _
       (λ alone. record { used = found.used; split = found.split; spelled = labels_alone (some_label_is ls.tree (and_left _ _ alone)) found.spelled })
-      (λ more_behind. then (C nest round ls.rest) _ _ _ (command_sound nest round ls.rest) (λ (c : Piece Command) command.
+      (λ more_after. then (C nest round ls.rest) _ _ _ (command_sound nest round ls.rest) (λ (c : Piece Command) command.
       record { used = found.used ++ command.used; split = join ts found.used ls.rest command.used c.rest found.split command.split; spelled = labelled found.spelled command.spelled })))
 
   pub record DefinitionsSoFar (ts : List Part) (s : Piece Definitions) : Type 0 where
@@ -521,7 +521,7 @@ module _ (E : Reader) (C : CommandReader) (D : DefinitionReader)
         used = i.used ++ found.used;
         split = join ts i.used s.rest found.used p.rest i.split found.split;
         last = last_item i.spelled found.spelled;
-        more_behind = λ x sep. subst (λ (r : List Part). SpellsEnded s.tree.0 (add_item s.tree.1 p.tree) r) (sym (append_assoc i.used found.used (x ∷ []))) (placed i.spelled found.spelled sep);
+        more_after = λ x sep. subst (λ (r : List Part). SpellsEnded s.tree.0 (add_item s.tree.1 p.tree) r) (sym (append_assoc i.used found.used (x ∷ []))) (placed i.spelled found.spelled sep);
         fits = fits_item mode s.tree.0 s.tree.1 p.tree may i.fits;
       })))
       (λ (w : DeclarationWord × List Part) is.
@@ -534,7 +534,7 @@ module _ (E : Reader) (C : CommandReader) (D : DefinitionReader)
         used = i.used ++ found.used;
         split = join ts i.used s.rest found.used d.rest i.split (front_is ∙ found.split);
         last = subst (λ (t : Items). SpellsPlaces (add_declaration s.tree.0 d.tree) t (i.used ++ found.used)) (sym none_yet) (last_declaration so_far found.spelled);
-        more_behind = λ x sep. subst (λ (r : List Part). SpellsEnded (add_declaration s.tree.0 d.tree) s.tree.1 r) (sym (append_assoc i.used found.used (x ∷ []))) (subst (λ (t : Items). SpellsEnded (add_declaration s.tree.0 d.tree) t (i.used ++ (found.used ++ x ∷ []))) (sym none_yet) (declared so_far found.spelled sep));
+        more_after = λ x sep. subst (λ (r : List Part). SpellsEnded (add_declaration s.tree.0 d.tree) s.tree.1 r) (sym (append_assoc i.used found.used (x ∷ []))) (subst (λ (t : Items). SpellsEnded (add_declaration s.tree.0 d.tree) t (i.used ++ (found.used ++ x ∷ []))) (sym none_yet) (declared so_far found.spelled sep));
         fits = fits_declaration mode s.tree.0 s.tree.1 d.tree s.rest w is i.fits;
       }))
 
@@ -543,10 +543,10 @@ module _ (E : Reader) (C : CommandReader) (D : DefinitionReader)
   place_end_sound mode ts p found =
       choice (separator_of p.rest) _ _ _
       (λ no. choice (end_of mode p.rest) _ _ _ (λ wrong. tt) (λ (after : List Part) close.
-      record { used = found.used; behind = p.rest; split = found.split; end = end_is mode p.rest after close; spelled = found.last; fits = found.fits }))
+      record { used = found.used; remaining = p.rest; split = found.split; end = end_is mode p.rest after close; spelled = found.last; fits = found.fits }))
       (λ (after : List Part) sep.
       let separated = separator_is p.rest after sep in
-      record { used = found.used ++ separated.separator ∷ []; split = join_end ts found.used p.rest after separated.separator found.split separated.split; spelled = found.more_behind separated.separator separated.is; fits = found.fits })
+      record { used = found.used ++ separated.separator ∷ []; split = join_end ts found.used p.rest after separated.separator found.split separated.split; spelled = found.more_after separated.separator separated.is; fits = found.fits })
 
   place_turn_sound : (mode : Places) (nest round : ℕ) (ts : List Part) (s : Piece (Declarations × Items)) → PlacesSoFar mode ts s → Yields (place_turn E C D mode nest round s) (λ t. cond t.1 (AllPlaces mode ts t.0) (PlacesSoFar mode ts t.0))
   unfolding place_turn
@@ -558,7 +558,7 @@ module _ (E : Reader) (C : CommandReader) (D : DefinitionReader)
       (λ (after : List Part) sep.
       let separated = separator_is s.rest after sep in
       record { used = i.used ++ separated.separator ∷ []; split = join_end ts i.used s.rest after separated.separator i.split separated.split; spelled = gap i.spelled separated.is; fits = i.fits }))
-      (λ (after : List Part) close. record { used = i.used; behind = s.rest; split = i.split; end = end_is mode s.rest after close; spelled = ended i.spelled; fits = i.fits })
+      (λ (after : List Part) close. record { used = i.used; remaining = s.rest; split = i.split; end = end_is mode s.rest after close; spelled = ended i.spelled; fits = i.fits })
 
   first_fits : (mode : Places) → Fits mode no_declarations no_items
   first_fits places.Section = refl
@@ -577,7 +577,7 @@ module _ (E : Reader) (C : CommandReader) (D : DefinitionReader)
       then (places_read E C D places.Block nest round ts) _ _ _ (places_sound places.Block nest round ts) (λ (p : Piece (Declarations × Items)) found.
       record {
         used = A sign.OpenSection ∷ (found.used ++ A sign.CloseSection ∷ []);
-        split = front (A sign.OpenSection ∷ ts) ts (found.used ++ A sign.CloseSection ∷ []) p.rest (A sign.OpenSection) refl (join_end ts found.used found.behind p.rest (A sign.CloseSection) found.split found.end);
+        split = front (A sign.OpenSection ∷ ts) ts (found.used ++ A sign.CloseSection ∷ []) p.rest (A sign.OpenSection) refl (join_end ts found.used found.remaining p.rest (A sign.CloseSection) found.split found.end);
         spelled = block_brackets found.spelled;
       })
 
@@ -793,7 +793,7 @@ module _ (E : Reader) (C : CommandReader) (D : DefinitionReader)
         used = A sign.SwitchOn ∷ (value.used ++ A sign.Into ∷ A sign.OpenSection ∷ (found.used ++ A sign.CloseSection ∷ []));
         split = front (A sign.SwitchOn ∷ ts) ts (value.used ++ A sign.Into ∷ A sign.OpenSection ∷ (found.used ++ A sign.CloseSection ∷ [])) p.rest (A sign.SwitchOn) refl
             (join_by ts value.used e.rest (A sign.OpenSection ∷ (found.used ++ A sign.CloseSection ∷ [])) into p.rest (A sign.Into) value.split into_word
-            (front into inner (found.used ++ A sign.CloseSection ∷ []) p.rest (A sign.OpenSection) open_section (join_end inner found.used found.behind p.rest (A sign.CloseSection) found.split found.end)));
+            (front into inner (found.used ++ A sign.CloseSection ∷ []) p.rest (A sign.OpenSection) open_section (join_end inner found.used found.remaining p.rest (A sign.CloseSection) found.split found.end)));
         spelled = spell.switch_on value.spelled (subst (λ (ds : Declarations). SpellsPlaces ds p.tree.1 found.used) found.fits found.spelled);
       }))))
 

@@ -9,9 +9,9 @@ use Rattle.bc_parse_defs.specs.Seen.{Fails, Lists, with_placed, State, after_tok
 use Rattle.bc_parse_defs.specs.declared.fault.CloseFault.{CloseFault}
 use Rattle.bc_parse_defs.specs.declared.fault.CloseFault.TheVariants as faults
 
--- a list, and what closing gives behind it
-abbrev pub behind : Lists → Result (List Placed) Fault → Result Lists Fault
-behind c r = r >>= λ ps. Ok (with_placed c ps)
+-- a list, and what closing gives after it
+abbrev pub remaining : Lists → Result (List Placed) Fault → Result Lists Fault
+remaining c r = r >>= λ ps. Ok (with_placed c ps)
 
 parts_both : (ps qs : List Placed) → parts_in (ps ++ qs) ≡ parts_in ps ++ parts_in qs
 parts_both [] qs = refl
@@ -27,16 +27,16 @@ placed_both c ps qs =
     let b : c.1 ++ places_in (ps ++ qs) ≡ (c.1 ++ places_in ps) ++ places_in qs = ap (λ (r : List ℕ). c.1 ++ r) (places_both ps qs) ∙ sym (append_assoc c.1 (places_in ps) (places_in qs)) in
     rw (a, b) refl
 
-behind_more : (c : Lists) (out : List Placed) (r : Result (List Placed) Fault) → behind c (r >>= λ rest. Ok (out ++ rest)) ≡ behind (with_placed c out) r
-behind_more c out (Ok ps) = ap (λ (x : Lists). Ok x) (placed_both c out ps)
-behind_more c out (Err e) = refl
+after_more : (c : Lists) (out : List Placed) (r : Result (List Placed) Fault) → remaining c (r >>= λ rest. Ok (out ++ rest)) ≡ remaining (with_placed c out) r
+after_more c out (Ok ps) = ap (λ (x : Lists). Ok x) (placed_both c out ps)
+after_more c out (Err e) = refl
 
-module _ (c : Lists) (at : ℕ) (opened : List (List ℕ)) (ends : Bool) (t : Lexeme) (ts : List Lexeme) (total : Result Lists Fault) (so_far : behind c (closed at opened ends (t ∷ ts)) ≡ total) where
-  by_step : (r : Result Step Fault) → behind c (r >>= λ s. closed (at + 1) s.opened s.ends ts >>= λ rest. Ok (s.out ++ rest)) ≡ (after_token c r >>= λ s. behind s.0 (closed (at + 1) s.1 s.2 ts))
-  by_step (Ok s) = behind_more c s.out (closed (at + 1) s.opened s.ends ts)
+module _ (c : Lists) (at : ℕ) (opened : List (List ℕ)) (ends : Bool) (t : Lexeme) (ts : List Lexeme) (total : Result Lists Fault) (so_far : remaining c (closed at opened ends (t ∷ ts)) ≡ total) where
+  by_step : (r : Result Step Fault) → remaining c (r >>= λ s. closed (at + 1) s.opened s.ends ts >>= λ rest. Ok (s.out ++ rest)) ≡ (after_token c r >>= λ s. remaining s.0 (closed (at + 1) s.1 s.2 ts))
+  by_step (Ok s) = after_more c s.out (closed (at + 1) s.opened s.ends ts)
   by_step (Err e) = refl
 
-  pub token_put : (s : State) → after_token c (token_step at opened ends t) ≡ Ok s → behind s.0 (closed (at + 1) s.1 s.2 ts) ≡ total
+  pub token_put : (s : State) → after_token c (token_step at opened ends t) ≡ Ok s → remaining s.0 (closed (at + 1) s.1 s.2 ts) ≡ total
   token_put s is = sym (by_step (token_step at opened ends t) ∙ rw is refl) ∙ so_far
 
   pub token_fails : (error : CloseFault) → Fails error (after_token c (token_step at opened ends t)) → Fails error total
@@ -46,8 +46,8 @@ module _ (c : Lists) (at : ℕ) (opened : List (List ℕ)) (ends : Bool) (t : Le
 
 -- the next token of a list
 pub put_next : (c : Lists) (at : ℕ) (opened : List (List ℕ)) (ends : Bool) (tokens : List Token) (d : Token) (s : State) (total : Result Lists Fault) → at < length tokens
-    → behind c (closed at opened ends (lexemes_of (drop at tokens))) ≡ total → after_token c (token_step at opened ends (lexeme_of (get_or tokens at d))) ≡ Ok s
-    → behind s.0 (closed (at + 1) s.1 s.2 (lexemes_of (drop (at + 1) tokens))) ≡ total
+    → remaining c (closed at opened ends (lexemes_of (drop at tokens))) ≡ total → after_token c (token_step at opened ends (lexeme_of (get_or tokens at d))) ≡ Ok s
+    → remaining s.0 (closed (at + 1) s.1 s.2 (lexemes_of (drop (at + 1) tokens))) ≡ total
 put_next c at opened ends tokens d s total lt so_far is =
     let next : drop at tokens ≡ get_or tokens at d ∷ drop (at + 1) tokens = rw (add-one, drop-cons tokens at d) refl in
-    token_put c at opened ends (lexeme_of (get_or tokens at d)) (lexemes_of (drop (at + 1) tokens)) total (sym (ap (λ (ts : List Token). behind c (closed at opened ends (lexemes_of ts))) next) ∙ so_far) s is
+    token_put c at opened ends (lexeme_of (get_or tokens at d)) (lexemes_of (drop (at + 1) tokens)) total (sym (ap (λ (ts : List Token). remaining c (closed at opened ends (lexemes_of ts))) next) ∙ so_far) s is

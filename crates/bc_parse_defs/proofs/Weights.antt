@@ -60,7 +60,7 @@ closed_light [] at opened ends = go (is_empty opened)
     go false = tt
 closed_light (t ∷ ts) at opened ends =
     then (token_step at opened ends t) _ _ _ (step_light (role_of t.kind) at opened ends t) (λ (s : Step) front.
-    then (closed (at + 1) s.opened s.ends ts) _ _ _ (closed_light ts (at + 1) s.opened s.ends) (λ (rest : List Placed) behind. omega (arith, weight_both s.out rest)))
+    then (closed (at + 1) s.opened s.ends ts) _ _ _ (closed_light ts (at + 1) s.opened s.ends) (λ (rest : List Placed) remaining. omega (arith, weight_both s.out rest)))
 
 pub closed_short : (ts : List Lexeme) (ps : List Placed) → closed_list ts ≡ Ok ps → weight (parts_in ps) ≤ length ts
 closed_short ts ps e = from_yields (closed_list ts) ps (λ ps. weight (parts_in ps) ≤ length ts) (closed_light ts 0 [] false) e

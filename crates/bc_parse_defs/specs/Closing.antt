@@ -1,4 +1,4 @@
--- Section brackets without their tags, and line breaks that stand for semicolons.
+-- Section brackets without their tags, and line breaks that mean semicolons.
 use Rattle.std.specs.Prelude.{ℕ, ◌+◌, Bool, true, false, ◌&&◌, ◌||◌, List, [], ◌∷◌, ◌++◌, drop, replicate, map, nat_eq, Option, Some, None, Result, Ok, Err, if◌then◌else◌}
 use Rattle.std.specs.Cmp.Lexicographic.{pointwise}
 use Rattle.bc_lex_tokens.specs.declared.symbol.Symbol.{Symbol}
@@ -17,7 +17,7 @@ abbrev pub ◌>>=◌ : {A B : Type 0} → Result A Fault → (A → Result B Fau
 (Ok x) >>= f = f x
 (Err e) >>= f = Err e
 
--- the tag of a bracket: its text behind the two signs
+-- the tag of a bracket: its text after the two signs
 abbrev pub tag_of : Lexeme → List ℕ
 tag_of t = drop 2 t.text
 
@@ -38,7 +38,7 @@ abbrev pub closes : List ℕ → List (List ℕ) → Option (ℕ × List (List �
 closes tag [] = None
 closes tag (opening ∷ opened) = if is_matched tag opening then Some (1, opened) else one_more (closes tag opened)
 
--- after which parts, and before which, a line break can stand for a semicolon
+-- after which parts, and before which, a line break can mean a semicolon
 abbrev pub symbol_ends : Symbol → Bool
 symbol_ends sign.True = true
 symbol_ends sign.False = true
@@ -98,7 +98,7 @@ begins_command (String n) = true
 abbrev pub Placed : Type 0
 Placed = Part × ℕ
 
--- a part, and a line break before it where it stands for a semicolon: the part before can end a command, a line
+-- a part, and a line break before it where it means a semicolon: the part before can end a command, a line
 -- break lies between, and this part can begin a command
 abbrev pub broken : Bool → Bool → Part → ℕ → List Placed
 broken ends line p at = if ends && line && begins_command p then (NewLine, at) ∷ (p, at) ∷ [] else (p, at) ∷ []
@@ -110,7 +110,7 @@ kind_part (token.Number n) = Number n
 kind_part (token.Character n) = Character n
 kind_part (token.String n) = String n
 
--- what a token becomes, which sections are open behind it, and whether its last part can end a command
+-- what a token becomes, which sections are open after it, and whether its last part can end a command
 pub record Step : Type 0 where
   pub out : List Placed
   pub opened : List (List ℕ)
@@ -139,7 +139,7 @@ step_by Stays at opened ends t = Ok (record { out = broken ends t.line_before (k
 abbrev pub token_step : ℕ → List (List ℕ) → Bool → Lexeme → Result Step Fault
 token_step at opened ends t = step_by (role_of t.kind) at opened ends t
 
--- the closed list of tokens: from the index of the first one on, with these sections open, behind a part that can
+-- the closed list of tokens: from the index of the first one on, with these sections open, after a part that can
 -- end a command or not
 abbrev pub closed : ℕ → List (List ℕ) → Bool → List Lexeme → Result (List Placed) Fault
 closed at opened ends [] = if is_empty opened then Ok [] else Err Unclosed

@@ -9,6 +9,6 @@ use Rattle.bc_parse_defs.specs.Lawful.{IsClosedList}
 abbrev pub ClosedIsShort : Type 0
 ClosedIsShort = (ts : List Lexeme) (ps : List Placed) → closed_list ts ≡ Ok ps → weight (parts_in ps) ≤ length ts
 
--- What closing answers: line breaks just where they stand for semicolons, the tokens, and brackets that balance.
+-- What closing answers: line breaks just where they mean semicolons, the tokens, and brackets that balance.
 abbrev pub ClosedIsLawful : Type 0
 ClosedIsLawful = (ts : List Lexeme) (ps : List Placed) → closed_list ts ≡ Ok ps → IsClosedList ts ps

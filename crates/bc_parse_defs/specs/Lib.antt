@@ -4,4 +4,4 @@ pub mod Closing
 pub mod Seen
 pub mod Lawful
 pub mod ClosingLaws
-pub mod examples
+pub mod worked

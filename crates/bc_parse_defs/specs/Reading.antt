@@ -131,7 +131,7 @@ abbrev pub after_of : Symbol → List Part → Option (List Part)
 after_of s (A t ∷ ts) = if same t s then Some ts else None
 after_of s _ = None
 
--- the parts after a semicolon, or a line break that stands for one
+-- the parts after a semicolon, or a line break that means one
 abbrev pub separator_of : List Part → Option (List Part)
 separator_of (NewLine ∷ ts) = Some ts
 separator_of ts = after_of sign.Semicolon ts
@@ -182,7 +182,7 @@ past_line ts = ts
 abbrev pub past_do : List Part → List Part
 past_do ts = or_else (after_of sign.Do (past_line ts)) (past_line ts)
 
--- what goes on behind an operand of level top, in an expression of this level
+-- what goes on after an operand of level top, in an expression of this level
 pub data Following : Type 0 where
   Ends : Following
   Operator : code_dyadic.Dyadic → List Part → Following
@@ -256,7 +256,7 @@ end_of places.Cases ts = after_of sign.CloseSection ts
 abbrev pub moved : {X : Type 0} → Piece X → List Part → Piece X
 moved p ts = piece p.tree p.height ts
 
--- behind an element: a semicolon, or the end
+-- after an element: a semicolon, or the end
 abbrev pub place_end : Places → List Part → Result (List Part × Bool) Fault
 place_end mode ts =
     on (separator_of ts)
@@ -265,7 +265,7 @@ place_end mode ts =
 
 -- ---- names
 
--- behind a constant's name
+-- after a constant's name
 abbrev pub constant_sign_of : List Part → Result (List Part) Fault
 constant_sign_of ts = on (after_of sign.Equal ts) (expect_of sign.Colon ts) (λ after. Ok after)
 
@@ -312,14 +312,14 @@ module _ (E : Reader) where
   unfoldable pub exps_read : ℕ → ℕ → ℕ → ℕ → List Part → Result (Piece Exps) Fault
   exps_read nest round level limit ts = turns (exps_turn nest round level limit) (length ts + 1) (piece none 0 ts)
 
-  -- the arguments of a call, behind its bracket
+  -- the arguments of a call, after its bracket
   unfoldable pub arguments_read : ℕ → ℕ → List Part → Result (Piece Exps) Fault
   arguments_read nest round ts =
       on (after_of sign.CloseBracket ts)
       (exps_read nest round 1 (length ts + 1) ts >>= λ es. expect_of sign.CloseBracket es.rest >>= λ rest. Ok (moved es rest))
       (λ after. Ok (piece none 0 after))
 
-  -- one more operator, call or choice behind an operand
+  -- one more operator, call or choice after an operand
   unfoldable pub with_operator : ℕ → ℕ → code_dyadic.Dyadic → Exp → ℕ → ℕ → List Part → Result (Piece Exp) Fault
   with_operator nest round o left height place ts =
       if nat_lt height nest then (
@@ -343,7 +343,7 @@ module _ (E : Reader) where
       Ok (piece (tree.Condition left x.tree y.tree) (max (max height x.height) y.height + 1) y.rest))
       else Err (TooDeep place)
 
-  -- one more step behind an operand, with the level that the whole then has
+  -- one more step after an operand, with the level that the whole then has
   unfoldable pub suffix_read : ℕ → ℕ → ℕ → Following → Exp → ℕ → ℕ → Result (Piece (Exp × ℕ)) Fault
   suffix_read nest round begin Ends left height place = Err (Expected place)
   suffix_read nest round begin (Operator o after) left height place = with_operator nest round o left height place after >>= λ p. Ok
@@ -360,7 +360,7 @@ module _ (E : Reader) where
   unfoldable pub grow_read : ℕ → ℕ → ℕ → ℕ → Piece (Exp × ℕ) → Result (Piece Exp) Fault
   grow_read nest round begin level s = turns (grow_turn nest round begin level) (length s.rest + 1) s >>= λ p. Ok (piece p.tree.0 p.height p.rest)
 
-  -- an expression in round brackets, behind the first
+  -- an expression in round brackets, after the first
   unfoldable pub bracket_read : ℕ → ℕ → ℕ → List Part → Result (Piece Exp) Fault
   bracket_read nest round place ts =
       if nat_lt 0 round then (
@@ -412,7 +412,7 @@ declares places.Section is_first ts = if is_first then word_in declaration_word_
 declares places.Block is_first ts = if is_first then word_in declaration_word_of ts else None
 
 module _ (E : Reader) where
-  -- REPEAT words behind a command
+  -- REPEAT words after a command
   unfoldable pub repeated : ℕ → ℕ → RepeatWord → Piece Command → List Part → Result (Piece Command × Bool) Fault
   repeated nest round repeat_word.Repeat s ts = Ok (piece (tree.Repeat s.tree) (s.height + 1) ts, false)
   repeated nest round repeat_word.While s ts =
@@ -429,7 +429,7 @@ module _ (E : Reader) where
   unfoldable pub repeats_read : ℕ → ℕ → Piece Command → Result (Piece Command) Fault
   repeats_read nest round c = turns (repeat_turn nest round) (length c.rest + 1) c
 
-  -- labels in front of a command
+  -- labels before a command
   unfoldable pub label_read : ℕ → ℕ → Piece Labels → LabelStart → Result (Piece Labels × Bool) Fault
   label_read nest round s NoLabel = Ok (s, true)
   label_read nest round s (CaseLabel ts) = E nest round 2 ts >>= λ k. expect_of sign.Colon k.rest >>= λ rest. Ok
@@ -505,7 +505,7 @@ module _ (E : Reader) (C : CommandReader) (D : DefinitionReader) where
   unfoldable pub places_read : Places → ℕ → ℕ → List Part → Result (Piece (Declarations × Items)) Fault
   places_read mode nest round ts = turns (place_turn mode nest round) (length ts + 1) (piece (no_declarations, no_items) 0 ts)
 
-  -- what is in a block, behind its bracket
+  -- what is in a block, after its bracket
   unfoldable pub block_read : ℕ → ℕ → List Part → Result (Piece Block) Fault
   block_read nest round ts = places_read places.Block nest round ts >>= λ p. Ok (piece (block p.tree.0 p.tree.1) p.height p.rest)
 

@@ -34,7 +34,7 @@ with_placed c ps = (c.0 ++ parts_in ps, c.1 ++ places_in ps)
 abbrev pub tags : List (Bor (List ℕ)) → List (List ℕ)
 tags opened = reverse (map (λ t. t.now) opened)
 
--- the list so far and the open sections, behind sections that were closed
+-- the list so far and the open sections, after sections that were closed
 abbrev pub Unwound : Type 0
 Unwound = Lists × List (List ℕ)
 
@@ -44,7 +44,7 @@ unwound c opened = (lists c, tags opened)
 abbrev pub after_closing : Lists → Result Step Fault → Result Unwound Fault
 after_closing c r = r >>= λ s. Ok (with_placed c s.out, s.opened)
 
--- the same behind a token, and whether the last part can end a command
+-- the same after a token, and whether the last part can end a command
 abbrev pub State : Type 0
 State = Lists × List (List ℕ) × Bool
 

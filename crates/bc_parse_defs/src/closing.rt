@@ -102,17 +102,17 @@ fn part_from<'s>(kind: &TokenKind<'s>) -> Part<'s>
     }
 }
 
-/// A part more, with a line break before it where it stands for a semicolon.
+/// A part more, with a line break before it where it means a semicolon.
 fn put<'s>(
     list: &mut ClosedList<'s>,
-    is_behind_end: bool,
+    is_after_end: bool,
     line_before: bool,
     front: Part<'s>,
     at: usize,
 ) -> Result<(), CloseFault>
-    ensures { Gives (λ _. lists list.new) result (Ok (with_placed (lists list.old) (broken is_behind_end line_before (part front.entry) at))) }
+    ensures { Gives (λ _. lists list.new) result (Ok (with_placed (lists list.old) (broken is_after_end line_before (part front.entry) at))) }
 {
-    if is_behind_end && line_before && is_beginning(&front) {
+    if is_after_end && line_before && is_beginning(&front) {
         list.parts.push(Part::NewLine)?;
         list.places.push(at)?;
     }
@@ -121,7 +121,7 @@ fn put<'s>(
     Ok(())
 }
 
-/// The tag of a bracket: its text behind the two signs.
+/// The tag of a bracket: its text after the two signs.
 fn tag<'s>(text: &'s [u8]) -> &'s [u8]
     ensures { result.now ≡ drop 2 text.entry.now }
 {
@@ -161,17 +161,17 @@ fn unwind<'s>(
 fn put_token<'s>(
     list: &mut ClosedList<'s>,
     opened: &mut Vec<&'s [u8]>,
-    is_behind_end: bool,
+    is_after_end: bool,
     token: &Token<'s>,
     at: usize,
 ) -> Result<bool, CloseFault>
     ensures { Gives (λ ends. state list.new opened.new.items ends) result
-        (after_token (lists list.old) (token_step at (tags opened.old.items) is_behind_end (lexeme_of token.now))) }
+        (after_token (lists list.old) (token_step at (tags opened.old.items) is_after_end (lexeme_of token.now))) }
 {
     match token.kind {
         TokenKind::Symbol(Symbol::OpenSection) => {
             let front = Part::Symbol(Symbol::OpenSection);
-            put(list, is_behind_end, token.line_before, front, at)?;
+            put(list, is_after_end, token.line_before, front, at)?;
             opened.push(tag(token.text))?;
             Ok(false)
         }
@@ -182,7 +182,7 @@ fn put_token<'s>(
         _ => {
             let front = part_from(&token.kind);
             let is_end = is_end(&front);
-            put(list, is_behind_end, token.line_before, front, at)?;
+            put(list, is_after_end, token.line_before, front, at)?;
             Ok(is_end)
         }
     }
@@ -192,7 +192,7 @@ fn put_token<'s>(
 ///
 /// Each `$)` with a tag closes the sections up to the innermost open one with that tag, and an
 /// untagged one closes the innermost; a line break becomes a semicolon where the token before it
-/// can end a command and the one behind it can begin one.
+/// can end a command and the one after it can begin one.
 ///
 /// `NotOpen` names the first `$)` that closes no section; `Unclosed` comes where no such token
 /// stands and a section is open at the end; `Memory` where an allocation was refused.
@@ -204,9 +204,9 @@ pub fn close<'s>(alloc: Global, tokens: &[Token<'s>]) -> Result<ClosedList<'s>, 
         places: Vec::new(alloc),
     };
     let mut opened = Vec::new(alloc);
-    let mut is_behind_end = false;
+    let mut is_after_end = false;
     for (at, token) in tokens.iter().enumerate() {
-        is_behind_end = put_token(&mut list, &mut opened, is_behind_end, token, at)?;
+        is_after_end = put_token(&mut list, &mut opened, is_after_end, token, at)?;
     }
     if opened.is_empty() {
         Ok(list)

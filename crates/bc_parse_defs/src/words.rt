@@ -213,8 +213,8 @@ pub fn monadic_level(op: Monadic) -> usize
     }
 }
 
-/// The level of the operand behind this monadic operator.
-pub fn level_behind(op: Monadic) -> usize
+/// The level of the operand after this monadic operator.
+pub fn level_after(op: Monadic) -> usize
     ensures { result ≡ operand_level op }
 {
     match op {

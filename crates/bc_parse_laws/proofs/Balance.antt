@@ -13,7 +13,7 @@ use Rattle.bc_parse_tree.specs.Tree.{Exp, Exps, none, more, Block, block, Declar
 use Rattle.bc_parse_tree.specs.Tree as tree
 use Rattle.bc_parse_tree.specs.Operators.{dyadic_sign, monadic_sign, storage_sign}
 use Rattle.bc_parse_tree.specs.Spelling.{in_round, named}
-use Rattle.bc_parse_tree.specs.Canonical.{part_of, routine_of, entry_sign, behind_first, whole, after_commas, block_spelling, declarations_spelling, declaration_spelling, entries_spelling, definitions_spelling, definition_spelling, items_spelling, item_spelling, labels_spelling, label_spelling, command_spelling, section_spelling}
+use Rattle.bc_parse_tree.specs.Canonical.{part_of, routine_of, entry_sign, after_first, whole, after_commas, block_spelling, declarations_spelling, declaration_spelling, entries_spelling, definitions_spelling, definition_spelling, items_spelling, item_spelling, labels_spelling, label_spelling, command_spelling, section_spelling}
 use Rattle.bc_parse_laws.specs.Open.{most_open}
 use Rattle.bc_parse_laws.proofs.Rounds.{part_rounds, routine_rounds, exp_rounds, exps_rounds, block_rounds, declaration_rounds, declarations_rounds, entries_rounds, definition_rounds, definitions_rounds, item_rounds, items_rounds, label_rounds, labels_rounds, command_rounds}
 
@@ -30,7 +30,7 @@ at_least k (A sign.OpenBracket ∷ ts) = omega (arith, at_least (k + 1) ts)
 at_least k (A sign.CloseBracket ∷ ts) = omega arith
 at_least k (A _ ∷ ts) = at_least k ts
 
--- how many sections are open behind these parts, where so many are open in front
+-- how many sections are open after these parts, where so many are open in front
 abbrev pub left_open : List Part → ℕ → Option ℕ
 left_open [] k = Some k
 left_open (A sign.OpenSection ∷ ts) k = left_open ts (suc k)
@@ -41,7 +41,7 @@ left_open (p ∷ ts) k = left_open ts k
 -- these parts open so many round brackets at once, or more, and close all brackets that they open
 pub record Opens (xs : List Part) (r : ℕ) : Type 0 where
   pub reach : (k : ℕ) (ts : List Part) → k + r ≤ most_open k (xs ++ ts)
-  pub behind : (k : ℕ) (ts : List Part) → most_open k ts ≤ most_open k (xs ++ ts)
+  pub remaining : (k : ℕ) (ts : List Part) → most_open k ts ≤ most_open k (xs ++ ts)
   pub sections : (k : ℕ) (ts : List Part) → left_open (xs ++ ts) k ≡ left_open ts k
 
 -- a part that is no bracket
@@ -76,46 +76,46 @@ opens_no_section (String n) plain k ts = refl
 opens_no_section NewLine plain k ts = refl
 
 nothing : Opens [] 0
-nothing = record { reach = λ k ts. omega (arith, at_least k ts); behind = λ k ts. omega arith; sections = λ k ts. refl }
+nothing = record { reach = λ k ts. omega (arith, at_least k ts); remaining = λ k ts. omega arith; sections = λ k ts. refl }
 
 join : {xs ys : List Part} {r q : ℕ} → Opens xs r → Opens ys q → Opens (xs ++ ys) (max r q)
 join {xs} {ys} {r} {q} f g = record {
-  reach = λ k ts. rw (append_assoc xs ys ts) (omega (arith, f.reach k (ys ++ ts), f.behind k (ys ++ ts), g.reach k ts));
-  behind = λ k ts. rw (append_assoc xs ys ts) (omega (arith, f.behind k (ys ++ ts), g.behind k ts));
+  reach = λ k ts. rw (append_assoc xs ys ts) (omega (arith, f.reach k (ys ++ ts), f.remaining k (ys ++ ts), g.reach k ts));
+  remaining = λ k ts. rw (append_assoc xs ys ts) (omega (arith, f.remaining k (ys ++ ts), g.remaining k ts));
   sections = λ k ts. rw (append_assoc xs ys ts) (f.sections k (ys ++ ts) ∙ g.sections k ts);
 }
 
 less : {xs : List Part} {r : ℕ} (q : ℕ) → q ≤ r → Opens xs r → Opens xs q
-less q le f = record { reach = λ k ts. omega (arith, f.reach k ts); behind = f.behind; sections = f.sections }
+less q le f = record { reach = λ k ts. omega (arith, f.reach k ts); remaining = f.remaining; sections = f.sections }
 
 before : {p : Part} {xs : List Part} {r : ℕ} → Plain p → Opens xs r → Opens (p ∷ xs) r
 before {p} {xs} {r} plain f = record {
   reach = λ k ts. omega (arith, opens_none p plain k (xs ++ ts), f.reach k ts);
-  behind = λ k ts. omega (arith, opens_none p plain k (xs ++ ts), f.behind k ts);
+  remaining = λ k ts. omega (arith, opens_none p plain k (xs ++ ts), f.remaining k ts);
   sections = λ k ts. opens_no_section p plain k (xs ++ ts) ∙ f.sections k ts;
 }
 
 without : {p : Part} {xs : List Part} {r : ℕ} → Plain p → Opens (p ∷ xs) r → Opens xs r
 without {p} {xs} {r} plain f = record {
   reach = λ k ts. omega (arith, opens_none p plain k (xs ++ ts), f.reach k ts);
-  behind = λ k ts. omega (arith, opens_none p plain k (xs ++ ts), f.behind k ts);
+  remaining = λ k ts. omega (arith, opens_none p plain k (xs ++ ts), f.remaining k ts);
   sections = λ k ts. sym (opens_no_section p plain k (xs ++ ts)) ∙ f.sections k ts;
 }
 
 round : {xs : List Part} {r : ℕ} → Opens xs r → Opens (in_round xs) (r + 1)
 round {xs} {r} f = record {
   reach = λ k ts. rw (append_assoc xs (A sign.CloseBracket ∷ []) ts) (omega (arith, f.reach (k + 1) (A sign.CloseBracket ∷ ts)));
-  behind = λ k ts.
+  remaining = λ k ts.
       let same : k + 1 - 1 ≡ k = omega arith in
       let back : most_open (k + 1 - 1) ts ≡ most_open k ts = ap (λ (j : ℕ). most_open j ts) same in
-      rw (append_assoc xs (A sign.CloseBracket ∷ []) ts) (omega (arith, back, f.behind (k + 1) (A sign.CloseBracket ∷ ts)));
+      rw (append_assoc xs (A sign.CloseBracket ∷ []) ts) (omega (arith, back, f.remaining (k + 1) (A sign.CloseBracket ∷ ts)));
   sections = λ k ts. rw (append_assoc xs (A sign.CloseBracket ∷ []) ts) (f.sections k (A sign.CloseBracket ∷ ts));
 }
 
 section_list : {xs : List Part} {r : ℕ} → Opens xs r → Opens (A sign.OpenSection ∷ (xs ++ A sign.CloseSection ∷ [])) r
 section_list {xs} {r} f = record {
   reach = λ k ts. rw (append_assoc xs (A sign.CloseSection ∷ []) ts) (f.reach k (A sign.CloseSection ∷ ts));
-  behind = λ k ts. rw (append_assoc xs (A sign.CloseSection ∷ []) ts) (f.behind k (A sign.CloseSection ∷ ts));
+  remaining = λ k ts. rw (append_assoc xs (A sign.CloseSection ∷ []) ts) (f.remaining k (A sign.CloseSection ∷ ts));
   sections = λ k ts. rw (append_assoc xs (A sign.CloseSection ∷ []) ts) (f.sections (suc k) (A sign.CloseSection ∷ ts));
 }
 
@@ -195,12 +195,12 @@ routine_opens (tree.Dyadic o l r) f = round f
 routine_opens (tree.Condition c x y) f = round f
 routine_opens (tree.Call g es) f = round f
 
-list_opens : (es : Exps) → Opens (after_commas es) (exps_rounds es) → Opens (behind_first (after_commas es)) (exps_rounds es)
+list_opens : (es : Exps) → Opens (after_commas es) (exps_rounds es) → Opens (after_first (after_commas es)) (exps_rounds es)
 list_opens none f = f
 list_opens (more e es) f = without refl f
 
 -- a list of a block's parts
-places_opens : (ds : Declarations) (is : Items) → Opens (declarations_spelling ds) (declarations_rounds ds) → Opens (items_spelling is) (items_rounds is) → Opens (behind_first (declarations_spelling ds ++ items_spelling is)) (max (declarations_rounds ds) (items_rounds is))
+places_opens : (ds : Declarations) (is : Items) → Opens (declarations_spelling ds) (declarations_rounds ds) → Opens (items_spelling is) (items_rounds is) → Opens (after_first (declarations_spelling ds ++ items_spelling is)) (max (declarations_rounds ds) (items_rounds is))
 places_opens no_declarations no_items f g = less 0 (omega arith) nothing
 places_opens no_declarations (item i is) f g = less (max 0 (items_rounds (item i is))) (omega arith) (without refl g)
 places_opens (declaration d ds) is f g = without refl (join f g)
@@ -294,7 +294,7 @@ mutual
       less (command_rounds (tree.ForBy n a z k b)) (omega arith) (before refl (before refl (before refl (join (whole_opens a) (before refl (join (whole_opens z) (before refl (join (part_opens k (whole_opens k)) (before refl (block_opens b))))))))))
   command_opens (tree.SwitchOn e is) = before refl (join (whole_opens e) (before refl (section_list (cases_open is (items_open is)))))
 
-  cases_open : (is : Items) → Opens (items_spelling is) (items_rounds is) → Opens (behind_first (items_spelling is)) (items_rounds is)
+  cases_open : (is : Items) → Opens (items_spelling is) (items_rounds is) → Opens (after_first (items_spelling is)) (items_rounds is)
   cases_open no_items f = f
   cases_open (item i is) f = without refl f
 

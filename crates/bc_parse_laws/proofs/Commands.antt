@@ -5,29 +5,29 @@ use Rattle.bc_lex_tokens.specs.declared.symbol.Symbol.TheVariants as sign
 use Rattle.bc_parse_tree.specs.Parts.{Part, A, Name}
 use Rattle.bc_parse_tree.specs.Tree.{Exp, Exps, none, more, Block, block, Declarations, no_declarations, declaration, Items, no_items, item, Command}
 use Rattle.bc_parse_tree.specs.Tree as tree
-use Rattle.bc_parse_tree.specs.Canonical.{whole, part_of, behind_first, block_spelling, declarations_spelling, items_spelling, command_spelling}
+use Rattle.bc_parse_tree.specs.Canonical.{whole, part_of, after_first, block_spelling, declarations_spelling, items_spelling, command_spelling}
 use Rattle.bc_parse_tree.specs.Height.{exp_height, block_height, items_height, command_height}
 use Rattle.bc_parse_defs.specs.declared.words.Places.TheVariants as places
 use Rattle.bc_parse_defs.specs.declared.words.Tested.{Tested}
 use Rattle.bc_parse_defs.specs.declared.words.Tested.TheVariants as tested
 use Rattle.bc_parse_defs.specs.Reading.{Fault, Piece, piece, tested_command, block_read, body_of_block, body_read, do_read, valof_read, started_read, operand_read, places_read, tested_read, test_read, step_read, for_read, switch_read, compound_read, command_read, exp_of, command_of, definition_of}
 use Rattle.bc_parse_laws.proofs.Rounds.{part_rounds, exp_rounds, block_rounds, items_rounds, command_rounds}
-use Rattle.bc_parse_laws.proofs.Ends.{NoRepeat, Behind, unrepeated}
+use Rattle.bc_parse_laws.proofs.Ends.{NoRepeat, After, unrepeated}
 use Rattle.bc_parse_laws.proofs.Expressions.{WholeAgain, PartAgain, Operand, operand_alone}
 
 -- nothing goes on here, and nothing is repeated
 pub record Quiet (ts : List Part) : Type 0 where
-  pub behind : Behind ts
+  pub remaining : After ts
   pub no_repeat : NoRepeat ts
 
-word_behind : (ts : List Part) → Behind (A sign.Do ∷ ts)
-word_behind ts = record { stops = refl; no_comma = refl; no_assign = refl }
+word_after : (ts : List Part) → After (A sign.Do ∷ ts)
+word_after ts = record { stops = refl; no_comma = refl; no_assign = refl }
 
 -- ---- bodies
 
 -- what stands in a block, and its last bracket
 abbrev pub inside : Block → List Part
-inside (block ds is) = behind_first (declarations_spelling ds ++ items_spelling is) ++ A sign.CloseSection ∷ []
+inside (block ds is) = after_first (declarations_spelling ds ++ items_spelling is) ++ A sign.CloseSection ∷ []
 
 abbrev pub BlockAgain : Block → Type 0
 BlockAgain b = (n nest round : ℕ) (rest : List Part) → block_height b ≤ nest → block_rounds b ≤ round → nest + round ≤ n → block_read (exp_of n) (command_of n) (definition_of n) nest round (inside b ++ rest) ≡ Ok (piece b (block_height b) rest)
@@ -67,7 +67,7 @@ tested_again : (t : Tested) (e : Exp) (b : Block) → WholeAgain e → BlockAgai
 unfolding tested_read
 tested_again t e b first body m nest round rest high deep enough end =
     rw (
-      first m (nest - 1) round (A sign.Do ∷ (block_spelling b ++ rest)) (omega arith) (omega arith) (omega arith) (word_behind _) (unrepeated e _ refl),
+      first m (nest - 1) round (A sign.Do ∷ (block_spelling b ++ rest)) (omega arith) (omega arith) (omega arith) (word_after _) (unrepeated e _ refl),
       do_again b body m (nest - 1) round rest (omega arith) (omega arith) (omega arith) end.no_repeat,
     ) refl
 
@@ -96,7 +96,7 @@ test_read_again : (e : Exp) (b d : Block) → WholeAgain e → BlockAgain b → 
 unfolding test_read
 test_read_again e b d first body other m nest round rest high deep enough end =
     rw (
-      first m (nest - 1) round (A sign.Do ∷ (block_spelling b ++ A sign.Else ∷ (block_spelling d ++ rest))) (omega arith) (omega arith) (omega arith) (word_behind _) (unrepeated e _ refl),
+      first m (nest - 1) round (A sign.Do ∷ (block_spelling b ++ A sign.Else ∷ (block_spelling d ++ rest))) (omega arith) (omega arith) (omega arith) (word_after _) (unrepeated e _ refl),
       do_again b body m (nest - 1) round (A sign.Else ∷ (block_spelling d ++ rest)) (omega arith) (omega arith) (omega arith) refl,
       body_again d other m (nest - 1) round rest (omega arith) (omega arith) (omega arith) end.no_repeat,
     ) refl
@@ -115,7 +115,7 @@ for_read_again s a z b first last body m nest round rest high deep enough end =
     let g : max (max (max (exp_height a) (exp_height z)) 0) (block_height b) + 1 ≡ max (max (exp_height a) (exp_height z)) (block_height b) + 1 = omega arith in
     rw (
       first m (nest - 1) round (A sign.To ∷ (whole z ++ A sign.Do ∷ (block_spelling b ++ rest))) (omega arith) (omega arith) (omega arith) (record { stops = refl; no_comma = refl; no_assign = refl }) (unrepeated a _ refl),
-      last m (nest - 1) round (A sign.Do ∷ (block_spelling b ++ rest)) (omega arith) (omega arith) (omega arith) (word_behind _) (unrepeated z _ refl),
+      last m (nest - 1) round (A sign.Do ∷ (block_spelling b ++ rest)) (omega arith) (omega arith) (omega arith) (word_after _) (unrepeated z _ refl),
       do_again b body m (nest - 1) round rest (omega arith) (omega arith) (omega arith) end.no_repeat,
       g,
     ) refl
@@ -131,7 +131,7 @@ for_by_read_again : (s : List ℕ) (a z k : Exp) (b : Block) → WholeAgain a �
     → for_read (exp_of m) (command_of m) (definition_of m) nest round (Name s ∷ A sign.Equal ∷ (whole a ++ A sign.To ∷ (whole z ++ A sign.By ∷ (part_of k (whole k) ++ A sign.Do ∷ (block_spelling b ++ rest))))) ≡ Ok (piece (tree.ForBy s a z k b) (max (max (max (exp_height a) (exp_height z)) (exp_height k)) (block_height b) + 1) rest)
 unfolding for_read step_read
 for_by_read_again s a z k b first last by body m nest round rest high deep enough end =
-    let behind_last : List Part = part_of k (whole k) ++ A sign.Do ∷ (block_spelling b ++ rest) in
+    let after_last : List Part = part_of k (whole k) ++ A sign.Do ∷ (block_spelling b ++ rest) in
     rw (
       first m (nest - 1) round (A sign.To ∷ (whole z ++ A sign.By ∷ (part_of k (whole k) ++ A sign.Do ∷ (block_spelling b ++ rest)))) (omega arith) (omega arith) (omega arith) (record { stops = refl; no_comma = refl; no_assign = refl }) (unrepeated a _ refl),
       last m (nest - 1) round (A sign.By ∷ (part_of k (whole k) ++ A sign.Do ∷ (block_spelling b ++ rest))) (omega arith) (omega arith) (omega arith) (record { stops = refl; no_comma = refl; no_assign = refl }) (unrepeated z _ refl),
@@ -148,20 +148,20 @@ for_by_again s a z k b first last by body n nest round rest high deep enough end
 
 abbrev pub CasesAgain : Items → Type 0
 CasesAgain is = (n nest round : ℕ) (rest : List Part) → items_height is ≤ nest → items_rounds is ≤ round → nest + round ≤ n
-    → places_read (exp_of n) (command_of n) (definition_of n) places.Cases nest round (behind_first (items_spelling is) ++ A sign.CloseSection ∷ rest) ≡ Ok (piece (no_declarations, is) (items_height is) rest)
+    → places_read (exp_of n) (command_of n) (definition_of n) places.Cases nest round (after_first (items_spelling is) ++ A sign.CloseSection ∷ rest) ≡ Ok (piece (no_declarations, is) (items_height is) rest)
 
 switch_read_again : (e : Exp) (is : Items) → WholeAgain e → CasesAgain is → (m nest round : ℕ) (rest : List Part) → max (exp_height e) (items_height is) + 1 ≤ nest → max (exp_rounds e) (items_rounds is) ≤ round → nest + round ≤ m + 1
-    → switch_read (exp_of m) (command_of m) (definition_of m) nest round (whole e ++ A sign.Into ∷ A sign.OpenSection ∷ (behind_first (items_spelling is) ++ A sign.CloseSection ∷ rest)) ≡ Ok (piece (tree.SwitchOn e is) (max (exp_height e) (items_height is) + 1) rest)
+    → switch_read (exp_of m) (command_of m) (definition_of m) nest round (whole e ++ A sign.Into ∷ A sign.OpenSection ∷ (after_first (items_spelling is) ++ A sign.CloseSection ∷ rest)) ≡ Ok (piece (tree.SwitchOn e is) (max (exp_height e) (items_height is) + 1) rest)
 unfolding switch_read
 switch_read_again e is first cases m nest round rest high deep enough =
     rw (
-      first m (nest - 1) round (A sign.Into ∷ A sign.OpenSection ∷ (behind_first (items_spelling is) ++ A sign.CloseSection ∷ rest)) (omega arith) (omega arith) (omega arith) (record { stops = refl; no_comma = refl; no_assign = refl }) (unrepeated e _ refl),
+      first m (nest - 1) round (A sign.Into ∷ A sign.OpenSection ∷ (after_first (items_spelling is) ++ A sign.CloseSection ∷ rest)) (omega arith) (omega arith) (omega arith) (record { stops = refl; no_comma = refl; no_assign = refl }) (unrepeated e _ refl),
       cases m (nest - 1) round rest (omega arith) (omega arith) (omega arith),
     ) refl
 
 pub switch_again : (e : Exp) (is : Items) → WholeAgain e → CasesAgain is → CommandAgain (tree.SwitchOn e is)
 unfolding command_read compound_read
 switch_again e is first cases n nest round rest high deep enough end =
-    let shape : command_spelling (tree.SwitchOn e is) ++ rest ≡ A sign.SwitchOn ∷ (whole e ++ A sign.Into ∷ A sign.OpenSection ∷ (behind_first (items_spelling is) ++ A sign.CloseSection ∷ rest)) = simp append_assoc in
+    let shape : command_spelling (tree.SwitchOn e is) ++ rest ≡ A sign.SwitchOn ∷ (whole e ++ A sign.Into ∷ A sign.OpenSection ∷ (after_first (items_spelling is) ++ A sign.CloseSection ∷ rest)) = simp append_assoc in
     ap (command_of n nest round) shape
     ∙ command_runs n nest round _ _ (omega arith) enough (λ m le. switch_read_again e is first cases m nest round rest high deep le)

@@ -9,7 +9,7 @@ use Rattle.bc_parse_tree.specs.Parts.{Part, A, Name}
 use Rattle.bc_parse_tree.specs.Tree.{Exp, Exps, none, more, Block, block, Entries, no_entries, entry, Declaration, Definition, Definitions, no_definitions, definition}
 use Rattle.bc_parse_tree.specs.Tree as tree
 use Rattle.bc_parse_tree.specs.Spelling.{count, named, add_definition}
-use Rattle.bc_parse_tree.specs.Canonical.{whole, after_commas, behind_first, block_spelling, entry_sign, entries_spelling, definition_spelling, definitions_spelling, declaration_spelling}
+use Rattle.bc_parse_tree.specs.Canonical.{whole, after_commas, after_first, block_spelling, entry_sign, entries_spelling, definition_spelling, definitions_spelling, declaration_spelling}
 use Rattle.bc_parse_tree.specs.Height.{exp_height, exps_height, block_height, entries_height, definition_height, definitions_height, declaration_height}
 use Rattle.bc_parse_defs.specs.declared.words.DeclarationWord.{DeclarationWord}
 use Rattle.bc_parse_defs.specs.declared.words.DeclarationWord.TheVariants as declaration_word
@@ -35,13 +35,13 @@ definition_runs zero nest round ts r some enough read = absurd (omega arith)
 definition_runs (suc n) nest round ts r some enough read = rw (lt-ltb 0 nest some) (read n (omega arith))
 
 variables_read_again : (m : List ℕ) (ns : List (List ℕ)) (es : Exps) → SomeExps es → length (m ∷ ns) ≡ count es → PartsAgain es → (n nest round : ℕ) (rest : List Part) → exps_height es + 1 ≤ nest → exps_rounds es ≤ round → nest + round ≤ n + 1 → Quiet rest
-    → variables_read (exp_of n) (command_of n) (definition_of n) nest round (named (m ∷ ns) ++ A sign.Equal ∷ (behind_first (after_commas es) ++ rest)) ≡ Ok (piece (tree.Variables (m ∷ ns) es) (exps_height es + 1) rest)
+    → variables_read (exp_of n) (command_of n) (definition_of n) nest round (named (m ∷ ns) ++ A sign.Equal ∷ (after_first (after_commas es) ++ rest)) ≡ Ok (piece (tree.Variables (m ∷ ns) es) (exps_height es + 1) rest)
 unfolding variables_read
 variables_read_again m ns es some same again n nest round rest high deep enough end =
     let fits : count es ≤ length (m ∷ ns) = omega arith in
     rw (
-      names_again m ns (A sign.Equal ∷ (behind_first (after_commas es) ++ rest)) refl,
-      exps_again es some again n (nest - 1) round 1 (length (m ∷ ns)) rest fits (omega arith) (omega arith) (omega arith) end.behind.stops end.behind.no_comma,
+      names_again m ns (A sign.Equal ∷ (after_first (after_commas es) ++ rest)) refl,
+      exps_again es some again n (nest - 1) round 1 (length (m ∷ ns)) rest fits (omega arith) (omega arith) (omega arith) end.remaining.stops end.remaining.no_comma,
       eq-eqb (count es) (length (m ∷ ns)) (sym same),
     ) refl
 
@@ -49,11 +49,11 @@ values_shape : (ts : List Part) → after_of sign.Vector ts ≡ None → shape_o
 values_shape ts no_vector = rw (no_vector, vector_shape) refl
 
 variables_defined : (m : List ℕ) (ns : List (List ℕ)) (es : Exps) → SomeExps es → length (m ∷ ns) ≡ count es → PartsAgain es → (n nest round : ℕ) (rest : List Part) → exps_height es + 1 ≤ nest → exps_rounds es ≤ round → nest + round ≤ n + 1 → Quiet rest
-    → defined_read (exp_of n) (command_of n) (definition_of n) nest round (named (m ∷ ns) ++ A sign.Equal ∷ (behind_first (after_commas es) ++ rest)) ≡ Ok (piece (tree.Variables (m ∷ ns) es) (exps_height es + 1) rest)
+    → defined_read (exp_of n) (command_of n) (definition_of n) nest round (named (m ∷ ns) ++ A sign.Equal ∷ (after_first (after_commas es) ++ rest)) ≡ Ok (piece (tree.Variables (m ∷ ns) es) (exps_height es + 1) rest)
 unfolding defined_read shaped_read
 variables_defined m [] es some same again n nest round rest high deep enough end =
-    let after : List Part = A sign.Equal ∷ (behind_first (after_commas es) ++ rest) in
-    ap (λ (shape : Shape). shaped_read (exp_of n) (command_of n) (definition_of n) nest round m (length after) (Name m ∷ after) shape) (values_shape (behind_first (after_commas es) ++ rest) (exps_head es some rest).no_vector)
+    let after : List Part = A sign.Equal ∷ (after_first (after_commas es) ++ rest) in
+    ap (λ (shape : Shape). shaped_read (exp_of n) (command_of n) (definition_of n) nest round m (length after) (Name m ∷ after) shape) (values_shape (after_first (after_commas es) ++ rest) (exps_head es some rest).no_vector)
     ∙ variables_read_again m [] es some same again n nest round rest high deep enough end
 variables_defined m (l ∷ ns) es some same again n nest round rest high deep enough end = variables_read_again m (l ∷ ns) es some same again n nest round rest high deep enough end
 
@@ -61,13 +61,13 @@ pub variables_again : (ns : List (List ℕ)) (es : Exps) → SomeExps es → len
 variables_again [] none some same again n nest round rest high deep enough end = absurd some
 variables_again [] (more e es) some same again n nest round rest high deep enough end = absurd (omega arith)
 variables_again (m ∷ ns) es some same again n nest round rest high deep enough end =
-    ap (definition_of n nest round) (append_assoc (named (m ∷ ns)) (A sign.Equal ∷ behind_first (after_commas es)) rest)
+    ap (definition_of n nest round) (append_assoc (named (m ∷ ns)) (A sign.Equal ∷ after_first (after_commas es)) rest)
     ∙ definition_runs n nest round _ _ (omega arith) enough (λ i le. variables_defined m ns es some same again i nest round rest high deep le end)
 
 vector_defined : (m : List ℕ) (k : Exp) → PartAgain k → (n nest round : ℕ) (rest : List Part) → exp_height k + 1 ≤ nest → part_rounds k (exp_rounds k) ≤ round → nest + round ≤ n + 1 → Quiet rest
     → defined_read (exp_of n) (command_of n) (definition_of n) nest round (definition_spelling (tree.Vector m k) ++ rest) ≡ Ok (piece (tree.Vector m k) (exp_height k + 1) rest)
 unfolding defined_read shaped_read vector_read
-vector_defined m k again n nest round rest high deep enough end = rw (again n (nest - 1) round 2 rest (omega arith) deep (omega arith) end.behind.stops) refl
+vector_defined m k again n nest round rest high deep enough end = rw (again n (nest - 1) round 2 rest (omega arith) deep (omega arith) end.remaining.stops) refl
 
 pub vector_again : (m : List ℕ) (k : Exp) → PartAgain k → DefinitionAgain (tree.Vector m k)
 vector_again m k again n nest round rest high deep enough end = definition_runs n nest round _ _ (omega arith) enough (λ i le. vector_defined m k again i nest round rest high deep le end)
@@ -76,7 +76,7 @@ function_defined : (m : List ℕ) (ps : List (List ℕ)) (e : Exp) → WholeAgai
     → defined_read (exp_of n) (command_of n) (definition_of n) nest round (Name m ∷ A sign.OpenBracket ∷ (named ps ++ A sign.CloseBracket ∷ A sign.Equal ∷ (whole e ++ rest))) ≡ Ok (piece (tree.Function m ps e) (exp_height e + 1) rest)
 unfolding defined_read shaped_read routine_read
 function_defined m ps e again n nest round rest high deep enough end =
-    rw (lt-ltb 0 round (omega arith), parameters_again ps (A sign.Equal ∷ (whole e ++ rest)), again n (nest - 1) round rest (omega arith) (omega arith) (omega arith) end.behind (unrepeated e rest end.no_repeat)) refl
+    rw (lt-ltb 0 round (omega arith), parameters_again ps (A sign.Equal ∷ (whole e ++ rest)), again n (nest - 1) round rest (omega arith) (omega arith) (omega arith) end.remaining (unrepeated e rest end.no_repeat)) refl
 
 pub function_again : (m : List ℕ) (ps : List (List ℕ)) (e : Exp) → WholeAgain e → DefinitionAgain (tree.Function m ps e)
 function_again m ps e again n nest round rest high deep enough end =
@@ -145,7 +145,7 @@ definitions_turned (definition c ds) again d first n (suc k) nest round found h 
     let step = definition_turn (exp_of n) (command_of n) (definition_of n) nest round in
     let g : max (max h (definition_height d)) (max (definition_height c) (definitions_height ds)) ≡ max h (max (definition_height d) (max (definition_height c) (definitions_height ds))) = omega arith in
     let after : List Part = (definition_spelling c ++ definitions_spelling ds) ++ rest in
-    let and_end : Quiet (A sign.And ∷ after) = record { behind = record { stops = refl; no_comma = refl; no_assign = refl }; no_repeat = refl } in
+    let and_end : Quiet (A sign.And ∷ after) = record { remaining = record { stops = refl; no_comma = refl; no_assign = refl }; no_repeat = refl } in
     turn_next step k (piece found h _) (piece (add_definition found d) (max h (definition_height d)) after)
     (one_definition_turn n nest round (piece found h _) d (definition_height d) after (first n nest round (A sign.And ∷ after) high deep enough and_end))
     ∙ ap (λ (r : List Part). turns step k (piece (add_definition found d) (max h (definition_height d)) r)) (append_assoc (definition_spelling c) (definitions_spelling ds) rest)
@@ -153,7 +153,7 @@ definitions_turned (definition c ds) again d first n (suc k) nest round found h 
     ∙ rw (append_more_definitions found d (definition c ds), g) refl
 
 definitions_again : (ds : Definitions) → SomeDefinitions ds → DefinitionsAgain ds → (n nest round : ℕ) (rest : List Part) → definitions_height ds ≤ nest → definitions_rounds ds ≤ round → nest + round ≤ n → Quiet rest → after_of sign.And rest ≡ None
-    → definitions_read (exp_of n) (command_of n) (definition_of n) nest round (behind_first (definitions_spelling ds) ++ rest) ≡ Ok (piece ds (definitions_height ds) rest)
+    → definitions_read (exp_of n) (command_of n) (definition_of n) nest round (after_first (definitions_spelling ds) ++ rest) ≡ Ok (piece ds (definitions_height ds) rest)
 unfolding definitions_read
 definitions_again no_definitions some again n nest round rest high deep enough end no_and = absurd some
 definitions_again (definition d ds) some again n nest round rest high deep enough end no_and =
@@ -168,7 +168,7 @@ definitions_again (definition d ds) some again n nest round rest high deep enoug
 
 -- ---- declarations
 
--- the word of a declaration, and what is read behind it
+-- the word of a declaration, and what is read after it
 pub record DeclarationRead (d : Declaration) (n nest round : ℕ) (rest : List Part) : Type 0 where
   pub word : DeclarationWord
   pub after : List Part
@@ -182,14 +182,14 @@ abbrev pub DeclarationAgain : Declaration → Type 0
 DeclarationAgain d = (n nest round : ℕ) (rest : List Part) → declaration_height d ≤ nest → declaration_rounds d ≤ round → nest + round ≤ n → Quiet rest → after_of sign.And rest ≡ None → DeclarationRead d n nest round rest
 
 let_read : (ds : Definitions) → SomeDefinitions ds → DefinitionsAgain ds → (n nest round : ℕ) (rest : List Part) → definitions_height ds ≤ nest → definitions_rounds ds ≤ round → nest + round ≤ n → Quiet rest → after_of sign.And rest ≡ None
-    → declaration_read (exp_of n) (command_of n) (definition_of n) nest round declaration_word.Let (behind_first (definitions_spelling ds) ++ rest) ≡ Ok (piece (tree.Let ds) (definitions_height ds) rest)
+    → declaration_read (exp_of n) (command_of n) (definition_of n) nest round declaration_word.Let (after_first (definitions_spelling ds) ++ rest) ≡ Ok (piece (tree.Let ds) (definitions_height ds) rest)
 unfolding declaration_read
 let_read ds some again n nest round rest high deep enough end no_and = rw (definitions_again ds some again n nest round rest high deep enough end no_and) refl
 
 pub let_again : (ds : Definitions) → SomeDefinitions ds → DefinitionsAgain ds → DeclarationAgain (tree.Let ds)
 let_again ds some again n nest round rest high deep enough end no_and = record {
   word = declaration_word.Let;
-  after = behind_first (definitions_spelling ds) ++ rest;
+  after = after_first (definitions_spelling ds) ++ rest;
   front = refl;
   read = let_read ds some again n nest round rest high deep enough end no_and;
   no_separator = refl;
@@ -198,10 +198,10 @@ let_again ds some again n nest round rest high deep enough end no_and = record {
 }
 
 constants_read : (s : Storage) (es : Entries) → EntriesAgain es → (n nest round : ℕ) (rest : List Part) → entries_height es ≤ nest → entries_rounds es ≤ round → nest + round ≤ n
-    → declaration_read (exp_of n) (command_of n) (definition_of n) nest round (declaration_word.Constants s) (A sign.OpenSection ∷ ((behind_first (entries_spelling (entry_sign s) es) ++ A sign.CloseSection ∷ []) ++ rest)) ≡ Ok (piece (tree.Constants s es) (entries_height es) rest)
+    → declaration_read (exp_of n) (command_of n) (definition_of n) nest round (declaration_word.Constants s) (A sign.OpenSection ∷ ((after_first (entries_spelling (entry_sign s) es) ++ A sign.CloseSection ∷ []) ++ rest)) ≡ Ok (piece (tree.Constants s es) (entries_height es) rest)
 unfolding declaration_read
 constants_read s es again n nest round rest high deep enough =
-    rw (append_assoc (behind_first (entries_spelling (entry_sign s) es)) (A sign.CloseSection ∷ []) rest, entries_again s es again n nest round rest high deep enough) refl
+    rw (append_assoc (after_first (entries_spelling (entry_sign s) es)) (A sign.CloseSection ∷ []) rest, entries_again s es again n nest round rest high deep enough) refl
 
 pub constants_again : (s : Storage) (es : Entries) → EntriesAgain es → DeclarationAgain (tree.Constants s es)
 constants_again storage.Manifest es again n nest round rest high deep enough end no_and =

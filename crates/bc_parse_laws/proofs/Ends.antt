@@ -4,7 +4,7 @@ use Rattle.bc_lex_tokens.specs.declared.symbol.Symbol.TheVariants as sign
 use Rattle.bc_parse_tree.specs.Parts.{Part, A, Name, Number, Character, String, NewLine}
 use Rattle.bc_parse_tree.specs.Tree.{Exp, Exps, none, more, block, Command}
 use Rattle.bc_parse_tree.specs.Tree as tree
-use Rattle.bc_parse_tree.specs.Canonical.{whole, part_of, routine_of, after_commas, behind_first, command_spelling}
+use Rattle.bc_parse_tree.specs.Canonical.{whole, part_of, routine_of, after_commas, after_first, command_spelling}
 use Rattle.bc_parse_defs.specs.Reading.{Fault, Piece, turns, Ends, ends, following, after_of, separator_of, word_in, repeat_word_of, command_word_of, simple_word_of, declaration_word_of, NoLabel, label_start}
 use Rattle.bc_parse_laws.proofs.Formed.{EndsInNoValof, FormedCommand}
 
@@ -19,7 +19,7 @@ module _ {X : Type 0} (step : Piece X → Result (Piece X × Bool) Fault) where
   unfolding turns
   turn_next k s t e = rw e refl
 
--- ---- what stands behind
+-- ---- what stands after
 
 -- nothing goes on with an expression here
 abbrev pub Stops : List Part → Type 0
@@ -29,7 +29,7 @@ abbrev pub NoRepeat : List Part → Type 0
 NoRepeat ts = word_in repeat_word_of ts ≡ None
 
 -- nothing goes on with an expression or a list of them here
-pub record Behind (ts : List Part) : Type 0 where
+pub record After (ts : List Part) : Type 0 where
   pub stops : Stops ts
   pub no_comma : after_of sign.Comma ts ≡ None
   pub no_assign : after_of sign.Assign ts ≡ None
@@ -84,7 +84,7 @@ stops_here level top (A _ ∷ ts) e = refl
 
 -- ---- what stands in front
 
--- in front of an expression that is part of another, or in a list
+-- before an expression that is part of another, or in a list
 pub record ExpHead (ts : List Part) : Type 0 where
   pub no_close : after_of sign.CloseBracket ts ≡ None
   pub no_vector : after_of sign.Vector ts ≡ None
@@ -125,13 +125,13 @@ routine_head (tree.Dyadic o l r) ts = bracket_head _
 routine_head (tree.Condition c x y) ts = bracket_head _
 routine_head (tree.Call f es) ts = bracket_head _
 
--- in front of an item
+-- before an item
 pub record ItemHead (ts : List Part) : Type 0 where
   pub no_separator : separator_of ts ≡ None
   pub no_close : after_of sign.CloseSection ts ≡ None
   pub no_declaration : word_in declaration_word_of ts ≡ None
 
--- in front of a command
+-- before a command
 pub record CommandHead (ts : List Part) : Type 0 where
   pub no_separator : separator_of ts ≡ None
   pub no_close : after_of sign.CloseSection ts ≡ None
@@ -170,8 +170,8 @@ call_head (tree.Call f es) ts = record { no_separator = refl; no_close = refl; n
 pub command_head : (c : Command) → FormedCommand EndsInNoValof c → (ts : List Part) → CommandHead (command_spelling c ++ ts)
 command_head (tree.Assign none es) formed ts = absurd formed.0
 command_head (tree.Assign (more x xs) es) formed ts =
-    subst CommandHead (sym (simp append_assoc)) (assign_head x xs (behind_first (after_commas es) ++ ts))
-command_head (tree.Do f es) formed ts = subst CommandHead (sym (simp append_assoc)) (call_head f (behind_first (after_commas es) ++ A sign.CloseBracket ∷ ts))
+    subst CommandHead (sym (simp append_assoc)) (assign_head x xs (after_first (after_commas es) ++ ts))
+command_head (tree.Do f es) formed ts = subst CommandHead (sym (simp append_assoc)) (call_head f (after_first (after_commas es) ++ A sign.CloseBracket ∷ ts))
 command_head (tree.Compound (block ds is)) formed ts = record { no_separator = refl; no_close = refl; no_declaration = refl; no_label = refl }
 command_head tree.Break formed ts = record { no_separator = refl; no_close = refl; no_declaration = refl; no_label = refl }
 command_head tree.Loop formed ts = record { no_separator = refl; no_close = refl; no_declaration = refl; no_label = refl }

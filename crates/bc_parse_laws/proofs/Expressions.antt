@@ -13,12 +13,12 @@ use Rattle.bc_parse_tree.specs.Tree.{Exp, Exps, none, more}
 use Rattle.bc_parse_tree.specs.Tree as tree
 use Rattle.bc_parse_tree.specs.Operators.{level_of, own_level, dyadic_sign}
 use Rattle.bc_parse_tree.specs.Spelling.{in_round, add_exp, count}
-use Rattle.bc_parse_tree.specs.Canonical.{whole, part_of, routine_of, after_commas, behind_first}
+use Rattle.bc_parse_tree.specs.Canonical.{whole, part_of, routine_of, after_commas, after_first}
 use Rattle.bc_parse_tree.specs.Height.{exp_height, exps_height}
 use Rattle.bc_parse_defs.specs.Reading.{Fault, ◌>>=◌, Piece, piece, turns, Reader, Following, Operator, Arguments, Choice, ends, following, after_of, exps_turn, exps_read, next_exp, arguments_read, with_operator, with_arguments, with_choice, suffix_read, grow_turn, grow_read, bracket_read, table_read, monadic_read, started_read, operand_read, exp_of, command_of, definition_of}
 use Rattle.bc_parse_laws.proofs.Rounds.{part_rounds, routine_rounds, exp_rounds, exps_rounds}
 use Rattle.bc_parse_laws.proofs.Formed.{SomeExps}
-use Rattle.bc_parse_laws.proofs.Ends.{turn_last, turn_next, Stops, Behind, Unrepeated, unrepeated, stops_here, exp_head}
+use Rattle.bc_parse_laws.proofs.Ends.{turn_last, turn_next, Stops, After, Unrepeated, unrepeated, stops_here, exp_head}
 
 pub height_positive : (e : Exp) → 0 < exp_height e
 height_positive (tree.Name s) = omega arith
@@ -34,7 +34,7 @@ height_positive (tree.Dyadic o l r) = omega arith
 height_positive (tree.Condition c x y) = omega arith
 height_positive (tree.Call f es) = omega arith
 
--- ---- behind an operand
+-- ---- after an operand
 
 module _ (E : Reader) (nest round begin : ℕ) where
   last_turn : (level : ℕ) (s : Piece (Exp × ℕ)) → Stops s.rest → grow_turn E nest round begin level s ≡ Ok (s, true)
@@ -65,7 +65,7 @@ module _ (E : Reader) (nest round begin : ℕ) where
 
 -- the whole of it is read again, where nothing goes on with it
 abbrev pub WholeAgain : Exp → Type 0
-WholeAgain e = (n nest round : ℕ) (rest : List Part) → exp_height e ≤ nest → exp_rounds e ≤ round → nest + round ≤ n → Behind rest → Unrepeated e rest → exp_of n nest round 1 (whole e ++ rest) ≡ Ok (piece e (exp_height e) rest)
+WholeAgain e = (n nest round : ℕ) (rest : List Part) → exp_height e ≤ nest → exp_rounds e ≤ round → nest + round ≤ n → After rest → Unrepeated e rest → exp_of n nest round 1 (whole e ++ rest) ≡ Ok (piece e (exp_height e) rest)
 
 -- the same where it is part of another expression or in a list
 abbrev pub PartAgain : Exp → Type 0
@@ -85,14 +85,14 @@ unfolding exp_of
 exp_runs zero nest round level ts r some enough read = absurd (omega arith)
 exp_runs (suc n) nest round level ts r some enough read = rw (lt-ltb 0 nest some) (read n (omega arith))
 
--- an operand with nothing behind it
+-- an operand with nothing after it
 pub operand_alone : (n nest round level : ℕ) (ts rest : List Part) (e : Exp) (top height : ℕ) → 0 < nest → nest + round ≤ n → Stops rest
     → ((m : ℕ) → nest + round ≤ m + 1 → Operand m nest round ts ≡ Ok (piece (e, top) height rest)) → exp_of n nest round level ts ≡ Ok (piece e height rest)
 operand_alone n nest round level ts rest e top height some enough stop read =
     exp_runs n nest round level ts (Ok (piece e height rest)) some enough (λ m le. rw (read m le) (grow_ends (exp_of m) nest round (length ts) level (piece (e, top) height rest) stop))
 
-bracket_behind : (ts : List Part) → Behind (A sign.CloseBracket ∷ ts)
-bracket_behind ts = record { stops = refl; no_comma = refl; no_assign = refl }
+bracket_after : (ts : List Part) → After (A sign.CloseBracket ∷ ts)
+bracket_after ts = record { stops = refl; no_comma = refl; no_assign = refl }
 
 bracket_again : (e : Exp) → WholeAgain e → (m nest round : ℕ) (rest : List Part) → exp_height e ≤ nest → exp_rounds e + 1 ≤ round → nest + round ≤ m + 1
     → Operand m nest round (in_round (whole e) ++ rest) ≡ Ok (piece (e, 12) (exp_height e) rest)
@@ -100,7 +100,7 @@ unfolding operand_read started_read bracket_read
 bracket_again e again m nest round rest high deep enough =
     let inner : exp_of m nest (round - 1) 1 ((whole e ++ A sign.CloseBracket ∷ []) ++ rest) ≡ Ok (piece e (exp_height e) (A sign.CloseBracket ∷ rest)) =
     ap (exp_of m nest (round - 1) 1) (append_assoc (whole e) (A sign.CloseBracket ∷ []) rest)
-    ∙ again m nest (round - 1) (A sign.CloseBracket ∷ rest) high (omega arith) (omega arith) (bracket_behind rest) (unrepeated e (A sign.CloseBracket ∷ rest) refl) in
+    ∙ again m nest (round - 1) (A sign.CloseBracket ∷ rest) high (omega arith) (omega arith) (bracket_after rest) (unrepeated e (A sign.CloseBracket ∷ rest) refl) in
     rw (lt-ltb 0 round (omega arith), inner) refl
 
 operand_again : (e : Exp) → WholeAgain e → (m nest round : ℕ) (rest : List Part) → exp_height e ≤ nest → part_rounds e (exp_rounds e) ≤ round → nest + round ≤ m + 1
@@ -213,7 +213,7 @@ elements_again (more d es) again e first n (suc k) nest round level limit found 
 -- a list of expressions is read again
 pub exps_again : (es : Exps) → SomeExps es → PartsAgain es → (n nest round level limit : ℕ) (rest : List Part) → count es ≤ limit
     → exps_height es ≤ nest → exps_rounds es ≤ round → nest + round ≤ n → Stops rest → after_of sign.Comma rest ≡ None
-    → exps_read (exp_of n) nest round level limit (behind_first (after_commas es) ++ rest) ≡ Ok (piece es (exps_height es) rest)
+    → exps_read (exp_of n) nest round level limit (after_first (after_commas es) ++ rest) ≡ Ok (piece es (exps_height es) rest)
 unfolding exps_read
 exps_again none some again n nest round level limit rest room high deep enough stop no_comma = absurd some
 exps_again (more e es) some again n nest round level limit rest room high deep enough stop no_comma =
@@ -228,11 +228,11 @@ exps_again (more e es) some again n nest round level limit rest room high deep e
 
 -- the arguments of a call
 arguments_again : (es : Exps) → PartsAgain es → (n nest round : ℕ) (rest : List Part) → exps_height es ≤ nest → exps_rounds es ≤ round → nest + round ≤ n
-    → arguments_read (exp_of n) nest round (behind_first (after_commas es) ++ A sign.CloseBracket ∷ rest) ≡ Ok (piece es (exps_height es) rest)
+    → arguments_read (exp_of n) nest round (after_first (after_commas es) ++ A sign.CloseBracket ∷ rest) ≡ Ok (piece es (exps_height es) rest)
 unfolding arguments_read
 arguments_again none again n nest round rest high deep enough = refl
 arguments_again (more e es) again n nest round rest high deep enough =
-    let ts : List Part = behind_first (after_commas (more e es)) ++ A sign.CloseBracket ∷ rest in
+    let ts : List Part = after_first (after_commas (more e es)) ++ A sign.CloseBracket ∷ rest in
     let head : after_of sign.CloseBracket ts ≡ None = ap (after_of sign.CloseBracket) (append_assoc (part_of e (whole e)) (after_commas es) (A sign.CloseBracket ∷ rest)) ∙ (exp_head e (after_commas es ++ A sign.CloseBracket ∷ rest)).no_close in
     let long : count (more e es) ≤ length ts + 1 = omega (arith, counted es, length-append (part_of e (whole e) ++ after_commas es) (A sign.CloseBracket ∷ rest), length-append (part_of e (whole e)) (after_commas es)) in
     rw (head, exps_again (more e es) tt again n nest round 1 (length ts + 1) (A sign.CloseBracket ∷ rest) long high deep enough refl refl) refl
@@ -267,12 +267,12 @@ pub false_again : WholeAgain tree.False
 unfolding operand_read
 false_again = leaf_again tree.False (λ m nest round rest. refl)
 
-table_operand : (ks : Exps) → SomeExps ks → PartsAgain ks → (m nest round : ℕ) (rest : List Part) → exps_height ks + 1 ≤ nest → exps_rounds ks ≤ round → nest + round ≤ m + 1 → Behind rest
+table_operand : (ks : Exps) → SomeExps ks → PartsAgain ks → (m nest round : ℕ) (rest : List Part) → exps_height ks + 1 ≤ nest → exps_rounds ks ≤ round → nest + round ≤ m + 1 → After rest
     → Operand m nest round (whole (tree.Table ks) ++ rest) ≡ Ok (piece (tree.Table ks, 12) (exps_height ks + 1) rest)
 unfolding operand_read started_read table_read
 table_operand none some again m nest round rest high deep enough end = absurd some
 table_operand (more k ks) some again m nest round rest high deep enough end =
-    let ts : List Part = behind_first (after_commas (more k ks)) ++ rest in
+    let ts : List Part = after_first (after_commas (more k ks)) ++ rest in
     let long : count (more k ks) ≤ length ts + 1 = omega (arith, counted ks, length-append (part_of k (whole k) ++ after_commas ks) rest, length-append (part_of k (whole k)) (after_commas ks)) in
     rw (exps_again (more k ks) tt again m (nest - 1) round 2 (length ts + 1) rest long (omega arith) deep (omega arith) end.stops end.no_comma) refl
 
@@ -280,7 +280,7 @@ pub table_again : (ks : Exps) → SomeExps ks → PartsAgain ks → WholeAgain (
 table_again ks some again n nest round rest high deep enough end quiet =
     operand_alone n nest round 1 _ rest (tree.Table ks) 12 (exps_height ks + 1) (omega arith) enough end.stops (λ m le. table_operand ks some again m nest round rest high deep le end)
 
-monadic_operand : (o : code_monadic.Monadic) (e : Exp) → PartAgain e → (m nest round : ℕ) (rest : List Part) → exp_height e + 1 ≤ nest → part_rounds e (exp_rounds e) ≤ round → nest + round ≤ m + 1 → Behind rest
+monadic_operand : (o : code_monadic.Monadic) (e : Exp) → PartAgain e → (m nest round : ℕ) (rest : List Part) → exp_height e + 1 ≤ nest → part_rounds e (exp_rounds e) ≤ round → nest + round ≤ m + 1 → After rest
     → Operand m nest round (whole (tree.Monadic o e) ++ rest) ≡ Ok (piece (tree.Monadic o e, own_level o) (exp_height e + 1) rest)
 unfolding operand_read started_read monadic_read
 monadic_operand monadic.Not e again m nest round rest high deep enough end = rw (again m (nest - 1) round 6 rest (omega arith) deep (omega arith) end.stops) refl
@@ -353,14 +353,14 @@ condition_again c x y first second third n nest round rest high deep enough end 
     (λ m le. choice_suffix c x y second third m nest round _ _ rest high (omega arith) (omega arith) le end.stops)
 
 call_suffix : (f : Exp) (es : Exps) → PartsAgain es → (m nest round begin place : ℕ) (rest : List Part) → max (exp_height f) (exps_height es) + 1 ≤ nest → exps_rounds es + 1 ≤ round → nest + round ≤ m + 1
-    → suffix_read (exp_of m) nest round begin (Arguments (behind_first (after_commas es) ++ A sign.CloseBracket ∷ rest)) f (exp_height f) place ≡ Ok (piece (tree.Call f es, 12) (max (exp_height f) (exps_height es) + 1) rest)
+    → suffix_read (exp_of m) nest round begin (Arguments (after_first (after_commas es) ++ A sign.CloseBracket ∷ rest)) f (exp_height f) place ≡ Ok (piece (tree.Call f es, 12) (max (exp_height f) (exps_height es) + 1) rest)
 unfolding suffix_read with_arguments
 call_suffix f es again m nest round begin place rest high deep enough =
     rw (lt-ltb (exp_height f) nest (omega arith), lt-ltb 0 round (omega arith), arguments_again es again m (nest - 1) (round - 1) rest (omega arith) (omega arith) (omega arith)) refl
 
 pub call_again : (f : Exp) (es : Exps) → WholeAgain f → PartsAgain es → WholeAgain (tree.Call f es)
 call_again f es first again n nest round rest high deep enough end quiet =
-    let more_ts : List Part = behind_first (after_commas es) ++ A sign.CloseBracket ∷ rest in
+    let more_ts : List Part = after_first (after_commas es) ++ A sign.CloseBracket ∷ rest in
     let shape : whole (tree.Call f es) ++ rest ≡ routine_of f (whole f) ++ A sign.OpenBracket ∷ more_ts = simp append_assoc in
     ap (exp_of n nest round 1) shape
     ∙ two_parts n nest round _ more_ts rest (A sign.OpenBracket) (Arguments more_ts) f (tree.Call f es) (exp_height f) _ 12 (omega arith) enough end.stops refl refl

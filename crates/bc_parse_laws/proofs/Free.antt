@@ -1,4 +1,4 @@
--- Where no REPEAT word stands behind a VALOF's body, no repeated command ends with one.
+-- Where no REPEAT word stands after a VALOF's body, no repeated command ends with one.
 use Rattle.std.proofs.Common.{List, [], ◌∷◌, ◌++◌, refl, sym, ap, subst, ◌∙◌, append_assoc}
 use Rattle.bc_lex_tokens.specs.declared.symbol.Symbol.{Symbol}
 use Rattle.bc_lex_tokens.specs.declared.symbol.Symbol.TheVariants as sign
@@ -6,7 +6,7 @@ use Rattle.bc_parse_tree.specs.Parts.{Part, A}
 use Rattle.bc_parse_tree.specs.Tree.{Exp, Exps, none, more, Block, block, Declaration, Declarations, no_declarations, declaration, Entries, no_entries, entry, Definition, Definitions, no_definitions, definition, Item, Labelled, Labels_alone, Items, no_items, item, Label, Labels, no_labels, label, Command}
 use Rattle.bc_parse_tree.specs.Tree as tree
 use Rattle.bc_parse_tree.specs.Spelling.{in_round, named}
-use Rattle.bc_parse_tree.specs.Canonical.{part_of, routine_of, entry_sign, behind_first, whole, after_commas, block_spelling, declarations_spelling, declaration_spelling, entries_spelling, definitions_spelling, definition_spelling, items_spelling, item_spelling, labels_spelling, label_spelling, command_spelling}
+use Rattle.bc_parse_tree.specs.Canonical.{part_of, routine_of, entry_sign, after_first, whole, after_commas, block_spelling, declarations_spelling, declaration_spelling, entries_spelling, definitions_spelling, definition_spelling, items_spelling, item_spelling, labels_spelling, label_spelling, command_spelling}
 use Rattle.bc_parse_laws.specs.Repeated.{IsRepeatWord, repeat, repeat_while, repeat_until, RepeatsNoValof}
 use Rattle.bc_parse_laws.proofs.Formed.{IsNoValof, EndsInNoValof, FormedExp, FormedExps, FormedBlock, FormedDeclaration, FormedDeclarations, FormedEntries, FormedDefinition, FormedDefinitions, FormedItem, FormedItems, FormedLabel, FormedLabels, FormedCommand}
 use Rattle.bc_parse_laws.proofs.Grammar.{Any}
@@ -33,13 +33,13 @@ back xs {ys} f = record {
 tail : {p : Part} {ys : List Part} → Free (p ∷ ys) → Free ys
 tail {p} {ys} f = record { holds = λ before after b s word is. f.holds (p ∷ before) after b s word (ap (λ (r : List Part). p ∷ r) is) }
 
-rest : (ts : List Part) → Free ts → Free (behind_first ts)
+rest : (ts : List Part) → Free ts → Free (after_first ts)
 rest [] f = f
 rest (p ∷ ts) f = tail f
 
 -- the two lists of a block
-places : (xs ys : List Part) → Free (behind_first (xs ++ ys)) → Free (behind_first xs) × Free (behind_first ys)
-places [] ys f = (front {xs = []} (behind_first ys) f, f)
+places : (xs ys : List Part) → Free (after_first (xs ++ ys)) → Free (after_first xs) × Free (after_first ys)
+places [] ys f = (front {xs = []} (after_first ys) f, f)
 places (p ∷ xs) ys f = (front _ f, rest ys (back xs f))
 
 part : (e : Exp) → Free (part_of e (whole e)) → Free (whole e)
@@ -111,7 +111,7 @@ mutual
       (exp_free c formed.0 (part c (front _ f)), exp_free x formed.1 (part x (front _ g)), exp_free y formed.2 (part y (tail (back (part_of x (whole x)) g))))
   exp_free (tree.Call g es) formed f = (exp_free g formed.0 (routine g (front _ f)), exps_free es formed.1 (front _ (tail (back (routine_of g (whole g)) f))))
 
-  exps_free : (es : Exps) → FormedExps Any es → Free (behind_first (after_commas es)) → FormedExps EndsInNoValof es
+  exps_free : (es : Exps) → FormedExps Any es → Free (after_first (after_commas es)) → FormedExps EndsInNoValof es
   exps_free none formed f = tt
   exps_free (more e es) formed f = (exp_free e formed.0 (part e (front _ f)), exps_free es formed.1 (rest (after_commas es) (back (part_of e (whole e)) f)))
 
@@ -120,7 +120,7 @@ mutual
       let both = places (declarations_spelling ds) (items_spelling is) (front _ (tail f)) in
       (declarations_free ds formed.0 both.0, items_free is formed.1 both.1)
 
-  pub declarations_free : (ds : Declarations) → FormedDeclarations Any ds → Free (behind_first (declarations_spelling ds)) → FormedDeclarations EndsInNoValof ds
+  pub declarations_free : (ds : Declarations) → FormedDeclarations Any ds → Free (after_first (declarations_spelling ds)) → FormedDeclarations EndsInNoValof ds
   declarations_free no_declarations formed f = tt
   declarations_free (declaration d ds) formed f = (declaration_free d formed.0 (front _ f), declarations_free ds formed.1 (rest (declarations_spelling ds) (back (declaration_spelling d) f)))
 
@@ -128,11 +128,11 @@ mutual
   declaration_free (tree.Constants s es) formed f = entries_free (entry_sign s) es formed (front _ (tail (tail f)))
   declaration_free (tree.Let ds) formed f = (formed.0, definitions_free ds formed.1 (tail f))
 
-  entries_free : (s : Symbol) (es : Entries) → FormedEntries Any es → Free (behind_first (entries_spelling s es)) → FormedEntries EndsInNoValof es
+  entries_free : (s : Symbol) (es : Entries) → FormedEntries Any es → Free (after_first (entries_spelling s es)) → FormedEntries EndsInNoValof es
   entries_free s no_entries formed f = tt
   entries_free s (entry n k es) formed f = let g = tail (tail f) in (exp_free k formed.0 (part k (front _ g)), entries_free s es formed.1 (rest (entries_spelling s es) (back (part_of k (whole k)) g)))
 
-  definitions_free : (ds : Definitions) → FormedDefinitions Any ds → Free (behind_first (definitions_spelling ds)) → FormedDefinitions EndsInNoValof ds
+  definitions_free : (ds : Definitions) → FormedDefinitions Any ds → Free (after_first (definitions_spelling ds)) → FormedDefinitions EndsInNoValof ds
   definitions_free no_definitions formed f = tt
   definitions_free (definition d ds) formed f = (definition_free d formed.0 (front _ f), definitions_free ds formed.1 (rest (definitions_spelling ds) (back (definition_spelling d) f)))
 
@@ -142,7 +142,7 @@ mutual
   definition_free (tree.Function n ps e) formed f = exp_free e formed (tail (back (in_round (named ps)) (tail f)))
   definition_free (tree.Routine n ps b) formed f = block_free b formed (tail (back (in_round (named ps)) (tail f)))
 
-  items_free : (is : Items) → FormedItems Any is → Free (behind_first (items_spelling is)) → FormedItems EndsInNoValof is
+  items_free : (is : Items) → FormedItems Any is → Free (after_first (items_spelling is)) → FormedItems EndsInNoValof is
   items_free no_items formed f = tt
   items_free (item i is) formed f = (item_free i formed.0 (front _ f), items_free is formed.1 (rest (items_spelling is) (back (item_spelling i) f)))
 
@@ -160,7 +160,7 @@ mutual
   label_free (tree.Named n) formed f = tt
 
   command_free : (c : Command) → FormedCommand Any c → Free (command_spelling c) → FormedCommand EndsInNoValof c
-  command_free (tree.Assign xs es) formed f = (formed.0, formed.1, exps_free xs formed.2 (front _ f), exps_free es formed.3 (tail (back (behind_first (after_commas xs)) f)))
+  command_free (tree.Assign xs es) formed f = (formed.0, formed.1, exps_free xs formed.2 (front _ f), exps_free es formed.3 (tail (back (after_first (after_commas xs)) f)))
   command_free (tree.Do g es) formed f = (exp_free g formed.0 (routine g (front _ f)), exps_free es formed.1 (front _ (tail (back (routine_of g (whole g)) f))))
   command_free (tree.Compound b) formed f = block_free b formed f
   command_free tree.Break formed f = tt

@@ -8,7 +8,7 @@ use Rattle.bc_parse_tree.specs.Tree.{Exp, Exps, none, more, Block, block, Declar
 use Rattle.bc_parse_tree.specs.Tree as tree
 use Rattle.bc_parse_tree.specs.Operators.{dyadic_sign, monadic_sign}
 use Rattle.bc_parse_tree.specs.Spelling.{in_round, named}
-use Rattle.bc_parse_tree.specs.Canonical.{part_of, routine_of, entry_sign, behind_first, whole, after_commas, block_spelling, declarations_spelling, declaration_spelling, entries_spelling, definitions_spelling, definition_spelling, items_spelling, item_spelling, labels_spelling, label_spelling, command_spelling, section_spelling}
+use Rattle.bc_parse_tree.specs.Canonical.{part_of, routine_of, entry_sign, after_first, whole, after_commas, block_spelling, declarations_spelling, declaration_spelling, entries_spelling, definitions_spelling, definition_spelling, items_spelling, item_spelling, labels_spelling, label_spelling, command_spelling, section_spelling}
 use Rattle.bc_parse_laws.specs.Held.{operators, add_to, most_held}
 use Rattle.bc_parse_laws.proofs.Balance.{Plain, plain_dyadic, plain_monadic, plain_storage, plain_entry}
 
@@ -123,8 +123,8 @@ pub record HoldsAny (xs : List Part) : Type 0 where
 any : {xs : List Part} {n : ℕ} → Holds xs n → HoldsAny xs
 any {xs} {n} f = record { count = n; holds = f }
 
-behind : {p : Part} {xs : List Part} → Plain p → HoldsAny xs → HoldsAny (p ∷ xs)
-behind plain f = any (before plain f.holds)
+remaining : {p : Part} {xs : List Part} → Plain p → HoldsAny xs → HoldsAny (p ∷ xs)
+remaining plain f = any (before plain f.holds)
 
 both : {xs ys : List Part} → HoldsAny xs → HoldsAny ys → HoldsAny (xs ++ ys)
 both f g = any (join f.holds g.holds)
@@ -162,10 +162,10 @@ routine_holds (tree.Dyadic o l r) f = bracketed f
 routine_holds (tree.Condition c x y) f = bracketed f
 routine_holds (tree.Call g es) f = bracketed f
 
--- expressions, each behind a comma, and the same without the first comma
+-- expressions, each after a comma, and the same without the first comma
 record ListHolds (es : Exps) : Type 0 where
   with_first : Holds (after_commas es) 0
-  without_first : Holds (behind_first (after_commas es)) 0
+  without_first : Holds (after_first (after_commas es)) 0
 
 one_more : (e : Exp) (es : Exps) → Holds (part_of e (whole e)) 0 → ListHolds es → ListHolds (more e es)
 one_more e es f fs = record { with_first = before refl (join f fs.with_first); without_first = join f fs.with_first }
@@ -174,15 +174,15 @@ one_more e es f fs = record { with_first = before refl (join f fs.with_first); w
 
 record RowHolds (xs : List Part) : Type 0 where
   with_first : HoldsAny xs
-  without_first : HoldsAny (behind_first xs)
+  without_first : HoldsAny (after_first xs)
 
 no_row : RowHolds []
 no_row = record { with_first = any nothing; without_first = any nothing }
 
 row : {p : Part} {xs ys : List Part} → Plain p → HoldsAny xs → RowHolds ys → RowHolds (p ∷ (xs ++ ys))
-row plain f fs = record { with_first = behind plain (both f fs.with_first); without_first = both f fs.with_first }
+row plain f fs = record { with_first = remaining plain (both f fs.with_first); without_first = both f fs.with_first }
 
-block_row : (xs ys : List Part) → RowHolds xs → RowHolds ys → HoldsAny (behind_first (xs ++ ys))
+block_row : (xs ys : List Part) → RowHolds xs → RowHolds ys → HoldsAny (after_first (xs ++ ys))
 block_row [] ys f g = g.without_first
 block_row (p ∷ xs) ys f g = both f.without_first g.with_first
 
@@ -221,23 +221,23 @@ mutual
   declarations_hold (declaration d ds) = row refl (declaration_holds d) (declarations_hold ds)
 
   declaration_holds : (d : Declaration) → HoldsAny (declaration_spelling d)
-  declaration_holds (tree.Constants s es) = behind (plain_storage s) (any (in_section (entries_hold (entry_sign s) (plain_entry s) es).without_first))
-  declaration_holds (tree.Let ds) = behind refl (definitions_hold ds).without_first
+  declaration_holds (tree.Constants s es) = remaining (plain_storage s) (any (in_section (entries_hold (entry_sign s) (plain_entry s) es).without_first))
+  declaration_holds (tree.Let ds) = remaining refl (definitions_hold ds).without_first
 
   entries_hold : (s : Symbol) → Plain (A s) → (es : Entries) → RowHolds (entries_spelling s es)
   entries_hold s plain no_entries = no_row
   entries_hold s plain (entry n k es) =
-      row {xs = Name n ∷ A s ∷ part_of k (whole k)} refl (behind refl (behind plain (any (part_holds k (whole_holds k))))) (entries_hold s plain es)
+      row {xs = Name n ∷ A s ∷ part_of k (whole k)} refl (remaining refl (remaining plain (any (part_holds k (whole_holds k))))) (entries_hold s plain es)
 
   definitions_hold : (ds : Definitions) → RowHolds (definitions_spelling ds)
   definitions_hold no_definitions = no_row
   definitions_hold (definition d ds) = row refl (definition_holds d) (definitions_hold ds)
 
   definition_holds : (d : Definition) → HoldsAny (definition_spelling d)
-  definition_holds (tree.Variables ns es) = both (any (names ns)) (behind refl (any (list_holds es).without_first))
-  definition_holds (tree.Vector n k) = behind refl (behind refl (behind refl (any (part_holds k (whole_holds k)))))
-  definition_holds (tree.Function n ps e) = behind refl (both (any (round (omega arith) (names ps))) (behind refl (any (whole_holds e).holds)))
-  definition_holds (tree.Routine n ps b) = behind refl (both (any (round (omega arith) (names ps))) (behind refl (any (block_holds b))))
+  definition_holds (tree.Variables ns es) = both (any (names ns)) (remaining refl (any (list_holds es).without_first))
+  definition_holds (tree.Vector n k) = remaining refl (remaining refl (remaining refl (any (part_holds k (whole_holds k)))))
+  definition_holds (tree.Function n ps e) = remaining refl (both (any (round (omega arith) (names ps))) (remaining refl (any (whole_holds e).holds)))
+  definition_holds (tree.Routine n ps b) = remaining refl (both (any (round (omega arith) (names ps))) (remaining refl (any (block_holds b))))
 
   items_hold : (is : Items) → RowHolds (items_spelling is)
   items_hold no_items = no_row
@@ -252,12 +252,12 @@ mutual
   labels_hold (label l ls) = both (label_holds l) (labels_hold ls)
 
   label_holds : (l : Label) → HoldsAny (label_spelling l)
-  label_holds (tree.Case k) = behind refl (both (any (part_holds k (whole_holds k))) (any (before refl nothing)))
-  label_holds tree.Default = behind refl (any (before refl nothing))
-  label_holds (tree.Named n) = behind refl (any (before refl nothing))
+  label_holds (tree.Case k) = remaining refl (both (any (part_holds k (whole_holds k))) (any (before refl nothing)))
+  label_holds tree.Default = remaining refl (any (before refl nothing))
+  label_holds (tree.Named n) = remaining refl (any (before refl nothing))
 
   command_holds : (c : Command) → HoldsAny (command_spelling c)
-  command_holds (tree.Assign xs es) = both (any (list_holds xs).without_first) (behind refl (any (list_holds es).without_first))
+  command_holds (tree.Assign xs es) = both (any (list_holds xs).without_first) (remaining refl (any (list_holds es).without_first))
   command_holds (tree.Do f es) = both (any (routine_holds f (whole_holds f))) (any (round (omega arith) (list_holds es).without_first))
   command_holds (tree.Compound b) = any (block_holds b)
   command_holds tree.Break = any (before refl nothing)
@@ -265,20 +265,20 @@ mutual
   command_holds tree.EndCase = any (before refl nothing)
   command_holds tree.Return = any (before refl nothing)
   command_holds tree.Finish = any (before refl nothing)
-  command_holds (tree.ResultIs e) = behind refl (any (whole_holds e).holds)
-  command_holds (tree.Goto n) = behind refl (any (before refl nothing))
+  command_holds (tree.ResultIs e) = remaining refl (any (whole_holds e).holds)
+  command_holds (tree.Goto n) = remaining refl (any (before refl nothing))
   command_holds (tree.Repeat c) = both (command_holds c) (any (before refl nothing))
-  command_holds (tree.RepeatWhile c e) = both (command_holds c) (behind refl (any (whole_holds e).holds))
-  command_holds (tree.RepeatUntil c e) = both (command_holds c) (behind refl (any (whole_holds e).holds))
-  command_holds (tree.If e b) = behind refl (both (any (whole_holds e).holds) (behind refl (any (block_holds b))))
-  command_holds (tree.Unless e b) = behind refl (both (any (whole_holds e).holds) (behind refl (any (block_holds b))))
-  command_holds (tree.While e b) = behind refl (both (any (whole_holds e).holds) (behind refl (any (block_holds b))))
-  command_holds (tree.Until e b) = behind refl (both (any (whole_holds e).holds) (behind refl (any (block_holds b))))
-  command_holds (tree.Test e b d) = behind refl (both (any (whole_holds e).holds) (behind refl (both (any (block_holds b)) (behind refl (any (block_holds d))))))
-  command_holds (tree.For n a z b) = behind refl (behind refl (behind refl (both (any (whole_holds a).holds) (behind refl (both (any (whole_holds z).holds) (behind refl (any (block_holds b))))))))
+  command_holds (tree.RepeatWhile c e) = both (command_holds c) (remaining refl (any (whole_holds e).holds))
+  command_holds (tree.RepeatUntil c e) = both (command_holds c) (remaining refl (any (whole_holds e).holds))
+  command_holds (tree.If e b) = remaining refl (both (any (whole_holds e).holds) (remaining refl (any (block_holds b))))
+  command_holds (tree.Unless e b) = remaining refl (both (any (whole_holds e).holds) (remaining refl (any (block_holds b))))
+  command_holds (tree.While e b) = remaining refl (both (any (whole_holds e).holds) (remaining refl (any (block_holds b))))
+  command_holds (tree.Until e b) = remaining refl (both (any (whole_holds e).holds) (remaining refl (any (block_holds b))))
+  command_holds (tree.Test e b d) = remaining refl (both (any (whole_holds e).holds) (remaining refl (both (any (block_holds b)) (remaining refl (any (block_holds d))))))
+  command_holds (tree.For n a z b) = remaining refl (remaining refl (remaining refl (both (any (whole_holds a).holds) (remaining refl (both (any (whole_holds z).holds) (remaining refl (any (block_holds b))))))))
   command_holds (tree.ForBy n a z k b) =
-      behind refl (behind refl (behind refl (both (any (whole_holds a).holds) (behind refl (both (any (whole_holds z).holds) (behind refl (both (any (part_holds k (whole_holds k))) (behind refl (any (block_holds b))))))))))
-  command_holds (tree.SwitchOn e is) = behind refl (both (any (whole_holds e).holds) (behind refl (any (in_section (items_hold is).without_first))))
+      remaining refl (remaining refl (remaining refl (both (any (whole_holds a).holds) (remaining refl (both (any (whole_holds z).holds) (remaining refl (both (any (part_holds k (whole_holds k))) (remaining refl (any (block_holds b))))))))))
+  command_holds (tree.SwitchOn e is) = remaining refl (both (any (whole_holds e).holds) (remaining refl (any (in_section (items_hold is).without_first))))
 
 -- ---- the whole
 

@@ -10,7 +10,7 @@ use Rattle.bc_parse_tree.specs.Parts.{Part, A, Name}
 use Rattle.bc_parse_tree.specs.Tree.{Exp, Exps, none, more, Entries, no_entries, entry, Label, Labels, no_labels, label}
 use Rattle.bc_parse_tree.specs.Tree as tree
 use Rattle.bc_parse_tree.specs.Spelling.{named, add_label, add_entry}
-use Rattle.bc_parse_tree.specs.Canonical.{whole, part_of, labels_spelling, label_spelling, entries_spelling, entry_sign, behind_first}
+use Rattle.bc_parse_tree.specs.Canonical.{whole, part_of, labels_spelling, label_spelling, entries_spelling, entry_sign, after_first}
 use Rattle.bc_parse_tree.specs.Height.{exp_height, label_height, labels_height, entries_height}
 use Rattle.bc_parse_defs.specs.Reading.{Piece, piece, turns, after_of, name_turn, names_read, parameters_read, label_read, labels_read, NoLabel, label_start, constant_sign_of, entry_read, entry_turn, entries_read, exp_of}
 use Rattle.bc_parse_laws.proofs.Rounds.{part_rounds, exp_rounds, label_rounds, labels_rounds, entries_rounds}
@@ -187,7 +187,7 @@ unfolding entry_turn
 no_entry_turn n nest round p rest is = rw is refl
 
 pub entries_again : (s : Storage) (es : Entries) → EntriesAgain es → (n nest round : ℕ) (rest : List Part) → entries_height es ≤ nest → entries_rounds es ≤ round → nest + round ≤ n
-    → entries_read (exp_of n) nest round (behind_first (entries_spelling (entry_sign s) es) ++ A sign.CloseSection ∷ rest) ≡ Ok (piece es (entries_height es) rest)
+    → entries_read (exp_of n) nest round (after_first (entries_spelling (entry_sign s) es) ++ A sign.CloseSection ∷ rest) ≡ Ok (piece es (entries_height es) rest)
 unfolding entries_read
 entries_again s no_entries again n nest round rest high deep enough =
     rw (add-one (suc (length rest)), turn_last (entry_turn (exp_of n) nest round) (suc (length rest)) (piece no_entries 0 (A sign.CloseSection ∷ rest)) (piece no_entries 0 rest) (no_entry_turn n nest round (piece no_entries 0 (A sign.CloseSection ∷ rest)) rest refl)) refl

@@ -7,7 +7,7 @@ use Rattle.bc_parse_tree.specs.Parts.{Part, A}
 use Rattle.bc_parse_tree.specs.Tree.{Exp, Exps, none, more, Block, block, Declaration, Declarations, no_declarations, declaration, Entries, no_entries, entry, Definition, Definitions, no_definitions, definition, Item, Labelled, Labels_alone, Items, no_items, item, Label, Labels, no_labels, label, Command}
 use Rattle.bc_parse_tree.specs.Tree as tree
 use Rattle.bc_parse_tree.specs.Spelling.{add_declaration, add_item}
-use Rattle.bc_parse_tree.specs.Canonical.{declaration_spelling, declarations_spelling, item_spelling, items_spelling, labels_spelling, command_spelling, behind_first}
+use Rattle.bc_parse_tree.specs.Canonical.{declaration_spelling, declarations_spelling, item_spelling, items_spelling, labels_spelling, command_spelling, after_first}
 use Rattle.bc_parse_tree.specs.Height.{block_height, item_height, items_height, declaration_height, declarations_height}
 use Rattle.bc_parse_defs.specs.declared.words.Places.{Places}
 use Rattle.bc_parse_defs.specs.declared.words.Places.TheVariants as places
@@ -23,13 +23,13 @@ use Rattle.bc_parse_laws.proofs.Definitions.{DeclarationRead, DeclarationAgain}
 -- ---- items
 
 -- a place ends here
-pub record PlaceBehind (ts : List Part) : Type 0 where
+pub record PlaceAfter (ts : List Part) : Type 0 where
   pub quiet : Quiet ts
   pub no_label : label_start ts ≡ NoLabel
   pub is_end : is_place_end ts ≡ true
 
 abbrev pub ItemRead : Item → Type 0
-ItemRead i = (n nest round : ℕ) (rest : List Part) → item_height i ≤ nest → item_rounds i ≤ round → nest + round ≤ n → PlaceBehind rest
+ItemRead i = (n nest round : ℕ) (rest : List Part) → item_height i ≤ nest → item_rounds i ≤ round → nest + round ≤ n → PlaceAfter rest
     → item_read (exp_of n) (command_of n) (definition_of n) nest round (item_spelling i ++ rest) ≡ Ok (piece i (item_height i) rest)
 
 abbrev pub ItemAgain : Item → Type 0
@@ -172,20 +172,20 @@ item_ends places.Section has rest = absurd has
 item_ends places.Block has rest = refl
 item_ends places.Cases has rest = refl
 
-close_behind : (rest : List Part) → PlaceBehind (A sign.CloseSection ∷ rest)
-close_behind rest = record { quiet = record { behind = record { stops = refl; no_comma = refl; no_assign = refl }; no_repeat = refl }; no_label = refl; is_end = refl }
+close_after : (rest : List Part) → PlaceAfter (A sign.CloseSection ∷ rest)
+close_after rest = record { quiet = record { remaining = record { stops = refl; no_comma = refl; no_assign = refl }; no_repeat = refl }; no_label = refl; is_end = refl }
 
-semicolon_behind : (rest : List Part) → PlaceBehind (A sign.Semicolon ∷ rest)
-semicolon_behind rest = record { quiet = record { behind = record { stops = refl; no_comma = refl; no_assign = refl }; no_repeat = refl }; no_label = refl; is_end = refl }
+semicolon_after : (rest : List Part) → PlaceAfter (A sign.Semicolon ∷ rest)
+semicolon_after rest = record { quiet = record { remaining = record { stops = refl; no_comma = refl; no_assign = refl }; no_repeat = refl }; no_label = refl; is_end = refl }
 
 -- one item's turn
 item_turn : (mode : Places) → HasItems mode → (i : Item) → ItemAgain i → (n nest round : ℕ) (s : Piece (Declarations × Items)) (tail after : List Part) (last : Bool) → s.rest ≡ item_spelling i ++ tail → item_height i ≤ nest → item_rounds i ≤ round → nest + round ≤ n
-    → PlaceBehind tail → place_end mode tail ≡ Ok (after, last)
+    → PlaceAfter tail → place_end mode tail ≡ Ok (after, last)
     → place_turn (exp_of n) (command_of n) (definition_of n) mode nest round s ≡ Ok (piece (s.tree.0, add_item s.tree.1 i) (max s.height (item_height i)) after, last)
-item_turn mode has i again n nest round s tail after last front high deep enough behind then =
+item_turn mode has i again n nest round s tail after last front high deep enough remaining then =
     let head = subst ItemHead (sym front) (again.0 tail) in
     let begins = item_begins mode has (no_item_yet s.tree.1) s.rest head in
-    let read = ap (item_read (exp_of n) (command_of n) (definition_of n) nest round) front ∙ again.1 n nest round tail high deep enough behind in
+    let read = ap (item_read (exp_of n) (command_of n) (definition_of n) nest round) front ∙ again.1 n nest round tail high deep enough remaining in
     part_turn mode n nest round s (s.tree.0, add_item s.tree.1 i) (max s.height (item_height i)) tail after last begins.0 head.no_separator
     (item_part mode n nest round s i (item_height i) tail begins.1 begins.2 read) then
 
@@ -200,13 +200,13 @@ items_turned mode has is again i first n zero nest round ds found h rest long hi
 items_turned mode has no_items again i first n (suc k) nest round ds found h rest long high high_more deep deep_more enough =
     let g : max h (item_height i) ≡ max h (max (item_height i) 0) = omega arith in
     turn_last (place_turn (exp_of n) (command_of n) (definition_of n) mode nest round) k _ _
-    (item_turn mode has i first n nest round (piece (ds, found) h _) (A sign.CloseSection ∷ rest) rest true refl high deep enough (close_behind rest) (item_ends mode has rest))
+    (item_turn mode has i first n nest round (piece (ds, found) h _) (A sign.CloseSection ∷ rest) rest true refl high deep enough (close_after rest) (item_ends mode has rest))
     ∙ rw (append_one_item found i, g) refl
 items_turned mode has (item j is) again i first n (suc k) nest round ds found h rest long high high_more deep deep_more enough =
     let after : List Part = (item_spelling j ++ items_spelling is) ++ A sign.CloseSection ∷ rest in
     let g : max (max h (item_height i)) (max (item_height j) (items_height is)) ≡ max h (max (item_height i) (max (item_height j) (items_height is))) = omega arith in
     turn_next (place_turn (exp_of n) (command_of n) (definition_of n) mode nest round) k _ _
-    (item_turn mode has i first n nest round (piece (ds, found) h _) (A sign.Semicolon ∷ after) after false refl high deep enough (semicolon_behind after) (semicolon_ends mode after))
+    (item_turn mode has i first n nest round (piece (ds, found) h _) (A sign.Semicolon ∷ after) after false refl high deep enough (semicolon_after after) (semicolon_ends mode after))
     ∙ ap (λ (r : List Part). turns (place_turn (exp_of n) (command_of n) (definition_of n) mode nest round) k (piece (ds, add_item found i) (max h (item_height i)) r)) (append_assoc (item_spelling j) (items_spelling is) (A sign.CloseSection ∷ rest))
     ∙ items_turned mode has is again.1 j again.0 n k nest round ds (add_item found i) (max h (item_height i)) rest (omega arith) (omega arith) (omega arith) (omega arith) (omega arith) enough
     ∙ rw (append_more_items found i (item j is), g) refl
@@ -246,10 +246,10 @@ declarations_turned mode has no_declarations again d first n (suc j) k nest roun
     ∙ rw (append_one_declaration found d, g, same) refl
 declarations_turned mode has (declaration c ds) again d first n (suc j) k nest round found h tail after last is high high_more deep deep_more enough end no_and then =
     let between : List Part = (declaration_spelling c ++ declarations_spelling ds) ++ tail in
-    let behind : Quiet (A sign.Semicolon ∷ between) = (semicolon_behind between).quiet in
+    let remaining : Quiet (A sign.Semicolon ∷ between) = (semicolon_after between).quiet in
     let g : max (max h (declaration_height d)) (max (declaration_height c) (declarations_height ds)) ≡ max h (max (declaration_height d) (max (declaration_height c) (declarations_height ds))) = omega arith in
     turn_next (place_turn (exp_of n) (command_of n) (definition_of n) mode nest round) j _ _
-    (declaration_turn mode has d first n nest round (piece (found, no_items) h _) (A sign.Semicolon ∷ between) between false refl refl high deep enough behind refl (semicolon_ends mode between))
+    (declaration_turn mode has d first n nest round (piece (found, no_items) h _) (A sign.Semicolon ∷ between) between false refl refl high deep enough remaining refl (semicolon_ends mode between))
     ∙ ap (λ (r : List Part). turns (place_turn (exp_of n) (command_of n) (definition_of n) mode nest round) j (piece (add_declaration found d, no_items) (max h (declaration_height d)) r)) (append_assoc (declaration_spelling c) (declarations_spelling ds) tail)
     ∙ declarations_turned mode has ds again.1 c again.0 n j k nest round (add_declaration found d) (max h (declaration_height d)) tail after last (omega arith) (omega arith) (omega arith) (omega arith) (omega arith) enough end no_and then
     ∙ rw (append_more_declarations found d (declaration c ds), g) refl
@@ -257,7 +257,7 @@ declarations_turned mode has (declaration c ds) again d first n (suc j) k nest r
 -- ---- blocks
 
 items_place : (mode : Places) → HasItems mode → (i : Item) (is : Items) → ItemAgain i → ItemsAgain is → (n nest round : ℕ) (rest : List Part) → items_height (item i is) ≤ nest → items_rounds (item i is) ≤ round → nest + round ≤ n
-    → places_read (exp_of n) (command_of n) (definition_of n) mode nest round (behind_first (items_spelling (item i is)) ++ A sign.CloseSection ∷ rest) ≡ Ok (piece (no_declarations, item i is) (items_height (item i is)) rest)
+    → places_read (exp_of n) (command_of n) (definition_of n) mode nest round (after_first (items_spelling (item i is)) ++ A sign.CloseSection ∷ rest) ≡ Ok (piece (no_declarations, item i is) (items_height (item i is)) rest)
 unfolding places_read
 items_place mode has i is first again n nest round rest high deep enough =
     let ts : List Part = item_spelling i ++ (items_spelling is ++ A sign.CloseSection ∷ rest) in
@@ -303,7 +303,7 @@ block_places (declaration d ds) no_items first second n nest round rest high dee
     let long : length ts + 1 ≡ count_declarations ds + suc k = omega (arith, declarations_long ds, length-append (declaration_spelling d) (declarations_spelling ds ++ A sign.CloseSection ∷ rest), length-append (declarations_spelling ds) (A sign.CloseSection ∷ rest)) in
     let g : max 0 (max (declaration_height d) (declarations_height ds)) ≡ max (max (declaration_height d) (declarations_height ds)) 0 = omega arith in
     ap (places_read (exp_of n) (command_of n) (definition_of n) places.Block nest round) shape
-    ∙ declarations_turned places.Block tt ds first.1 d first.0 n (length ts + 1) k nest round no_declarations 0 (A sign.CloseSection ∷ rest) rest true long (omega arith) (omega arith) (omega arith) (omega arith) enough (close_behind rest).quiet refl refl
+    ∙ declarations_turned places.Block tt ds first.1 d first.0 n (length ts + 1) k nest round no_declarations 0 (A sign.CloseSection ∷ rest) rest true long (omega arith) (omega arith) (omega arith) (omega arith) enough (close_after rest).quiet refl refl
     ∙ ap (λ (h : ℕ). Ok (piece (declaration d ds, no_items) h rest)) g
 block_places (declaration d ds) (item i is) first second n nest round rest high deep enough =
     let after : List Part = item_spelling i ++ (items_spelling is ++ A sign.CloseSection ∷ rest) in
@@ -316,7 +316,7 @@ block_places (declaration d ds) (item i is) first second n nest round rest high 
     let items_fit : count_items is < k = omega (arith, size, declarations_long ds, items_long is) in
     let g : max (max 0 (max (declaration_height d) (declarations_height ds))) (max (item_height i) (items_height is)) ≡ max (max (declaration_height d) (declarations_height ds)) (max (item_height i) (items_height is)) = omega arith in
     ap (places_read (exp_of n) (command_of n) (definition_of n) places.Block nest round) shape
-    ∙ declarations_turned places.Block tt ds first.1 d first.0 n (length ts + 1) k nest round no_declarations 0 (A sign.Semicolon ∷ after) after false long (omega arith) (omega arith) (omega arith) (omega arith) enough (semicolon_behind after).quiet refl refl
+    ∙ declarations_turned places.Block tt ds first.1 d first.0 n (length ts + 1) k nest round no_declarations 0 (A sign.Semicolon ∷ after) after false long (omega arith) (omega arith) (omega arith) (omega arith) enough (semicolon_after after).quiet refl refl
     ∙ items_turned places.Block tt is second.1 i second.0 n k nest round (declaration d ds) no_items (max 0 (max (declaration_height d) (declarations_height ds))) rest items_fit (omega arith) (omega arith) (omega arith) (omega arith) enough
     ∙ ap (λ (h : ℕ). Ok (piece (declaration d ds, item i is) h rest)) g
 

@@ -124,7 +124,7 @@ section_places (declaration d ds) again high deep =
     let shape : section_spelling (declaration d ds) ≡ ts = ap (λ (r : List Part). declaration_spelling d ++ r) (sym (append-nil (declarations_spelling ds))) in
     let k : ℕ = length ts - count_declarations ds in
     let long : length ts + 1 ≡ count_declarations ds + suc k = omega (arith, declarations_long ds, length-append (declaration_spelling d) (declarations_spelling ds ++ []), length-append (declarations_spelling ds) []) in
-    let nothing : Quiet [] = record { behind = record { stops = refl; no_comma = refl; no_assign = refl }; no_repeat = refl } in
+    let nothing : Quiet [] = record { remaining = record { stops = refl; no_comma = refl; no_assign = refl }; no_repeat = refl } in
     let g : max 0 (max (declaration_height d) (declarations_height ds)) ≡ max (declaration_height d) (declarations_height ds) = omega arith in
     ap (places_read (exp_of 600) (command_of 600) (definition_of 600) places.Section 200 400) shape
     ∙ declarations_turned places.Section tt ds again.1 d again.0 600 (length ts + 1) k 200 400 no_declarations 0 [] [] true long (omega arith) (omega arith) (omega arith) (omega arith) (omega arith) nothing refl refl

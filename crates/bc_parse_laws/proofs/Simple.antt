@@ -1,4 +1,4 @@
--- Commands that REPEAT may follow, and the same with REPEAT behind them.
+-- Commands that REPEAT may follow, and the same with REPEAT after them.
 use Rattle.std.proofs.Common.{◌≡◌, ℕ, suc, ◌-◌, ◌+◌, ◌<◌, ◌≤◌, true, false, List, [], ◌∷◌, ◌++◌, length, max, None, Result, Ok, refl, sym, ap, subst, ◌∙◌, append_assoc, arith}
 use Rattle.std.proofs.Math.Numerals.{add-one}
 use Rattle.std.proofs.lemmas.Bool.{lt-ltb, eq-eqb}
@@ -8,12 +8,12 @@ use Rattle.bc_parse_tree.specs.Parts.{Part, A}
 use Rattle.bc_parse_tree.specs.Tree.{Exp, Exps, none, more, Block, block, Command}
 use Rattle.bc_parse_tree.specs.Tree as tree
 use Rattle.bc_parse_tree.specs.Spelling.{count}
-use Rattle.bc_parse_tree.specs.Canonical.{whole, part_of, routine_of, after_commas, behind_first, command_spelling}
+use Rattle.bc_parse_tree.specs.Canonical.{whole, part_of, routine_of, after_commas, after_first, command_spelling}
 use Rattle.bc_parse_tree.specs.Height.{exp_height, exps_height, block_height, command_height}
 use Rattle.bc_parse_defs.specs.Reading.{Fault, Piece, piece, turns, on, after_of, word_in, command_word_of, simple_word_of, exps_turn, exps_read, repeated, repeat_turn, repeats_read, assigned_read, simple_read, repeatable_read, command_read, exp_of, command_of, definition_of}
 use Rattle.bc_parse_laws.proofs.Rounds.{exp_rounds, exps_rounds, block_rounds, command_rounds}
 use Rattle.bc_parse_laws.proofs.Formed.{SomeExps, IsNoValof, EndsInNoValof}
-use Rattle.bc_parse_laws.proofs.Ends.{turn_last, turn_next, NoRepeat, Behind, Unrepeated, unrepeated, ExpHead, exp_head, routine_head}
+use Rattle.bc_parse_laws.proofs.Ends.{turn_last, turn_next, NoRepeat, After, Unrepeated, unrepeated, ExpHead, exp_head, routine_head}
 use Rattle.bc_parse_laws.proofs.Expressions.{WholeAgain, PartsAgain, counted, exps_again, last_exp}
 use Rattle.bc_parse_laws.proofs.Commands.{BlockAgain, CommandAgain, command_runs}
 
@@ -72,7 +72,7 @@ pub record Unwound (c : Command) (n nest round : ℕ) (rest : List Part) : Type 
   pub long : repeats c + length rest ≤ length base.rest
 
 abbrev pub SimpleAgain : Command → Type 0
-SimpleAgain c = (n nest round : ℕ) (rest : List Part) → command_height c ≤ nest → command_rounds c ≤ round → nest + round ≤ n + 1 → Behind rest → UnrepeatedEnd c rest → Unwound c n nest round rest
+SimpleAgain c = (n nest round : ℕ) (rest : List Part) → command_height c ≤ nest → command_rounds c ≤ round → nest + round ≤ n + 1 → After rest → UnrepeatedEnd c rest → Unwound c n nest round rest
 
 -- a command with no REPEAT word
 unwound : (c : Command) (n nest round : ℕ) (rest : List Part) → repeats c ≡ 0 → First n nest round (command_spelling c ++ rest) ≡ Ok (piece c (command_height c) rest) → word_in command_word_of (command_spelling c ++ rest) ≡ None → Unwound c n nest round rest
@@ -84,25 +84,25 @@ unwound c n nest round rest zero_repeats read no_command = record {
   long = omega arith;
 }
 
-pub exps_head : (es : Exps) → SomeExps es → (ts : List Part) → ExpHead (behind_first (after_commas es) ++ ts)
+pub exps_head : (es : Exps) → SomeExps es → (ts : List Part) → ExpHead (after_first (after_commas es) ++ ts)
 exps_head none some ts = absurd some
 exps_head (more e es) some ts = subst ExpHead (sym (append_assoc (part_of e (whole e)) (after_commas es) ts)) (exp_head e (after_commas es ++ ts))
 
-exps_long : (es : Exps) (ts : List Part) → count es ≤ length (behind_first (after_commas es) ++ ts) + 1
-exps_long es ts = omega (arith, counted es, length-append (behind_first (after_commas es)) ts, shorter (after_commas es))
+exps_long : (es : Exps) (ts : List Part) → count es ≤ length (after_first (after_commas es) ++ ts) + 1
+exps_long es ts = omega (arith, counted es, length-append (after_first (after_commas es)) ts, shorter (after_commas es))
   where
-    shorter : (ts : List Part) → length ts ≤ length (behind_first ts) + 1
+    shorter : (ts : List Part) → length ts ≤ length (after_first ts) + 1
     shorter [] = omega arith
     shorter (p ∷ ts) = omega arith
 
-assign_read : (xs es : Exps) → SomeExps xs → SomeExps es → count xs ≡ count es → PartsAgain xs → PartsAgain es → (n nest round : ℕ) (rest : List Part) → max (exps_height xs) (exps_height es) + 1 ≤ nest → max (exps_rounds xs) (exps_rounds es) ≤ round → nest + round ≤ n + 1 → Behind rest
-    → First n nest round (behind_first (after_commas xs) ++ A sign.Assign ∷ (behind_first (after_commas es) ++ rest)) ≡ Ok (piece (tree.Assign xs es) (max (exps_height xs) (exps_height es) + 1) rest)
+assign_read : (xs es : Exps) → SomeExps xs → SomeExps es → count xs ≡ count es → PartsAgain xs → PartsAgain es → (n nest round : ℕ) (rest : List Part) → max (exps_height xs) (exps_height es) + 1 ≤ nest → max (exps_rounds xs) (exps_rounds es) ≤ round → nest + round ≤ n + 1 → After rest
+    → First n nest round (after_first (after_commas xs) ++ A sign.Assign ∷ (after_first (after_commas es) ++ rest)) ≡ Ok (piece (tree.Assign xs es) (max (exps_height xs) (exps_height es) + 1) rest)
 unfolding assigned_read
 assign_read xs es some others same first second n nest round rest high deep enough end =
-    let ts : List Part = behind_first (after_commas xs) ++ A sign.Assign ∷ (behind_first (after_commas es) ++ rest) in
+    let ts : List Part = after_first (after_commas xs) ++ A sign.Assign ∷ (after_first (after_commas es) ++ rest) in
     rw (
-      (exps_head xs some (A sign.Assign ∷ (behind_first (after_commas es) ++ rest))).no_simple,
-      exps_again xs some first n (nest - 1) round 1 (length ts + 1) (A sign.Assign ∷ (behind_first (after_commas es) ++ rest)) (exps_long xs _) (omega arith) (omega arith) (omega arith) refl refl,
+      (exps_head xs some (A sign.Assign ∷ (after_first (after_commas es) ++ rest))).no_simple,
+      exps_again xs some first n (nest - 1) round 1 (length ts + 1) (A sign.Assign ∷ (after_first (after_commas es) ++ rest)) (exps_long xs _) (omega arith) (omega arith) (omega arith) refl refl,
       exps_again es others second n (nest - 1) round 1 (count xs) rest (omega arith) (omega arith) (omega arith) (omega arith) end.stops end.no_comma,
       eq-eqb (count es) (count xs) (sym same),
     ) refl
@@ -114,7 +114,7 @@ as_many (more x xs) (more e es) some same = tt
 
 pub assign_again : (xs es : Exps) → SomeExps xs → count xs ≡ count es → PartsAgain xs → PartsAgain es → SimpleAgain (tree.Assign xs es)
 assign_again xs es some same first second n nest round rest high deep enough end quiet =
-    let regroup : command_spelling (tree.Assign xs es) ++ rest ≡ behind_first (after_commas xs) ++ A sign.Assign ∷ (behind_first (after_commas es) ++ rest) = append_assoc (behind_first (after_commas xs)) (A sign.Assign ∷ behind_first (after_commas es)) rest in
+    let regroup : command_spelling (tree.Assign xs es) ++ rest ≡ after_first (after_commas xs) ++ A sign.Assign ∷ (after_first (after_commas es) ++ rest) = append_assoc (after_first (after_commas xs)) (A sign.Assign ∷ after_first (after_commas es)) rest in
     unwound (tree.Assign xs es) n nest round rest refl
     (ap (First n nest round) regroup ∙ assign_read xs es some (as_many xs es some same) same first second n nest round rest high deep enough end)
     (ap (word_in command_word_of) regroup ∙ (exps_head xs some _).no_command)
@@ -125,7 +125,7 @@ unfolding exps_read
 one_exp_read n nest round limit ts rest e height read no_comma =
     rw (add-one (length ts)) (turn_last (exps_turn (exp_of n) nest round 1 limit) (length ts) (piece none 0 ts) (piece (more e none) (max 0 height) rest) (last_exp (exp_of n) nest round 1 limit (piece none 0 ts) e height rest read no_comma))
 
-do_read_again : (f : Exp) (es : Exps) → WholeAgain (tree.Call f es) → (n nest round : ℕ) (rest : List Part) → exp_height (tree.Call f es) + 1 ≤ nest → exp_rounds (tree.Call f es) ≤ round → nest + round ≤ n + 1 → Behind rest
+do_read_again : (f : Exp) (es : Exps) → WholeAgain (tree.Call f es) → (n nest round : ℕ) (rest : List Part) → exp_height (tree.Call f es) + 1 ≤ nest → exp_rounds (tree.Call f es) ≤ round → nest + round ≤ n + 1 → After rest
     → word_in simple_word_of (whole (tree.Call f es) ++ rest) ≡ None
     → First n nest round (whole (tree.Call f es) ++ rest) ≡ Ok (piece (tree.Do f es) (exp_height (tree.Call f es) + 1) rest)
 unfolding assigned_read
@@ -136,7 +136,7 @@ do_read_again f es again n nest round rest high deep enough end head =
 
 pub do_again : (f : Exp) (es : Exps) → WholeAgain (tree.Call f es) → SimpleAgain (tree.Do f es)
 do_again f es again n nest round rest high deep enough end quiet =
-    let regroup : whole (tree.Call f es) ++ rest ≡ routine_of f (whole f) ++ A sign.OpenBracket ∷ ((behind_first (after_commas es) ++ A sign.CloseBracket ∷ []) ++ rest) = append_assoc (routine_of f (whole f)) _ rest in
+    let regroup : whole (tree.Call f es) ++ rest ≡ routine_of f (whole f) ++ A sign.OpenBracket ∷ ((after_first (after_commas es) ++ A sign.CloseBracket ∷ []) ++ rest) = append_assoc (routine_of f (whole f)) _ rest in
     let head = subst ExpHead (sym regroup) (routine_head f _) in
     unwound (tree.Do f es) n nest round rest refl (do_read_again f es again n nest round rest high deep enough end head.no_simple) head.no_command
 
@@ -200,44 +200,44 @@ until_turned n nest round s after rest e height is room read = rw (is, lt-ltb s.
 pub repeat_again : (c : Command) → SimpleAgain c → EndsInNoValof c → SimpleAgain (tree.Repeat c)
 repeat_again c again no_end n nest round rest high deep enough end quiet =
     let step = repeat_turn (exp_of n) nest round in
-    let behind : List Part = A sign.Repeat ∷ rest in
-    let regroup : command_spelling (tree.Repeat c) ++ rest ≡ command_spelling c ++ behind = append_assoc (command_spelling c) (A sign.Repeat ∷ []) rest in
-    let inner : Unwound c n nest round behind = again n nest round behind (omega arith) deep enough (record { stops = refl; no_comma = refl; no_assign = refl }) (no_valof_end c behind no_end) in
+    let remaining : List Part = A sign.Repeat ∷ rest in
+    let regroup : command_spelling (tree.Repeat c) ++ rest ≡ command_spelling c ++ remaining = append_assoc (command_spelling c) (A sign.Repeat ∷ []) rest in
+    let inner : Unwound c n nest round remaining = again n nest round remaining (omega arith) deep enough (record { stops = refl; no_comma = refl; no_assign = refl }) (no_valof_end c remaining no_end) in
     record {
       base = inner.base;
       read = ap (First n nest round) regroup ∙ inner.read;
       no_command = ap (word_in command_word_of) regroup ∙ inner.no_command;
-      turned = λ j k is. inner.turned j (suc k) (omega arith) ∙ turn_next step k (piece c (command_height c) behind) (piece (tree.Repeat c) (command_height c + 1) rest) (repeat_turned n nest round (piece c (command_height c) behind) rest refl (omega arith));
+      turned = λ j k is. inner.turned j (suc k) (omega arith) ∙ turn_next step k (piece c (command_height c) remaining) (piece (tree.Repeat c) (command_height c + 1) rest) (repeat_turned n nest round (piece c (command_height c) remaining) rest refl (omega arith));
       long = omega (arith, inner.long);
     }
 
 pub repeat_while_again : (c : Command) (e : Exp) → SimpleAgain c → WholeAgain e → EndsInNoValof c → SimpleAgain (tree.RepeatWhile c e)
 repeat_while_again c e again test no_end n nest round rest high deep enough end quiet =
     let step = repeat_turn (exp_of n) nest round in
-    let behind : List Part = A sign.RepeatWhile ∷ (whole e ++ rest) in
-    let regroup : command_spelling (tree.RepeatWhile c e) ++ rest ≡ command_spelling c ++ behind = append_assoc (command_spelling c) (A sign.RepeatWhile ∷ whole e) rest in
-    let inner : Unwound c n nest round behind = again n nest round behind (omega arith) (omega arith) enough (record { stops = refl; no_comma = refl; no_assign = refl }) (no_valof_end c behind no_end) in
+    let remaining : List Part = A sign.RepeatWhile ∷ (whole e ++ rest) in
+    let regroup : command_spelling (tree.RepeatWhile c e) ++ rest ≡ command_spelling c ++ remaining = append_assoc (command_spelling c) (A sign.RepeatWhile ∷ whole e) rest in
+    let inner : Unwound c n nest round remaining = again n nest round remaining (omega arith) (omega arith) enough (record { stops = refl; no_comma = refl; no_assign = refl }) (no_valof_end c remaining no_end) in
     let read : exp_of n (nest - 1) round 1 (whole e ++ rest) ≡ Ok (piece e (exp_height e) rest) = test n (nest - 1) round rest (omega arith) (omega arith) (omega arith) end quiet in
     record {
       base = inner.base;
       read = ap (First n nest round) regroup ∙ inner.read;
       no_command = ap (word_in command_word_of) regroup ∙ inner.no_command;
-      turned = λ j k is. inner.turned j (suc k) (omega arith) ∙ turn_next step k (piece c (command_height c) behind) (piece (tree.RepeatWhile c e) (max (command_height c) (exp_height e) + 1) rest) (while_turned n nest round (piece c (command_height c) behind) (whole e ++ rest) rest e (exp_height e) refl (omega arith) read);
+      turned = λ j k is. inner.turned j (suc k) (omega arith) ∙ turn_next step k (piece c (command_height c) remaining) (piece (tree.RepeatWhile c e) (max (command_height c) (exp_height e) + 1) rest) (while_turned n nest round (piece c (command_height c) remaining) (whole e ++ rest) rest e (exp_height e) refl (omega arith) read);
       long = omega (arith, inner.long, length-append (whole e) rest);
     }
 
 pub repeat_until_again : (c : Command) (e : Exp) → SimpleAgain c → WholeAgain e → EndsInNoValof c → SimpleAgain (tree.RepeatUntil c e)
 repeat_until_again c e again test no_end n nest round rest high deep enough end quiet =
     let step = repeat_turn (exp_of n) nest round in
-    let behind : List Part = A sign.RepeatUntil ∷ (whole e ++ rest) in
-    let regroup : command_spelling (tree.RepeatUntil c e) ++ rest ≡ command_spelling c ++ behind = append_assoc (command_spelling c) (A sign.RepeatUntil ∷ whole e) rest in
-    let inner : Unwound c n nest round behind = again n nest round behind (omega arith) (omega arith) enough (record { stops = refl; no_comma = refl; no_assign = refl }) (no_valof_end c behind no_end) in
+    let remaining : List Part = A sign.RepeatUntil ∷ (whole e ++ rest) in
+    let regroup : command_spelling (tree.RepeatUntil c e) ++ rest ≡ command_spelling c ++ remaining = append_assoc (command_spelling c) (A sign.RepeatUntil ∷ whole e) rest in
+    let inner : Unwound c n nest round remaining = again n nest round remaining (omega arith) (omega arith) enough (record { stops = refl; no_comma = refl; no_assign = refl }) (no_valof_end c remaining no_end) in
     let read : exp_of n (nest - 1) round 1 (whole e ++ rest) ≡ Ok (piece e (exp_height e) rest) = test n (nest - 1) round rest (omega arith) (omega arith) (omega arith) end quiet in
     record {
       base = inner.base;
       read = ap (First n nest round) regroup ∙ inner.read;
       no_command = ap (word_in command_word_of) regroup ∙ inner.no_command;
-      turned = λ j k is. inner.turned j (suc k) (omega arith) ∙ turn_next step k (piece c (command_height c) behind) (piece (tree.RepeatUntil c e) (max (command_height c) (exp_height e) + 1) rest) (until_turned n nest round (piece c (command_height c) behind) (whole e ++ rest) rest e (exp_height e) refl (omega arith) read);
+      turned = λ j k is. inner.turned j (suc k) (omega arith) ∙ turn_next step k (piece c (command_height c) remaining) (piece (tree.RepeatUntil c e) (max (command_height c) (exp_height e) + 1) rest) (until_turned n nest round (piece c (command_height c) remaining) (whole e ++ rest) rest e (exp_height e) refl (omega arith) read);
       long = omega (arith, inner.long, length-append (whole e) rest);
     }
 
@@ -277,4 +277,4 @@ simple_runs c n nest round rest u quiet = rw (u.no_command, u.read) (all_turned 
 
 pub simple_command : (c : Command) → SimpleAgain c → CommandAgain c
 simple_command c again n nest round rest high deep enough end =
-    command_runs n nest round _ _ (omega (arith, command_height_positive c)) enough (λ m le. simple_runs c m nest round rest (again m nest round rest high deep le end.behind (quiet_end c rest end.no_repeat)) end.no_repeat)
+    command_runs n nest round _ _ (omega (arith, command_height_positive c)) enough (λ m le. simple_runs c m nest round rest (again m nest round rest high deep le end.remaining (quiet_end c rest end.no_repeat)) end.no_repeat)

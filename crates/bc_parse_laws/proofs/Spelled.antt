@@ -12,7 +12,7 @@ use Rattle.bc_parse_tree.specs.Tree as tree
 use Rattle.bc_parse_tree.specs.Operators.{level_of}
 use Rattle.bc_parse_tree.specs.Spelling.{Spells, of_level, prefixed, IsOfLevel, SpellsExps, one, next, SpellsArguments, no_arguments, arguments, SpellsSection, section, SpellsBlock, block_brackets, SpellsPlaces, ended, last_declaration, last_item, SpellsEnded, nothing, gap, declared, placed, semicolon, IsConstantSign, equal, colon, SpellsDeclaration, SpellsEntries, all_entries_ended, last_entry, EndedEntries, no_entry, entry_gap, entered, SpellsDefinitions, one_definition, next_definition, SpellsDefinition, SpellsItem, labelled, labels_alone, SpellsLabels, no_more, named_label, SpellsBody, body_command, SpellsDo, do_body, SpellsSimple, SpellsCommand, count, add_exp, add_entry, add_definition, add_declaration, add_label, add_item}
 use Rattle.bc_parse_tree.specs.Spelling as spell
-use Rattle.bc_parse_tree.specs.Canonical.{part_of, routine_of, entry_sign, behind_first, whole, after_commas, block_spelling, declarations_spelling, declaration_spelling, entries_spelling, definitions_spelling, definition_spelling, items_spelling, item_spelling, labels_spelling, label_spelling, command_spelling, section_spelling}
+use Rattle.bc_parse_tree.specs.Canonical.{part_of, routine_of, entry_sign, after_first, whole, after_commas, block_spelling, declarations_spelling, declaration_spelling, entries_spelling, definitions_spelling, definition_spelling, items_spelling, item_spelling, labels_spelling, label_spelling, command_spelling, section_spelling}
 use Rattle.bc_parse_laws.proofs.Formed.{SomeExps, SomeDefinitions, SomeLabels, IsSimple, FormedExp, FormedExps, FormedBlock, FormedDeclaration, FormedDeclarations, FormedEntries, FormedDefinition, FormedDefinitions, FormedItem, FormedItems, FormedLabel, FormedLabels, FormedCommand}
 use Rattle.bc_parse_laws.proofs.Grammar.{Any}
 use Rattle.bc_parse_laws.proofs.Expressions.{append_exps, append_more}
@@ -86,11 +86,11 @@ more_exps level ds (more e es) ts all s =
     let longer = more_exps level (add_exp ds e) es (ts ++ A sign.Comma ∷ part_of e (whole e)) all.1 (next s (of_level (part_spelled level e all.0))) in
     rw (← append_more ds e es) (subst (λ (r : List Part). SpellsExps level (append_exps (add_exp ds e) es) r) (append_assoc ts (A sign.Comma ∷ part_of e (whole e)) (after_commas es)) longer)
 
-exps_spelled : (level : ℕ) (es : Exps) → SomeExps es → ExpsSpelled es → SpellsExps level es (behind_first (after_commas es))
+exps_spelled : (level : ℕ) (es : Exps) → SomeExps es → ExpsSpelled es → SpellsExps level es (after_first (after_commas es))
 exps_spelled level none some all = absurd some
 exps_spelled level (more e es) some all = more_exps level (more e none) es (part_of e (whole e)) all.1 (one (of_level (part_spelled level e all.0)))
 
-arguments_spelled : (es : Exps) → ExpsSpelled es → SpellsArguments es (behind_first (after_commas es))
+arguments_spelled : (es : Exps) → ExpsSpelled es → SpellsArguments es (after_first (after_commas es))
 arguments_spelled none all = no_arguments
 arguments_spelled (more e es) all = arguments (exps_spelled 1 (more e es) tt all)
 
@@ -110,7 +110,7 @@ more_entries s ds (entry m j es) n k ts f all so_far =
     let longer = more_entries s (add_entry ds n k) es m j (ts ++ ((Name n ∷ A (entry_sign s) ∷ part_of k (whole k)) ++ A sign.Semicolon ∷ [])) all.0 all.1 (entered n so_far (sign_is s) (of_level (part_spelled 2 k f)) semicolon) in
     rw (← append_more_entries ds n k (entry m j es)) (subst (λ (r : List Part). SpellsEntries (append_entries (add_entry ds n k) (entry m j es)) r) (simp append_assoc) longer)
 
-entries_spelled : (s : Storage) (es : Entries) → EntriesSpelled es → SpellsEntries es (behind_first (entries_spelling (entry_sign s) es))
+entries_spelled : (s : Storage) (es : Entries) → EntriesSpelled es → SpellsEntries es (after_first (entries_spelling (entry_sign s) es))
 entries_spelled s no_entries all = all_entries_ended no_entry
 entries_spelled s (entry n k es) all = more_entries s no_entries es n k [] all.0 all.1 no_entry
 
@@ -128,7 +128,7 @@ more_definitions ds (definition d es) ts all s =
     let longer = more_definitions (add_definition ds d) es (ts ++ A sign.And ∷ definition_spelling d) all.1 (next_definition s all.0) in
     rw (← append_more_definitions ds d es) (subst (λ (r : List Part). SpellsDefinitions (append_definitions (add_definition ds d) es) r) (append_assoc ts (A sign.And ∷ definition_spelling d) (definitions_spelling es)) longer)
 
-definitions_spelled : (ds : Definitions) → SomeDefinitions ds → DefinitionsSpelled ds → SpellsDefinitions ds (behind_first (definitions_spelling ds))
+definitions_spelled : (ds : Definitions) → SomeDefinitions ds → DefinitionsSpelled ds → SpellsDefinitions ds (after_first (definitions_spelling ds))
 definitions_spelled no_definitions some all = absurd some
 definitions_spelled (definition d ds) some all = more_definitions (definition d no_definitions) ds (definition_spelling d) all.1 (one_definition all.0)
 
@@ -181,7 +181,7 @@ more_declarations cs (declaration e ds) is d ts f all items so_far =
     let longer = more_declarations (add_declaration cs d) ds is e (ts ++ (declaration_spelling d ++ A sign.Semicolon ∷ [])) all.0 all.1 items (declared so_far f semicolon) in
     rw (← append_more_declarations cs d (declaration e ds)) (subst (λ (r : List Part). SpellsPlaces (append_declarations (add_declaration cs d) (declaration e ds)) is r) (simp append_assoc) longer)
 
-places_spelled : (ds : Declarations) (is : Items) → DeclarationsSpelled ds → ItemsSpelled is → SpellsPlaces ds is (behind_first (declarations_spelling ds ++ items_spelling is))
+places_spelled : (ds : Declarations) (is : Items) → DeclarationsSpelled ds → ItemsSpelled is → SpellsPlaces ds is (after_first (declarations_spelling ds ++ items_spelling is))
 places_spelled no_declarations no_items all items = ended nothing
 places_spelled no_declarations (item i is) all items = more_items no_declarations no_items is i [] items.0 items.1 nothing
 places_spelled (declaration d ds) is all items =
@@ -300,4 +300,4 @@ mutual
   command_spelled (tree.SwitchOn e is) f = compound (tree.SwitchOn e is) (λ h. h) (spell.switch_on (whole_spelled e f.0) (places_spelled no_declarations is tt (items_spelled is f.1)))
 
 pub section_spelled : (ds : Declarations) → FormedDeclarations Any ds → SpellsSection ds (section_spelling ds)
-section_spelled ds f = section (subst (λ (ts : List Part). SpellsPlaces ds no_items (behind_first ts)) (append-nil (declarations_spelling ds)) (places_spelled ds no_items (declarations_spelled ds f) tt))
+section_spelled ds f = section (subst (λ (ts : List Part). SpellsPlaces ds no_items (after_first ts)) (append-nil (declarations_spelling ds)) (places_spelled ds no_items (declarations_spelled ds f) tt))

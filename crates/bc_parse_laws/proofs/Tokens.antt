@@ -42,19 +42,19 @@ effect (token.Number n) = stays refl (λ m ts. refl)
 effect (token.Character n) = stays refl (λ m ts. refl)
 effect (token.String n) = stays refl (λ m ts. refl)
 
--- one token, and what is left to close behind it
+-- one token, and what is left to close after it
 record OneClosed (at : ℕ) (opened : List (List ℕ)) (ends : Bool) (t : Lexeme) (ts : List Part) : Type 0 where
-  behind : Step
-  step : token_step at opened ends t ≡ Ok behind
-  out : behind.out ≡ (kind_part t.kind, at) ∷ []
-  left : left_open ts (length behind.opened) ≡ Some 0
+  remaining : Step
+  step : token_step at opened ends t ≡ Ok remaining
+  out : remaining.out ≡ (kind_part t.kind, at) ∷ []
+  left : left_open ts (length remaining.opened) ≡ Some 0
 
 one_closed : (at : ℕ) (opened : List (List ℕ)) (last : Bool) (t : Lexeme) (ts : List Part) → IsBare t → left_open (kind_part t.kind ∷ ts) (length opened) ≡ Some 0 → OneClosed at opened last t ts
 one_closed at opened last t ts bare left = by t.kind refl (effect t.kind)
   where
     by : (k : Kind) → t.kind ≡ k → Effect k → OneClosed at opened last t ts
     by (token.Sign sign.OpenSection) is opens = record {
-      behind = record { out = broken last t.line_before (A sign.OpenSection) at; opened = tag_of t ∷ opened; ends = false };
+      remaining = record { out = broken last t.line_before (A sign.OpenSection) at; opened = tag_of t ∷ opened; ends = false };
       step = ap (λ (k : Kind). step_by (role_of k) at opened last t) is;
       out = no_break last t.line_before (A sign.OpenSection) at bare.no_line ∙ ap (λ (k : Kind). (kind_part k, at) ∷ []) (sym is);
       left = sym (ap (λ (k : Kind). left_open (kind_part k ∷ ts) (length opened)) is) ∙ left;
@@ -64,13 +64,13 @@ one_closed at opened last t ts bare left = by t.kind refl (effect t.kind)
         close : (os : List (List ℕ)) → left_open (A sign.CloseSection ∷ ts) (length os) ≡ Some 0 → OneClosed at os last t ts
         close [] none = absurd cc
         close (o ∷ os) some = record {
-          behind = record { out = (A sign.CloseSection, at) ∷ []; opened = os; ends = true };
+          remaining = record { out = (A sign.CloseSection, at) ∷ []; opened = os; ends = true };
           step = ap (λ (k : Kind). step_by (role_of k) at (o ∷ os) last t) is ∙ ap (λ (tag : List ℕ). closing at (closes tag (o ∷ os))) (bare.no_tag is);
           out = ap (λ (k : Kind). (kind_part k, at) ∷ []) (sym is);
           left = some;
         }
     by k is (stays role depth) = record {
-      behind = record { out = broken last t.line_before (kind_part t.kind) at; opened = opened; ends = ends_command (kind_part t.kind) };
+      remaining = record { out = broken last t.line_before (kind_part t.kind) at; opened = opened; ends = ends_command (kind_part t.kind) };
       step = ap (λ (r : Role). step_by r at opened last t) (ap role_of is ∙ role);
       out = no_break last t.line_before (kind_part t.kind) at bare.no_line;
       left = sym (ap (λ (j : Kind). left_open (kind_part j ∷ ts) (length opened)) is ∙ depth (length opened) ts) ∙ left;
@@ -81,7 +81,7 @@ bare_closed [] at [] last bare left = refl
 bare_closed [] at (o ∷ os) last bare left = absurd cc
 bare_closed (t ∷ ts) at opened last bare left =
     let one = one_closed at opened last t (parts_of ts) (All-head IsBare t ts bare) left in
-    rw (one.step, bare_closed ts (at + 1) one.behind.opened one.behind.ends (All-tail IsBare t ts bare) one.left, one.out) refl
+    rw (one.step, bare_closed ts (at + 1) one.remaining.opened one.remaining.ends (All-tail IsBare t ts bare) one.left, one.out) refl
 
 -- the closed list of a canonical spelling is that spelling
 pub spelling_closed : (ds : Declarations) (ts : List Lexeme) → IsSpelling ds ts → (ps : List Placed) × (closed_list ts ≡ Ok ps) × (parts_in ps ≡ section_spelling ds)

@@ -68,7 +68,7 @@ three_open = refl
 abbrev routine : Block → Declarations
 routine d = declaration (tree.Let (definition (tree.Routine x [] d) no_definitions)) no_declarations
 
--- A VALOF's body takes a REPEAT word behind it: RESULTIS VALOF $( A() $) REPEAT, where the RESULTIS is meant to be repeated,
+-- A VALOF's body takes a REPEAT word after it: RESULTIS VALOF $( A() $) REPEAT, where the RESULTIS is meant to be repeated,
 -- is read with that body repeated.
 meant_repeated : Declarations
 meant_repeated = routine (only (tree.Repeat (tree.ResultIs (tree.Valof (only (tree.Do a none))))))

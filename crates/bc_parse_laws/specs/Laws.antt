@@ -18,7 +18,7 @@ abbrev pub SpellingIsSpelled : Type 0
 SpellingIsSpelled = (ds : Declarations) (ts : List Part) → SpellsSection ds ts → SpellsSection ds (section_spelling ds)
 
 -- the canonical spelling of a section that the grammar has a spelling for is read as that section, if it nests at most 200 deep, opens
--- at most 400 round brackets at once, and has no REPEAT word behind a VALOF's body
+-- at most 400 round brackets at once, and has no REPEAT word after a VALOF's body
 abbrev pub SpellingIsRead : Type 0
 SpellingIsRead = (ds : Declarations) (ts : List Part) → SpellsSection ds ts → declarations_height ds ≤ 200 → most_open 0 (section_spelling ds) ≤ 400
     → RepeatsNoValof (section_spelling ds) → section_of (section_spelling ds) ≡ Ok ds

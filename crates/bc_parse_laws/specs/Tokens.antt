@@ -7,7 +7,7 @@ use Rattle.bc_parse_tree.specs.Tree.{Declarations}
 use Rattle.bc_parse_tree.specs.Canonical.{section_spelling}
 use Rattle.bc_parse_defs.specs.Closing.{kind_part, tag_of}
 
--- no line break stands before the token, and no tag behind it if it closes a section
+-- no line break stands before the token, and no tag after it if it closes a section
 pub record IsBare (t : Lexeme) : Type 0 where
   pub no_line : t.line_before ≡ false
   pub no_tag : t.kind ≡ token.Sign sign.CloseSection → tag_of t ≡ []

@@ -7,7 +7,7 @@ use Rattle.std.proofs.lemmas.Bool.{and_parts, eqb-true}
 use Rattle.std.proofs.lemmas.Bool.Decides.{eqb_tells}
 use Rattle.std.proofs.lemmas.Fmt.{decimal_by_steps}
 use Rattle.bc_lex.specs.Bytes.{digit_of}
-use Rattle.bc_lex.specs.Lexemes.{IsNumber, Decimal, Ends, is_digit_of, value_behind}
+use Rattle.bc_lex.specs.Lexemes.{IsNumber, Decimal, Ends, is_digit_of, value_after}
 
 -- a test holds of all numbers below a bound
 abbrev pub below : ℕ → (ℕ → Bool) → Bool
@@ -37,16 +37,16 @@ digit_read d lt =
 -- digits that are there, and their value
 pub record AreDigits (n : ℕ) (ds : List ℕ) : Type 0 where
   pub digits : list_all (is_digit_of 10) ds ≡ true
-  pub value : value_behind 10 0 ds ≡ n
+  pub value : value_after 10 0 ds ≡ n
   pub some : 0 < length ds
 
-all_behind : (ds : List ℕ) (d : ℕ) → list_all (is_digit_of 10) ds ≡ true → is_digit_of 10 d ≡ true → list_all (is_digit_of 10) (ds ++ d ∷ []) ≡ true
-all_behind [] d h e = rw e refl
-all_behind (b ∷ ds) d h e =
+all_after : (ds : List ℕ) (d : ℕ) → list_all (is_digit_of 10) ds ≡ true → is_digit_of 10 d ≡ true → list_all (is_digit_of 10) (ds ++ d ∷ []) ≡ true
+all_after [] d h e = rw e refl
+all_after (b ∷ ds) d h e =
     let p = and_parts (is_digit_of 10 b) (list_all (is_digit_of 10) ds) h in
-    rw (p.0) (all_behind ds d p.1 e)
+    rw (p.0) (all_after ds d p.1 e)
 
-value_more : (n : ℕ) (ds : List ℕ) (d : ℕ) → value_behind 10 n (ds ++ d ∷ []) ≡ value_behind 10 n ds * 10 + unwrap_or (digit_of 10 d) 0
+value_more : (n : ℕ) (ds : List ℕ) (d : ℕ) → value_after 10 n (ds ++ d ∷ []) ≡ value_after 10 n ds * 10 + unwrap_or (digit_of 10 d) 0
 value_more n [] d = refl
 value_more n (b ∷ ds) d = value_more (n * 10 + unwrap_or (digit_of 10 b) 0) ds d
 
@@ -61,8 +61,8 @@ more_digits n ds h a =
     let p = digit_read (n % 10) lt in
     let v = value_more 0 ds (48 + n % 10) in
     record {
-      digits = all_behind ds (48 + n % 10) a.digits p.0;
-      value = v ∙ (let e : value_behind 10 0 ds * 10 + unwrap_or (digit_of 10 (48 + n % 10)) 0 ≡ n = rw (a.value, p.1) (omega arith) in e);
+      digits = all_after ds (48 + n % 10) a.digits p.0;
+      value = v ∙ (let e : value_after 10 0 ds * 10 + unwrap_or (digit_of 10 (48 + n % 10)) 0 ≡ n = rw (a.value, p.1) (omega arith) in e);
       some = omega (arith, length-append ds ((48 + n % 10) ∷ []));
     }
 

@@ -59,11 +59,11 @@ no_tag (Character c) h file start line e = absurd cc
 no_tag (String s) h file start line e = absurd cc
 no_tag NewLine h file start line e = absurd h
 
--- tokens, each behind a blank
-abbrev behind_blanks : List Part → List ℕ
-behind_blanks = flat_map (λ t. 32 ∷ text_of t)
+-- tokens, each after a blank
+abbrev after_blanks : List Part → List ℕ
+after_blanks = flat_map (λ t. 32 ∷ text_of t)
 
-spaced : (ts : List Part) → Spaced (behind_blanks ts)
+spaced : (ts : List Part) → Spaced (after_blanks ts)
 spaced [] = nothing
 spaced (t ∷ ts) = blank
 
@@ -74,27 +74,27 @@ record AreLeft (files : List File) (before at : ℕ) (bytes : List ℕ) (ts : Li
   same : map (λ t. kind_part t.kind) tokens ≡ ts
   bare : All IsBare tokens
 
--- one token more, behind this gap
-one_more : (files : List File) (before at : ℕ) (gap : List ℕ) (t : Part) (ts : List Part) → IsToken t → before < 60000 → IsGap gap (text_of t ++ behind_blanks ts) → breaks gap ≡ false
-    → AreLeft files (before + 1) (at + length gap + length (text_of t)) (behind_blanks ts) ts
-    → AreLeft files before at (gap ++ (text_of t ++ behind_blanks ts)) (t ∷ ts)
+-- one token more, after this gap
+one_more : (files : List File) (before at : ℕ) (gap : List ℕ) (t : Part) (ts : List Part) → IsToken t → before < 60000 → IsGap gap (text_of t ++ after_blanks ts) → breaks gap ≡ false
+    → AreLeft files (before + 1) (at + length gap + length (text_of t)) (after_blanks ts) ts
+    → AreLeft files before at (gap ++ (text_of t ++ after_blanks ts)) (t ∷ ts)
 one_more files before at gap t ts h few space line left = record {
   tokens = token 0 (at + length gap) (breaks gap) (kind t) (text_of t) ∷ left.tokens;
-  read = Next 8 0 before at false gap (text_of t) (behind_blanks ts) (kind t) left.tokens Whole space (lexeme t h (behind_blanks ts) (spaced ts)) (no_get t h) few left.read;
+  read = Next 8 0 before at false gap (text_of t) (after_blanks ts) (kind t) left.tokens Whole space (lexeme t h (after_blanks ts) (spaced ts)) (no_get t h) few left.read;
   same = (let e : kind_part (kind t) ∷ map (λ u. kind_part u.kind) left.tokens ≡ t ∷ ts = rw (same_part t h, left.same) refl in e);
   bare = All-cons IsBare (token 0 (at + length gap) (breaks gap) (kind t) (text_of t)) left.tokens (record { no_line = line; no_tag = no_tag t h 0 (at + length gap) (breaks gap) }) left.bare;
 }
 
-left_over : (files : List File) (before at : ℕ) (ts : List Part) → AllByRecursion IsToken ts → before + length ts ≤ 60000 → AreLeft files before at (behind_blanks ts) ts
+left_over : (files : List File) (before at : ℕ) (ts : List Part) → AllByRecursion IsToken ts → before + length ts ≤ 60000 → AreLeft files before at (after_blanks ts) ts
 left_over files before at [] all few = record { tokens = []; read = End 8 0 before at false [] (Nothing []); same = refl; bare = All-nil IsBare }
 left_over files before at (t ∷ ts) all few =
-    let space = More (32 ∷ []) [] (text_of t ++ behind_blanks ts) (Space 32 (text_of t ++ behind_blanks ts) refl) (Nothing (text_of t ++ behind_blanks ts)) in
+    let space = More (32 ∷ []) [] (text_of t ++ after_blanks ts) (Space 32 (text_of t ++ after_blanks ts) refl) (Nothing (text_of t ++ after_blanks ts)) in
     one_more files before at (32 ∷ []) t ts all.0 (omega arith) space refl (left_over files (before + 1) (at + 1 + length (text_of t)) ts all.1 (omega arith))
 
 all_left : (files : List File) (ts : List Part) → AllByRecursion IsToken ts → length ts ≤ 60000 → AreLeft files 0 0 (rendered ts) ts
 all_left files [] all few = record { tokens = []; read = End 8 0 0 0 false [] (Nothing []); same = refl; bare = All-nil IsBare }
 all_left files (t ∷ ts) all few =
-    one_more files 0 0 [] t ts all.0 (lit< tt) (Nothing (text_of t ++ behind_blanks ts)) refl (left_over files 1 (0 + 0 + length (text_of t)) ts all.1 (omega arith))
+    one_more files 0 0 [] t ts all.0 (lit< tt) (Nothing (text_of t ++ after_blanks ts)) refl (left_over files 1 (0 + 0 + length (text_of t)) ts all.1 (omega arith))
 
 pub reread : (name : List ℕ) (ts : List Part) → AllByRecursion IsToken ts → length ts ≤ 60000 → IsReread name ts
 reread name ts all few =

@@ -32,7 +32,7 @@ IsToken (Character c) = c < 256
 IsToken (String s) = IsString s
 IsToken NewLine = ⊥
 
--- a file with the text of the parts has these parts as its tokens, none behind a line break, and no tag behind a `$)`
+-- a file with the text of the parts has these parts as its tokens, none after a line break, and no tag after a `$)`
 pub record IsReread (name : List ℕ) (ts : List Part) : Type 0 where
   pub tokens : List Lexeme
   pub read : HasTokens (record { name = name; text = rendered ts } ∷ []) 0 tokens
@@ -45,7 +45,7 @@ AreReread = (name : List ℕ) (ts : List Part) → AllByRecursion IsToken ts →
 
 -- A section that the grammar has a spelling for, whose canonical spelling can be read back: it nests at most 200 deep, and its
 -- canonical spelling has at most 60,000 tokens, each one of some source, opens at most 400 round brackets at once, and has no
--- REPEAT word behind a VALOF's body.
+-- REPEAT word after a VALOF's body.
 pub record IsReadable (ds : Declarations) : Type 0 where
   pub some_spelling : List Part
   pub is_spelled : SpellsSection ds some_spelling

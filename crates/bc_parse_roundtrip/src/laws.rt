@@ -1,7 +1,7 @@
 //! What holds of every text of tokens.
 ghost use Rattle.bc_parse_roundtrip.specs.Rereads.{AreReread, SectionsComeBack};
 
-/// A file with the text of at most 60,000 tokens has these tokens, none behind a line break, and no tag behind
+/// A file with the text of at most 60,000 tokens has these tokens, none after a line break, and no tag after
 /// a `$)`.
 pub fn renderings_are_reread()
     ensures { AreReread }

@@ -90,7 +90,7 @@ size_body (tree.For n a z b) = omega arith
 size_body (tree.ForBy n a z k b) = omega arith
 size_body (tree.SwitchOn e is) = omega arith
 
--- a call has brackets, which stand for the command that it may be
+-- a call has brackets, which mean the command that it may be
 abbrev extra : Exp → ℕ
 extra (tree.Call f es) = 1
 extra _ = 0

@@ -33,9 +33,9 @@ entry_sign storage.Static = sign.Equal
 entry_sign storage.Global = sign.Colon
 
 -- a list whose elements each have a separator before them, without the first separator
-abbrev pub behind_first : List Part → List Part
-behind_first [] = []
-behind_first (p ∷ ts) = ts
+abbrev pub after_first : List Part → List Part
+after_first [] = []
+after_first (p ∷ ts) = ts
 
 abbrev mutual
   pub whole : Exp → List Part
@@ -45,48 +45,48 @@ abbrev mutual
   whole (tree.Text s) = String s ∷ []
   whole tree.True = A sign.True ∷ []
   whole tree.False = A sign.False ∷ []
-  whole (tree.Table ks) = A sign.Table ∷ behind_first (after_commas ks)
+  whole (tree.Table ks) = A sign.Table ∷ after_first (after_commas ks)
   whole (tree.Valof b) = A sign.ValueOf ∷ block_spelling b
   whole (tree.Monadic m e) = A (monadic_sign m) ∷ part_of e (whole e)
   whole (tree.Dyadic o l r) = part_of l (whole l) ++ A (dyadic_sign o) ∷ part_of r (whole r)
   whole (tree.Condition c x y) = part_of c (whole c) ++ A sign.Arrow ∷ (part_of x (whole x) ++ A sign.Comma ∷ part_of y (whole y))
-  whole (tree.Call f es) = routine_of f (whole f) ++ in_round (behind_first (after_commas es))
+  whole (tree.Call f es) = routine_of f (whole f) ++ in_round (after_first (after_commas es))
 
-  -- expressions, each behind a comma
+  -- expressions, each after a comma
   pub after_commas : Exps → List Part
   after_commas none = []
   after_commas (more e es) = A sign.Comma ∷ (part_of e (whole e) ++ after_commas es)
 
   pub block_spelling : Block → List Part
-  block_spelling (block ds is) = A sign.OpenSection ∷ (behind_first (declarations_spelling ds ++ items_spelling is) ++ A sign.CloseSection ∷ [])
+  block_spelling (block ds is) = A sign.OpenSection ∷ (after_first (declarations_spelling ds ++ items_spelling is) ++ A sign.CloseSection ∷ [])
 
-  -- declarations, each behind a semicolon
+  -- declarations, each after a semicolon
   pub declarations_spelling : Declarations → List Part
   declarations_spelling no_declarations = []
   declarations_spelling (declaration d ds) = A sign.Semicolon ∷ (declaration_spelling d ++ declarations_spelling ds)
 
   pub declaration_spelling : Declaration → List Part
   declaration_spelling (tree.Constants s es) = A (storage_sign s) ∷ A sign.OpenSection
-      ∷ (behind_first (entries_spelling (entry_sign s) es) ++ A sign.CloseSection ∷ [])
-  declaration_spelling (tree.Let ds) = A sign.Let ∷ behind_first (definitions_spelling ds)
+      ∷ (after_first (entries_spelling (entry_sign s) es) ++ A sign.CloseSection ∷ [])
+  declaration_spelling (tree.Let ds) = A sign.Let ∷ after_first (definitions_spelling ds)
 
-  -- names with their constants, each behind a semicolon
+  -- names with their constants, each after a semicolon
   pub entries_spelling : Symbol → Entries → List Part
   entries_spelling s no_entries = []
   entries_spelling s (entry n k es) = A sign.Semicolon ∷ Name n ∷ A s ∷ (part_of k (whole k) ++ entries_spelling s es)
 
-  -- definitions, each behind AND
+  -- definitions, each after AND
   pub definitions_spelling : Definitions → List Part
   definitions_spelling no_definitions = []
   definitions_spelling (definition d ds) = A sign.And ∷ (definition_spelling d ++ definitions_spelling ds)
 
   pub definition_spelling : Definition → List Part
-  definition_spelling (tree.Variables ns es) = named ns ++ A sign.Equal ∷ behind_first (after_commas es)
+  definition_spelling (tree.Variables ns es) = named ns ++ A sign.Equal ∷ after_first (after_commas es)
   definition_spelling (tree.Vector n k) = Name n ∷ A sign.Equal ∷ A sign.Vector ∷ part_of k (whole k)
   definition_spelling (tree.Function n ps e) = Name n ∷ (in_round (named ps) ++ A sign.Equal ∷ whole e)
   definition_spelling (tree.Routine n ps b) = Name n ∷ (in_round (named ps) ++ A sign.Be ∷ block_spelling b)
 
-  -- items, each behind a semicolon
+  -- items, each after a semicolon
   pub items_spelling : Items → List Part
   items_spelling no_items = []
   items_spelling (item i is) = A sign.Semicolon ∷ (item_spelling i ++ items_spelling is)
@@ -105,8 +105,8 @@ abbrev mutual
   label_spelling (tree.Named n) = Name n ∷ A sign.Colon ∷ []
 
   pub command_spelling : Command → List Part
-  command_spelling (tree.Assign xs es) = behind_first (after_commas xs) ++ A sign.Assign ∷ behind_first (after_commas es)
-  command_spelling (tree.Do f es) = routine_of f (whole f) ++ in_round (behind_first (after_commas es))
+  command_spelling (tree.Assign xs es) = after_first (after_commas xs) ++ A sign.Assign ∷ after_first (after_commas es)
+  command_spelling (tree.Do f es) = routine_of f (whole f) ++ in_round (after_first (after_commas es))
   command_spelling (tree.Compound b) = block_spelling b
   command_spelling tree.Break = A sign.Break ∷ []
   command_spelling tree.Loop = A sign.Loop ∷ []
@@ -127,8 +127,8 @@ abbrev mutual
   command_spelling (tree.ForBy n a z k b) = A sign.For ∷ Name n ∷ A sign.Equal
       ∷ (whole a ++ A sign.To ∷ (whole z ++ A sign.By ∷ (part_of k (whole k) ++ A sign.Do ∷ block_spelling b)))
   command_spelling (tree.SwitchOn e is) = A sign.SwitchOn
-      ∷ (whole e ++ A sign.Into ∷ A sign.OpenSection ∷ (behind_first (items_spelling is) ++ A sign.CloseSection ∷ []))
+      ∷ (whole e ++ A sign.Into ∷ A sign.OpenSection ∷ (after_first (items_spelling is) ++ A sign.CloseSection ∷ []))
 
 -- a section's canonical spelling
 abbrev pub section_spelling : Declarations → List Part
-section_spelling ds = behind_first (declarations_spelling ds)
+section_spelling ds = after_first (declarations_spelling ds)

@@ -6,7 +6,7 @@ use Rattle.bc_lex_tokens.specs.declared.token.TokenKind.TheVariants as kind
 use Rattle.bc_parse_tree.specs.declared.part.Part as code
 use Rattle.bc_parse_tree.specs.declared.part.Part.TheVariants as variant
 
--- a token's kind, or a line break that stands for a semicolon
+-- a token's kind, or a line break that means a semicolon
 pub data Part : Type 0 where
   A : Symbol → Part
   Name : List ℕ → Part

@@ -5,7 +5,7 @@ use Rattle.std.specs.List.{join_by}
 use Rattle.bc_lex_tokens.specs.Spelling.{spelling_of}
 use Rattle.bc_parse_tree.specs.Parts.{Part, A, Name, Number, Character, String, NewLine}
 
--- what stands behind * for a byte that is written as an escape: a line break, tab, backspace, page or return, ' and *
+-- what stands after * for a byte that is written as an escape: a line break, tab, backspace, page or return, ' and *
 abbrev pub escape_of : ℕ → Option ℕ
 escape_of b =
     if b == 10 then Some 78

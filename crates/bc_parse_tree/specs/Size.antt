@@ -1,4 +1,4 @@
--- How many definitions, commands and expressions a tree has, and how many parts of a list can stand for them.
+-- How many definitions, commands and expressions a tree has, and how many parts of a list can mean them.
 use Rattle.std.specs.Prelude.{ℕ, ◌+◌, List, [], ◌∷◌}
 use Rattle.bc_lex_tokens.specs.declared.symbol.Symbol.TheVariants as sign
 use Rattle.bc_parse_tree.specs.Parts.{Part, A, NewLine}

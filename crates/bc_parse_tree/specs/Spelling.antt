@@ -57,7 +57,7 @@ abbrev pub optional : Bool → Part → List Part → List Part
 optional true s ts = s ∷ ts
 optional false s ts = ts
 
--- a semicolon, or a line break that stands for one
+-- a semicolon, or a line break that means one
 pub data IsSeparator : Part → Type 0 where
   semicolon : IsSeparator (A sign.Semicolon)
   new_line : IsSeparator NewLine
@@ -181,7 +181,7 @@ mutual
   pub data SpellsBody : Block → List Part → Type 0 where
     body_command : {c : Command} {ts : List Part} → SpellsCommand c ts → SpellsBody (body c) ts
 
-  -- a body behind a condition or a range, with a line break and DO, if they are there
+  -- a body after a condition or a range, with a line break and DO, if they are there
   pub data SpellsDo : Block → List Part → Type 0 where
     do_body : {b : Block} {ts : List Part} (line word : Bool) → SpellsBody b ts → SpellsDo b (optional line NewLine (optional word (A sign.Do) ts))
 

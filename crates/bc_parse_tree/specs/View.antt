@@ -1,4 +1,4 @@
--- What the program's trees stand for.
+-- What the program's trees mean.
 use Rattle.std.specs.Prelude.{ℕ, List, [], ◌∷◌, map, Option, Some, None}
 use Rattle.std.specs.declared.alloc.Global.{Global}
 use Rattle.std.specs.declared.boxed.Box.{Box}
@@ -119,7 +119,7 @@ command_step (Command-F.Test e b d) = pure.Test e.value b d
 command_step (Command-F.For n a z k b) = for_from n.now a.value z.value (unboxed k) b
 command_step (Command-F.SwitchOn e is) = pure.SwitchOn e (items_of is.items)
 
--- what each tree stands for
+-- what each tree means
 abbrev pub exp_view : code.Exp → Exp
 exp_view = fold-Exp Command Declaration Definition Exp Label Block
     (List ℕ × Exp) Item command_step declaration_step definition_step exp_step label_step block_step constant_step item_step
@@ -152,7 +152,7 @@ abbrev pub constant_view : code_constant.Constant → List ℕ × Exp
 constant_view = fold-Constant Command Declaration Definition Exp Label Block
     (List ℕ × Exp) Item command_step declaration_step definition_step exp_step label_step block_step constant_step item_step
 
--- what lists of trees stand for
+-- what lists of trees mean
 abbrev pub exps_view : List code.Exp → Exps
 exps_view es = exps_of (map exp_view es)
 

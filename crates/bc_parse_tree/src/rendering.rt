@@ -13,7 +13,7 @@ use std::alloc::Global;
 /// The text of tokens, a blank between each two.
 ///
 /// Names and strings are written as they stand in their source, numbers in decimal digits. A
-/// character constant has its byte, or an escape where the byte may not stand for itself or can't be
+/// character constant has its byte, or an escape where the byte may not mean itself or can't be
 /// seen; a character that is no byte, which no source gives, is written as a number. `Memory` comes
 /// where an allocation was refused.
 pub fn render(alloc: Global, kinds: &[TokenKind<'_>]) -> Result<Vec<u8>, Memory>
@@ -68,7 +68,7 @@ fn put_character(text: &mut Vec<u8>, code: u16) -> Result<(), Memory>
     }
 }
 
-/// What stands behind `*` for a byte that is written as an escape.
+/// What stands after `*` for a byte that is written as an escape.
 fn escape(byte: u8) -> Option<u8>
     ensures { result ≡ escape_of byte }
 {

@@ -1,6 +1,6 @@
-//! One function for each type of tree: it puts the tree's tokens behind those that are there.
+//! One function for each type of tree: it puts the tree's tokens after those that are there.
 ghost use Rattle.std.specs.Prelude.{◌≡◌, ◌∷◌, [], ◌++◌, map, IfOk};
-ghost use Rattle.bc_parse_tree.specs.Canonical.{whole, part_of, routine_of, behind_first, after_commas, block_spelling, declarations_spelling, declaration_spelling, entries_spelling, definitions_spelling, definition_spelling, items_spelling, item_spelling, labels_spelling, label_spelling, command_spelling, section_spelling};
+ghost use Rattle.bc_parse_tree.specs.Canonical.{whole, part_of, routine_of, after_first, after_commas, block_spelling, declarations_spelling, declaration_spelling, entries_spelling, definitions_spelling, definition_spelling, items_spelling, item_spelling, labels_spelling, label_spelling, command_spelling, section_spelling};
 ghost use Rattle.bc_parse_tree.specs.Parts.{A, Name, kind_part, kind_parts};
 ghost use Rattle.bc_parse_tree.specs.Spelling.{in_round, named};
 ghost use Rattle.bc_parse_tree.specs.View.{exp_view, exps_view, command_view, block_view, declaration_view, declarations_view, definition_view, definitions_view, label_view, labels_view, item_view, items_view, constant_view, entries_view, section_view};
@@ -42,7 +42,7 @@ fn name<'s>(out: &mut Vec<TokenKind<'s>>, name: &'s [u8]) -> Result<(), Memory>
     put(out, TokenKind::Name(name))
 }
 
-/// A word, and the name behind it.
+/// A word, and the name after it.
 fn worded_name<'s>(out: &mut Vec<TokenKind<'s>>, word: Symbol, text: &'s [u8]) -> Result<(), Memory>
     ensures { Adds result out.old out.new (A word ∷ Name text.entry.now ∷ []) }
 {
@@ -50,7 +50,7 @@ fn worded_name<'s>(out: &mut Vec<TokenKind<'s>>, word: Symbol, text: &'s [u8]) -
     name(out, text)
 }
 
-/// A word, and the section bracket behind it.
+/// A word, and the section bracket after it.
 fn opened<'s>(out: &mut Vec<TokenKind<'s>>, word: Symbol) -> Result<(), Memory>
     ensures { Adds result out.old out.new (A word ∷ A sign.OpenSection ∷ []) }
 {
@@ -100,7 +100,7 @@ fn heading<'s>(
     parameters(out, found)
 }
 
-/// A name, and the `=` behind it.
+/// A name, and the `=` after it.
 fn equated<'s>(out: &mut Vec<TokenKind<'s>>, text: &'s [u8]) -> Result<(), Memory>
     ensures { Adds result out.old out.new (Name text.entry.now ∷ A sign.Equal ∷ []) }
 {
@@ -178,7 +178,7 @@ fn bracketed<'s>(out: &mut Vec<TokenKind<'s>>, tree: &Exp<'s>) -> Result<(), Mem
 /// Expressions with commas between them.
 #[cycle(spelling)]
 fn expressions<'s>(out: &mut Vec<TokenKind<'s>>, list: &[Exp<'s>]) -> Result<(), Memory>
-    ensures { Adds result out.old out.new (behind_first (after_commas (exps_view list.now))) }
+    ensures { Adds result out.old out.new (after_first (after_commas (exps_view list.now))) }
 {
     let mut is_first = true;
     for each in list {
@@ -191,7 +191,7 @@ fn expressions<'s>(out: &mut Vec<TokenKind<'s>>, list: &[Exp<'s>]) -> Result<(),
 
 #[cycle(spelling)]
 fn arguments<'s>(out: &mut Vec<TokenKind<'s>>, list: &[Exp<'s>]) -> Result<(), Memory>
-    ensures { Adds result out.old out.new (in_round (behind_first (after_commas (exps_view list.now)))) }
+    ensures { Adds result out.old out.new (in_round (after_first (after_commas (exps_view list.now)))) }
 {
     sign(out, Symbol::OpenBracket)?;
     expressions(out, list)?;
@@ -213,7 +213,7 @@ fn block<'s>(out: &mut Vec<TokenKind<'s>>, body: &Block<'s>) -> Result<(), Memor
 /// Declarations with semicolons between them.
 #[cycle(spelling)]
 fn declarations<'s>(out: &mut Vec<TokenKind<'s>>, list: &[Declaration<'s>]) -> Result<(), Memory>
-    ensures { Adds result out.old out.new (behind_first (declarations_spelling (declarations_view list.now))) }
+    ensures { Adds result out.old out.new (after_first (declarations_spelling (declarations_view list.now))) }
 {
     let mut is_first = true;
     for each in list {
@@ -248,7 +248,7 @@ fn entries<'s>(
     symbol: Symbol,
     constants: &[Constant<'s>],
 ) -> Result<(), Memory>
-    ensures { Adds result out.old out.new (behind_first (entries_spelling symbol (entries_view constants.now))) }
+    ensures { Adds result out.old out.new (after_first (entries_spelling symbol (entries_view constants.now))) }
 {
     let mut is_first = true;
     for constant in constants {
@@ -264,7 +264,7 @@ fn entries<'s>(
 /// Definitions with AND between them.
 #[cycle(spelling)]
 fn definitions<'s>(out: &mut Vec<TokenKind<'s>>, list: &[Definition<'s>]) -> Result<(), Memory>
-    ensures { Adds result out.old out.new (behind_first (definitions_spelling (definitions_view list.now))) }
+    ensures { Adds result out.old out.new (after_first (definitions_spelling (definitions_view list.now))) }
 {
     let mut is_first = true;
     for each in list {
@@ -350,7 +350,7 @@ fn label<'s>(out: &mut Vec<TokenKind<'s>>, tree: &Label<'s>) -> Result<(), Memor
     sign(out, Symbol::Colon)
 }
 
-/// A word, and the expression behind it.
+/// A word, and the expression after it.
 #[cycle(spelling)]
 fn worded<'s>(out: &mut Vec<TokenKind<'s>>, word: Symbol, tree: &Exp<'s>) -> Result<(), Memory>
     ensures { Adds result out.old out.new (A word ∷ whole (exp_view tree.now)) }
@@ -359,7 +359,7 @@ fn worded<'s>(out: &mut Vec<TokenKind<'s>>, word: Symbol, tree: &Exp<'s>) -> Res
     whole(out, tree)
 }
 
-/// A word or a sign, and the part of an expression behind it.
+/// A word or a sign, and the part of an expression after it.
 #[cycle(spelling)]
 fn parted<'s>(out: &mut Vec<TokenKind<'s>>, word: Symbol, tree: &Exp<'s>) -> Result<(), Memory>
     ensures { Adds result out.old out.new (A word ∷ part_of (exp_view tree.now) (whole (exp_view tree.now))) }
@@ -368,16 +368,16 @@ fn parted<'s>(out: &mut Vec<TokenKind<'s>>, word: Symbol, tree: &Exp<'s>) -> Res
     part(out, tree)
 }
 
-/// A word or a sign, and the expressions behind it.
+/// A word or a sign, and the expressions after it.
 #[cycle(spelling)]
 fn listed<'s>(out: &mut Vec<TokenKind<'s>>, word: Symbol, list: &[Exp<'s>]) -> Result<(), Memory>
-    ensures { Adds result out.old out.new (A word ∷ behind_first (after_commas (exps_view list.now))) }
+    ensures { Adds result out.old out.new (A word ∷ after_first (after_commas (exps_view list.now))) }
 {
     sign(out, word)?;
     expressions(out, list)
 }
 
-/// A word, and the block behind it.
+/// A word, and the block after it.
 #[cycle(spelling)]
 fn bodied<'s>(out: &mut Vec<TokenKind<'s>>, word: Symbol, body: &Block<'s>) -> Result<(), Memory>
     ensures { Adds result out.old out.new (A word ∷ block_spelling (block_view body.now)) }
@@ -389,7 +389,7 @@ fn bodied<'s>(out: &mut Vec<TokenKind<'s>>, word: Symbol, body: &Block<'s>) -> R
 /// The items of a SWITCHON.
 #[cycle(spelling)]
 fn cases<'s>(out: &mut Vec<TokenKind<'s>>, list: &[Item<'s>]) -> Result<(), Memory>
-    ensures { Adds result out.old out.new (A sign.Into ∷ A sign.OpenSection ∷ (behind_first (items_spelling (items_view list.now)) ++ A sign.CloseSection
+    ensures { Adds result out.old out.new (A sign.Into ∷ A sign.OpenSection ∷ (after_first (items_spelling (items_view list.now)) ++ A sign.CloseSection
         ∷ [])) }
 {
     opened(out, Symbol::Into)?;

@@ -73,7 +73,7 @@ pub enum Exp<'s> {
     Call(Box<Exp<'s>>, Vec<Exp<'s>>),
 }
 
-/// Declarations, and the items behind them.
+/// Declarations, and the items after them.
 #[cycle(trees)]
 #[derive(Drop)]
 pub struct Block<'s> {

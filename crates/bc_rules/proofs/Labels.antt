@@ -22,7 +22,7 @@ next_some r x first n h k = record { exact = λ T d e. let l = labels_by_shape r
 pub next_none : (r : Root) (x : Tree) (first n : ℕ) → n ≡ min (root_labels_by r x) 65537 → 65536 < first + n → IsNextLabel r x first None
 next_none r x first n h k = record { exact = λ T d e. λ small. let l = labels_by_shape r x T d e in absurd (omega arith) }
 
--- that of a writer behind the root's code
+-- that of a writer after the root's code
 pub next_is_written : (r : Root) (x : Tree) (f : ℕ) (ps : List Piece) (u w : Writer) → u.next ≡ f → Writes u w ps (root_labels_by r x) → w.next ≤ 65536 → IsNextLabel r x f (Some w.next)
 next_is_written r x f ps u w k i b = record { exact = λ T d e. let l = labels_by_shape r x T d e in let n = i.next in (omega arith, omega arith) }
 

@@ -15,7 +15,7 @@ use Rattle.bc_rules_defs.specs.declared.rule.Rule.{Rule}
 use Rattle.bc_rules_defs.specs.Piece.{S, SP, K, J, label}
 use Rattle.bc_rules_defs.specs.Rules.{Tree, Trees, by, no_part, part, one, two, three}
 use Rattle.bc_rules_defs.specs.Parts.{Parts, no_rule, leaf, single, pair, triple, called, parts_of, assignment_parts}
-use Rattle.bc_rules_defs.specs.ByShape.{own_labels, part_level, first_target, with_operand, between, leaf_code, behind_single, behind_pair, behind_sides, labels_by, labels_of_parts, labels_of_sides, code_by, code_of_parts, code_of_sides, root_labels_by, root_code_by}
+use Rattle.bc_rules_defs.specs.ByShape.{own_labels, part_level, first_target, with_operand, between, leaf_code, after_single, after_pair, after_sides, labels_by, labels_of_parts, labels_of_sides, code_by, code_of_parts, code_of_sides, root_labels_by, root_code_by}
 use Rattle.bc_rules_defs.specs.View.{derivation, derivations}
 use Rattle.bc_rules.specs.declared.code_fault.CodeFault.{CodeFault}
 use Rattle.bc_rules.specs.declared.writer.Writer.{Writer}
@@ -70,12 +70,12 @@ leaf_writes r aim e v s t n f (x ∷ xs) u v1 w h k g i j = absurd (omega arith)
 -- one part
 pub single_writes : (r : Rule) (aim : Aim) (e : Exp) (m : Aim) (a : Exp) (s t l : ℕ) (xs : List Derivation) (d x : Derivation) (u v w : Writer) → length xs ≡ 1
     → x ≡ get_or xs 0 d → l ≡ part_level r s
-    → Writes u v (code_by (derivation x) m a l t u.next) (labels_by (derivation x) m a) → Adds v w (behind_single r aim e t)
+    → Writes u v (code_by (derivation x) m a l t u.next) (labels_by (derivation x) m a) → Adds v w (after_single r aim e t)
     → Writes u w (code_of_parts r aim e (single m a) (derivations xs) s t u.next) (labels_of_parts r (single m a) (derivations xs))
 single_writes r aim e m a s t l xs d x u v w h hx hl i j =
     let is : derivations xs ≡ one (derivation x) = one_tree xs d h ∙ ap (λ y. one (derivation y)) (sym hx) in
     writes_as (then_adds i j)
-    (ap (λ k. code_by (derivation x) m a k t u.next ++ behind_single r aim e t) hl ∙ sym (ap (λ ds. code_of_parts r aim e (single m a) ds s t u.next) is))
+    (ap (λ k. code_by (derivation x) m a k t u.next ++ after_single r aim e t) hl ∙ sym (ap (λ ds. code_of_parts r aim e (single m a) ds s t u.next) is))
     (sym (ap (labels_of_parts r (single m a)) is))
 
 pub single_writes_not : (r : Rule) (aim : Aim) (e : Exp) (m : Aim) (a : Exp) (s t : ℕ) (xs : List Derivation) (u : Writer) → (length xs ≡ 1 → ⊥) → Writes u u (code_of_parts r aim e (single m a) (derivations xs) s t u.next) (labels_of_parts r (single m a) (derivations xs))
@@ -87,7 +87,7 @@ single_writes_not r aim e m a s t (x ∷ y ∷ xs) u h = nothing u
 pub pair_writes : (r : Rule) (aim : Aim) (e : Exp) (m n : Aim) (a b : Exp) (s t f o l g : ℕ) (xs : List Derivation) (d1 d2 x1 x2 : Derivation) (u v w x y z : Writer) → length xs ≡ 2
     → x1 ≡ get_or xs 0 d1 → x2 ≡ get_or xs 1 d2 → o ≡ own_labels r → l ≡ s + 1 → g ≡ first_target r t f → f ≡ u.next → Takes u v o
     → Writes v w (code_by (derivation x1) m a l g v.next) (labels_by (derivation x1) m a) → Adds w x (between r s)
-    → Writes x y (code_by (derivation x2) n b l t x.next) (labels_by (derivation x2) n b) → Adds y z (behind_pair r e s f)
+    → Writes x y (code_by (derivation x2) n b l t x.next) (labels_by (derivation x2) n b) → Adds y z (after_pair r e s f)
     → Writes u z (code_of_parts r aim e (pair m a n b) (derivations xs) s t u.next) (labels_of_parts r (pair m a n b) (derivations xs))
 pair_writes r aim e m n a b s t f o l g xs d1 d2 x1 x2 u v w x y z h h1 h2 ho hl hg hf i j k q p =
     let first = derivation x1 in
@@ -95,9 +95,9 @@ pair_writes r aim e m n a b s t f o l g xs d1 d2 x1 x2 u v w x y z h h1 h2 ho hl
     let is : derivations xs ≡ two first second = two_trees xs d1 h ∙ ap (λ c. two (derivation c) (derivation (get_or xs 1 d1))) (sym h1) ∙ ap (λ c. two first (derivation c)) (get_or_any xs 1 d1 d2 (omega arith) ∙ sym h2) in
     let at1 : v.next ≡ u.next + own_labels r = i.next ∙ ap (λ c. u.next + c) ho in
     let at2 : x.next ≡ u.next + own_labels r + labels_by first m a = k.next ∙ j.next ∙ ap (λ c. c + labels_by first m a) at1 in
-    let whole = λ (c1 c2 k1 k2 c : ℕ). (code_by first m a k1 k2 c1 ++ (between r s ++ code_by second n b k1 t c2)) ++ behind_pair r e s c in
+    let whole = λ (c1 c2 k1 k2 c : ℕ). (code_by first m a k1 k2 c1 ++ (between r s ++ code_by second n b k1 t c2)) ++ after_pair r e s c in
     writes_as (takes_writes i (then_adds (then_writes (then_adds j k) q) p))
-    (ap (λ c. c ++ behind_pair r e s f) (append_assoc (code_by first m a l g v.next) (between r s) (code_by second n b l t x.next))
+    (ap (λ c. c ++ after_pair r e s f) (append_assoc (code_by first m a l g v.next) (between r s) (code_by second n b l t x.next))
     ∙ ap (λ c. whole v.next x.next c g f) hl
     ∙ ap (λ c. whole v.next x.next (s + 1) c f) hg
     ∙ ap (λ c. whole c x.next (s + 1) (first_target r t f) f) at1
@@ -276,15 +276,15 @@ side_writes_not r address m a s t (x ∷ y ∷ xs) u h = nothing u
 pub sides_write : (r : Rule) (address : Exp) (m n : Aim) (a b : Exp) (s t l : ℕ) (xs : List Derivation) (d1 d2 x1 x2 : Derivation) (u v w y z : Writer) → length xs ≡ 2
     → x1 ≡ get_or xs 0 d1 → x2 ≡ get_or xs 1 d2 → l ≡ s + 1
     → Writes u v (code_by (derivation x1) m a l t u.next) (labels_by (derivation x1) m a) → Adds v w (SP s ∷ [])
-    → Writes w y (code_by (derivation x2) n b l t w.next) (labels_by (derivation x2) n b) → Adds y z (behind_sides r s)
+    → Writes w y (code_by (derivation x2) n b l t w.next) (labels_by (derivation x2) n b) → Adds y z (after_sides r s)
     → Writes u z (code_of_sides r address (pair m a n b) (derivations xs) s t u.next) (labels_of_sides (pair m a n b) (derivations xs))
 sides_write r address m n a b s t l xs d1 d2 x1 x2 u v w y z h h1 h2 hl i j k q =
     let first = derivation x1 in
     let second = derivation x2 in
     let is : derivations xs ≡ two first second = two_trees xs d1 h ∙ ap (λ c. two (derivation c) (derivation (get_or xs 1 d1))) (sym h1) ∙ ap (λ c. two first (derivation c)) (get_or_any xs 1 d1 d2 (omega arith) ∙ sym h2) in
-    let whole = λ (c1 c2 : ℕ). code_by first m a c1 t u.next ++ SP s ∷ code_by second n b c1 t c2 ++ behind_sides r s in
+    let whole = λ (c1 c2 : ℕ). code_by first m a c1 t u.next ++ SP s ∷ code_by second n b c1 t c2 ++ after_sides r s in
     writes_as (then_adds (then_writes (then_adds i j) k) q)
-    (ap (λ c. c ++ behind_sides r s) (append_assoc (code_by first m a l t u.next) (SP s ∷ []) (code_by second n b l t w.next))
+    (ap (λ c. c ++ after_sides r s) (append_assoc (code_by first m a l t u.next) (SP s ∷ []) (code_by second n b l t w.next))
     ∙ ap (λ c. whole c w.next) hl ∙ ap (λ c. whole (s + 1) c) (j.next ∙ i.next)
     ∙ sym (ap (λ ds. code_of_sides r address (pair m a n b) ds s t u.next) is))
     (sym (ap (labels_of_sides (pair m a n b)) is))

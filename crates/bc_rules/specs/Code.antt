@@ -14,7 +14,7 @@ cells_of_root (Value s e) = cells_of_exp (λ n s. 0) e s
 cells_of_root (Test s sense e) = cells_of_exp (λ n s. 0) e s
 cells_of_root (Assign s v a) = cells_of_assignment (λ n s. 0) v a s
 
--- the label behind those of the root's derivation with these rules; none where one of these is no word
+-- the label after those of the root's derivation with these rules; none where one of these is no word
 pub record IsNextLabel (r : Root) (x : Tree) (first : ℕ) (next : Option ℕ) : Type 0 where
   pub exact : (T : Table) (d : RootDerives T r) → root_shape d ≡ x → SomeIff next (first + root_labels d ≤ 65536) (first + root_labels d)
 

@@ -38,7 +38,7 @@ labels_fit h = h.exact One by_choice refl (omega arith) (omega arith)
 one_label_more : LacksRoom choice (root_shape by_choice) 65535
 one_label_more = record { exact = λ T d e labels cells. let two = two_labels d e in omega arith }
 
--- v * w, by V17, which holds two values: at a level, and at the one behind it
+-- v * w, by V17, which holds two values: at a level, and at the one after it
 abbrev product : ℕ → Root
 product s = Value s (Bin Multiply (at 2) (at 3))
 

@@ -22,7 +22,7 @@ in_table T J8 = is_two T
 in_table T J9 = is_two T
 in_table T r = true
 
--- the rules that work out the right operand first
+-- the rules that compute the right operand first
 abbrev pub turns : Rule → Bool
 turns V7 = true
 turns V11 = true

@@ -1,4 +1,4 @@
--- For proofs: what the parts that the program works with stand for.
+-- For proofs: what the parts that the program works with mean.
 use Rattle.std.specs.Prelude.{Option, Some, None}
 use Rattle.std.specs.Borrow.{Bor}
 use Rattle.bc_core.specs.declared.expression.CoreExp.{CoreExp}

@@ -25,7 +25,7 @@ fn in_table(table: Table, rule: Rule) -> bool
     }
 }
 
-/// Whether a rule works out the right operand first.
+/// Whether a rule computes the right operand first.
 pub fn turns(rule: Rule) -> bool
     ensures { result ≡ turns_of rule }
 {
@@ -53,7 +53,7 @@ fn direct_side(e: &CoreExp) -> bool
     }
 }
 
-/// Whether a rule may work out the right operand first, where it does.
+/// Whether a rule may compute the right operand first, where it does.
 fn turns_freely(rule: Rule, calls: bool, e: &CoreExp) -> bool
     ensures { result ≡ turns_freely_of rule calls (exp e.now) }
 {

@@ -11,9 +11,9 @@ ghost use Rattle.bc_rules.specs.Adds.{WritesOrLacks};
 ghost use Rattle.bc_rules.specs.View.{parts};
 
 use crate::applying::assignment_parts;
-use crate::behind::{behind_sides, operate};
 use crate::code_fault::CodeFault;
 use crate::counting::root_labels;
+use crate::emission::{after_sides, operate};
 use crate::parts::{Part, Parts};
 use crate::writer::{Writer, more};
 use crate::writing::{Place, Sides, write};
@@ -23,7 +23,7 @@ use bc_text_items::Function;
 use bc_word::Memory;
 use std::alloc::Global;
 
-/// The label behind those of a derivation of the root, which takes its labels from `first` on: from
+/// The label after those of a derivation of the root, which takes its labels from `first` on: from
 /// `first` to 65,536.
 ///
 /// None comes where a label of the derivation's would be over 65,535. Of a tree that is no derivation of
@@ -55,12 +55,12 @@ pub fn code_of(
     Ok(coded.pieces)
 }
 
-/// The code of a derivation, and the label behind its own.
+/// The code of a derivation, and the label after its own.
 #[derive(Debug, Drop)]
 pub struct Coded {
     /// The code, as `code_of` gives it.
     pub pieces: Vec<Piece>,
-    /// The label behind those of the derivation, as `next_label` gives it.
+    /// The label after those of the derivation, as `next_label` gives it.
     pub next: u32,
 }
 
@@ -224,6 +224,6 @@ fn two_sides(w: &mut Writer, trees: &[Derivation], to: To, of: Sides) -> Result<
     write(w, &trees[0], of.a, above)?;
     w.cell(Function::Store, false, to.place.level)?;
     write(w, &trees[1], of.b, above)?;
-    behind_sides(w, to.rule, to.place.level)?;
+    after_sides(w, to.rule, to.place.level)?;
     Ok(())
 }

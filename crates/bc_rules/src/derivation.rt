@@ -59,7 +59,7 @@ fn assigns(table: Table, derivation: &Derivation, value: &CoreExp, address: &Cor
     }
 }
 
-/// Whether the sides of an assignment may be worked out in the order of its rule.
+/// Whether the sides of an assignment may be computed in the order of its rule.
 fn sides_turn(rule: Rule, calls: bool, value: &CoreExp, address: &CoreExp) -> bool
     ensures { result ≡ sides_turn_of rule calls (exp value.now) (exp address.now) }
 {

@@ -29,7 +29,7 @@ fn calls(e: &CoreExp) -> bool
     }
 }
 
-/// Whether two expressions may be worked out in either order: no call or VALOF stands in them, or
+/// Whether two expressions may be computed in either order: no call or VALOF stands in them, or
 /// one of them is a number or an address, known without work.
 pub fn free(a: &CoreExp, b: &CoreExp) -> bool
     ensures { result ≡ are_free (exp a.now) (exp b.now) }

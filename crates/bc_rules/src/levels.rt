@@ -31,10 +31,10 @@ fn cells(e: &CoreExp, level: u32) -> u32
                 .max(cells(b, level + 1))
         }
         CoreExp::Cond(c, x, y) => cells(c, level).max(cells(x, level)).max(cells(y, level)),
-        CoreExp::Call(arguments, routine) => match behind_arguments(level, arguments.len()) {
-            Some(behind) => behind
+        CoreExp::Call(arguments, routine) => match after_arguments(level, arguments.len()) {
+            Some(following) => following
                 .max(cells_of_arguments(arguments, level + 2))
-                .max(cells(routine, behind)),
+                .max(cells(routine, following)),
             None => TOO_MANY,
         },
         CoreExp::Num(_)
@@ -45,8 +45,8 @@ fn cells(e: &CoreExp, level: u32) -> u32
     }
 }
 
-/// The level behind so many arguments of a call; none past 65,536.
-fn behind_arguments(level: u32, count: usize) -> Option<u32>
+/// The level after so many arguments of a call; none past 65,536.
+fn after_arguments(level: u32, count: usize) -> Option<u32>
     requires { level ≤ 65536 }
     ensures { SomeIff result (level + 2 + count ≤ 65536) (level + 2 + count) }
 {

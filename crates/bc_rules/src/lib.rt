@@ -2,12 +2,12 @@
 #![tactic(auto)]
 
 mod applying;
-mod behind;
 mod check;
 mod code;
 mod code_fault;
 mod counting;
 mod derivation;
+mod emission;
 mod exchange;
 mod levels;
 mod parts;

@@ -10,9 +10,9 @@ ghost use Rattle.bc_rules.specs.Levels.{cells, held_cells, cells_of_parts};
 ghost use Rattle.bc_rules.specs.Adds.{OkOrLacks, WritesOrLacks};
 
 use crate::applying::parts_of;
-use crate::behind::{behind_pair, behind_single, between, leaf};
 use crate::code_fault::CodeFault;
 use crate::counting::own_labels;
+use crate::emission::{after_pair, after_single, between, leaf};
 use crate::parts::{Part, Parts};
 use crate::writer::{Writer, as_word, more};
 use bc_core::CoreExp;
@@ -163,7 +163,7 @@ fn one_part(w: &mut Writer, trees: &[Derivation], node: Node, a: Part) -> Result
         aim: node.aim,
         of: node.of,
     };
-    behind_single(w, node.rule, part, node.target)?;
+    after_single(w, node.rule, part, node.target)?;
     Ok(())
 }
 
@@ -194,7 +194,7 @@ fn two_parts(w: &mut Writer, trees: &[Derivation], node: Node, of: Sides) -> Res
             target: node.target,
         },
     )?;
-    behind_pair(w, node.rule, node.of, node.level, first)?;
+    after_pair(w, node.rule, node.of, node.level, first)?;
     Ok(())
 }
 

@@ -16,7 +16,7 @@ use Rattle.bc_rules_defs.specs.Piece.{L, S, A, SP, LIP, SIP, X, K, J, label}
 use Rattle.bc_rules_defs.specs.Rules.{Derives, v0, v1, v2, v3, v4, v6, v7, v8, v9, v10, v11, v12, v13, v14, v15, v16, v17, v18, v19, v20, v21, v22, v22_valof, j1, j2, j3, j4, j5, j6, j7, j8, j9, DerivesAll, no_more, one_more, RootDerives, value, test, a1, a2, a3, Tree, by, no_part, one, two, three, end_with, shape, shapes, root_shape}
 use Rattle.bc_rules_defs.specs.Code.{labels, all_labels, code, all_code, root_labels, root_code}
 use Rattle.bc_rules_defs.specs.Parts.{Parts, leaf, single, pair, triple, called, parts_of, where_some, where_true, where_none, single_if}
-use Rattle.bc_rules_defs.specs.ByShape.{own_labels, part_level, first_target, between, behind_single, behind_pair, with_operand, mirror_number, labels_by, labels_of_parts, labels_of_sides, code_by, code_of_parts, code_of_sides, root_labels_by, root_code_by}
+use Rattle.bc_rules_defs.specs.ByShape.{own_labels, part_level, first_target, between, after_single, after_pair, with_operand, mirror_number, labels_by, labels_of_parts, labels_of_sides, code_by, code_of_parts, code_of_sides, root_labels_by, root_code_by}
 
 -- the parts of each rule, at the derivation's own expression
 some_of : {A : Type 0} (x : Option A) (y : A) (p : Parts) → x ≡ Some y → where_some x p ≡ p
@@ -30,13 +30,13 @@ none_of x p h = ap (λ z. where_none z p) h
 
 -- rules with one part
 single_same : (r : Rule) (aim : Aim) (e : Exp) (x : Tree) (m : Aim) (a : Exp) (s t f : ℕ) (xs ys : List Piece)
-    → parts_of r aim e ≡ single m a → xs ≡ code_by x m a (part_level r s) t f → ys ≡ behind_single r aim e t
+    → parts_of r aim e ≡ single m a → xs ≡ code_by x m a (part_level r s) t f → ys ≡ after_single r aim e t
     → xs ++ ys ≡ code_by (by r (one x)) aim e s t f
 single_same r aim e x m a s t f xs ys hp hx hy =
     ap (λ z. z ++ ys) hx ∙ ap (λ z. code_by x m a (part_level r s) t f ++ z) hy ∙ sym (ap (λ p. code_of_parts r aim e p (one x) s t f) hp)
 
 bare_same : (r : Rule) (aim : Aim) (e : Exp) (x : Tree) (m : Aim) (a : Exp) (s t f : ℕ) (xs : List Piece)
-    → parts_of r aim e ≡ single m a → xs ≡ code_by x m a (part_level r s) t f → [] ≡ behind_single r aim e t
+    → parts_of r aim e ≡ single m a → xs ≡ code_by x m a (part_level r s) t f → [] ≡ after_single r aim e t
     → xs ≡ code_by (by r (one x)) aim e s t f
 bare_same r aim e x m a s t f xs hp hx hy = sym (append-nil xs) ∙ single_same r aim e x m a s t f xs [] hp hx hy
 
@@ -50,11 +50,11 @@ join b xs xs1 ys ys1 zs zs1 h i j = cc
 
 pair_same : (r : Rule) (aim : Aim) (e : Exp) (x y : Tree) (m n : Aim) (a b : Exp) (s t f g : ℕ) (xs ys zs : List Piece)
     → parts_of r aim e ≡ pair m a n b → f + own_labels r ≡ g
-    → xs ≡ code_by x m a (s + 1) (first_target r t f) g → ys ≡ code_by y n b (s + 1) t (g + labels_by x m a) → zs ≡ behind_pair r e s f
+    → xs ≡ code_by x m a (s + 1) (first_target r t f) g → ys ≡ code_by y n b (s + 1) t (g + labels_by x m a) → zs ≡ after_pair r e s f
     → (xs ++ (between r s ++ ys)) ++ zs ≡ code_by (by r (two x y)) aim e s t f
 pair_same r aim e x y m n a b s t f g xs ys zs hp hg hx hy hz =
     join (between r s) _ _ _ _ _ _ hx hy hz
-    ∙ ap (λ k. (code_by x m a (s + 1) (first_target r t f) k ++ (between r s ++ code_by y n b (s + 1) t (k + labels_by x m a))) ++ behind_pair r e s f) (sym hg)
+    ∙ ap (λ k. (code_by x m a (s + 1) (first_target r t f) k ++ (between r s ++ code_by y n b (s + 1) t (k + labels_by x m a))) ++ after_pair r e s f) (sym hg)
     ∙ sym (ap (λ p. code_of_parts r aim e p (two x y) s t f) hp)
 
 pair_labels : (r : Rule) (aim : Aim) (e : Exp) (x y : Tree) (m n : Aim) (a b : Exp) (k l o : ℕ)

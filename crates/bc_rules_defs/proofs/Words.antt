@@ -20,7 +20,7 @@ use Rattle.bc_rules_defs.specs.Piece.{on, SP, LIP, X, J, jump_if, label, w, oper
 use Rattle.bc_rules_defs.specs.Rules.{Derives, v0, v1, v2, v3, v4, v6, v7, v8, v9, v10, v11, v12, v13, v14, v15, v16, v17, v18, v19, v20, v21, v22, v22_valof, j1, j2, j3, j4, j5, j6, j7, j8, j9, DerivesAll, no_more, one_more, RootDerives, value, test, a1, a2, a3}
 use Rattle.bc_rules_defs.specs.Code.{labels, all_labels, code, all_code, cost, all_cost, root_code, root_cost}
 
--- pieces that take so many words, whatever stands behind them
+-- pieces that take so many words, whatever stands after them
 record Weighs (ps : List Piece) (n : ℕ) : Type 0 where
   all : (rest : List Piece) → words (ps ++ rest) ≡ n + words rest
 

@@ -90,22 +90,22 @@ leaf_code r aim (Num n) t f = number_jump aim n t
 leaf_code r aim (Valof n) t f = Body n ∷ label f ∷ []
 leaf_code r aim e t f = []
 
--- what stands behind an only part
-abbrev pub behind_single : Rule → Aim → Exp → (t : ℕ) → List Piece
-behind_single V2 aim e t = X 1 ∷ []
-behind_single V3 aim e t = X 2 ∷ []
-behind_single V4 aim e t = X 3 ∷ []
-behind_single V6 aim e t = with_operand A (right_operand e) []
-behind_single V7 aim e t = with_operand A (left_operand e) []
-behind_single V9 aim e t = less_constant (right_constant e)
-behind_single V10 aim e t = X 2 ∷ with_operand A (right_operand e) (X 2 ∷ [])
-behind_single V11 aim e t = X 2 ∷ with_operand A (left_operand e) []
-behind_single J6 aim e t = jump_at aim true t
-behind_single J8 aim e t = jump_at aim false t
-behind_single J9 aim e t = jump_at aim true t
-behind_single _ aim e t = []
+-- what stands after an only part
+abbrev pub after_single : Rule → Aim → Exp → (t : ℕ) → List Piece
+after_single V2 aim e t = X 1 ∷ []
+after_single V3 aim e t = X 2 ∷ []
+after_single V4 aim e t = X 3 ∷ []
+after_single V6 aim e t = with_operand A (right_operand e) []
+after_single V7 aim e t = with_operand A (left_operand e) []
+after_single V9 aim e t = less_constant (right_constant e)
+after_single V10 aim e t = X 2 ∷ with_operand A (right_operand e) (X 2 ∷ [])
+after_single V11 aim e t = X 2 ∷ with_operand A (left_operand e) []
+after_single J6 aim e t = jump_at aim true t
+after_single J8 aim e t = jump_at aim false t
+after_single J9 aim e t = jump_at aim true t
+after_single _ aim e t = []
 
--- between two parts, and behind them
+-- between two parts, and after them
 abbrev pub between : Rule → ℕ → List Piece
 between V15 s = SP s ∷ []
 between V16 s = SP s ∷ []
@@ -114,18 +114,18 @@ between V18 s = SP s ∷ []
 between V19 s = SP s ∷ []
 between _ s = []
 
-abbrev pub behind_pair : Rule → Exp → (s f : ℕ) → List Piece
-behind_pair V12 e s f = operator_number e
-behind_pair V13 e s f = operator_mirror e
-behind_pair V14 e s f = X 9 ∷ X 2 ∷ []
-behind_pair V15 e s f = LIP s ∷ operator_mirror e
-behind_pair V16 e s f = LIP s ∷ operator_number e
-behind_pair V17 e s f = SP (s + 1) ∷ LIP s ∷ LIP (s + 1) ∷ operator_number e
-behind_pair V18 e s f = AIP s ∷ []
-behind_pair V19 e s f = X 2 ∷ AIP s ∷ []
-behind_pair J3 e s f = label f ∷ []
-behind_pair J5 e s f = label f ∷ []
-behind_pair _ e s f = []
+abbrev pub after_pair : Rule → Exp → (s f : ℕ) → List Piece
+after_pair V12 e s f = operator_number e
+after_pair V13 e s f = operator_mirror e
+after_pair V14 e s f = X 9 ∷ X 2 ∷ []
+after_pair V15 e s f = LIP s ∷ operator_mirror e
+after_pair V16 e s f = LIP s ∷ operator_number e
+after_pair V17 e s f = SP (s + 1) ∷ LIP s ∷ LIP (s + 1) ∷ operator_number e
+after_pair V18 e s f = AIP s ∷ []
+after_pair V19 e s f = X 2 ∷ AIP s ∷ []
+after_pair J3 e s f = label f ∷ []
+after_pair J5 e s f = label f ∷ []
+after_pair _ e s f = []
 
 -- the labels that the code takes
 abbrev mutual
@@ -149,10 +149,10 @@ abbrev mutual
 
   pub code_of_parts : Rule → Aim → Exp → Parts → Trees → (s t f : ℕ) → List Piece
   code_of_parts r aim e (leaf valof) no_part s t f = leaf_code r aim e t f
-  code_of_parts r aim e (single m a) (part d no_part) s t f = code_by d m a (part_level r s) t f ++ behind_single r aim e t
+  code_of_parts r aim e (single m a) (part d no_part) s t f = code_by d m a (part_level r s) t f ++ after_single r aim e t
   code_of_parts r aim e (pair m a n b) (part d (part c no_part)) s t f =
       let g = f + own_labels r in
-      (code_by d m a (s + 1) (first_target r t f) g ++ (between r s ++ code_by c n b (s + 1) t (g + labels_by d m a))) ++ behind_pair r e s f
+      (code_by d m a (s + 1) (first_target r t f) g ++ (between r s ++ code_by c n b (s + 1) t (g + labels_by d m a))) ++ after_pair r e s f
   code_of_parts r aim e (triple m h n x l y) (part d (part c (part g no_part))) s t f =
       let k = f + 2 + labels_by d m h in
       code_by d m h s f (f + 2) ++ code_by c n x s t k ++ J (f + 1) ∷ label f ∷ code_by g l y s t (k + labels_by c n x) ++ label (f + 1) ∷ []
@@ -172,15 +172,15 @@ root_labels_by (Value s e) x = labels_by x (Gets Any) e
 root_labels_by (Test s sense e) x = labels_by x (Jumps sense) e
 root_labels_by (Assign s v a) (by r ds) = labels_of_sides (assignment_parts r v a) ds
 
--- what stands behind the two sides of an assignment
-abbrev pub behind_sides : Rule → ℕ → List Piece
-behind_sides A2 s = SIP s ∷ []
-behind_sides _ s = SP (s + 1) ∷ LIP s ∷ SIP (s + 1) ∷ []
+-- what stands after the two sides of an assignment
+abbrev pub after_sides : Rule → ℕ → List Piece
+after_sides A2 s = SIP s ∷ []
+after_sides _ s = SP (s + 1) ∷ LIP s ∷ SIP (s + 1) ∷ []
 
 abbrev pub code_of_sides : Rule → Exp → Parts → Trees → (s t f : ℕ) → List Piece
 code_of_sides r address (single m a) (part d no_part) s t f = code_by d m a s t f ++ with_operand S (operand_of address) []
 code_of_sides r address (pair m a n b) (part d (part c no_part)) s t f =
-    code_by d m a (s + 1) t f ++ SP s ∷ code_by c n b (s + 1) t (f + labels_by d m a) ++ behind_sides r s
+    code_by d m a (s + 1) t f ++ SP s ∷ code_by c n b (s + 1) t (f + labels_by d m a) ++ after_sides r s
 code_of_sides r address p ds s t f = []
 
 abbrev pub root_code_by : Root → Tree → (t f : ℕ) → List Piece

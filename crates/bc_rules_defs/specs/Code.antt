@@ -52,7 +52,7 @@ abbrev mutual
 
 -- The code at level s, with target t, and with the labels from f on: a rule's own come before those of its parts.
 -- Both operands of an operator stand a level higher; the arguments of a call from s + 2 on, each a level higher
--- than the one before, and the routine's value behind them.
+-- than the one before, and the routine's value after them.
 abbrev mutual
   pub code : {T : Table} {e : Exp} {aim : Aim} → Derives T e aim → (s t f : ℕ) → List Piece
   code (v0 d) s t f = code d s t f

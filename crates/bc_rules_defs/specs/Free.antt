@@ -15,7 +15,7 @@ direct_operand (Some o) = o.direct
 abbrev pub is_direct : Exp → Bool
 is_direct e = direct_operand (operand_of e)
 
--- Two expressions may be worked out in either order: no call or VALOF stands in them, or one of them is direct.
+-- Two expressions may be computed in either order: no call or VALOF stands in them, or one of them is direct.
 abbrev pub are_free : Exp → Exp → Bool
 are_free a b = not (has_call a || has_call b) || is_direct a || is_direct b
 

@@ -16,7 +16,7 @@ number = v1 refl
 abbrev content : Derives One (Load (Frame 2)) (Gets Push)
 content = v1 refl
 
--- the content of cell 2 by 7: both parts a level higher, and `X5` behind them
+-- the content of cell 2 by 7: both parts a level higher, and `X5` after them
 abbrev product : Derives One (Bin Multiply (Load (Frame 2)) (Num 7)) (Gets Any)
 product = v12 (v0 content) number
 
@@ -36,7 +36,7 @@ value = v22_valof
 abbrev second_test : Derives One (Valof 3) (Jumps false)
 second_test = j6 refl value
 
--- of both, a jump to 9 on false: the first one jumps to the bar's own label, 4, and the labels of the parts begin behind it
+-- of both, a jump to 9 on false: the first one jumps to the bar's own label, 4, and the labels of the parts begin after it
 abbrev either : Derives One (Bin Or (Load (Frame 2)) (Valof 3)) (Jumps false)
 either = j5 first_test second_test
 

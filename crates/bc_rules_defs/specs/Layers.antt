@@ -14,7 +14,7 @@ use Rattle.bc_rules_defs.specs.Code.{labels, all_labels, code}
 
 pub data Layer : Table → Type 0 where
   own : {T : Table} → Piece → Layer T
-  -- the body of a VALOF, by its number, and the label behind it
+  -- the body of a VALOF, by its number, and the label after it
   body : {T : Table} → (n f : ℕ) → Layer T
   -- a part at level s, with target t, and with the labels from f on
   part : {T : Table} {e : Exp} {aim : Aim} → Derives T e aim → (s t f : ℕ) → Layer T

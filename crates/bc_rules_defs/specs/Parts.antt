@@ -22,7 +22,7 @@ pub data Parts : Type 0 where
   single : Aim → Exp → Parts
   pair : Aim → Exp → Aim → Exp → Parts
   triple : Aim → Exp → Aim → Exp → Aim → Exp → Parts
-  -- the arguments of a call behind the first so many, and the routine
+  -- the arguments of a call after the first so many, and the routine
   called : (before : ℕ) → Args → Exp → Parts
 
 abbrev pub where_true : Bool → Parts → Parts

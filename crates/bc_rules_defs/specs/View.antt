@@ -1,4 +1,4 @@
--- What the program's trees of rules and entries stand for.
+-- What the program's trees of rules and entries mean.
 use Rattle.std.specs.Prelude.{List, [], ◌∷◌}
 use Rattle.bc_core.specs.View.{root}
 use Rattle.bc_rules_defs.specs.declared.derivation.Derivation.{Derivation, Derivation', Row_of-Derivation, end_of-Derivation, more_of-Derivation}

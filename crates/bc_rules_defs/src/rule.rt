@@ -19,7 +19,7 @@ pub enum Mode {
 pub enum Aim {
     /// It gets a value.
     Gets(Mode),
-    /// It jumps to its target where the truth is this sense, and else goes on behind itself.
+    /// It jumps to its target where the truth is this sense, and else goes on after itself.
     Jumps(bool),
 }
 

@@ -27,7 +27,7 @@ IsTextOf known segments = (bytes : List ℕ) × IfSome known (λ xs. xs ≡ byte
 abbrev pub BeginsWith : List ℕ → List ℕ → Type 0
 BeginsWith bytes all = (rest : List ℕ) × (all ≡ bytes ++ rest)
 
--- The bytes that a reader gave first have this fault, which stays whatever comes behind them. Where the reader tells its
+-- The bytes that a reader gave first have this fault, which stays whatever comes after them. Where the reader tells its
 -- bytes, they begin with these.
 abbrev pub HasFaultInFront : Option (List ℕ) → TextError → Type 0
 HasFaultInFront known fault = (bytes : List ℕ) × IfSome known (BeginsWith bytes) × HasFault bytes fault
@@ -42,21 +42,21 @@ IsUnendedInAll known = (bytes : List ℕ) × IfSome known (λ xs. xs ≡ bytes) 
 abbrev pub IsTextFault : Option (List ℕ) → TextError → Type 0
 IsTextFault known fault = (fault ≡ texts.Memory) ⊎ (HasFaultInFront known fault ⊎ ((fault ≡ texts.Unended) × IsUnendedInAll known))
 
--- the segments with the primitives in front of them
-abbrev pub behind : List (List Item) → List (List Item)
-behind segments = primitive_items ∷ segments
+-- the segments with the primitives before them
+abbrev pub with_primitives : List (List Item) → List (List Item)
+with_primitives segments = primitive_items ∷ segments
 
--- A fault of a run is that of the text, else that of linking its segments behind the primitives; nothing is said of a
+-- A fault of a run is that of the text, else that of linking its segments after the primitives; nothing is said of a
 -- reader that failed and of memory.
 abbrev pub IsRunFault : Option (List ℕ) → RunFault → Type 0
 IsRunFault known faults.Read = Unit {0}
 IsRunFault known faults.Memory = Unit {0}
 IsRunFault known (faults.Text fault) = IsTextFault known fault
-IsRunFault known (faults.Link fault) = (segments : List (List Item)) × IsTextOf known segments × IsRefusal (refusal_of (behind segments)) fault
+IsRunFault known (faults.Link fault) = (segments : List (List Item)) × IsTextOf known segments × IsRefusal (refusal_of (with_primitives segments)) fault
 
--- The end of a run: the machine started from the image of the text's segments behind the primitives, and did at most
+-- The end of a run: the machine started from the image of the text's segments after the primitives, and did at most
 -- `steps` instructions.
 abbrev pub IsRunOf : Option (List ℕ) → ℕ → Type 0 → Type 0 → Content → Content → ℕ → ℕ → End → Type 0
 IsRunOf known steps told tells old new before after end =
-    (segments : List (List Item)) × (last : State) × IsTextOf known segments × (refusal_of (behind segments) ≡ None) × (last.streams ≡ new)
-    × Ran told tells steps (start (image_of (behind segments)).words (image_of (behind segments)).stack_base old) last end before after
+    (segments : List (List Item)) × (last : State) × IsTextOf known segments × (refusal_of (with_primitives segments) ≡ None) × (last.streams ≡ new)
+    × Ran told tells steps (start (image_of (with_primitives segments)).words (image_of (with_primitives segments)).stack_base old) last end before after

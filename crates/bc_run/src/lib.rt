@@ -1,4 +1,4 @@
-//! Runs of INTCODE text: the primitives, and a text that is read, linked behind them and run. Beside them the library
+//! Runs of INTCODE text: the primitives, and a text that is read, linked after them and run. Beside them the library
 //! of the language, as source.
 #![tactic(auto)]
 
@@ -7,4 +7,4 @@ mod running;
 
 pub use bc_library::{BLIB, LIBHDR};
 pub use primitive::primitives;
-pub use running::{RunFault, behind_primitives, run_text};
+pub use running::{RunFault, after_primitives, run_text};

@@ -1,5 +1,5 @@
 ghost use Rattle.std.specs.Prelude.{◌≡◌, IfOk, IfErr, OnErr};
-ghost use Rattle.bc_run.specs.Runs.{IsTextOf, IsTextFault, IsRunFault, IsRunOf, behind};
+ghost use Rattle.bc_run.specs.Runs.{IsTextOf, IsTextFault, IsRunFault, IsRunOf, with_primitives};
 
 use crate::primitive::primitives;
 use bc_link::{LinkError, link};
@@ -84,18 +84,18 @@ fn read_text<R: Read + Drop>(alloc: Global, mut text: R) -> Result<Vec<Segment>,
     Err(RunFault::Read)
 }
 
-/// The segments with the primitives in front of them.
-pub fn behind_primitives(alloc: Global, mut segments: Vec<Segment>) -> Result<Vec<Segment>, Memory>
-    ensures { IfOk result (λ all. all.items ≡ behind segments.items) }
+/// The segments with the primitives before them.
+pub fn after_primitives(alloc: Global, mut segments: Vec<Segment>) -> Result<Vec<Segment>, Memory>
+    ensures { IfOk result (λ all. all.items ≡ with_primitives segments.items) }
 {
     segments.insert(0, primitives(alloc)?)?;
     Ok(segments)
 }
 
-/// Reads a text of INTCODE to its end, links its segments behind the primitives, and runs the image for at most
+/// Reads a text of INTCODE to its end, links its segments after the primitives, and runs the image for at most
 /// `steps` instructions over the streams.
 ///
-/// `Text` is the refusal of the text's reader, in front of a failure of `text` that comes later; `Link` that of the
+/// `Text` is the refusal of the text's reader, before a failure of `text` that comes later; `Link` that of the
 /// linker. `Read` comes where `text` failed, or gave more than 16,777,216 bytes, and `Memory` where an allocation was
 /// refused. The streams stay as they were then. Of more bytes no text is linked, none is run, and none is called unended.
 pub fn run_text<R: Read + Drop, S: Streams>(
@@ -109,7 +109,7 @@ pub fn run_text<R: Read + Drop, S: Streams>(
     ensures fault { IfErr result (IsRunFault (R.Read.remaining text)) }
     ensures untouched { OnErr result (streams.new ≡ streams.old) }
 {
-    let segments = behind_primitives(alloc, read_text(alloc, text)?)?;
+    let segments = after_primitives(alloc, read_text(alloc, text)?)?;
     let image = link(alloc, segments.as_slice())?;
     let mut machine = Machine::new(alloc, &image)?;
     Ok(machine.run(streams, steps))

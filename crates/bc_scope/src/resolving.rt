@@ -13,7 +13,7 @@ use std::alloc::Global;
 /// The resolved section: its translation, where it has no fault.
 ///
 /// The caller hands in a section of at most 60,000 definitions, commands and expressions. The first fault
-/// in text order is answered, a construct's own behind those of its parts; `FrameTooLarge`, then
+/// in text order is answered, a construct's own after those of its parts; `FrameTooLarge`, then
 /// `TooManyPlaces`, only where no other stands. `Memory` comes where an allocation was refused.
 pub fn resolve<'s>(alloc: Global, section: &Section<'s>) -> Result<Core, ScopeError<'s>>
     requires { declarations_size (section_view section.now) ≤ 60000 }

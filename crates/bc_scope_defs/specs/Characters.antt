@@ -1,7 +1,7 @@
--- The bytes that a string stands for.
+-- The bytes that a string means.
 use Rattle.std.specs.Prelude.{ℕ, ◌==◌, ◌||◌, Bool, true, false, if◌then◌else◌, List, [], ◌∷◌, take, drop}
 
--- the byte of an escape, by the letter behind `*`, in either case; what is no such letter stands for itself
+-- the byte of an escape, by the letter after `*`, in either case; what is no such letter means itself
 abbrev pub escaped : ℕ → ℕ
 escaped e =
     if (e == 78) || (e == 110) then 10
@@ -12,7 +12,7 @@ escaped e =
     else (if (e == 67) || (e == 99) then 13
     else e)))))
 
--- up to the closing quote; behind a `*` or not
+-- up to the closing quote; after a `*` or not
 abbrev pub characters : (escape : Bool) → List ℕ → List ℕ
 characters escape [] = []
 characters true (e ∷ bs) = escaped e ∷ characters false bs

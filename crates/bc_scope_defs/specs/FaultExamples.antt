@@ -31,12 +31,12 @@ undeclared = refl
 declared : fault_in (body (variable y (number 0) ∷ []) (plain (set y (number 1)) ∷ [])) ≡ None
 declared = refl
 
--- a variable is known in its own initialiser, and no longer behind its block
+-- a variable is known in its own initialiser, and no longer after its block
 in_own_initialiser : fault_in (body (variable y (of y) ∷ []) []) ≡ None
 in_own_initialiser = refl
 
-behind_its_block : fault_in (body [] (plain (tree.Compound (body (variable y (number 0) ∷ []) [])) ∷ plain (set y (number 1)) ∷ [])) ≡ Some (AnUndeclared y)
-behind_its_block = refl
+after_its_block : fault_in (body [] (plain (tree.Compound (body (variable y (number 0) ∷ []) [])) ∷ plain (set y (number 1)) ∷ [])) ≡ Some (AnUndeclared y)
+after_its_block = refl
 
 -- `LET F(X, X) BE RETURN`
 twice_a_parameter : section_fault (with_parameters (x ∷ x ∷ [])) ≡ Some (ADeclaredTwice x)
@@ -98,12 +98,12 @@ divided_by_zero = refl
 divided_by_one : section_fault (manifest (two dyadic.Divide (number 1) (number 1))) ≡ None
 divided_by_one = refl
 
--- of one MANIFEST a name is a constant behind its own entry alone
+-- of one MANIFEST a name is a constant after its own entry alone
 constant_before : section_fault (declarations (constants storage.Manifest ((a, of b) ∷ (b, number 1) ∷ []) ∷ [])) ≡ Some ANotConstant
 constant_before = refl
 
-constant_behind : section_fault (declarations (constants storage.Manifest ((b, number 1) ∷ (a, of b) ∷ []) ∷ [])) ≡ None
-constant_behind = refl
+constant_after : section_fault (declarations (constants storage.Manifest ((b, number 1) ∷ (a, of b) ∷ []) ∷ [])) ≡ None
+constant_after = refl
 
 -- `LET V = VEC V`: the name is known, and no constant
 vector_of_itself : fault_in (body (lets (tree.Vector v (of v) ∷ []) ∷ []) []) ≡ Some ANotConstant
@@ -268,8 +268,8 @@ for_in_step = refl
 for_in_body : counts (number 1) (number 2) (set x (number 3)) ≡ None
 for_in_body = refl
 
-for_behind_body : fault_in (body [] (plain (tree.For x (number 1) (number 2) (commands [])) ∷ plain (set x (number 1)) ∷ [])) ≡ Some (AnUndeclared x)
-for_behind_body = refl
+for_after_body : fault_in (body [] (plain (tree.For x (number 1) (number 2) (commands [])) ∷ plain (set x (number 1)) ∷ [])) ≡ Some (AnUndeclared x)
+for_after_body = refl
 
 -- BREAK in a SWITCHON in a loop is lawful
 break_in_switch_in_loop : fault_of (tree.Repeat (tree.SwitchOn (number 1) (items (with_case 1 tree.Break ∷ [])))) ≡ None

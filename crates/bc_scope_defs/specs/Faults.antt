@@ -11,7 +11,7 @@ use Rattle.bc_scope_defs.specs.Scope.{Meant, Constant, Pending, Static, Global, 
 use Rattle.bc_scope_defs.specs.Scope as scope
 use Rattle.bc_scope_defs.specs.Scoping.{constant, constant_in, pending, in_entry, names_of, in_for, in_list, in_valof}
 use Rattle.bc_scope_defs.specs.Found.{in_parameters, Thing, AValof, ARoutine, Data, section_start, found_in_section}
-use Rattle.bc_scope_defs.specs.Frames.{known_behind, known_behind_all, frame_of}
+use Rattle.bc_scope_defs.specs.Frames.{known_after, known_after_all, frame_of}
 
 pub data Fault : Type 0 where
   AnUndeclared : Name → Fault
@@ -70,7 +70,7 @@ jump_fault n Undeclared = Some (AnUndeclared n)
 jump_fault n OuterLabel = Some (ADynamicFree n)
 jump_fault n _ = Some AMisplaced
 
--- what a whole constant has behind the faults in it
+-- what a whole constant has after the faults in it
 abbrev pub not_constant : Env → Exp → Option Fault
 not_constant E k = unless (is_some (constant_in E k)) ANotConstant
 
@@ -115,7 +115,7 @@ abbrev pub is_among : List Name → Name → Bool
 is_among [] n = false
 is_among (m ∷ ms) n = is_name m n || is_among ms n
 
--- a name behind these
+-- a name after these
 abbrev pub twice_fault : List Name → Name → Option Fault
 twice_fault before n = unless (not (is_among before n)) (ADeclaredTwice n)
 
@@ -146,14 +146,14 @@ abbrev pub met_labels : Env → Met → Labels → Met
 met_labels E M no_labels = M
 met_labels E M (label l ls) = met_labels E (met_label E M l) ls
 
--- behind the faults of a CASE's constant: a CASE stands in a SWITCHON's own list, and no value twice
+-- after the faults of a CASE's constant: a CASE stands in a SWITCHON's own list, and no value twice
 abbrev pub case_fault : (cases : Bool) → Met → ℕ → Option Fault
 case_fault cases M w = or_else (unless cases AMisplaced) (unless (not (has_value M.values w)) ACaseTwice)
 
 abbrev pub default_fault : (cases : Bool) → Met → Option Fault
 default_fault cases M = or_else (unless cases AMisplaced) (unless (not M.default) ACaseTwice)
 
--- behind the faults of an entry's constant
+-- after the faults of an entry's constant
 abbrev pub entry_fault : Storage → Env → Name → Exp → Option Fault
 entry_fault storage.Global E n k = unless (nat_lt (constant E k) 512) (AGlobalNumber n)
 entry_fault _ E n k = None
@@ -198,14 +198,14 @@ abbrev mutual
 
   pub declaration_fault : Env → Declaration → Option Fault
   declaration_fault E (tree.Constants k es) = entries_fault k [] es (pending k es E)
-  declaration_fault E (tree.Let ds) = definitions_fault [] (known_behind E (tree.Let ds)) ds
+  declaration_fault E (tree.Let ds) = definitions_fault [] (known_after E (tree.Let ds)) ds
 
   pub declarations_fault : Env → Declarations → Option Fault
   declarations_fault E no_declarations = None
-  declarations_fault E (declaration d ds) = or_else (declaration_fault E d) (declarations_fault (known_behind E d) ds)
+  declarations_fault E (declaration d ds) = or_else (declaration_fault E d) (declarations_fault (known_after E d) ds)
 
   pub block_fault : Allowed → Env → Block → Option Fault
-  block_fault W E (block ds is) = or_else (declarations_fault E ds) (items_fault false none_met W (in_list 0 is (known_behind_all E ds)) is)
+  block_fault W E (block ds is) = or_else (declarations_fault E ds) (items_fault false none_met W (in_list 0 is (known_after_all E ds)) is)
 
   pub label_fault : (cases : Bool) → Met → Env → Label → Option Fault
   label_fault cases M E (tree.Case k) = or_else (or_else (fault true E k) (not_constant E k)) (case_fault cases M (constant E k))
@@ -247,7 +247,7 @@ abbrev mutual
       or_else (fault false E a) (or_else (fault false E z) (or_else (or_else (fault true E k) (not_constant E k)) (block_fault (in_a_loop W) (in_for E n 0) b)))
   command_fault W E (tree.SwitchOn e is) = or_else (fault false E e) (items_fault true none_met (in_a_switch W) (in_list 0 is E) is)
 
--- behind all others
+-- after all others
 abbrev pub frames_fault : List Thing → Option Fault
 frames_fault [] = None
 frames_fault (AValof f ∷ things) = frames_fault things

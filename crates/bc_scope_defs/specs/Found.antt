@@ -4,10 +4,10 @@ use Rattle.bc_parse_tree.specs.declared.tree.Storage.{Storage}
 use Rattle.bc_parse_tree.specs.declared.tree.Storage.TheVariants as storage
 use Rattle.bc_parse_tree.specs.Tree.{Exp, Exps, none, more, Block, block, Declaration, Declarations, no_declarations, declaration, Entries, no_entries, entry, Definition, Definitions, no_definitions, definition, Item, Labelled, Labels_alone, Items, no_items, item, Command}
 use Rattle.bc_parse_tree.specs.Tree as tree
-use Rattle.bc_core.specs.Level.{operand_level, argument_level, routine_level, level_in_for, level_behind_parameters}
-use Rattle.bc_scope_defs.specs.Scope.{Meant, Global, Env, nothing_known, meant_by, Numbers, behind_valof, behind_labels, behind_place, Name}
-use Rattle.bc_scope_defs.specs.Numbering.{behind_entry, behind, behind_all, behind_declarations, behind_declaration, behind_definition, behind_command, behind_block, labels_of, labels_in}
-use Rattle.bc_scope_defs.specs.Scoping.{constant, pending, in_entry, count, cells_of_all, before_let, in_let, in_declaration, in_declarations, cells_in, level_behind, in_for, in_list, in_valof, in_routine, variables}
+use Rattle.bc_core.specs.Level.{operand_level, argument_level, routine_level, level_in_for, level_after_parameters}
+use Rattle.bc_scope_defs.specs.Scope.{Meant, Global, Env, nothing_known, meant_by, Numbers, after_valof, after_labels, after_place, Name}
+use Rattle.bc_scope_defs.specs.Numbering.{after_entry, following, after_all, after_declarations, after_declaration, after_definition, after_command, after_block, labels_of, labels_in}
+use Rattle.bc_scope_defs.specs.Scoping.{constant, pending, in_entry, count, cells_of_all, before_let, in_let, in_declaration, in_declarations, cells_in, level_after, in_for, in_list, in_valof, in_routine, variables}
 use Rattle.bc_scope_defs.specs.Characters.{decoded}
 use Rattle.bc_scope_defs.specs.Sides.{side_levels}
 
@@ -58,7 +58,7 @@ routine B E at n ps b =
       global = global_of (meant_by B n);
       parameters = length ps;
       names = in_parameters ps E;
-      numbers = behind_place at;
+      numbers = after_place at;
       body = b;
     })
 
@@ -72,47 +72,47 @@ found_entry _ at w = []
 
 abbrev pub found_in_entries : Storage → Numbers → Entries → Env → List Thing
 found_in_entries s at no_entries E = []
-found_in_entries s at (entry n k es) E = found_entry s at (constant E k) ++ found_in_entries s (behind_entry s at) es (in_entry s at n k E)
+found_in_entries s at (entry n k es) E = found_entry s at (constant E k) ++ found_in_entries s (after_entry s at) es (in_entry s at n k E)
 
 abbrev mutual
   pub found : Env → Numbers → Exp → (s : ℕ) → List Thing
   found E at (tree.Valof b) s =
-      AValof (record { number = at.valof; names = in_valof E; numbers = behind_valof at; body = b; level = s })
-      ∷ found_in_block (in_valof E) (behind_valof at) b s
+      AValof (record { number = at.valof; names = in_valof E; numbers = after_valof at; body = b; level = s })
+      ∷ found_in_block (in_valof E) (after_valof at) b s
   found E at (tree.Monadic m e) s = found E at e s
-  found E at (tree.Dyadic o l r) s = found E at l (operand_level s) ++ found E (behind at l) r (operand_level s)
+  found E at (tree.Dyadic o l r) s = found E at l (operand_level s) ++ found E (following at l) r (operand_level s)
   found E at (tree.Condition c x y) s =
-      let behind_test = behind at c in found E at c s ++ (found E behind_test x s ++ found E (behind behind_test x) y s)
-  found E at (tree.Call f es) s = found E at f (routine_level s (count es)) ++ found_in_arguments E (behind at f) es (argument_level s)
+      let after_test = following at c in found E at c s ++ (found E after_test x s ++ found E (following after_test x) y s)
+  found E at (tree.Call f es) s = found E at f (routine_level s (count es)) ++ found_in_arguments E (following at f) es (argument_level s)
   found E at (tree.Text text) s = Data at.place (AText (decoded text)) ∷ []
   found E at (tree.Table ks) s = Data at.place (ATable (words_of_table E ks)) ∷ []
   found E at _ s = []
 
   pub found_in_arguments : Env → Numbers → Exps → (s : ℕ) → List Thing
   found_in_arguments E at none s = []
-  found_in_arguments E at (more e es) s = found E at e s ++ found_in_arguments E (behind at e) es (s + 1)
+  found_in_arguments E at (more e es) s = found E at e s ++ found_in_arguments E (following at e) es (s + 1)
 
   pub found_in_sides : Env → Numbers → Exps → List ℕ → List Thing
   found_in_sides E at none ss = []
-  found_in_sides E at (more e es) [] = found E at e 0 ++ found_in_sides E (behind at e) es []
-  found_in_sides E at (more e es) (s ∷ ss) = found E at e s ++ found_in_sides E (behind at e) es ss
+  found_in_sides E at (more e es) [] = found E at e 0 ++ found_in_sides E (following at e) es []
+  found_in_sides E at (more e es) (s ∷ ss) = found E at e s ++ found_in_sides E (following at e) es ss
 
   -- all at one level
   pub found_in_initials : Env → Numbers → Exps → (s : ℕ) → List Thing
   found_in_initials E at none s = []
-  found_in_initials E at (more e es) s = found E at e s ++ found_in_initials E (behind at e) es s
+  found_in_initials E at (more e es) s = found E at e s ++ found_in_initials E (following at e) es s
 
   pub found_in_definition : (before names : Env) → Numbers → Definition → (s : ℕ) → List Thing
   found_in_definition B E at (tree.Variables ns es) s = found_in_initials E at es s
   found_in_definition B E at (tree.Vector n k) s = []
   found_in_definition B E at (tree.Function n ps e) s = routine B E at n ps (Gives e)
-      ∷ found (in_parameters ps E) (behind_place at) e (level_behind_parameters (length ps))
-  found_in_definition B E at (tree.Routine n ps b) s = routine B E at n ps (Does b) ∷ found_in_block (in_parameters ps E) (behind_place at) b
-      (level_behind_parameters (length ps))
+      ∷ found (in_parameters ps E) (after_place at) e (level_after_parameters (length ps))
+  found_in_definition B E at (tree.Routine n ps b) s = routine B E at n ps (Does b) ∷ found_in_block (in_parameters ps E) (after_place at) b
+      (level_after_parameters (length ps))
 
   pub found_in_definitions : (before names : Env) → Numbers → Definitions → (s : ℕ) → List Thing
   found_in_definitions B E at no_definitions s = []
-  found_in_definitions B E at (definition d ds) s = found_in_definition B E at d s ++ found_in_definitions B E (behind_definition at d) ds s
+  found_in_definitions B E at (definition d ds) s = found_in_definition B E at d s ++ found_in_definitions B E (after_definition at d) ds s
 
   pub found_in_declaration : Env → Numbers → Declaration → (s : ℕ) → List Thing
   found_in_declaration E at (tree.Constants k es) s = found_in_entries k at es (pending k es E)
@@ -121,47 +121,47 @@ abbrev mutual
   pub found_in_declarations : Env → Numbers → Declarations → (s : ℕ) → List Thing
   found_in_declarations E at no_declarations s = []
   found_in_declarations E at (declaration d ds) s =
-      found_in_declaration E at d s ++ found_in_declarations (in_declaration E at s d) (behind_declaration at d) ds (s + cells_in E d)
+      found_in_declaration E at d s ++ found_in_declarations (in_declaration E at s d) (after_declaration at d) ds (s + cells_in E d)
 
   pub found_in_block : Env → Numbers → Block → (s : ℕ) → List Thing
   found_in_block E at (block ds is) s =
-      let behind_it = behind_declarations at ds in
-      let k = behind_it.label in
+      let after_it = after_declarations at ds in
+      let k = after_it.label in
       found_in_declarations E at ds s
-      ++ found_in_items (in_list k is (in_declarations E at s ds)) k (behind_labels behind_it (labels_in is)) is (level_behind E at s ds)
+      ++ found_in_items (in_list k is (in_declarations E at s ds)) k (after_labels after_it (labels_in is)) is (level_after E at s ds)
 
   pub found_in_items : Env → (k : ℕ) → Numbers → Items → (s : ℕ) → List Thing
   found_in_items E k at no_items s = []
-  found_in_items E k at (item (Labelled ls c) is) s = found_in_command E at c s ++ found_in_items E (k + labels_of ls) (behind_command at c) is s
+  found_in_items E k at (item (Labelled ls c) is) s = found_in_command E at c s ++ found_in_items E (k + labels_of ls) (after_command at c) is s
   found_in_items E k at (item (Labels_alone ls) is) s = found_in_items E (k + labels_of ls) at is s
 
   pub found_in_command : Env → Numbers → Command → (s : ℕ) → List Thing
   found_in_command E at (tree.Assign xs es) s =
-      let ss = side_levels E xs s in found_in_sides E at xs ss ++ found_in_sides E (behind_all at xs) es ss
-  found_in_command E at (tree.Do f es) s = found E at f (routine_level s (count es)) ++ found_in_arguments E (behind at f) es (argument_level s)
+      let ss = side_levels E xs s in found_in_sides E at xs ss ++ found_in_sides E (after_all at xs) es ss
+  found_in_command E at (tree.Do f es) s = found E at f (routine_level s (count es)) ++ found_in_arguments E (following at f) es (argument_level s)
   found_in_command E at (tree.Compound b) s = found_in_block E at b s
   found_in_command E at (tree.ResultIs e) s = found E at e s
   found_in_command E at (tree.Repeat c) s = found_in_command E at c s
-  found_in_command E at (tree.RepeatWhile c e) s = found_in_command E at c s ++ found E (behind_command at c) e s
-  found_in_command E at (tree.RepeatUntil c e) s = found_in_command E at c s ++ found E (behind_command at c) e s
-  found_in_command E at (tree.If e b) s = found E at e s ++ found_in_block E (behind at e) b s
-  found_in_command E at (tree.Unless e b) s = found E at e s ++ found_in_block E (behind at e) b s
-  found_in_command E at (tree.While e b) s = found E at e s ++ found_in_block E (behind at e) b s
-  found_in_command E at (tree.Until e b) s = found E at e s ++ found_in_block E (behind at e) b s
+  found_in_command E at (tree.RepeatWhile c e) s = found_in_command E at c s ++ found E (after_command at c) e s
+  found_in_command E at (tree.RepeatUntil c e) s = found_in_command E at c s ++ found E (after_command at c) e s
+  found_in_command E at (tree.If e b) s = found E at e s ++ found_in_block E (following at e) b s
+  found_in_command E at (tree.Unless e b) s = found E at e s ++ found_in_block E (following at e) b s
+  found_in_command E at (tree.While e b) s = found E at e s ++ found_in_block E (following at e) b s
+  found_in_command E at (tree.Until e b) s = found E at e s ++ found_in_block E (following at e) b s
   found_in_command E at (tree.Test e b c) s =
-      let behind_test = behind at e in found E at e s ++ (found_in_block E behind_test b s ++ found_in_block E (behind_block behind_test b) c s)
+      let after_test = following at e in found E at e s ++ (found_in_block E after_test b s ++ found_in_block E (after_block after_test b) c s)
   found_in_command E at (tree.For n a z b) s =
-      let behind_start = behind at a in
+      let after_start = following at a in
       let s1 = level_in_for s in
-      found E at a s1 ++ (found E behind_start z s1 ++ found_in_block (in_for E n s) (behind behind_start z) b s1)
+      found E at a s1 ++ (found E after_start z s1 ++ found_in_block (in_for E n s) (following after_start z) b s1)
   found_in_command E at (tree.ForBy n a z k b) s =
-      let behind_start = behind at a in
+      let after_start = following at a in
       let s1 = level_in_for s in
-      found E at a s1 ++ (found E behind_start z s1 ++ found_in_block (in_for E n s) (behind behind_start z) b s1)
+      found E at a s1 ++ (found E after_start z s1 ++ found_in_block (in_for E n s) (following after_start z) b s1)
   found_in_command E at (tree.SwitchOn e is) s =
-      let behind_value = behind at e in
-      let k = behind_value.label in
-      found E at e s ++ found_in_items (in_list k is E) k (behind_labels behind_value (labels_in is)) is s
+      let after_value = following at e in
+      let k = after_value.label in
+      found E at e s ++ found_in_items (in_list k is E) k (after_labels after_value (labels_in is)) is s
   found_in_command E at _ s = []
 
 -- a section's places are labelled from 1 on

@@ -2,20 +2,20 @@
 use Rattle.std.specs.Prelude.{ℕ, ◌+◌, max, cond, List, [], ◌∷◌}
 use Rattle.bc_parse_tree.specs.Tree.{Exp, Exps, none, more, Block, block, Declaration, Declarations, no_declarations, declaration, Definition, Definitions, no_definitions, definition, Item, Labelled, Labels_alone, Items, no_items, item, Command}
 use Rattle.bc_parse_tree.specs.Tree as tree
-use Rattle.bc_core.specs.Level.{operand_level, argument_level, routine_level, level_in_for, level_behind_parameters}
+use Rattle.bc_core.specs.Level.{operand_level, argument_level, routine_level, level_in_for, level_after_parameters}
 use Rattle.bc_scope_defs.specs.Scope.{Env}
-use Rattle.bc_scope_defs.specs.Scoping.{count, cells_of_all, before_let, in_declaration, in_declarations, cells_in, level_behind, in_for, in_list, in_valof}
+use Rattle.bc_scope_defs.specs.Scoping.{count, cells_of_all, before_let, in_declaration, in_declarations, cells_in, level_after, in_for, in_list, in_valof}
 use Rattle.bc_scope_defs.specs.Sides.{kinds, is_operand_kind, side_levels}
 use Rattle.bc_scope_defs.specs.Found.{FoundRoutine, RoutineBody, Gives, Does, section_start}
 
 -- Of what names mean, the constants and the kinds of meaning tell which cells are taken and what is at fault, and no label, number or offset
 -- does. So names are declared here, and in `Faults`, with any numbers.
 
-abbrev pub known_behind : Env → Declaration → Env
-known_behind E d = in_declaration E section_start 0 d
+abbrev pub known_after : Env → Declaration → Env
+known_after E d = in_declaration E section_start 0 d
 
-abbrev pub known_behind_all : Env → Declarations → Env
-known_behind_all E ds = in_declarations E section_start 0 ds
+abbrev pub known_after_all : Env → Declarations → Env
+known_after_all E ds = in_declarations E section_start 0 ds
 
 -- an assignment whose address is no operand holds its value at s
 abbrev pub held : Env → Exp → (s : ℕ) → ℕ
@@ -54,19 +54,19 @@ abbrev mutual
   width_of_definitions E no_definitions s = 0
   width_of_definitions E (definition d ds) s = max (width_of_definition E d s) (width_of_definitions E ds s)
 
-  -- each declaration takes its cells first, and its initialisers stand at the level behind it
+  -- each declaration takes its cells first, and its initialisers stand at the level after it
   pub width_of_declaration : Env → Declaration → (s : ℕ) → ℕ
   width_of_declaration E (tree.Constants k es) s = 0
   width_of_declaration E (tree.Let ds) s =
-      let s1 = s + cells_of_all (before_let ds E) ds in max s1 (width_of_definitions (known_behind E (tree.Let ds)) ds s1)
+      let s1 = s + cells_of_all (before_let ds E) ds in max s1 (width_of_definitions (known_after E (tree.Let ds)) ds s1)
 
   pub width_of_declarations : Env → Declarations → (s : ℕ) → ℕ
   width_of_declarations E no_declarations s = 0
-  width_of_declarations E (declaration d ds) s = max (width_of_declaration E d s) (width_of_declarations (known_behind E d) ds (s + cells_in E d))
+  width_of_declarations E (declaration d ds) s = max (width_of_declaration E d s) (width_of_declarations (known_after E d) ds (s + cells_in E d))
 
   pub width_of_block : Env → Block → (s : ℕ) → ℕ
   width_of_block E (block ds is) s =
-      max (width_of_declarations E ds s) (width_of_items (in_list 0 is (known_behind_all E ds)) is (level_behind E section_start s ds))
+      max (width_of_declarations E ds s) (width_of_items (in_list 0 is (known_after_all E ds)) is (level_after E section_start s ds))
 
   pub width_of_items : Env → Items → (s : ℕ) → ℕ
   width_of_items E no_items s = 0
@@ -87,7 +87,7 @@ abbrev mutual
   width_of_command E (tree.While e b) s = max (width E e s) (width_of_block E b s)
   width_of_command E (tree.Until e b) s = max (width E e s) (width_of_block E b s)
   width_of_command E (tree.Test e b c) s = max (width E e s) (max (width_of_block E b s) (width_of_block E c s))
-  -- the FOR's own test and sum are operators at the level behind its two cells
+  -- the FOR's own test and sum are operators at the level after its two cells
   width_of_command E (tree.For n a z b) s =
       let s1 = level_in_for s in max (s1 + 2) (max (width E a s1) (max (width E z s1) (width_of_block (in_for E n 0) b s1)))
   width_of_command E (tree.ForBy n a z k b) s =
@@ -101,4 +101,4 @@ width_of_body E (Does b) s = width_of_block E b s
 
 -- the links and the parameters have cells in any case
 abbrev pub frame_of : FoundRoutine → ℕ
-frame_of r = let s = level_behind_parameters r.parameters in max s (width_of_body r.names r.body s)
+frame_of r = let s = level_after_parameters r.parameters in max s (width_of_body r.names r.body s)

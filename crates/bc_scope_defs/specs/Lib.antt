@@ -16,4 +16,4 @@ pub mod Examples
 pub mod FaultExamples
 pub mod TranslationExamples
 pub mod MeaningExamples
-pub mod examples
+pub mod worked

@@ -14,10 +14,10 @@ use Rattle.bc_core.specs.Exit.{Exit, Past, Broke, Looped, LeftCases, Returned, R
 use Rattle.bc_core.specs.Lists.{Entry, Beginning, meets_case, meets_default, meets_label, met, from_entry, listed, switched}
 use Rattle.bc_core.specs.Loop.{agrees, while_loop, repeat_loop, repeat_while_loop, for_loop}
 use Rattle.bc_core.specs.Meaning.{Call, valof_value}
-use Rattle.bc_scope_defs.specs.Scope.{Meant, Constant, Static, Global, Routine, Variable, Env, meant_by, Numbers, behind_valof, behind_labels}
+use Rattle.bc_scope_defs.specs.Scope.{Meant, Constant, Static, Global, Routine, Variable, Env, meant_by, Numbers, after_valof, after_labels}
 use Rattle.bc_scope_defs.specs.Scope as scope
-use Rattle.bc_scope_defs.specs.Numbering.{behind, behind_all, behind_declarations, behind_declaration, behind_definition, behind_command, behind_block, labels_named, labels_of, labels_in}
-use Rattle.bc_scope_defs.specs.Scoping.{operator, constant, count, cells_of, cells_of_all, before_let, in_let, in_declaration, in_declarations, cells_in, level_behind, in_for, in_list, in_valof}
+use Rattle.bc_scope_defs.specs.Numbering.{following, after_all, after_declarations, after_declaration, after_definition, after_command, after_block, labels_named, labels_of, labels_in}
+use Rattle.bc_scope_defs.specs.Scoping.{operator, constant, count, cells_of, cells_of_all, before_let, in_let, in_declaration, in_declarations, cells_in, level_after, in_for, in_list, in_valof}
 use Rattle.bc_scope_defs.specs.Sides.{side_levels}
 
 -- what a section stands among: the address of each of its places, and what a call does
@@ -129,7 +129,7 @@ abbrev pub label_number : Meant → ℕ
 label_number (scope.Label l) = l
 label_number _ = 0
 
--- a FOR over the variable at this address: its start and limit are worked out once, the limit is held beside the store
+-- a FOR over the variable at this address: its start and limit are computed once, the limit is held beside the store
 abbrev pub run_for : (by address : ℕ) → (start limit : Run ℕ) → Run Exit → Run Exit
 run_for by a start limit body =
     with_cells 1 a (for_loop by (then_do start (λ w. write (a % 65536) w)) limit (read (a % 65536))
@@ -144,35 +144,35 @@ abbrev mutual
   worth A E at tree.False p s = plain (known 0)
   worth A E at (tree.Text bytes) p s = plain (known (A.place at.place))
   worth A E at (tree.Table ks) p s = plain (known (A.place at.place))
-  worth A E at (tree.Valof b) p s = plain (by_value (then_do (run_block A (in_valof E) (behind_valof at) b p s) valof_value))
+  worth A E at (tree.Valof b) p s = plain (by_value (then_do (run_block A (in_valof E) (after_valof at) b p s) valof_value))
   worth A E at (tree.Monadic m e) p s = worth_of_monadic m (worth A E at e p s)
   worth A E at (tree.Dyadic o l r) p s =
       let s1 = operand_level s in
-      worth_of_dyadic (operator o) (holds_call l || holds_call r) (worth A E at l p s1).content (worth A E (behind at l) r p s1).content
+      worth_of_dyadic (operator o) (holds_call l || holds_call r) (worth A E at l p s1).content (worth A E (following at l) r p s1).content
   worth A E at (tree.Condition c x y) p s =
-      let behind_test = behind at c in
+      let after_test = following at c in
       plain (by_value (then_do (worth A E at c p s).content.truth (λ t.
-      choose t (worth A E behind_test x p s).content.value (worth A E (behind behind_test x) y p s).content.value)))
+      choose t (worth A E after_test x p s).content.value (worth A E (following after_test x) y p s).content.value)))
   -- the arguments in order, the routine's value last; the new frame stands at p + s
   worth A E at (tree.Call f es) p s =
-      plain (by_value (then_do (arguments A E (behind at f) es p (argument_level s)) (λ vs.
+      plain (by_value (then_do (arguments A E (following at f) es p (argument_level s)) (λ vs.
       then_do (worth A E at f p (routine_level s (count es))).content.value (λ r. A.call r vs (p + s)))))
 
   pub arguments : Around → Env → Numbers → Exps → (p s : ℕ) → Run (List ℕ)
   arguments A E at none p s = Done []
   arguments A E at (more e es) p s =
-      then_do (worth A E at e p s).content.value (λ v. then_do (arguments A E (behind at e) es p (s + 1)) (λ vs. Done (v ∷ vs)))
+      then_do (worth A E at e p s).content.value (λ v. then_do (arguments A E (following at e) es p (s + 1)) (λ vs. Done (v ∷ vs)))
 
   -- the sides of assignments, each at its level
   pub sides : Around → Env → Numbers → Exps → (p : ℕ) → List ℕ → List Side
-  sides A E at (more e es) p (s ∷ ss) = record { calls = holds_call e; worth = worth A E at e p s } ∷ sides A E (behind at e) es p ss
+  sides A E at (more e es) p (s ∷ ss) = record { calls = holds_call e; worth = worth A E at e p s } ∷ sides A E (following at e) es p ss
   sides A E at _ p _ = []
 
   -- initialisers of variables from offset k on, at level s
   pub initial_values : Around → Env → Numbers → Exps → (p k s : ℕ) → Run (Unit {0})
   initial_values A E at none p k s = Done tt
   initial_values A E at (more e es) p k s =
-      then_do (set_variable k p (worth A E at e p s).content) (λ u. initial_values A E (behind at e) es p (k + 1) s)
+      then_do (set_variable k p (worth A E at e p s).content) (λ u. initial_values A E (following at e) es p (k + 1) s)
 
   -- before: what names mean in the constants of the LET
   pub initialise_one : Around → Env → (before : Env) → Numbers → Definition → (p k s : ℕ) → Run (Unit {0})
@@ -184,7 +184,7 @@ abbrev mutual
   pub initialise : Around → Env → (before : Env) → Numbers → Definitions → (p k s : ℕ) → Run (Unit {0})
   initialise A E B at no_definitions p k s = Done tt
   initialise A E B at (definition d ds) p k s =
-      then_do (initialise_one A E B at d p k s) (λ u. initialise A E B (behind_definition at d) ds p (k + cells_of B d) s)
+      then_do (initialise_one A E B at d p k s) (λ u. initialise A E B (after_definition at d) ds p (k + cells_of B d) s)
 
   -- a declaration round what follows it: its cells are live to the block's end
   pub declare_one : Around → Env → Numbers → Declaration → (p s : ℕ) → Run Exit → Run Exit
@@ -197,28 +197,28 @@ abbrev mutual
   pub declare : Around → Env → Numbers → Declarations → (p s : ℕ) → Run Exit → Run Exit
   declare A E at no_declarations p s r = r
   declare A E at (declaration d ds) p s r =
-      declare_one A E at d p s (declare A (in_declaration E at s d) (behind_declaration at d) ds p (s + cells_in E d) r)
+      declare_one A E at d p s (declare A (in_declaration E at s d) (after_declaration at d) ds p (s + cells_in E d) r)
 
   pub run_block : Around → Env → Numbers → Block → (p s : ℕ) → Run Exit
   run_block A E at (block ds is) p s =
-      let behind_it = behind_declarations at ds in
-      let k = behind_it.label in
+      let after_it = after_declarations at ds in
+      let k = after_it.label in
       declare A E at ds p s (listed (has_label_in k is)
-      (run_items A (in_list k is (in_declarations E at s ds)) k (behind_labels behind_it (labels_in is)) is p (level_behind E at s ds)) Beginning)
+      (run_items A (in_list k is (in_declarations E at s ds)) k (after_labels after_it (labels_in is)) is p (level_after E at s ds)) Beginning)
 
   -- the items of a list from an entry on; the next label of the list has number k
   pub run_items : Around → Env → (k : ℕ) → Numbers → Items → (p s : ℕ) → Entry → Run Exit
   run_items A E k at no_items p s from = Done Past
   run_items A E k at (item (Labelled ls c) is) p s from =
       let from1 = met_labels E k ls from in
-      then_do (from_entry from1 (run_command A E at c p s)) (onward (run_items A E (k + labels_of ls) (behind_command at c) is p s from1))
+      then_do (from_entry from1 (run_command A E at c p s)) (onward (run_items A E (k + labels_of ls) (after_command at c) is p s from1))
   run_items A E k at (item (Labels_alone ls) is) p s from = run_items A E (k + labels_of ls) at is p s (met_labels E k ls from)
 
   pub run_command : Around → Env → Numbers → Command → (p s : ℕ) → Run Exit
   run_command A E at (tree.Assign xs es) p s =
-      let ss = side_levels E xs s in set_sides (sides A E at xs p ss) (sides A E (behind_all at xs) es p ss)
+      let ss = side_levels E xs s in set_sides (sides A E at xs p ss) (sides A E (after_all at xs) es p ss)
   run_command A E at (tree.Do f es) p s =
-      then_do (then_do (arguments A E (behind at f) es p (argument_level s)) (λ vs.
+      then_do (then_do (arguments A E (following at f) es p (argument_level s)) (λ vs.
       then_do (worth A E at f p (routine_level s (count es))).content.value (λ r. A.call r vs (p + s)))) (λ v. Done Past)
   run_command A E at (tree.Compound b) p s = run_block A E at b p s
   run_command A E at tree.Break p s = Done Broke
@@ -231,30 +231,30 @@ abbrev mutual
   run_command A E at (tree.Goto n) p s = in_turn (Done (Jumped (label_number (meant_by E n))))
   run_command A E at (tree.Repeat c) p s = repeat_loop (run_command A E at c p s)
   run_command A E at (tree.RepeatWhile c e) p s =
-      repeat_while_loop (run_command A E at c p s) true (worth A E (behind_command at c) e p s).content.truth
+      repeat_while_loop (run_command A E at c p s) true (worth A E (after_command at c) e p s).content.truth
   run_command A E at (tree.RepeatUntil c e) p s =
-      repeat_while_loop (run_command A E at c p s) false (worth A E (behind_command at c) e p s).content.truth
+      repeat_while_loop (run_command A E at c p s) false (worth A E (after_command at c) e p s).content.truth
   run_command A E at (tree.If e b) p s =
-      then_do (worth A E at e p s).content.truth (λ t. choose (agrees true t) (run_block A E (behind at e) b p s) (Done Past))
+      then_do (worth A E at e p s).content.truth (λ t. choose (agrees true t) (run_block A E (following at e) b p s) (Done Past))
   run_command A E at (tree.Unless e b) p s =
-      then_do (worth A E at e p s).content.truth (λ t. choose (agrees false t) (run_block A E (behind at e) b p s) (Done Past))
-  run_command A E at (tree.While e b) p s = while_loop true (worth A E at e p s).content.truth (run_block A E (behind at e) b p s)
-  run_command A E at (tree.Until e b) p s = while_loop false (worth A E at e p s).content.truth (run_block A E (behind at e) b p s)
+      then_do (worth A E at e p s).content.truth (λ t. choose (agrees false t) (run_block A E (following at e) b p s) (Done Past))
+  run_command A E at (tree.While e b) p s = while_loop true (worth A E at e p s).content.truth (run_block A E (following at e) b p s)
+  run_command A E at (tree.Until e b) p s = while_loop false (worth A E at e p s).content.truth (run_block A E (following at e) b p s)
   run_command A E at (tree.Test e b c) p s =
-      let behind_test = behind at e in
-      then_do (worth A E at e p s).content.truth (λ t. choose t (run_block A E behind_test b p s) (run_block A E (behind_block behind_test b) c p s))
+      let after_test = following at e in
+      then_do (worth A E at e p s).content.truth (λ t. choose t (run_block A E after_test b p s) (run_block A E (after_block after_test b) c p s))
   run_command A E at (tree.For n a z b) p s =
       let s1 = level_in_for s in
-      let behind_start = behind at a in
-      run_for 1 (p + s) (worth A E at a p s1).content.value (worth A E behind_start z p s1).content.value
-      (run_block A (in_for E n s) (behind behind_start z) b p s1)
+      let after_start = following at a in
+      run_for 1 (p + s) (worth A E at a p s1).content.value (worth A E after_start z p s1).content.value
+      (run_block A (in_for E n s) (following after_start z) b p s1)
   run_command A E at (tree.ForBy n a z k b) p s =
       let s1 = level_in_for s in
-      let behind_start = behind at a in
-      run_for (constant E k) (p + s) (worth A E at a p s1).content.value (worth A E behind_start z p s1).content.value
-      (run_block A (in_for E n s) (behind behind_start z) b p s1)
+      let after_start = following at a in
+      run_for (constant E k) (p + s) (worth A E at a p s1).content.value (worth A E after_start z p s1).content.value
+      (run_block A (in_for E n s) (following after_start z) b p s1)
   run_command A E at (tree.SwitchOn e is) p s =
-      let behind_value = behind at e in
-      let k = behind_value.label in
+      let after_value = following at e in
+      let k = after_value.label in
       let E1 = in_list k is E in
-      switched (worth A E at e p s).content.value (has_case_in E1 is) (has_label_in k is) (run_items A E1 k (behind_labels behind_value (labels_in is)) is p s)
+      switched (worth A E at e p s).content.value (has_case_in E1 is) (has_label_in k is) (run_items A E1 k (after_labels after_value (labels_in is)) is p s)

@@ -13,7 +13,7 @@ use Rattle.bc_parse_tree.specs.Tree.{Exp, Exps, none, more, Declaration, Declara
 use Rattle.bc_parse_tree.specs.Tree as tree
 use Rattle.bc_scope_defs.specs.Scope.{Meant, Constant, Pending, Static, Global, Routine, Variable, OuterVariable, OuterLabel, StrayVariable, StrayLabel, LabelOutside, Env, Name, Names, with_name, meant_by, Numbers}
 use Rattle.bc_scope_defs.specs.Scope as scope
-use Rattle.bc_scope_defs.specs.Numbering.{behind_entry, behind_declaration, behind_definition, labels_named, labels_of_item}
+use Rattle.bc_scope_defs.specs.Numbering.{after_entry, after_declaration, after_definition, labels_named, labels_of_item}
 
 -- the operator of a word for each but `!`
 abbrev pub operator : Dyadic → Option Op
@@ -92,7 +92,7 @@ in_entry s at n k E = with_name n (meant_as s at (constant_in E k)) E
 -- each constant sees those of the same declaration before it
 abbrev pub in_entries : Storage → Numbers → Entries → Env → Env
 in_entries s at no_entries E = E
-in_entries s at (entry n k es) E = in_entries s (behind_entry s at) es (in_entry s at n k E)
+in_entries s at (entry n k es) E = in_entries s (after_entry s at) es (in_entry s at n k E)
 
 -- LET
 
@@ -143,7 +143,7 @@ before_let ds E = own_names E ds E
 
 abbrev pub in_definitions : (before constants : Env) → Numbers → (k : ℕ) → Definitions → Env → Env
 in_definitions B K at k no_definitions E = E
-in_definitions B K at k (definition d ds) E = in_definitions B K (behind_definition at d) (k + cells_of K d) ds (in_definition B at k d E)
+in_definitions B K at k (definition d ds) E = in_definitions B K (after_definition at d) (k + cells_of K d) ds (in_definition B at k d E)
 
 -- with the next free offset s
 abbrev pub in_let : Env → Numbers → (s : ℕ) → Definitions → Env
@@ -159,12 +159,12 @@ cells_in E (tree.Let ds) = cells_of_all (before_let ds E) ds
 
 abbrev pub in_declarations : Env → Numbers → (s : ℕ) → Declarations → Env
 in_declarations E at s no_declarations = E
-in_declarations E at s (declaration d ds) = in_declarations (in_declaration E at s d) (behind_declaration at d) (s + cells_in E d) ds
+in_declarations E at s (declaration d ds) = in_declarations (in_declaration E at s d) (after_declaration at d) (s + cells_in E d) ds
 
--- the next free offset behind declarations
-abbrev pub level_behind : Env → Numbers → (s : ℕ) → Declarations → ℕ
-level_behind E at s no_declarations = s
-level_behind E at s (declaration d ds) = level_behind (in_declaration E at s d) (behind_declaration at d) (s + cells_in E d) ds
+-- the next free offset after declarations
+abbrev pub level_after : Env → Numbers → (s : ℕ) → Declarations → ℕ
+level_after E at s no_declarations = s
+level_after E at s (declaration d ds) = level_after (in_declaration E at s d) (after_declaration at d) (s + cells_in E d) ds
 
 -- a FOR's variable stands at offset s
 abbrev pub in_for : Env → Name → (s : ℕ) → Env

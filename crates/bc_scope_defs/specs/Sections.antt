@@ -2,7 +2,7 @@
 use Rattle.std.specs.Prelude.{ℕ, ◌==◌, true, false, List, [], ◌∷◌, ◌++◌, Option, Some, None}
 use Rattle.bc_machine_defs.specs.Streams.{Content}
 use Rattle.bc_parse_tree.specs.Tree.{Declarations}
-use Rattle.bc_core.specs.Level.{level_behind_parameters}
+use Rattle.bc_core.specs.Level.{level_after_parameters}
 use Rattle.bc_core.specs.Map.{Map, Standing, Words}
 use Rattle.bc_core.specs.Map as map
 use Rattle.bc_core.specs.Words.{string_words}
@@ -30,8 +30,8 @@ abbrev pub around : (ℕ → ℕ) → Call → Around
 around address call = record { place = address; call = call }
 
 abbrev pub routine_does : Around → FoundRoutine → RoutineBody → ℕ → Run ℕ
-routine_does A r (Gives e) f = (worth A r.names r.numbers e f (level_behind_parameters r.parameters)).content.value
-routine_does A r (Does b) f = then_do (run_block A r.names r.numbers b f (level_behind_parameters r.parameters)) routine_value
+routine_does A r (Gives e) f = (worth A r.names r.numbers e f (level_after_parameters r.parameters)).content.value
+routine_does A r (Does b) f = then_do (run_block A r.names r.numbers b f (level_after_parameters r.parameters)) routine_value
 
 abbrev pub routine_entered : (address : ℕ → ℕ) → FoundRoutine → Entered
 routine_entered address r = record {

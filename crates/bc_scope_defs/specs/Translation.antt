@@ -9,10 +9,10 @@ use Rattle.bc_parse_tree.specs.Tree as tree
 use Rattle.bc_core.specs.Tree.{Exp, Num, Frame, Glob, Place, Load, Neg, Not, Bin, Cond, Call, Valof, Args, no_argument, argument}
 use Rattle.bc_core.specs.Commands.{Initial, Vector, Command, Block, block, Items, no_item, command, case, default, label}
 use Rattle.bc_core.specs.Commands as core
-use Rattle.bc_core.specs.Level.{level_in_for, level_behind_parameters}
-use Rattle.bc_scope_defs.specs.Scope.{Meant, Constant, Static, Global, Routine, Variable, Env, meant_by, Numbers, behind_labels}
-use Rattle.bc_scope_defs.specs.Numbering.{behind, behind_all, behind_declarations, behind_declaration, behind_definition, behind_command, behind_block, labels_named, labels_of, labels_in}
-use Rattle.bc_scope_defs.specs.Scoping.{operator, constant, before_let, in_let, in_declaration, in_declarations, cells_in, level_behind, in_for, in_list}
+use Rattle.bc_core.specs.Level.{level_in_for, level_after_parameters}
+use Rattle.bc_scope_defs.specs.Scope.{Meant, Constant, Static, Global, Routine, Variable, Env, meant_by, Numbers, after_labels}
+use Rattle.bc_scope_defs.specs.Numbering.{following, after_all, after_declarations, after_declaration, after_definition, after_command, after_block, labels_named, labels_of, labels_in}
+use Rattle.bc_scope_defs.specs.Scoping.{operator, constant, before_let, in_let, in_declaration, in_declarations, cells_in, level_after, in_for, in_list}
 use Rattle.bc_scope_defs.specs.Found.{Thing, AValof, ARoutine, Data, Datum, AStatic, ATable, AText, Found, FoundRoutine, RoutineBody, Gives, Does, found_in_section}
 use Rattle.bc_scope_defs.specs.Meaning.{label_number}
 
@@ -77,19 +77,19 @@ abbrev mutual
   forms E at (tree.Table ks) = plain (Place at.place)
   forms E at (tree.Valof b) = plain (Valof at.valof)
   forms E at (tree.Monadic m e) = form_of_monadic m (forms E at e)
-  forms E at (tree.Dyadic o l r) = form_of_dyadic (operator o) (forms E at l).content (forms E (behind at l) r).content
+  forms E at (tree.Dyadic o l r) = form_of_dyadic (operator o) (forms E at l).content (forms E (following at l) r).content
   forms E at (tree.Condition c x y) =
-      let behind_test = behind at c in
-      plain (Cond (forms E at c).content (forms E behind_test x).content (forms E (behind behind_test x) y).content)
-  forms E at (tree.Call f es) = plain (Call (core_arguments E (behind at f) es) (forms E at f).content)
+      let after_test = following at c in
+      plain (Cond (forms E at c).content (forms E after_test x).content (forms E (following after_test x) y).content)
+  forms E at (tree.Call f es) = plain (Call (core_arguments E (following at f) es) (forms E at f).content)
 
   pub core_arguments : Env → Numbers → tree.Exps → Args
   core_arguments E at tree.none = no_argument
-  core_arguments E at (tree.more e es) = argument (forms E at e).content (core_arguments E (behind at e) es)
+  core_arguments E at (tree.more e es) = argument (forms E at e).content (core_arguments E (following at e) es)
 
 abbrev pub forms_of_all : Env → Numbers → tree.Exps → List Forms
 forms_of_all E at tree.none = []
-forms_of_all E at (tree.more e es) = forms E at e ∷ forms_of_all E (behind at e) es
+forms_of_all E at (tree.more e es) = forms E at e ∷ forms_of_all E (following at e) es
 
 -- the commands of an assignment, pair by pair; the grammar gives both sides as many
 abbrev pub assignments : (addresses values : List Forms) → Items
@@ -114,7 +114,7 @@ core_definition E B at (tree.Routine n ps b) = []
 
 abbrev pub core_definitions : Env → (before : Env) → Numbers → tree.Definitions → List core.Variable
 core_definitions E B at tree.no_definitions = []
-core_definitions E B at (tree.definition d ds) = core_definition E B at d ++ core_definitions E B (behind_definition at d) ds
+core_definitions E B at (tree.definition d ds) = core_definition E B at d ++ core_definitions E B (after_definition at d) ds
 
 abbrev pub core_declaration : Env → Numbers → (s : ℕ) → tree.Declaration → List (List core.Variable)
 core_declaration E at s (tree.Constants k es) = []
@@ -123,7 +123,7 @@ core_declaration E at s (tree.Let ds) = core_definitions (in_let E at s ds) (bef
 abbrev pub core_declarations : Env → Numbers → (s : ℕ) → tree.Declarations → List (List core.Variable)
 core_declarations E at s tree.no_declarations = []
 core_declarations E at s (tree.declaration d ds) =
-    core_declaration E at s d ++ core_declarations (in_declaration E at s d) (behind_declaration at d) (s + cells_in E d) ds
+    core_declaration E at s d ++ core_declarations (in_declaration E at s d) (after_declaration at d) (s + cells_in E d) ds
 
 -- Commands
 
@@ -143,21 +143,21 @@ block_of c = block [] (command c no_item)
 abbrev mutual
   pub core_block : Env → Numbers → tree.Block → (s : ℕ) → Block
   core_block E at (tree.block ds is) s =
-      let behind_it = behind_declarations at ds in
-      let k = behind_it.label in
-      block (core_declarations E at s ds) (core_items (in_list k is (in_declarations E at s ds)) k (behind_labels behind_it (labels_in is)) is
-      (level_behind E at s ds))
+      let after_it = after_declarations at ds in
+      let k = after_it.label in
+      block (core_declarations E at s ds) (core_items (in_list k is (in_declarations E at s ds)) k (after_labels after_it (labels_in is)) is
+      (level_after E at s ds))
 
   -- the next label of the list has number k
   pub core_items : Env → (k : ℕ) → Numbers → tree.Items → (s : ℕ) → Items
   core_items E k at tree.no_items s = no_item
   core_items E k at (tree.item (tree.Labelled ls c) is) s =
-      core_labels E k ls (command (core_command E at c s) (core_items E (k + labels_of ls) (behind_command at c) is s))
+      core_labels E k ls (command (core_command E at c s) (core_items E (k + labels_of ls) (after_command at c) is s))
   core_items E k at (tree.item (tree.Labels_alone ls) is) s = core_labels E k ls (core_items E (k + labels_of ls) at is s)
 
   pub core_command : Env → Numbers → tree.Command → (s : ℕ) → Command
-  core_command E at (tree.Assign xs es) s = assignment (forms_of_all E at xs) (forms_of_all E (behind_all at xs) es)
-  core_command E at (tree.Do f es) s = core.Call (Call (core_arguments E (behind at f) es) (forms E at f).content)
+  core_command E at (tree.Assign xs es) s = assignment (forms_of_all E at xs) (forms_of_all E (after_all at xs) es)
+  core_command E at (tree.Do f es) s = core.Call (Call (core_arguments E (following at f) es) (forms E at f).content)
   core_command E at (tree.Compound b) s = core.Nested (core_block E at b s)
   core_command E at tree.Break s = core.Break
   core_command E at tree.Loop s = core.Loop
@@ -167,25 +167,25 @@ abbrev mutual
   core_command E at (tree.ResultIs e) s = core.ResultIs (forms E at e).content
   core_command E at (tree.Goto n) s = core.Goto (label_number (meant_by E n))
   core_command E at (tree.Repeat c) s = core.Repeat (block_of (core_command E at c s))
-  core_command E at (tree.RepeatWhile c e) s = core.RepeatWhile (block_of (core_command E at c s)) true (forms E (behind_command at c) e).content
-  core_command E at (tree.RepeatUntil c e) s = core.RepeatWhile (block_of (core_command E at c s)) false (forms E (behind_command at c) e).content
-  core_command E at (tree.If e b) s = core.If true (forms E at e).content (core_block E (behind at e) b s)
-  core_command E at (tree.Unless e b) s = core.If false (forms E at e).content (core_block E (behind at e) b s)
-  core_command E at (tree.While e b) s = core.While true (forms E at e).content (core_block E (behind at e) b s)
-  core_command E at (tree.Until e b) s = core.While false (forms E at e).content (core_block E (behind at e) b s)
+  core_command E at (tree.RepeatWhile c e) s = core.RepeatWhile (block_of (core_command E at c s)) true (forms E (after_command at c) e).content
+  core_command E at (tree.RepeatUntil c e) s = core.RepeatWhile (block_of (core_command E at c s)) false (forms E (after_command at c) e).content
+  core_command E at (tree.If e b) s = core.If true (forms E at e).content (core_block E (following at e) b s)
+  core_command E at (tree.Unless e b) s = core.If false (forms E at e).content (core_block E (following at e) b s)
+  core_command E at (tree.While e b) s = core.While true (forms E at e).content (core_block E (following at e) b s)
+  core_command E at (tree.Until e b) s = core.While false (forms E at e).content (core_block E (following at e) b s)
   core_command E at (tree.Test e b c) s =
-      let behind_test = behind at e in
-      core.Test (forms E at e).content (core_block E behind_test b s) (core_block E (behind_block behind_test b) c s)
+      let after_test = following at e in
+      core.Test (forms E at e).content (core_block E after_test b s) (core_block E (after_block after_test b) c s)
   core_command E at (tree.For n a z b) s =
-      let behind_start = behind at a in
-      core.For (forms E at a).content (forms E behind_start z).content 1 (core_block (in_for E n s) (behind behind_start z) b (level_in_for s))
+      let after_start = following at a in
+      core.For (forms E at a).content (forms E after_start z).content 1 (core_block (in_for E n s) (following after_start z) b (level_in_for s))
   core_command E at (tree.ForBy n a z k b) s =
-      let behind_start = behind at a in
-      core.For (forms E at a).content (forms E behind_start z).content (constant E k) (core_block (in_for E n s) (behind behind_start z) b (level_in_for s))
+      let after_start = following at a in
+      core.For (forms E at a).content (forms E after_start z).content (constant E k) (core_block (in_for E n s) (following after_start z) b (level_in_for s))
   core_command E at (tree.SwitchOn e is) s =
-      let behind_value = behind at e in
-      let k = behind_value.label in
-      core.SwitchOn (forms E at e).content (core_items (in_list k is E) k (behind_labels behind_value (labels_in is)) is s)
+      let after_value = following at e in
+      let k = after_value.label in
+      core.SwitchOn (forms E at e).content (core_items (in_list k is E) k (after_labels after_value (labels_in is)) is s)
 
 -- the table of VALOFs
 abbrev pub valof_of : Found → core.Valof
@@ -204,7 +204,7 @@ core_body E at (Does b) s = core.Does (core_block E at b s)
 
 abbrev pub core_routine : FoundRoutine → core.Routine
 core_routine r =
-    record { global = r.global; parameters = r.parameters; body = core_body r.names r.numbers r.body (level_behind_parameters r.parameters) }
+    record { global = r.global; parameters = r.parameters; body = core_body r.names r.numbers r.body (level_after_parameters r.parameters) }
 
 abbrev pub core_datum : Datum → core.Place
 core_datum (AStatic w) = core.Static w

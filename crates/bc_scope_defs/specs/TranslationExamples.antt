@@ -10,7 +10,7 @@ use Rattle.bc_parse_tree.specs.Tree as tree
 use Rattle.bc_core.specs.Tree as core
 use Rattle.bc_core.specs.Commands as c
 use Rattle.bc_scope_defs.specs.Scope.{Env, nothing_known, Constant, Global, Routine, Variable}
-use Rattle.bc_scope_defs.specs.Scoping.{level_behind}
+use Rattle.bc_scope_defs.specs.Scoping.{level_after}
 use Rattle.bc_scope_defs.specs.Sides.{side_level_of}
 use Rattle.bc_scope_defs.specs.Translation.{forms, core_of}
 use Rattle.bc_scope_defs.specs.Found.{Thing, AValof, ARoutine, Data, section_start, found_in_section}
@@ -86,8 +86,8 @@ of_variable = refl
 of_content : level_of_sides (load (of x)) ≡ 6
 of_content = refl
 
-of_cell_behind : level_of_sides (two dyadic.Index (address_of (of x)) (number 1)) ≡ 6
-of_cell_behind = refl
+of_cell_after : level_of_sides (two dyadic.Index (address_of (of x)) (number 1)) ≡ 6
+of_cell_after = refl
 
 of_indexed : level_of_sides (two dyadic.Index (of x) (number 1)) ≡ 7
 of_indexed = refl
@@ -126,7 +126,7 @@ sum_translated : core_of sum ≡ record {
 }
 sum_translated = refl
 
-sum_level : level_behind nothing_known section_start 2 (declarations (lets (variables (a ∷ b ∷ []) (number 1 ∷ number 2 ∷ []) ∷ []) ∷ [])) ≡ 4
+sum_level : level_after nothing_known section_start 2 (declarations (lets (variables (a ∷ b ∷ []) (number 1 ∷ number 2 ∷ []) ∷ []) ∷ [])) ≡ 4
 sum_level = refl
 
 sum_frame : frames sum ≡ 6 ∷ []
@@ -169,7 +169,7 @@ call_each_other : core_of (declarations (lets (tree.Routine f [] (commands (do_c
     }
 call_each_other = refl
 
--- a nested routine whose name means a global sets it, and makes no new name; it is a place behind the one around it
+-- a nested routine whose name means a global sets it, and makes no new name; it is a place after the one around it
 sets_a_global : core_of (declarations (constants storage.Global ((f, number 100) ∷ [])
     ∷ lets (tree.Routine start [] (body (lets (tree.Routine f [] (commands []) ∷ []) ∷ []) (plain (do_call f []) ∷ [])) ∷ []) ∷ [])) ≡ record {
       places =
@@ -180,11 +180,11 @@ sets_a_global : core_of (declarations (constants storage.Global ((f, number 100)
 sets_a_global = refl
 
 -- `LET V = VEC 3 AND X = 1`: V stands at 2, its cells at 3 to 6, X at 7
-behind_a_vector : core_of (alone (body (lets (tree.Vector v (number 3) ∷ variables (x ∷ []) (number 1 ∷ []) ∷ []) ∷ []) (plain (set x (of v)) ∷ []))) ≡ record {
+after_a_vector : core_of (alone (body (lets (tree.Vector v (number 3) ∷ variables (x ∷ []) (number 1 ∷ []) ∷ []) ∷ []) (plain (set x (of v)) ∷ []))) ≡ record {
   places = routine None (c.block ((c.Vector 3 ∷ c.Initial (core.Num 1) ∷ []) ∷ []) (these (c.Assign (at 2) (core.Frame 7) ∷ []))) ∷ [];
   valofs = [];
 }
-behind_a_vector = refl
+after_a_vector = refl
 
 -- `MANIFEST $( A = -1; B = NOT A $)`, `STATIC $( X = B + 2 $)`, and data within a routine: all places in text order
 places_in_order : core_of (declarations

@@ -12,7 +12,7 @@ nothing = refl
 pub nothing_known : (s : List Entry) → s ≡ [] → scope_view s ≡ scope.nothing_known
 nothing_known s e = ap scope_view e ∙ nothing
 
--- behind two parts that made names known
+-- after two parts that made names known
 pub left_both : (a b c d : List Entry) (n : ℕ) → Extends a b → Extends b c → d ≡ c → n ≡ length a → take n d ≡ a
 left_both a b c d n p q e l = ap (λ x. take n x) e ∙ left a c n (extends_on a b c p q) l
 

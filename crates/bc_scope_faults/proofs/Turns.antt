@@ -7,7 +7,7 @@ use Rattle.bc_parse_tree.specs.declared.tree.Storage.{Storage}
 use Rattle.bc_parse_tree.specs.declared.tree.Storage.TheVariants as storage
 use Rattle.bc_parse_tree.specs.Tree.{Exp, Exps, none, more, Item, Items, item, Labelled, Labels_alone}
 use Rattle.bc_scope_defs.specs.Scope.{Env, Numbers}
-use Rattle.bc_scope_defs.specs.Numbering.{labels_of, behind, behind_item, behind_command}
+use Rattle.bc_scope_defs.specs.Numbering.{labels_of, following, after_item, after_command}
 use Rattle.bc_scope_defs.specs.Meaning.{labels_of_that}
 use Rattle.bc_scope_defs.specs.Found.{Thing, found_entry, found, found_in_sides, found_in_items, found_in_command}
 use Rattle.bc_scope_defs.specs.FramesAlong.{width, widths, width_of_items, width_of_command}
@@ -22,28 +22,28 @@ along None b c = refl
 along (Some f) b c = refl
 
 pub item_fault_on : (cases : Bool) (M : Met) (W : Allowed) (E : Env) (at : Numbers) (i : Item) (is : Items) (s : ℕ)
-    → items_fault cases M W E at (item i is) s ≡ or_else (item_fault cases M W E at i s) (items_fault cases (met_labels E M (labels_of_that i)) W E (behind_item at i) is s)
-item_fault_on cases M W E at (Labelled ls c) is s = along (labels_fault cases M E at ls) (command_fault W E at c s) (items_fault cases (met_labels E M ls) W E (behind_command at c) is s)
+    → items_fault cases M W E at (item i is) s ≡ or_else (item_fault cases M W E at i s) (items_fault cases (met_labels E M (labels_of_that i)) W E (after_item at i) is s)
+item_fault_on cases M W E at (Labelled ls c) is s = along (labels_fault cases M E at ls) (command_fault W E at c s) (items_fault cases (met_labels E M ls) W E (after_command at c) is s)
 item_fault_on cases M W E at (Labels_alone ls) is s = refl
 
-pub item_found_on : (E : Env) (at : Numbers) (i : Item) (is : Items) (s : ℕ) → found_in_items E 0 at (item i is) s ≡ item_found E at i s ++ found_in_items E 0 (behind_item at i) is s
-item_found_on E at (Labelled ls c) is s = ap (λ t. found_in_command E at c s ++ t) (items_found E (0 + labels_of ls) (behind_command at c) is s)
+pub item_found_on : (E : Env) (at : Numbers) (i : Item) (is : Items) (s : ℕ) → found_in_items E 0 at (item i is) s ≡ item_found E at i s ++ found_in_items E 0 (after_item at i) is s
+item_found_on E at (Labelled ls c) is s = ap (λ t. found_in_command E at c s ++ t) (items_found E (0 + labels_of ls) (after_command at c) is s)
 item_found_on E at (Labels_alone ls) is s = items_found E (0 + labels_of ls) at is s
 
 zero_max : (n : ℕ) → n ≡ max 0 n
 zero_max n = omega arith
 
-pub item_width_on : (E : Env) (at : Numbers) (i : Item) (is : Items) (s : ℕ) → width_of_items E 0 at (item i is) s ≡ max (item_width E at i s) (width_of_items E 0 (behind_item at i) is s)
-item_width_on E at (Labelled ls c) is s = ap (λ t. max (width_of_command E at c s) t) (items_width E (0 + labels_of ls) (behind_command at c) is s)
+pub item_width_on : (E : Env) (at : Numbers) (i : Item) (is : Items) (s : ℕ) → width_of_items E 0 at (item i is) s ≡ max (item_width E at i s) (width_of_items E 0 (after_item at i) is s)
+item_width_on E at (Labelled ls c) is s = ap (λ t. max (width_of_command E at c s) t) (items_width E (0 + labels_of ls) (after_command at c) is s)
 item_width_on E at (Labels_alone ls) is s = items_width E (0 + labels_of ls) at is s ∙ zero_max (width_of_items E 0 at is s)
 
 pub side_fault_on : (E : Env) (at : Numbers) (e : Exp) (es : Exps) (ss : List ℕ)
-    → sides_fault E at (more e es) ss ≡ or_else (fault false E at e (head_level ss)) (sides_fault E (behind at e) es (drop 1 ss))
+    → sides_fault E at (more e es) ss ≡ or_else (fault false E at e (head_level ss)) (sides_fault E (following at e) es (drop 1 ss))
 side_fault_on E at e es [] = refl
 side_fault_on E at e es (s ∷ ss) = refl
 
 pub side_found_on : (E : Env) (at : Numbers) (e : Exp) (es : Exps) (ss : List ℕ)
-    → found_in_sides E at (more e es) ss ≡ found E at e (head_level ss) ++ found_in_sides E (behind at e) es (drop 1 ss)
+    → found_in_sides E at (more e es) ss ≡ found E at e (head_level ss) ++ found_in_sides E (following at e) es (drop 1 ss)
 side_found_on E at e es [] = refl
 side_found_on E at e es (s ∷ ss) = refl
 
@@ -52,8 +52,8 @@ no_widths E at none = refl
 no_widths E at (more e es) = refl
 
 pub side_widths_on : (E : Env) (at : Numbers) (e : Exp) (es : Exps) (ss : List ℕ)
-    → widths E at (more e es) ss ≡ side_width ss (width E at e (head_level ss)) ++ widths E (behind at e) es (drop 1 ss)
-side_widths_on E at e es [] = sym (no_widths E (behind at e) es)
+    → widths E at (more e es) ss ≡ side_width ss (width E at e (head_level ss)) ++ widths E (following at e) es (drop 1 ss)
+side_widths_on E at e es [] = sym (no_widths E (following at e) es)
 side_widths_on E at e es (s ∷ ss) = refl
 
 -- a declaration of constants has no frames

@@ -2,28 +2,28 @@
 use Rattle.std.specs.Prelude.{ℕ, ◌+◌, Bool, true, false, List, [], ◌∷◌, ◌++◌, length, max, Option}
 use Rattle.bc_parse_tree.specs.declared.tree.Storage.{Storage}
 use Rattle.bc_parse_tree.specs.Tree.{Exp, Exps, Block, Declaration, Declarations, Definition, Definitions, Entries, Item, Labelled, Labels_alone, Items, Command}
-use Rattle.bc_core.specs.Level.{operand_level, argument_level, routine_level, level_in_for, level_behind_parameters}
-use Rattle.bc_scope_defs.specs.Scope.{Env, Name, Numbers, behind_place, behind_labels}
-use Rattle.bc_scope_defs.specs.Numbering.{labels_in, behind, behind_all, behind_block, behind_declarations, behind_declaration, behind_definitions, behind_definition, behind_entries, behind_items, behind_item, behind_command}
-use Rattle.bc_scope_defs.specs.Scoping.{count, before_let, in_let, cells_of_all, in_entries, in_declaration, in_declarations, cells_in, level_behind, in_for, in_list}
+use Rattle.bc_core.specs.Level.{operand_level, argument_level, routine_level, level_in_for, level_after_parameters}
+use Rattle.bc_scope_defs.specs.Scope.{Env, Name, Numbers, after_place, after_labels}
+use Rattle.bc_scope_defs.specs.Numbering.{labels_in, following, after_all, after_block, after_declarations, after_declaration, after_definitions, after_definition, after_entries, after_items, after_item, after_command}
+use Rattle.bc_scope_defs.specs.Scoping.{count, before_let, in_let, cells_of_all, in_entries, in_declaration, in_declarations, cells_in, level_after, in_for, in_list}
 use Rattle.bc_scope_defs.specs.Sides.{side_levels}
 use Rattle.bc_scope_defs.specs.Found.{Thing, Gives, Does, routine, in_parameters, found, found_in_arguments, found_in_sides, found_in_initials, found_in_entries, found_in_definition, found_in_definitions, found_in_declaration, found_in_declarations, found_in_block, found_in_items, found_in_command}
 use Rattle.bc_scope_defs.specs.FramesAlong.{all_held, widest}
 use Rattle.bc_scope_defs.specs.FramesAlong.{width, widths, width_of_arguments, width_of_initials, width_of_definition, width_of_definitions, width_of_declaration, width_of_declarations, width_of_block, width_of_items, width_of_command}
 use Rattle.bc_scope_defs.specs.Faults.{Fault, ANotAssignable, Allowed, Met, or_else, unless, none_met, in_a_loop, in_a_switch, allowed_in_routine, all_have_cells, not_constant, all_twice_fault}
 use Rattle.bc_scope_defs.specs.FaultsAlong.{fault, arguments_fault, sides_fault, initials_fault, entries_fault, definition_fault, definitions_fault, declaration_fault, declarations_fault, block_fault, labels_fault, items_fault, command_fault}
-use Rattle.bc_scope_faults.specs.Walk.{Here, Part, Declaring, Siding, in_turn, at_least, among, behind_judged}
+use Rattle.bc_scope_faults.specs.Walk.{Here, Part, Declaring, Siding, in_turn, at_least, among, after_judged}
 
 -- Expressions
 
 abbrev pub of_exp : (constant : Bool) → Exp → (s : ℕ) → Part
-of_exp c e s h = record { fault = fault c h.names h.at e s; width = width h.names h.at e s; behind = behind h.at e; found = found h.names h.at e s }
+of_exp c e s h = record { fault = fault c h.names h.at e s; width = width h.names h.at e s; following = following h.at e; found = found h.names h.at e s }
 
 abbrev pub of_arguments : (constant : Bool) → Exps → (s : ℕ) → Part
 of_arguments c es s h = record {
   fault = arguments_fault c h.names h.at es s;
   width = width_of_arguments h.names h.at es s;
-  behind = behind_all h.at es;
+  following = after_all h.at es;
   found = found_in_arguments h.names h.at es s;
 }
 
@@ -31,7 +31,7 @@ abbrev pub of_initials : Exps → (s : ℕ) → Part
 of_initials es s h = record {
   fault = initials_fault h.names h.at es s;
   width = width_of_initials h.names h.at es s;
-  behind = behind_all h.at es;
+  following = after_all h.at es;
   found = found_in_initials h.names h.at es s;
 }
 
@@ -45,8 +45,8 @@ of_choice c t x y s = in_turn (of_exp c t s) (in_turn (of_exp c x s) (of_exp c y
 abbrev pub of_call : (constant : Bool) → Exp → Exps → (s : ℕ) → Part
 of_call c f es s h =
     let a = of_exp c f (routine_level s (count es)) h in
-    let b = of_arguments c es (argument_level s) (record h { at = a.behind }) in
-    record { fault = or_else a.fault b.fault; width = max (s + 2 + count es) (max b.width a.width); behind = b.behind; found = a.found ++ b.found }
+    let b = of_arguments c es (argument_level s) (record h { at = a.following }) in
+    record { fault = or_else a.fault b.fault; width = max (s + 2 + count es) (max b.width a.width); following = b.following; found = a.found ++ b.found }
 
 -- the fault of a constant, with the faults in it
 abbrev pub constant_fault : Exp → Here → Option Fault
@@ -54,7 +54,7 @@ constant_fault k h = or_else (fault true h.names h.at k 0) (not_constant h.names
 
 abbrev pub of_sides : Exps → List ℕ → Here → Siding
 of_sides es ss h = record {
-  walk = record { fault = sides_fault h.names h.at es ss; width = 0; behind = behind_all h.at es; found = found_in_sides h.names h.at es ss };
+  walk = record { fault = sides_fault h.names h.at es ss; width = 0; following = after_all h.at es; found = found_in_sides h.names h.at es ss };
   widths = widths h.names h.at es ss;
 }
 
@@ -62,17 +62,17 @@ of_sides es ss h = record {
 
 abbrev pub of_entries : Storage → Entries → Here → Declaring
 of_entries st es h = record {
-  walk = record { fault = entries_fault st [] h.at es h.names; width = 0; behind = behind_entries st h.at es; found = found_in_entries st h.at es h.names };
+  walk = record { fault = entries_fault st [] h.at es h.names; width = 0; following = after_entries st h.at es; found = found_in_entries st h.at es h.names };
   names = in_entries st h.at es h.names;
   level = 0;
 }
 
--- a definition behind names that it must differ from
+-- a definition after names that it must differ from
 abbrev pub of_definition : (before : List Name) → Definition → (s : ℕ) → Part
 of_definition ns d s h = record {
   fault = definition_fault ns h.names h.at d s;
   width = width_of_definition h.names h.at d s;
-  behind = behind_definition h.at d;
+  following = after_definition h.at d;
   found = found_in_definition h.names h.names h.at d s;
 }
 
@@ -80,27 +80,27 @@ abbrev pub of_definitions : Definitions → (s : ℕ) → Part
 of_definitions ds s h = record {
   fault = definitions_fault [] h.names h.at ds s;
   width = width_of_definitions h.names h.at ds s;
-  behind = behind_definitions h.at ds;
+  following = after_definitions h.at ds;
   found = found_in_definitions h.names h.names h.at ds s;
 }
 
--- a routine behind its name
+-- a routine after its name
 abbrev pub of_function : List Name → Exp → Part
 of_function ps e h =
-    let a = of_exp false e (level_behind_parameters (length ps)) (record { names = in_parameters ps h.names; at = behind_place h.at }) in
+    let a = of_exp false e (level_after_parameters (length ps)) (record { names = in_parameters ps h.names; at = after_place h.at }) in
     record a { fault = or_else (all_twice_fault [] ps) a.fault; found = routine h.names h.names h.at [] ps (Gives e) ∷ a.found }
 
 abbrev pub of_block : Allowed → Block → (s : ℕ) → Part
 of_block W b s h = record {
   fault = block_fault W h.names h.at b s;
   width = width_of_block h.names h.at b s;
-  behind = behind_block h.at b;
+  following = after_block h.at b;
   found = found_in_block h.names h.at b s;
 }
 
 abbrev pub of_routine : List Name → Block → Part
 of_routine ps b h =
-    let a = of_block allowed_in_routine b (level_behind_parameters (length ps)) (record { names = in_parameters ps h.names; at = behind_place h.at }) in
+    let a = of_block allowed_in_routine b (level_after_parameters (length ps)) (record { names = in_parameters ps h.names; at = after_place h.at }) in
     record a { fault = or_else (all_twice_fault [] ps) a.fault; found = routine h.names h.names h.at [] ps (Does b) ∷ a.found }
 
 -- the definitions of a LET, among the names that it makes known
@@ -112,7 +112,7 @@ of_let ds s h =
       walk = record {
         fault = definitions_fault [] E h.at ds k;
         width = max k (width_of_definitions E h.at ds k);
-        behind = behind_definitions h.at ds;
+        following = after_definitions h.at ds;
         found = found_in_definitions h.names E h.at ds k;
       };
       names = E;
@@ -124,7 +124,7 @@ of_declaration d s h = record {
   walk = record {
     fault = declaration_fault h.names h.at d s;
     width = width_of_declaration h.names h.at d s;
-    behind = behind_declaration h.at d;
+    following = after_declaration h.at d;
     found = found_in_declaration h.names h.at d s;
   };
   names = in_declaration h.names h.at s d;
@@ -136,11 +136,11 @@ of_declarations ds s h = record {
   walk = record {
     fault = declarations_fault h.names h.at ds s;
     width = width_of_declarations h.names h.at ds s;
-    behind = behind_declarations h.at ds;
+    following = after_declarations h.at ds;
     found = found_in_declarations h.names h.at ds s;
   };
   names = in_declarations h.names h.at s ds;
-  level = level_behind h.names h.at s ds;
+  level = level_after h.names h.at s ds;
 }
 
 -- Lists of commands
@@ -150,7 +150,7 @@ abbrev pub of_items : (cases : Bool) → Allowed → (k : ℕ) → Items → (s 
 of_items cases W k is s h = record {
   fault = items_fault cases none_met W h.names h.at is s;
   width = width_of_items h.names k h.at is s;
-  behind = behind_items h.at is;
+  following = after_items h.at is;
   found = found_in_items h.names k h.at is s;
 }
 
@@ -158,9 +158,9 @@ of_items cases W k is s h = record {
 abbrev pub of_list : (cases : Bool) → Allowed → Items → (s : ℕ) → Part
 of_list cases W is s h =
     let k = h.at.label in
-    of_items cases W k is s (record { names = in_list k is h.names; at = behind_labels h.at (labels_in is) })
+    of_items cases W k is s (record { names = in_list k is h.names; at = after_labels h.at (labels_in is) })
 
--- declarations and the items behind them
+-- declarations and the items after them
 abbrev pub of_body : Allowed → Declarations → Items → (s : ℕ) → Part
 of_body W ds is s h =
     let d = of_declarations ds s h in
@@ -170,7 +170,7 @@ abbrev pub of_command : Allowed → Command → (s : ℕ) → Part
 of_command W c s h = record {
   fault = command_fault W h.names h.at c s;
   width = width_of_command h.names h.at c s;
-  behind = behind_command h.at c;
+  following = after_command h.at c;
   found = found_in_command h.names h.at c s;
 }
 
@@ -186,12 +186,12 @@ abbrev pub item_width : Env → Numbers → Item → (s : ℕ) → ℕ
 item_width E at (Labelled ls c) s = width_of_command E at c s
 item_width E at (Labels_alone ls) s = 0
 
--- an item behind labels that were met
+-- an item after labels that were met
 abbrev pub of_item : (cases : Bool) → Met → Allowed → Item → (s : ℕ) → Part
 of_item cases M W i s h = record {
   fault = item_fault cases M W h.names h.at i s;
   width = item_width h.names h.at i s;
-  behind = behind_item h.at i;
+  following = after_item h.at i;
   found = item_found h.names h.at i s;
 }
 
@@ -207,11 +207,11 @@ abbrev pub of_assignment : (places values : Exps) → (s : ℕ) → Part
 of_assignment xs es s h =
     let ss = side_levels h.names xs s in
     let a = of_sides xs ss h in
-    let b = of_sides es ss (record h { at = a.walk.behind }) in
+    let b = of_sides es ss (record h { at = a.walk.following }) in
     record {
       fault = or_else a.walk.fault (or_else b.walk.fault (unless (all_have_cells h.names xs) ANotAssignable));
       width = widest (all_held h.names xs s) a.widths b.widths;
-      behind = b.walk.behind;
+      following = b.walk.following;
       found = a.walk.found ++ b.walk.found;
     }
 
@@ -229,7 +229,7 @@ of_for W n a z b s =
 abbrev pub of_for_by : Allowed → Name → (start limit by : Exp) → Block → (s : ℕ) → Part
 of_for_by W n a z y b s =
     let k = level_in_for s in
-    at_least (k + 2) (in_turn (of_exp false a k) (in_turn (of_exp false z k) (behind_judged (constant_fault y) (of_counted W n b s))))
+    at_least (k + 2) (in_turn (of_exp false a k) (in_turn (of_exp false z k) (after_judged (constant_fault y) (of_counted W n b s))))
 
 abbrev pub of_switch : Allowed → Exp → Items → (s : ℕ) → Part
 of_switch W e is s = in_turn (of_exp false e s) (of_list true (in_a_switch W) is s)

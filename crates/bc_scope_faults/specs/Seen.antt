@@ -1,4 +1,4 @@
--- For proofs: what the walk's own data stand for.
+-- For proofs: what the walk's own data mean.
 use Rattle.std.specs.Prelude.{nat_le, ◌&&◌, Bool, List, [], ◌∷◌, map, ℕ}
 use Rattle.std.specs.Borrow.{Bor}
 use Rattle.bc_scope_faults.specs.declared.judging.Allowed as code_allowed

@@ -15,22 +15,22 @@ pub record Here : Type 0 where
 abbrev pub here : List Entry → Progress → Here
 here scope progress = record { names = scope_view scope; at = numbers_view progress.at }
 
--- a part's first fault, how many cells of the frame it takes, the numbers behind it, and what is found in it
+-- a part's first fault, how many cells of the frame it takes, the numbers after it, and what is found in it
 pub record Walk : Type 0 where
   pub fault : Option Fault
   pub width : ℕ
-  pub behind : Numbers
+  pub following : Numbers
   pub found : List Thing
 
 abbrev pub Part : Type 0
 Part = Here → Walk
 
--- one part behind another
+-- one part after another
 abbrev pub in_turn : Part → Part → Part
 in_turn p q h =
     let a = p h in
-    let b = q (record h { at = a.behind }) in
-    record { fault = or_else a.fault b.fault; width = max a.width b.width; behind = b.behind; found = a.found ++ b.found }
+    let b = q (record h { at = a.following }) in
+    record { fault = or_else a.fault b.fault; width = max a.width b.width; following = b.following; found = a.found ++ b.found }
 
 -- a part that takes so many cells in any case
 abbrev pub at_least : ℕ → Part → Part
@@ -40,11 +40,11 @@ at_least w p h = let a = p h in record a { width = max w a.width }
 abbrev pub among : (Env → Env) → Part → Part
 among f p h = p (record h { names = f h.names })
 
--- a part behind what has this fault, and no numbers
-abbrev pub behind_judged : (Here → Option Fault) → Part → Part
-behind_judged f p h = let a = p h in record a { fault = or_else (f h) a.fault }
+-- a part after what has this fault, and no numbers
+abbrev pub after_judged : (Here → Option Fault) → Part → Part
+after_judged f p h = let a = p h in record a { fault = or_else (f h) a.fault }
 
--- the walk of declarations, and the names and the next free offset behind them
+-- the walk of declarations, and the names and the next free offset after them
 pub record Declaring : Type 0 where
   pub walk : Walk
   pub names : Env

@@ -50,7 +50,7 @@ pub fn block<'s>(
     )
 }
 
-/// Declarations, and the items behind them.
+/// Declarations, and the items after them.
 #[cycle(faults)]
 #[tactic(auto, using(crate::proofs::Numberless::numberless, bc_scope_names::proofs::Extends::left, crate::proofs::Kept::keeping))]
 fn declared_then_done<'s>(
@@ -68,7 +68,7 @@ fn declared_then_done<'s>(
     let mark = scope.mark();
     let extent = declarations(scope, progress, declared, level)?;
     declare_list(scope, progress.at.label, trees)?;
-    progress.at = progress.at.behind_labels(labels_in(trees)?)?;
+    progress.at = progress.at.after_labels(labels_in(trees)?)?;
     let list = List {
         cases: false,
         allowed,
@@ -78,7 +78,7 @@ fn declared_then_done<'s>(
     Ok(extent.width.max(width))
 }
 
-/// A label, behind those of its list that were met.
+/// A label, after those of its list that were met.
 #[inline(never)]
 #[cycle(faults)]
 #[tactic(auto, using(crate::proofs::Frames::along, crate::proofs::Kept::keeping))]

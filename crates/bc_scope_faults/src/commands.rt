@@ -13,7 +13,7 @@ use crate::progress::Progress;
 use bc_parse_tree::{Block, Command, Exp, Item};
 use bc_scope_names::{Meant, Scope, ScopeError, declare_list, labels_in, side_levels, sum};
 
-/// A body behind an expression.
+/// A body after an expression.
 #[cycle(faults)]
 #[tactic(auto, using(crate::proofs::Frames::along, crate::proofs::Kept::keeping))]
 fn guarded<'s>(
@@ -33,7 +33,7 @@ fn guarded<'s>(
     Ok(test.max(body))
 }
 
-/// A loop that tests behind its command.
+/// A loop that tests after its command.
 #[cycle(faults)]
 #[tactic(auto, using(crate::proofs::Frames::along, crate::proofs::Kept::keeping))]
 fn repeated<'s>(
@@ -155,7 +155,7 @@ fn stepped_for<'s>(
     Ok(sum(above, 2)?.max(start.max(limit.max(body))))
 }
 
-/// The body of a FOR over this variable, at the level behind its two cells.
+/// The body of a FOR over this variable, at the level after its two cells.
 #[cycle(faults)]
 #[tactic(auto, using(crate::proofs::Frames::along, bc_scope_names::proofs::Extends::left, crate::proofs::Kept::keeping))]
 fn counted<'s>(
@@ -197,7 +197,7 @@ fn switch<'s>(
     let value = expression(scope, progress, false, value, level)?;
     let mark = scope.mark();
     declare_list(scope, progress.at.label, list)?;
-    progress.at = progress.at.behind_labels(labels_in(list)?)?;
+    progress.at = progress.at.after_labels(labels_in(list)?)?;
     let of_switch = List {
         cases: true,
         allowed: allowed.in_a_switch(),

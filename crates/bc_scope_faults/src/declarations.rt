@@ -17,7 +17,7 @@ use crate::judging::{
 use crate::progress::{Extent, Progress, also_fits};
 use bc_parse_tree::{Block, Constant, Declaration, Definition, Exp, Storage};
 use bc_scope_names::{
-    Scope, ScopeError, behind_definition, behind_entry, declare_entry, declare_let,
+    Scope, ScopeError, after_definition, after_entry, declare_entry, declare_let,
     declare_parameters, declare_pending, priors_of_let,
 };
 use indexmap::IndexSet;
@@ -41,12 +41,12 @@ fn entries<'s>(
         constant_fault(scope, *progress, &entry.value)?;
         entry_fault(scope, storage, entry.name, &entry.value)?;
         declare_entry(scope, storage, progress.at, entry)?;
-        progress.at = behind_entry(storage, progress.at)?;
+        progress.at = after_entry(storage, progress.at)?;
     }
     Ok(())
 }
 
-/// A definition of a LET, behind the names of those before it.
+/// A definition of a LET, after the names of those before it.
 #[cycle(faults)]
 #[tactic(auto, using(crate::proofs::Frames::along, crate::proofs::Kept::keeping))]
 fn definition<'s>(
@@ -88,7 +88,7 @@ fn definition<'s>(
     }
 }
 
-/// A routine that gives a value, behind its name.
+/// A routine that gives a value, after its name.
 #[inline(never)]
 #[cycle(faults)]
 #[tactic(auto, using(crate::proofs::Frames::frames_last, bc_scope_names::proofs::Extends::left, crate::proofs::Kept::keeping))]
@@ -104,7 +104,7 @@ fn function<'s>(
     parameters_fault(scope.alloc(), parameters)?;
     let mark = scope.mark();
     declare_parameters(scope, parameters)?;
-    progress.at = progress.at.behind_place()?;
+    progress.at = progress.at.after_place()?;
     let level = level_of(parameters)?;
     let width = expression(scope, progress, false, value, level)?;
     scope.leave(mark);
@@ -112,7 +112,7 @@ fn function<'s>(
     Ok(())
 }
 
-/// A routine that does commands, behind its name.
+/// A routine that does commands, after its name.
 #[cycle(faults)]
 #[tactic(auto, using(crate::proofs::Frames::frames_last, bc_scope_names::proofs::Extends::left, crate::proofs::Kept::keeping))]
 fn routine<'s>(
@@ -127,7 +127,7 @@ fn routine<'s>(
     parameters_fault(scope.alloc(), parameters)?;
     let mark = scope.mark();
     declare_parameters(scope, parameters)?;
-    progress.at = progress.at.behind_place()?;
+    progress.at = progress.at.after_place()?;
     let level = level_of(parameters)?;
     let width = block(scope, progress, Allowed::routine(), body, level)?;
     scope.leave(mark);
@@ -135,7 +135,7 @@ fn routine<'s>(
     Ok(())
 }
 
-/// The definitions of a LET, all at the level behind its cells.
+/// The definitions of a LET, all at the level after its cells.
 #[cycle(faults)]
 #[tactic(auto, using(crate::proofs::Frames::along, crate::proofs::Kept::keeping))]
 fn definitions<'s>(
@@ -199,7 +199,7 @@ fn declaration<'s>(
     }
 }
 
-/// Declarations, each behind those before it.
+/// Declarations, each after those before it.
 #[inline(never)]
 #[cycle(faults)]
 #[tactic(auto, using(crate::proofs::Frames::along, bc_scope_names::proofs::Extends::left, crate::proofs::Kept::keeping))]
@@ -213,15 +213,15 @@ pub fn declarations<'s>(
         (of_declarations (declarations_view list.now) level (here scope.old progress.old)) }
     ensures kept { Grows result scope.old scope.new }
 {
-    let mut behind = level;
+    let mut following = level;
     let mut width = 0u64;
     for tree in list {
-        let extent = declaration(scope, progress, tree, behind)?;
-        behind = extent.level;
+        let extent = declaration(scope, progress, tree, following)?;
+        following = extent.level;
         width = width.max(extent.width);
     }
     Ok(Extent {
-        level: behind,
+        level: following,
         width,
     })
 }

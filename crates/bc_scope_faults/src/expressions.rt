@@ -34,18 +34,18 @@ pub fn expression<'s>(
         }
         Exp::Number(_) | Exp::Character(_) | Exp::True | Exp::False => Ok(0),
         Exp::String(_) => {
-            progress.at = progress.at.behind_place()?;
+            progress.at = progress.at.after_place()?;
             Ok(0)
         }
         Exp::Table(values) => {
             constants(scope, *progress, values)?;
-            progress.at = progress.at.behind_place()?;
+            progress.at = progress.at.after_place()?;
             Ok(0)
         }
         Exp::Valof(body) => {
             let mark = scope.mark();
             scope.enter_valof()?;
-            progress.at = progress.at.behind_valof()?;
+            progress.at = progress.at.after_valof()?;
             let width = block(scope, progress, Allowed::valof(), body, level)?;
             scope.leave(mark);
             Ok(width)

@@ -4,7 +4,7 @@ ghost use Rattle.bc_parse_tree.specs.View.{exp_view, exps_view};
 ghost use Rattle.bc_scope_defs.specs.FramesAlong.{all_held, widest};
 ghost use Rattle.bc_scope_defs.specs.Faults.{AMisplaced, unless, allowed_in_routine, allowed_in_valof, in_a_loop, in_a_switch, name_fault, jump_fault, is_cell, has_cell, is_label, names_label, has_address, address_fault, all_have_cells, twice_fault, all_twice_fault, none_met, case_fault, default_fault, entry_fault};
 ghost use Rattle.bc_scope_names.specs.View.{meant_view, scope_view};
-ghost use Rattle.bc_core.specs.Level.{level_behind_parameters};
+ghost use Rattle.bc_core.specs.Level.{level_after_parameters};
 ghost use Rattle.bc_scope_faults.specs.Parts.{head_level, side_width};
 ghost use Rattle.bc_scope_faults.specs.Judged.{Judges, Passes};
 ghost use Rattle.bc_scope_faults.specs.Seen.{allowed_view, names_view, met_view};
@@ -101,7 +101,7 @@ pub fn name_fault<'s>(in_constant: bool, name: &'s [u8], meant: Meant) -> Result
     }
 }
 
-/// The name behind a GOTO.
+/// The name after a GOTO.
 pub fn jump_fault<'s>(name: &'s [u8], meant: Meant) -> Result<(), ScopeError<'s>>
     ensures { Passes result (jump_fault name.entry.now (meant_view meant)) }
 {
@@ -236,7 +236,7 @@ pub fn all_have_cells(scope: &Scope<'_>, places: &[Exp<'_>]) -> bool
     true
 }
 
-/// One name more, behind those that it must differ from.
+/// One name more, after those that it must differ from.
 pub fn declare_once<'s>(
     before: &mut IndexSet<&'s [u8]>,
     name: &'s [u8],
@@ -251,7 +251,7 @@ pub fn declare_once<'s>(
     }
 }
 
-/// Names, behind those that they must differ from.
+/// Names, after those that they must differ from.
 pub fn declare_all_once<'s>(
     before: &mut IndexSet<&'s [u8]>,
     names: &[&'s [u8]],
@@ -421,10 +421,10 @@ pub fn push_width<'s>(
     Ok(())
 }
 
-/// The first level behind the parameters of a routine.
+/// The first level after the parameters of a routine.
 #[tactic(auto, using(crate::proofs::Lists::names_counted))]
 pub fn level_of<'s>(parameters: &[&'s [u8]]) -> Result<u64, Memory>
-    ensures { IfOk result (λ n. n ≡ level_behind_parameters (length (names_view parameters.now))) }
+    ensures { IfOk result (λ n. n ≡ level_after_parameters (length (names_view parameters.now))) }
 {
     sum(2, parameters.len() as u64)
 }

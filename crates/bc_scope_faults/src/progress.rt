@@ -9,7 +9,7 @@ pub struct Progress {
     pub fits: bool,
 }
 
-/// What declarations take: the next free offset behind them, and how many cells of the frame.
+/// What declarations take: the next free offset after them, and how many cells of the frame.
 #[derive(Clone, Copy, Debug, PartialEq, Eq)]
 pub struct Extent {
     pub level: u64,

@@ -2,9 +2,9 @@
 //!
 //! Each function walks one kind of part, at the names and numbers of the place where it stands. It answers the
 //! part's first fault, or `Memory` where an allocation was refused or a number would pass 64 bits; without either
-//! it gives the part's width, and the progress is the one behind it.
+//! it gives the part's width, and the progress is the one after it.
 //!
-//! A scope serves all places in turn. What an inner place makes known is taken back behind it; behind a fault the scope
+//! A scope serves all places in turn. What an inner place makes known is taken back after it; after a fault the scope
 //! may know more than before, and the names that were known stand below.
 ghost use Rattle.std.specs.Prelude.{◌≡◌, [], OnOk};
 ghost use Rattle.bc_scope_defs.specs.Scope.{nothing_known};

@@ -9,8 +9,8 @@ use Rattle.bc_parse_tree.specs.declared.tree.Monadic.TheVariants as monadic
 use Rattle.bc_parse_tree.specs.Tree as tree
 use Rattle.bc_scope_defs.specs.Scope.{Meant, Constant, Pending, Static, Global, Routine, Variable, OuterVariable, OuterLabel, StrayVariable, StrayLabel, LabelOutside, Undeclared, Env, Names, Name, Numbers, with_name, meant_among, meant_by, is_name}
 use Rattle.bc_scope_defs.specs.Scope as scope
-use Rattle.bc_scope_defs.specs.Numbering.{behind_entry, behind_declaration, behind_definition, labels_named, labels_of_item}
-use Rattle.bc_scope_defs.specs.Scoping.{operator, constant, constant_in, constant_name, constant_monadic, constant_dyadic, or_zero, any_numbers, pending, own_names, meant_as, in_entry, in_entries, cells_of, cells_of_all, variables, routine_name, in_definition, in_definitions, before_let, in_let, in_declaration, in_declarations, cells_in, level_behind, in_for, in_label, in_labels, in_item, in_list, around_routine, around_valof, seen_through, in_routine, in_valof}
+use Rattle.bc_scope_defs.specs.Numbering.{after_entry, after_declaration, after_definition, labels_named, labels_of_item}
+use Rattle.bc_scope_defs.specs.Scoping.{operator, constant, constant_in, constant_name, constant_monadic, constant_dyadic, or_zero, any_numbers, pending, own_names, meant_as, in_entry, in_entries, cells_of, cells_of_all, variables, routine_name, in_definition, in_definitions, before_let, in_let, in_declaration, in_declarations, cells_in, level_after, in_for, in_label, in_labels, in_item, in_list, around_routine, around_valof, seen_through, in_routine, in_valof}
 use Rattle.bc_scope_defs.specs.Sides.{kinds_of_name, kinds_of_monadic, kinds_of_dyadic, kinds, is_operand_kind, side_levels}
 use Rattle.bc_scope_defs.specs.Found.{in_parameters}
 use Rattle.bc_scope_defs.specs.Frames.{held}
@@ -236,7 +236,7 @@ alike_entry {E} {F} s at to n k h =
 
 alike_entries : (s : Storage) (at to : Numbers) {E F : Env} (es : tree.Entries) → Alike E F → Alike (in_entries s at es E) (in_entries s to es F)
 alike_entries s at to tree.no_entries h = h
-alike_entries s at to (tree.entry n k es) h = alike_entries s (behind_entry s at) (behind_entry s to) es (alike_entry s at to n k h)
+alike_entries s at to (tree.entry n k es) h = alike_entries s (after_entry s at) (after_entry s to) es (alike_entry s at to n k h)
 
 pub alike_variables : {E F : Env} (ns : List Name) (k l : ℕ) → Alike E F → Alike (variables ns k E) (variables ns l F)
 alike_variables [] k l h = h
@@ -296,7 +296,7 @@ alike_before_let ds h = alike_own ds h h
 alike_definitions : {B C : Env} (K L : Env) (at to : Numbers) (k l : ℕ) {E F : Env} (ds : tree.Definitions) → Alike B C → Alike E F → Alike (in_definitions B K at k ds E) (in_definitions C L to l ds F)
 alike_definitions K L at to k l tree.no_definitions b h = h
 alike_definitions K L at to k l (tree.definition d ds) b h =
-    alike_definitions K L (behind_definition at d) (behind_definition to d) (k + cells_of K d) (l + cells_of L d) ds b (alike_definition at to k l d b h)
+    alike_definitions K L (after_definition at d) (after_definition to d) (k + cells_of K d) (l + cells_of L d) ds b (alike_definition at to k l d b h)
 
 pub alike_let : {E F : Env} (at to : Numbers) (s t : ℕ) (ds : tree.Definitions) → Alike E F → Alike (in_let E at s ds) (in_let F to t ds)
 alike_let {E} {F} at to s t ds h = alike_definitions (before_let ds E) (before_let ds F) at to s t ds h h
@@ -308,7 +308,7 @@ alike_declaration at to s t (tree.Let ds) h = alike_let at to s t ds h
 pub alike_declarations : (at to : Numbers) (s t : ℕ) {E F : Env} (ds : tree.Declarations) → Alike E F → Alike (in_declarations E at s ds) (in_declarations F to t ds)
 alike_declarations at to s t tree.no_declarations h = h
 alike_declarations at to s t {E} {F} (tree.declaration d ds) h =
-    alike_declarations (behind_declaration at d) (behind_declaration to d) (s + cells_in E d) (t + cells_in F d) ds (alike_declaration at to s t d h)
+    alike_declarations (after_declaration at d) (after_declaration to d) (s + cells_in E d) (t + cells_in F d) ds (alike_declaration at to s t d h)
 
 pub alike_for : {E F : Env} (n : Name) (s t : ℕ) → Alike E F → Alike (in_for E n s) (in_for F n t)
 alike_for n s t h = alike_more n (Variable s) (Variable t) refl h
@@ -373,7 +373,7 @@ around_valof_without StrayLabel = refl
 around_valof_without LabelOutside = refl
 around_valof_without Undeclared = refl
 
--- what goes before or behind goes name by name
+-- what goes before or after goes name by name
 through_without : (f : Meant → Meant) → ((m : Meant) → without_number (f m) ≡ f (without_number m)) → (es : Names)
     → seen_through without_number (seen_through f es) ≡ seen_through f (seen_through without_number es)
 through_without f h [] = refl
@@ -411,7 +411,7 @@ pub same_cells_in : {E F : Env} (d : tree.Declaration) → Alike E F → cells_i
 same_cells_in (tree.Constants k es) h = refl
 same_cells_in (tree.Let ds) h = same_cells ds (alike_before_let ds h)
 
-pub same_level : (at to : Numbers) (s t : ℕ) {E F : Env} (ds : tree.Declarations) → s ≡ t → Alike E F → level_behind E at s ds ≡ level_behind F to t ds
+pub same_level : (at to : Numbers) (s t : ℕ) {E F : Env} (ds : tree.Declarations) → s ≡ t → Alike E F → level_after E at s ds ≡ level_after F to t ds
 same_level at to s t tree.no_declarations e h = e
 same_level at to s t (tree.declaration d ds) e h =
-    same_level (behind_declaration at d) (behind_declaration to d) _ _ ds (λ i. e i + same_cells_in d h i) (alike_declaration at to s t d h)
+    same_level (after_declaration at d) (after_declaration to d) _ _ ds (λ i. e i + same_cells_in d h i) (alike_declaration at to s t d h)

@@ -5,13 +5,13 @@ use Rattle.std.proofs.lemmas.List.{length-take}
 use Rattle.bc_parse_tree.specs.declared.tree.Storage.{Storage}
 use Rattle.bc_parse_tree.specs.declared.tree.Storage.TheVariants as storage
 use Rattle.bc_parse_tree.specs.Tree as tree
-use Rattle.bc_core.specs.Level.{operand_level, argument_level, routine_level, level_in_for, level_behind_parameters}
+use Rattle.bc_core.specs.Level.{operand_level, argument_level, routine_level, level_in_for, level_after_parameters}
 use Rattle.bc_core.specs.WellFormed.{Around, has, global_fits}
 use Rattle.bc_core.specs.WellFormed as fitting
-use Rattle.bc_scope_defs.specs.Scope.{Meant, Constant, Pending, Static, Global, Routine, Variable, OuterVariable, OuterLabel, StrayVariable, StrayLabel, LabelOutside, Undeclared, Env, Names, Name, Numbers, meant_among, meant_by, is_name, behind_valof, behind_labels, behind_place}
+use Rattle.bc_scope_defs.specs.Scope.{Meant, Constant, Pending, Static, Global, Routine, Variable, OuterVariable, OuterLabel, StrayVariable, StrayLabel, LabelOutside, Undeclared, Env, Names, Name, Numbers, meant_among, meant_by, is_name, after_valof, after_labels, after_place}
 use Rattle.bc_scope_defs.specs.Scope as scope
-use Rattle.bc_scope_defs.specs.Numbering.{behind, behind_all, behind_declarations, behind_declaration, behind_definition, behind_command, behind_block, labels_of, labels_in}
-use Rattle.bc_scope_defs.specs.Scoping.{names_of, count, pending, in_entry, before_let, in_let, in_declaration, in_declarations, cells_in, level_behind, in_for, in_list, around_routine, around_valof, seen_through, in_valof, in_routine}
+use Rattle.bc_scope_defs.specs.Numbering.{following, after_all, after_declarations, after_declaration, after_definition, after_command, after_block, labels_of, labels_in}
+use Rattle.bc_scope_defs.specs.Scoping.{names_of, count, pending, in_entry, before_let, in_let, in_declaration, in_declarations, cells_in, level_after, in_for, in_list, around_routine, around_valof, seen_through, in_valof, in_routine}
 use Rattle.bc_scope_defs.specs.Scoping as scoping
 use Rattle.bc_scope_defs.specs.Translation.{core_items}
 use Rattle.bc_scope_defs.specs.Found.{RoutineBody, Gives, Does, in_parameters, global_of, Thing, AValof, ARoutine, Data, AText, found, found_in_arguments, found_in_sides, found_in_initials, found_in_definition, found_in_definitions, found_in_entries, found_in_declaration, found_in_declarations, found_in_block, found_in_items, found_in_command}
@@ -35,7 +35,7 @@ body_size (Does b) = block_size b
 -- what stands in it is known to fit: its names exist, it has no fault, and it is no larger than allowed
 abbrev pub Clean : (places : ℕ) → Thing → Type 0
 Clean P (AValof f) = Sound P [] f.names × (along.block_fault faults.allowed_in_valof f.names f.numbers f.body f.level ≡ None) × (block_size f.body ≤ most_size)
-Clean P (ARoutine r) = Sound P [] r.names × (body_fault r.names r.numbers r.body (level_behind_parameters r.parameters) ≡ None) × (body_size r.body ≤ most_size) × (global_fits r.global ≡ true)
+Clean P (ARoutine r) = Sound P [] r.names × (body_fault r.names r.numbers r.body (level_after_parameters r.parameters) ≡ None) × (body_size r.body ≤ most_size) × (global_fits r.global ≡ true)
 Clean P (Data m (AText bytes)) = length bytes ≤ 255
 Clean P (Data m _) = Unit {0}
 
@@ -105,7 +105,7 @@ all_joined Q (x ∷ fs) gs h k = (h.0, all_joined Q fs gs h.1 k)
 
 entries_clean : (P : ℕ) (s : Storage) (at : Numbers) (es : tree.Entries) (E : Env) → AllThings (Clean P) (found_in_entries s at es E)
 entries_clean P s at tree.no_entries E = tt
-entries_clean P storage.Static at (tree.entry n k es) E = (tt, entries_clean P storage.Static (behind_place at) es (in_entry storage.Static at n k E))
+entries_clean P storage.Static at (tree.entry n k es) E = (tt, entries_clean P storage.Static (after_place at) es (in_entry storage.Static at n k E))
 entries_clean P storage.Manifest at (tree.entry n k es) E = entries_clean P storage.Manifest at es (in_entry storage.Manifest at n k E)
 entries_clean P storage.Global at (tree.entry n k es) E = entries_clean P storage.Global at es (in_entry storage.Global at n k E)
 
@@ -139,18 +139,18 @@ mutual
   clean A L E at (tree.Valof b) s z so h n =
       let so1 = sound_valof so in
       let z1 : block_size b ≤ most_size = omega arith in
-      ((so1, n, z1), clean_block A faults.allowed_in_valof [] (in_valof E) (behind_valof at) b s z1 so1 h.1 n)
+      ((so1, n, z1), clean_block A faults.allowed_in_valof [] (in_valof E) (after_valof at) b s z1 so1 h.1 n)
   clean A L E at (tree.Monadic m e) s z so h n = clean A L E at e s (omega arith) so h (none_left (along.fault false E at e s) _ n)
   clean A L E at (tree.Dyadic o l r) s z so h n =
       let s1 = operand_level s in
       let x = found E at l s1 in
-      let y = found E (behind at l) r s1 in
+      let y = found E (following at l) r s1 in
       all_joined (Clean A.places) x y
-      (clean A L E at l s1 (omega arith) so (first (Stands A) x y h) (none_left (along.fault false E at l s1) (along.fault false E (behind at l) r s1) n))
-      (clean A L E (behind at l) r s1 (omega arith) so (second (Stands A) x y h) (none_right (along.fault false E at l s1) (along.fault false E (behind at l) r s1) n))
+      (clean A L E at l s1 (omega arith) so (first (Stands A) x y h) (none_left (along.fault false E at l s1) (along.fault false E (following at l) r s1) n))
+      (clean A L E (following at l) r s1 (omega arith) so (second (Stands A) x y h) (none_right (along.fault false E at l s1) (along.fault false E (following at l) r s1) n))
   clean A L E at (tree.Condition c d e) s z so h n =
-      let bc = behind at c in
-      let bd = behind bc d in
+      let bc = following at c in
+      let bd = following bc d in
       let x = found E at c s in
       let y = found E bc d s in
       let v = found E bd e s in
@@ -163,43 +163,43 @@ mutual
       (clean A L E bd e s (omega arith) so (second (Stands A) y v h1) (none_right (along.fault false E bc d s) (along.fault false E bd e s) n1)))
   clean A L E at (tree.Call f es) s z so h n =
       let x = found E at f (routine_level s (count es)) in
-      let y = found_in_arguments E (behind at f) es (argument_level s) in
+      let y = found_in_arguments E (following at f) es (argument_level s) in
       all_joined (Clean A.places) x y
-      (clean A L E at f (routine_level s (count es)) (omega arith) so (first (Stands A) x y h) (none_left _ (along.arguments_fault false E (behind at f) es (argument_level s)) n))
-      (clean_arguments A L E (behind at f) es (argument_level s) (omega arith) so (second (Stands A) x y h) (none_right (along.fault false E at f (routine_level s (count es))) _ n))
+      (clean A L E at f (routine_level s (count es)) (omega arith) so (first (Stands A) x y h) (none_left _ (along.arguments_fault false E (following at f) es (argument_level s)) n))
+      (clean_arguments A L E (following at f) es (argument_level s) (omega arith) so (second (Stands A) x y h) (none_right (along.fault false E at f (routine_level s (count es))) _ n))
 
   clean_arguments : (A : Around) (L : List ℕ) (E : Env) (at : Numbers) (es : tree.Exps) (s : ℕ) → exps_size es ≤ most_size → Sound A.places L E → AllThings (Stands A) (found_in_arguments E at es s) → along.arguments_fault false E at es s ≡ None → AllThings (Clean A.places) (found_in_arguments E at es s)
   clean_arguments A L E at tree.none s z so h n = tt
   clean_arguments A L E at (tree.more e es) s z so h n =
       let x = found E at e s in
-      let y = found_in_arguments E (behind at e) es (s + 1) in
+      let y = found_in_arguments E (following at e) es (s + 1) in
       all_joined (Clean A.places) x y
-      (clean A L E at e s (omega arith) so (first (Stands A) x y h) (none_left (along.fault false E at e s) (along.arguments_fault false E (behind at e) es (s + 1)) n))
-      (clean_arguments A L E (behind at e) es (s + 1) (omega arith) so (second (Stands A) x y h) (none_right (along.fault false E at e s) (along.arguments_fault false E (behind at e) es (s + 1)) n))
+      (clean A L E at e s (omega arith) so (first (Stands A) x y h) (none_left (along.fault false E at e s) (along.arguments_fault false E (following at e) es (s + 1)) n))
+      (clean_arguments A L E (following at e) es (s + 1) (omega arith) so (second (Stands A) x y h) (none_right (along.fault false E at e s) (along.arguments_fault false E (following at e) es (s + 1)) n))
 
   clean_initials : (A : Around) (L : List ℕ) (E : Env) (at : Numbers) (es : tree.Exps) (s : ℕ) → exps_size es ≤ most_size → Sound A.places L E → AllThings (Stands A) (found_in_initials E at es s) → along.initials_fault E at es s ≡ None → AllThings (Clean A.places) (found_in_initials E at es s)
   clean_initials A L E at tree.none s z so h n = tt
   clean_initials A L E at (tree.more e es) s z so h n =
       let x = found E at e s in
-      let y = found_in_initials E (behind at e) es s in
+      let y = found_in_initials E (following at e) es s in
       all_joined (Clean A.places) x y
-      (clean A L E at e s (omega arith) so (first (Stands A) x y h) (none_left (along.fault false E at e s) (along.initials_fault E (behind at e) es s) n))
-      (clean_initials A L E (behind at e) es s (omega arith) so (second (Stands A) x y h) (none_right (along.fault false E at e s) (along.initials_fault E (behind at e) es s) n))
+      (clean A L E at e s (omega arith) so (first (Stands A) x y h) (none_left (along.fault false E at e s) (along.initials_fault E (following at e) es s) n))
+      (clean_initials A L E (following at e) es s (omega arith) so (second (Stands A) x y h) (none_right (along.fault false E at e s) (along.initials_fault E (following at e) es s) n))
 
   clean_sides : (A : Around) (L : List ℕ) (E : Env) (at : Numbers) (es : tree.Exps) (ss : List ℕ) → exps_size es ≤ most_size → Sound A.places L E → AllThings (Stands A) (found_in_sides E at es ss) → along.sides_fault E at es ss ≡ None → AllThings (Clean A.places) (found_in_sides E at es ss)
   clean_sides A L E at tree.none ss z so h n = tt
   clean_sides A L E at (tree.more e es) [] z so h n =
       let x = found E at e 0 in
-      let y = found_in_sides E (behind at e) es [] in
+      let y = found_in_sides E (following at e) es [] in
       all_joined (Clean A.places) x y
-      (clean A L E at e 0 (omega arith) so (first (Stands A) x y h) (none_left (along.fault false E at e 0) (along.sides_fault E (behind at e) es []) n))
-      (clean_sides A L E (behind at e) es [] (omega arith) so (second (Stands A) x y h) (none_right (along.fault false E at e 0) (along.sides_fault E (behind at e) es []) n))
+      (clean A L E at e 0 (omega arith) so (first (Stands A) x y h) (none_left (along.fault false E at e 0) (along.sides_fault E (following at e) es []) n))
+      (clean_sides A L E (following at e) es [] (omega arith) so (second (Stands A) x y h) (none_right (along.fault false E at e 0) (along.sides_fault E (following at e) es []) n))
   clean_sides A L E at (tree.more e es) (s ∷ ss) z so h n =
       let x = found E at e s in
-      let y = found_in_sides E (behind at e) es ss in
+      let y = found_in_sides E (following at e) es ss in
       all_joined (Clean A.places) x y
-      (clean A L E at e s (omega arith) so (first (Stands A) x y h) (none_left (along.fault false E at e s) (along.sides_fault E (behind at e) es ss) n))
-      (clean_sides A L E (behind at e) es ss (omega arith) so (second (Stands A) x y h) (none_right (along.fault false E at e s) (along.sides_fault E (behind at e) es ss) n))
+      (clean A L E at e s (omega arith) so (first (Stands A) x y h) (none_left (along.fault false E at e s) (along.sides_fault E (following at e) es ss) n))
+      (clean_sides A L E (following at e) es ss (omega arith) so (second (Stands A) x y h) (none_right (along.fault false E at e s) (along.sides_fault E (following at e) es ss) n))
 
   clean_definition : (ns : List Name) (A : Around) (L : List ℕ) (O E : Env) (at : Numbers) (d : tree.Definition) (s : ℕ) → definition_size d ≤ most_size → Sound A.places L O → Sound A.places L E → AllThings (Stands A) (found_in_definition O E at d s) → along.definition_fault ns E at d s ≡ None → AllThings (Clean A.places) (found_in_definition O E at d s)
   clean_definition ns A L O E at (tree.Variables xs es) s z o so h n =
@@ -210,24 +210,24 @@ mutual
   clean_definition ns A L O E at (tree.Function x ps e) s z o so h n =
       let so1 = sound_parameters ps E so in
       let z1 : exp_size e ≤ most_size = omega arith in
-      let f = along.fault false (in_parameters ps E) (behind_place at) e (level_behind_parameters (length ps)) in
+      let f = along.fault false (in_parameters ps E) (after_place at) e (level_after_parameters (length ps)) in
       let n1 = none_right (faults.all_twice_fault [] ps) f (none_right (faults.all_twice_fault ns (x ∷ [])) (or_else (faults.all_twice_fault [] ps) f) n) in
-      ((so1, n1, z1, global_is_fit A.places L (meant_by O x) (o.from x)), clean A [] (in_parameters ps E) (behind_place at) e (level_behind_parameters (length ps)) z1 so1 h.1 n1)
+      ((so1, n1, z1, global_is_fit A.places L (meant_by O x) (o.from x)), clean A [] (in_parameters ps E) (after_place at) e (level_after_parameters (length ps)) z1 so1 h.1 n1)
   clean_definition ns A L O E at (tree.Routine x ps b) s z o so h n =
       let so1 = sound_parameters ps E so in
       let z1 : block_size b ≤ most_size = omega arith in
-      let f = along.block_fault faults.allowed_in_routine (in_parameters ps E) (behind_place at) b (level_behind_parameters (length ps)) in
+      let f = along.block_fault faults.allowed_in_routine (in_parameters ps E) (after_place at) b (level_after_parameters (length ps)) in
       let n1 = none_right (faults.all_twice_fault [] ps) f (none_right (faults.all_twice_fault ns (x ∷ [])) (or_else (faults.all_twice_fault [] ps) f) n) in
-      ((so1, n1, z1, global_is_fit A.places L (meant_by O x) (o.from x)), clean_block A faults.allowed_in_routine [] (in_parameters ps E) (behind_place at) b (level_behind_parameters (length ps)) z1 so1 h.1 n1)
+      ((so1, n1, z1, global_is_fit A.places L (meant_by O x) (o.from x)), clean_block A faults.allowed_in_routine [] (in_parameters ps E) (after_place at) b (level_after_parameters (length ps)) z1 so1 h.1 n1)
 
   clean_definitions : (ns : List Name) (A : Around) (L : List ℕ) (O E : Env) (at : Numbers) (ds : tree.Definitions) (s : ℕ) → definitions_size ds ≤ most_size → Sound A.places L O → Sound A.places L E → AllThings (Stands A) (found_in_definitions O E at ds s) → along.definitions_fault ns E at ds s ≡ None → AllThings (Clean A.places) (found_in_definitions O E at ds s)
   clean_definitions ns A L O E at tree.no_definitions s z o so h n = tt
   clean_definitions ns A L O E at (tree.definition d ds) s z o so h n =
       let x = found_in_definition O E at d s in
-      let y = found_in_definitions O E (behind_definition at d) ds s in
+      let y = found_in_definitions O E (after_definition at d) ds s in
       all_joined (Clean A.places) x y
-      (clean_definition ns A L O E at d s (omega arith) o so (first (Stands A) x y h) (none_left (along.definition_fault ns E at d s) (along.definitions_fault (ns ++ names_of d) E (behind_definition at d) ds s) n))
-      (clean_definitions (ns ++ names_of d) A L O E (behind_definition at d) ds s (omega arith) o so (second (Stands A) x y h) (none_right (along.definition_fault ns E at d s) (along.definitions_fault (ns ++ names_of d) E (behind_definition at d) ds s) n))
+      (clean_definition ns A L O E at d s (omega arith) o so (first (Stands A) x y h) (none_left (along.definition_fault ns E at d s) (along.definitions_fault (ns ++ names_of d) E (after_definition at d) ds s) n))
+      (clean_definitions (ns ++ names_of d) A L O E (after_definition at d) ds s (omega arith) o so (second (Stands A) x y h) (none_right (along.definition_fault ns E at d s) (along.definitions_fault (ns ++ names_of d) E (after_definition at d) ds s) n))
 
   clean_declaration : (A : Around) (L : List ℕ) (E : Env) (at : Numbers) (d : tree.Declaration) (s : ℕ) → declaration_size d ≤ most_size → Sound A.places L E → AllThings (Stands A) (found_in_declaration E at d s) → along.declaration_fault E at d s ≡ None → AllThings (Clean A.places) (found_in_declaration E at d s)
   clean_declaration A L E at (tree.Constants k es) s z so h n = entries_clean A.places k at es (pending k es E)
@@ -238,7 +238,7 @@ mutual
   clean_declarations A L E at tree.no_declarations s z so h n = tt
   clean_declarations A L E at (tree.declaration d ds) s z so h n =
       let E1 = in_declaration E at s d in
-      let at1 = behind_declaration at d in
+      let at1 = after_declaration at d in
       let s1 = s + cells_in E d in
       let x = found_in_declaration E at d s in
       let y = found_in_declarations E1 at1 ds s1 in
@@ -249,12 +249,12 @@ mutual
 
   pub clean_block : (A : Around) (W : Allowed) (L : List ℕ) (E : Env) (at : Numbers) (b : tree.Block) (s : ℕ) → block_size b ≤ most_size → Sound A.places L E → AllThings (Stands A) (found_in_block E at b s) → along.block_fault W E at b s ≡ None → AllThings (Clean A.places) (found_in_block E at b s)
   clean_block A W L E at (tree.block ds is) s z so h n =
-      let at1 = behind_declarations at ds in
+      let at1 = after_declarations at ds in
       let k = at1.label in
       let E0 = in_declarations E at s ds in
       let E1 = in_list k is E0 in
-      let at2 = behind_labels at1 (labels_in is) in
-      let s1 = level_behind E at s ds in
+      let at2 = after_labels at1 (labels_in is) in
+      let s1 = level_after E at s ds in
       let x = found_in_declarations E at ds s in
       let y = found_in_items E1 k at2 is s1 in
       let n0 = none_left (along.declarations_fault E at ds s) (along.items_fault false faults.none_met W E1 at2 is s1) n in
@@ -265,7 +265,7 @@ mutual
   clean_items : (A : Around) (cases : Bool) (M : faults.Met) (W : Allowed) (L : List ℕ) (E : Env) (k : ℕ) (at : Numbers) (is : tree.Items) (s : ℕ) → items_size is ≤ most_size → Sound A.places L E → AllThings (Stands A) (found_in_items E k at is s) → along.items_fault cases M W E at is s ≡ None → AllThings (Clean A.places) (found_in_items E k at is s)
   clean_items A cases M W L E k at tree.no_items s z so h n = tt
   clean_items A cases M W L E k at (tree.item (tree.Labelled ls c) is) s z so h n =
-      let at1 = behind_command at c in
+      let at1 = after_command at c in
       let k1 = k + labels_of ls in
       let x = found_in_command E at c s in
       let y = found_in_items E k1 at1 is s in
@@ -279,7 +279,7 @@ mutual
   clean_command : (A : Around) (W : Allowed) (L : List ℕ) (E : Env) (at : Numbers) (c : tree.Command) (s : ℕ) → command_size c ≤ most_size → Sound A.places L E → AllThings (Stands A) (found_in_command E at c s) → along.command_fault W E at c s ≡ None → AllThings (Clean A.places) (found_in_command E at c s)
   clean_command A W L E at (tree.Assign xs es) s z so h n =
       let ss = side_levels E xs s in
-      let at1 = behind_all at xs in
+      let at1 = after_all at xs in
       let x = found_in_sides E at xs ss in
       let y = found_in_sides E at1 es ss in
       let n1 = none_right (along.sides_fault E at xs ss) (or_else (along.sides_fault E at1 es ss) (unless (faults.all_have_cells E xs) faults.ANotAssignable)) n in
@@ -288,10 +288,10 @@ mutual
       (clean_sides A L E at1 es ss (omega arith) so (second (Stands A) x y h) (none_left (along.sides_fault E at1 es ss) (unless (faults.all_have_cells E xs) faults.ANotAssignable) n1))
   clean_command A W L E at (tree.Do f es) s z so h n =
       let x = found E at f (routine_level s (count es)) in
-      let y = found_in_arguments E (behind at f) es (argument_level s) in
+      let y = found_in_arguments E (following at f) es (argument_level s) in
       all_joined (Clean A.places) x y
-      (clean A L E at f (routine_level s (count es)) (omega arith) so (first (Stands A) x y h) (none_left (along.fault false E at f (routine_level s (count es))) (along.arguments_fault false E (behind at f) es (argument_level s)) n))
-      (clean_arguments A L E (behind at f) es (argument_level s) (omega arith) so (second (Stands A) x y h) (none_right (along.fault false E at f (routine_level s (count es))) (along.arguments_fault false E (behind at f) es (argument_level s)) n))
+      (clean A L E at f (routine_level s (count es)) (omega arith) so (first (Stands A) x y h) (none_left (along.fault false E at f (routine_level s (count es))) (along.arguments_fault false E (following at f) es (argument_level s)) n))
+      (clean_arguments A L E (following at f) es (argument_level s) (omega arith) so (second (Stands A) x y h) (none_right (along.fault false E at f (routine_level s (count es))) (along.arguments_fault false E (following at f) es (argument_level s)) n))
   clean_command A W L E at (tree.Compound b) s z so h n = clean_block A W L E at b s (omega arith) so h n
   clean_command A W L E at tree.Break s z so h n = tt
   clean_command A W L E at tree.Loop s z so h n = tt
@@ -302,7 +302,7 @@ mutual
   clean_command A W L E at (tree.ResultIs e) s z so h n = clean A L E at e s (omega arith) so h (none_left (along.fault false E at e s) (unless W.in_valof faults.AMisplaced) n)
   clean_command A W L E at (tree.Repeat c) s z so h n = clean_command A (faults.in_a_loop W) L E at c s (omega arith) so h n
   clean_command A W L E at (tree.RepeatWhile c e) s z so h n =
-      let at1 = behind_command at c in
+      let at1 = after_command at c in
       let x = found_in_command E at c s in
       let y = found E at1 e s in
       let f = along.command_fault (faults.in_a_loop W) E at c s in
@@ -311,7 +311,7 @@ mutual
       (clean_command A (faults.in_a_loop W) L E at c s (omega arith) so (first (Stands A) x y h) (none_left f g n))
       (clean A L E at1 e s (omega arith) so (second (Stands A) x y h) (none_right f g n))
   clean_command A W L E at (tree.RepeatUntil c e) s z so h n =
-      let at1 = behind_command at c in
+      let at1 = after_command at c in
       let x = found_in_command E at c s in
       let y = found E at1 e s in
       let f = along.command_fault (faults.in_a_loop W) E at c s in
@@ -320,7 +320,7 @@ mutual
       (clean_command A (faults.in_a_loop W) L E at c s (omega arith) so (first (Stands A) x y h) (none_left f g n))
       (clean A L E at1 e s (omega arith) so (second (Stands A) x y h) (none_right f g n))
   clean_command A W L E at (tree.If e b) s z so h n =
-      let at1 = behind at e in
+      let at1 = following at e in
       let x = found E at e s in
       let y = found_in_block E at1 b s in
       let f = along.fault false E at e s in
@@ -329,7 +329,7 @@ mutual
       (clean A L E at e s (omega arith) so (first (Stands A) x y h) (none_left f g n))
       (clean_block A W L E at1 b s (omega arith) so (second (Stands A) x y h) (none_right f g n))
   clean_command A W L E at (tree.Unless e b) s z so h n =
-      let at1 = behind at e in
+      let at1 = following at e in
       let x = found E at e s in
       let y = found_in_block E at1 b s in
       let f = along.fault false E at e s in
@@ -338,7 +338,7 @@ mutual
       (clean A L E at e s (omega arith) so (first (Stands A) x y h) (none_left f g n))
       (clean_block A W L E at1 b s (omega arith) so (second (Stands A) x y h) (none_right f g n))
   clean_command A W L E at (tree.While e b) s z so h n =
-      let at1 = behind at e in
+      let at1 = following at e in
       let x = found E at e s in
       let y = found_in_block E at1 b s in
       let f = along.fault false E at e s in
@@ -347,7 +347,7 @@ mutual
       (clean A L E at e s (omega arith) so (first (Stands A) x y h) (none_left f g n))
       (clean_block A (faults.in_a_loop W) L E at1 b s (omega arith) so (second (Stands A) x y h) (none_right f g n))
   clean_command A W L E at (tree.Until e b) s z so h n =
-      let at1 = behind at e in
+      let at1 = following at e in
       let x = found E at e s in
       let y = found_in_block E at1 b s in
       let f = along.fault false E at e s in
@@ -356,8 +356,8 @@ mutual
       (clean A L E at e s (omega arith) so (first (Stands A) x y h) (none_left f g n))
       (clean_block A (faults.in_a_loop W) L E at1 b s (omega arith) so (second (Stands A) x y h) (none_right f g n))
   clean_command A W L E at (tree.Test e b c) s z so h n =
-      let at1 = behind at e in
-      let at2 = behind_block at1 b in
+      let at1 = following at e in
+      let at2 = after_block at1 b in
       let x = found E at e s in
       let y = found_in_block E at1 b s in
       let v = found_in_block E at2 c s in
@@ -373,8 +373,8 @@ mutual
       (clean_block A W L E at2 c s (omega arith) so (second (Stands A) y v h1) (none_right g j n1)))
   clean_command A W L E at (tree.For q a d b) s z so h n =
       let s1 = level_in_for s in
-      let at1 = behind at a in
-      let at2 = behind at1 d in
+      let at1 = following at a in
+      let at2 = following at1 d in
       let x = found E at a s1 in
       let y = found E at1 d s1 in
       let v = found_in_block (in_for E q s) at2 b s1 in
@@ -390,8 +390,8 @@ mutual
       (clean_block A (faults.in_a_loop W) L (in_for E q s) at2 b s1 (omega arith) (sound_more q (Variable s) tt so) (second (Stands A) y v h1) (none_right g j n1)))
   clean_command A W L E at (tree.ForBy q a d k b) s z so h n =
       let s1 = level_in_for s in
-      let at1 = behind at a in
-      let at2 = behind at1 d in
+      let at1 = following at a in
+      let at2 = following at1 d in
       let x = found E at a s1 in
       let y = found E at1 d s1 in
       let v = found_in_block (in_for E q s) at2 b s1 in
@@ -406,10 +406,10 @@ mutual
       (clean A L E at1 d s1 (omega arith) so (first (Stands A) y v h1) (none_left g j n1))
       (clean_block A (faults.in_a_loop W) L (in_for E q s) at2 b s1 (omega arith) (sound_more q (Variable s) tt so) (second (Stands A) y v h1) (none_right (or_else (along.fault true E at2 k 0) (faults.not_constant E k)) (along.block_fault (faults.in_a_loop W) (in_for E q s) at2 b s1) (none_right g j n1))))
   clean_command A W L E at (tree.SwitchOn e is) s z so h n =
-      let at1 = behind at e in
+      let at1 = following at e in
       let k = at1.label in
       let E1 = in_list k is E in
-      let at2 = behind_labels at1 (labels_in is) in
+      let at2 = after_labels at1 (labels_in is) in
       let x = found E at e s in
       let y = found_in_items E1 k at2 is s in
       let f = along.fault false E at e s in

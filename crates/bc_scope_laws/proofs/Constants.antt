@@ -14,7 +14,7 @@ use Rattle.bc_parse_tree.specs.Tree as tree
 use Rattle.bc_core.specs.Numbers.{is_word, are_words, are_bytes}
 use Rattle.bc_scope_defs.specs.Scope.{Meant, Constant, Pending, Static, Global, Routine, Variable, OuterVariable, OuterLabel, StrayVariable, StrayLabel, LabelOutside, Undeclared, Env, Names, Name, Numbers, meant_among, meant_by, is_name}
 use Rattle.bc_scope_defs.specs.Scope as scope
-use Rattle.bc_scope_defs.specs.Numbering.{behind_entry, behind_declaration, behind_definition, labels_of}
+use Rattle.bc_scope_defs.specs.Numbering.{after_entry, after_declaration, after_definition, labels_of}
 use Rattle.bc_scope_defs.specs.Scoping.{operator, constant, constant_in, constant_name, constant_monadic, constant_dyadic, or_zero, any_numbers, pending, own_names, meant_as, in_entry, in_entries, variables, routine_name, in_definition, in_definitions, before_let, in_let, in_declaration, in_declarations, cells_in, in_labels, in_list, around_routine, around_valof, seen_through, in_routine, in_valof}
 use Rattle.bc_scope_defs.specs.Scoping as scoping
 use Rattle.bc_scope_defs.specs.Characters.{escaped, characters, decoded}
@@ -171,7 +171,7 @@ wordy_entry s at n k E e h = (meant_as_word s at (constant_in E k) (constant_wor
 
 wordy_entries : (s : Storage) (at : Numbers) (es : tree.Entries) (E : Env) → Wordy E → EntriesHaveWords es → Wordy (in_entries s at es E)
 wordy_entries s at tree.no_entries E e h = e
-wordy_entries s at (tree.entry n k es) E e h = wordy_entries s (behind_entry s at) es _ (wordy_entry s at n k E e h.0) h.1
+wordy_entries s at (tree.entry n k es) E e h = wordy_entries s (after_entry s at) es _ (wordy_entry s at n k E e h.0) h.1
 
 pub wordy_variables : (ns : List Name) (k : ℕ) (E : Env) → Wordy E → Wordy (variables ns k E)
 wordy_variables [] k E e = e
@@ -201,7 +201,7 @@ wordy_definition B at k (tree.Routine n ps b) E e = wordy_routine (meant_by B n)
 wordy_definitions : (B K : Env) (at : Numbers) (k : ℕ) (ds : tree.Definitions) (E : Env) → Wordy E → Wordy (in_definitions B K at k ds E)
 wordy_definitions B K at k tree.no_definitions E e = e
 wordy_definitions B K at k (tree.definition d ds) E e =
-    wordy_definitions B K (behind_definition at d) (k + scoping.cells_of K d) ds _ (wordy_definition B at k d E e)
+    wordy_definitions B K (after_definition at d) (k + scoping.cells_of K d) ds _ (wordy_definition B at k d E e)
 
 wordy_own : (B : Env) (ds : tree.Definitions) (E : Env) → Wordy E → Wordy (own_names B ds E)
 wordy_own B tree.no_definitions E e = e
@@ -220,7 +220,7 @@ wordy_declaration at s (tree.Let ds) E e h = wordy_let at s ds E e
 pub wordy_declarations : (at : Numbers) (s : ℕ) (ds : tree.Declarations) (E : Env) → Wordy E → DeclarationsHaveWords ds → Wordy (in_declarations E at s ds)
 wordy_declarations at s tree.no_declarations E e h = e
 wordy_declarations at s (tree.declaration d ds) E e h =
-    wordy_declarations (behind_declaration at d) (s + cells_in E d) ds _ (wordy_declaration at s d E e h.0) h.1
+    wordy_declarations (after_declaration at d) (s + cells_in E d) ds _ (wordy_declaration at s d E e h.0) h.1
 
 wordy_labels : (k : ℕ) (ls : tree.Labels) (E : Env) → Wordy E → Wordy (in_labels k ls E)
 wordy_labels k tree.no_labels E e = e
@@ -289,7 +289,7 @@ outer E e = through_word (around_routine E.inside) (around_routine_word E.inside
 pub wordy_parameters : (ps : List Name) (E : Env) → Wordy E → Wordy (in_parameters ps E)
 wordy_parameters ps E e = wordy_variables ps 2 (in_routine E) (outer E e)
 
--- Strings stand for bytes
+-- Strings mean bytes
 
 either : (t : Bool) (m n : ℕ) → m < 256 → n < 256 → (if t then m else n) < 256
 either true m n h k = h

@@ -64,7 +64,7 @@ tokens_decoded files levels file before at line bytes tokens ending (Next levels
     All-cons (λ (t : Lexeme). IsDecodedKind t.kind) (token file' (at' + length gap) (line' || breaks gap) kind text) others (kind_decoded text after kind lexeme)
     (tokens_decoded files levels' file' (before' + 1) (at' + length gap + length text) false after others ending' h)
 tokens_decoded files levels file before at line bytes tokens ending (TooMany levels' file' before' at' line' gap text after kind g lexeme ne full) = All-nil (λ (t : Lexeme). IsDecodedKind t.kind)
-tokens_decoded files levels file before at line bytes tokens ending (FaultHere levels' file' before' at' line' gap rest kind behind g faulty) = All-nil (λ (t : Lexeme). IsDecodedKind t.kind)
+tokens_decoded files levels file before at line bytes tokens ending (FaultHere levels' file' before' at' line' gap rest kind following g faulty) = All-nil (λ (t : Lexeme). IsDecodedKind t.kind)
 tokens_decoded files levels file before at line bytes tokens ending (Get levels' file' before' at' line' gap space string after name named inner others ending' g get first deep h) =
     All-append (λ (t : Lexeme). IsDecodedKind t.kind) inner others
     (tokens_decoded files levels' named before' 0 true (text_of files named) inner Whole deep)
@@ -74,7 +74,7 @@ tokens_decoded files levels file before at line bytes tokens ending (GetFault le
 tokens_decoded files levels file before at line bytes tokens ending (GetTooDeep file' before' at' line' gap space string after name named g get first) = All-nil (λ (t : Lexeme). IsDecodedKind t.kind)
 tokens_decoded files levels file before at line bytes tokens ending (GetUnnamed levels' file' before' at' line' gap space string after name g get unnamed) = All-nil (λ (t : Lexeme). IsDecodedKind t.kind)
 tokens_decoded files levels file before at line bytes tokens ending (GetNoString levels' file' before' at' line' gap space after g end space_gap none) = All-nil (λ (t : Lexeme). IsDecodedKind t.kind)
-tokens_decoded files levels file before at line bytes tokens ending (GetFaulty levels' file' before' at' line' gap space rest kind behind g end space_gap faulty) = All-nil (λ (t : Lexeme). IsDecodedKind t.kind)
+tokens_decoded files levels file before at line bytes tokens ending (GetFaulty levels' file' before' at' line' gap space rest kind following g end space_gap faulty) = All-nil (λ (t : Lexeme). IsDecodedKind t.kind)
 
 pub source_decoded : (files : List File) (main : ℕ) (tokens : List Lexeme) → HasTokens files main tokens → All (λ t. IsDecodedKind t.kind) tokens
 source_decoded files main tokens r = tokens_decoded files _ _ _ _ _ _ tokens _ r

@@ -6,7 +6,7 @@ use Rattle.bc_parse_tree.specs.Tree as tree
 use Rattle.bc_core.specs.Commands.{Items}
 use Rattle.bc_core.specs.WellFormed.{has, are_distinct, cases_of, defaults_in, entries_differ}
 use Rattle.bc_scope_defs.specs.Scope.{Env, Numbers}
-use Rattle.bc_scope_defs.specs.Numbering.{behind_command, labels_of}
+use Rattle.bc_scope_defs.specs.Numbering.{after_command, labels_of}
 use Rattle.bc_scope_defs.specs.Scoping.{constant}
 use Rattle.bc_scope_defs.specs.Translation.{core_labels, core_items}
 use Rattle.bc_scope_defs.specs.Faults.{Fault, ACaseTwice, or_else, unless, Met, met_label, met_labels, has_value, Allowed}
@@ -101,8 +101,8 @@ items_fresh M W E k at tree.no_items s h = record { apart = λ v l. refl; distin
 items_fresh M W E k at (tree.item (tree.Labelled ls c) is) s h =
     let M1 = met_labels E M ls in
     let of_command = along.command_fault W E at c s in
-    let rest = items_fault true M1 W E (behind_command at c) is s in
-    let inner = items_fresh M1 W E (k + labels_of ls) (behind_command at c) is s (none_right of_command rest (none_right (labels_fault true M E at ls) (or_else of_command rest) h)) in
+    let rest = items_fault true M1 W E (after_command at c) is s in
+    let inner = items_fresh M1 W E (k + labels_of ls) (after_command at c) is s (none_right of_command rest (none_right (labels_fault true M E at ls) (or_else of_command rest) h)) in
     labels_fresh M E k at ls _ (none_left (labels_fault true M E at ls) (or_else of_command rest) h) (record { apart = inner.apart; distinct = inner.distinct; none = inner.none; few = inner.few })
 items_fresh M W E k at (tree.item (tree.Labels_alone ls) is) s h =
     let M1 = met_labels E M ls in

@@ -10,9 +10,9 @@ use Rattle.bc_parse_tree.specs.Tree as tree
 use Rattle.bc_core.specs.Tree.{Exp, Num, Frame, Glob, Place, Load, Neg, Not, Bin, Cond, Call, Valof}
 use Rattle.bc_core.specs.Level.{operand_level, argument_level, routine_level}
 use Rattle.bc_core.specs.WellFormed.{Around, stands_at, exp_fits, args_fit, has}
-use Rattle.bc_scope_defs.specs.Scope.{Meant, Constant, Pending, Static, Global, Routine, Variable, OuterVariable, OuterLabel, StrayVariable, StrayLabel, LabelOutside, Undeclared, Env, Name, Numbers, with_name, meant_by, is_name, behind_place}
+use Rattle.bc_scope_defs.specs.Scope.{Meant, Constant, Pending, Static, Global, Routine, Variable, OuterVariable, OuterLabel, StrayVariable, StrayLabel, LabelOutside, Undeclared, Env, Name, Numbers, with_name, meant_by, is_name, after_place}
 use Rattle.bc_scope_defs.specs.Scope as scope
-use Rattle.bc_scope_defs.specs.Numbering.{behind, behind_definition, behind_entry}
+use Rattle.bc_scope_defs.specs.Numbering.{following, after_definition, after_entry}
 use Rattle.bc_scope_defs.specs.Scoping.{operator, constant, constant_in, count, pending, in_entry, in_entries, variables, routine_name, in_definition, in_definitions}
 use Rattle.bc_scope_defs.specs.Scoping as scoping
 use Rattle.bc_scope_defs.specs.Translation.{Forms, form_of_name, form_of_monadic, form_of_dyadic, negation, opposite, or_not, forms, core_arguments}
@@ -91,8 +91,8 @@ pub sound_definitions : {L : List ℕ} (A : Around) (O N B K : Env) (at : Number
 sound_definitions A O N B K at k s tree.no_definitions E h so = so
 sound_definitions A O N B K at k s (tree.definition d ds) E h so =
     let of_first = found_in_definition O N at d s in
-    let of_rest = found_in_definitions O N (behind_definition at d) ds s in
-    sound_definitions A O N B K (behind_definition at d) (k + scoping.cells_of K d) s ds _ (second (Stands A) of_first of_rest h)
+    let of_rest = found_in_definitions O N (after_definition at d) ds s in
+    sound_definitions A O N B K (after_definition at d) (k + scoping.cells_of K d) s ds _ (second (Stands A) of_first of_rest h)
     (sound_definition A O N B at k s d E (first (Stands A) of_first of_rest h) so)
 
 -- No fault in the whole is none in the parts
@@ -116,7 +116,7 @@ first_label places m h = grind arith
 pub sound_pending : {L : List ℕ} (A : Around) (s : Storage) (at : Numbers) (es : tree.Entries) (E F : Env) → AllThings (Stands A) (found_in_entries s at es F) → Sound A.places L E → Sound A.places L (pending s es E)
 sound_pending A s at tree.no_entries E F h so = so
 sound_pending A storage.Manifest at (tree.entry n k es) E F h so = sound_pending A storage.Manifest at es _ (in_entry storage.Manifest at n k F) h (sound_more n Pending tt so)
-sound_pending A storage.Static at (tree.entry n k es) E F h so = sound_pending A storage.Static (behind_place at) es _ (in_entry storage.Static at n k F) h.1 (sound_more n (Static 1) (first_label A.places at.place h.0) so)
+sound_pending A storage.Static at (tree.entry n k es) E F h so = sound_pending A storage.Static (after_place at) es _ (in_entry storage.Static at n k F) h.1 (sound_more n (Static 1) (first_label A.places at.place h.0) so)
 sound_pending A storage.Global at (tree.entry n k es) E F h so = sound_pending A storage.Global at es _ (in_entry storage.Global at n k F) h (sound_more n (Global 0) refl so)
 
 manifest_fits : (P : ℕ) (L : List ℕ) (at : Numbers) (w : Option ℕ) → MeantFits P L (scoping.meant_as storage.Manifest at w)
@@ -127,27 +127,27 @@ abbrev first_part : (ns : List Name) (at : Numbers) (x : Name) (k : tree.Exp) (E
 first_part ns at x k E = or_else (along.fault true E at k 0) (faults.not_constant E k)
 
 abbrev last_part : (s : Storage) (ns : List Name) (at : Numbers) (x : Name) (k : tree.Exp) (es : tree.Entries) (E : Env) → Option Fault
-last_part s ns at x k es E = along.entries_fault s (ns ++ (x ∷ [])) (behind_entry s at) es (in_entry s at x k E)
+last_part s ns at x k es E = along.entries_fault s (ns ++ (x ∷ [])) (after_entry s at) es (in_entry s at x k E)
 
-behind_constant : (s : Storage) (ns : List Name) (at : Numbers) (x : Name) (k : tree.Exp) (es : tree.Entries) (E : Env) → along.entries_fault s ns at (tree.entry x k es) E ≡ None → or_else (faults.entry_fault s E x k) (last_part s ns at x k es E) ≡ None
-behind_constant s ns at x k es E n =
+after_constant : (s : Storage) (ns : List Name) (at : Numbers) (x : Name) (k : tree.Exp) (es : tree.Entries) (E : Env) → along.entries_fault s ns at (tree.entry x k es) E ≡ None → or_else (faults.entry_fault s E x k) (last_part s ns at x k es E) ≡ None
+after_constant s ns at x k es E n =
     none_right (first_part ns at x k E) (or_else (faults.entry_fault s E x k) (last_part s ns at x k es E))
     (none_right (faults.twice_fault ns x) (or_else (first_part ns at x k E) (or_else (faults.entry_fault s E x k) (last_part s ns at x k es E))) n)
 
 own_entry_fault : (s : Storage) (ns : List Name) (at : Numbers) (x : Name) (k : tree.Exp) (es : tree.Entries) (E : Env) → along.entries_fault s ns at (tree.entry x k es) E ≡ None → faults.entry_fault s E x k ≡ None
-own_entry_fault s ns at x k es E n = none_left (faults.entry_fault s E x k) (last_part s ns at x k es E) (behind_constant s ns at x k es E n)
+own_entry_fault s ns at x k es E n = none_left (faults.entry_fault s E x k) (last_part s ns at x k es E) (after_constant s ns at x k es E n)
 
-behind_entry_fault : (s : Storage) (ns : List Name) (at : Numbers) (x : Name) (k : tree.Exp) (es : tree.Entries) (E : Env) → along.entries_fault s ns at (tree.entry x k es) E ≡ None → last_part s ns at x k es E ≡ None
-behind_entry_fault s ns at x k es E n = none_right (faults.entry_fault s E x k) (last_part s ns at x k es E) (behind_constant s ns at x k es E n)
+after_entry_fault : (s : Storage) (ns : List Name) (at : Numbers) (x : Name) (k : tree.Exp) (es : tree.Entries) (E : Env) → along.entries_fault s ns at (tree.entry x k es) E ≡ None → last_part s ns at x k es E ≡ None
+after_entry_fault s ns at x k es E n = none_right (faults.entry_fault s E x k) (last_part s ns at x k es E) (after_constant s ns at x k es E n)
 
 pub sound_entries : {L : List ℕ} (A : Around) (s : Storage) (ns : List Name) (at : Numbers) (es : tree.Entries) (E : Env) → AllThings (Stands A) (found_in_entries s at es E) → along.entries_fault s ns at es E ≡ None → Sound A.places L E → Sound A.places L (in_entries s at es E)
 sound_entries A s ns at tree.no_entries E h n so = so
 sound_entries {L} A storage.Manifest ns at (tree.entry x k es) E h n so =
-    sound_entries A storage.Manifest (ns ++ (x ∷ [])) at es _ h (behind_entry_fault storage.Manifest ns at x k es E n) (sound_more x _ (manifest_fits A.places L at (constant_in E k)) so)
+    sound_entries A storage.Manifest (ns ++ (x ∷ [])) at es _ h (after_entry_fault storage.Manifest ns at x k es E n) (sound_more x _ (manifest_fits A.places L at (constant_in E k)) so)
 sound_entries A storage.Static ns at (tree.entry x k es) E h n so =
-    sound_entries A storage.Static (ns ++ (x ∷ [])) (behind_place at) es _ h.1 (behind_entry_fault storage.Static ns at x k es E n) (sound_more x (Static at.place) h.0 so)
+    sound_entries A storage.Static (ns ++ (x ∷ [])) (after_place at) es _ h.1 (after_entry_fault storage.Static ns at x k es E n) (sound_more x (Static at.place) h.0 so)
 sound_entries A storage.Global ns at (tree.entry x k es) E h n so =
-    sound_entries A storage.Global (ns ++ (x ∷ [])) at es _ h (behind_entry_fault storage.Global ns at x k es E n)
+    sound_entries A storage.Global (ns ++ (x ∷ [])) at es _ h (after_entry_fault storage.Global ns at x k es E n)
     (sound_more x (Global (constant E k)) (no_fault (nat_lt (constant E k) 512) (faults.AGlobalNumber x) (own_entry_fault storage.Global ns at x k es E n)) so)
 
 -- Expressions
@@ -210,13 +210,13 @@ mutual
   exp_fit A E at (tree.Dyadic o l r) s so h =
       let s1 = operand_level s in
       let of_left = found E at l s1 in
-      let of_right = found E (behind at l) r s1 in
+      let of_right = found E (following at l) r s1 in
       let hl = exp_fit A E at l s1 so (first (Stands A) of_left of_right h) in
-      let hr = exp_fit A E (behind at l) r s1 so (second (Stands A) of_left of_right h) in
-      dyadic_fits A (operator o) (forms E at l).content (forms E (behind at l) r).content s (λ i. hl.1 i && hr.1 i)
+      let hr = exp_fit A E (following at l) r s1 so (second (Stands A) of_left of_right h) in
+      dyadic_fits A (operator o) (forms E at l).content (forms E (following at l) r).content s (λ i. hl.1 i && hr.1 i)
   exp_fit A E at (tree.Condition c x y) s so h =
-      let bc = behind at c in
-      let bx = behind bc x in
+      let bc = following at c in
+      let bx = following bc x in
       let rest = found E bc x s ++ found E bx y s in
       let hxy = second (Stands A) (found E at c s) rest h in
       let hc = exp_fit A E at c s so (first (Stands A) (found E at c s) rest h) in
@@ -226,11 +226,11 @@ mutual
       (k, k)
   exp_fit A E at (tree.Call f es) s so h =
       let of_routine = found E at f (routine_level s (count es)) in
-      let of_arguments = found_in_arguments E (behind at f) es (argument_level s) in
+      let of_arguments = found_in_arguments E (following at f) es (argument_level s) in
       let hf = exp_fit A E at f (routine_level s (count es)) so (first (Stands A) of_routine of_arguments h) in
-      let hs = arguments_fit A E (behind at f) es (argument_level s) so (second (Stands A) of_routine of_arguments h) in
+      let hs = arguments_fit A E (following at f) es (argument_level s) so (second (Stands A) of_routine of_arguments h) in
       let k : exp_fits A (forms E at (tree.Call f es)).content s ≡ true =
-      (λ i. args_fit A (core_arguments E (behind at f) es) (argument_level s) && exp_fits A (forms E at f).content (routine_level s (count_kept E (behind at f) es i)))
+      (λ i. args_fit A (core_arguments E (following at f) es) (argument_level s) && exp_fits A (forms E at f).content (routine_level s (count_kept E (following at f) es i)))
       ∙ (λ i. hs i && hf.1 i) in
       (k, k)
 
@@ -238,7 +238,7 @@ mutual
   arguments_fit A E at tree.none s so h = refl
   arguments_fit A E at (tree.more e es) s so h =
       let of_first = found E at e s in
-      let of_rest = found_in_arguments E (behind at e) es (s + 1) in
+      let of_rest = found_in_arguments E (following at e) es (s + 1) in
       let he = exp_fit A E at e s so (first (Stands A) of_first of_rest h) in
-      let hs = arguments_fit A E (behind at e) es (s + 1) so (second (Stands A) of_first of_rest h) in
+      let hs = arguments_fit A E (following at e) es (s + 1) so (second (Stands A) of_first of_rest h) in
       λ i. he.1 i && hs i

@@ -7,10 +7,10 @@ use Rattle.bc_core.specs.Commands.{Items, no_item, command, case, default, label
 use Rattle.bc_core.specs.Level.{level_in_for, side_level}
 use Rattle.bc_core.specs.WellFormed.{Around, Jumps, nodes, most_nodes, exp_fits, root_fits, assignment_fits, variables_fit, declarations_fit, has, are_distinct, has_entries, command_fits, block_fits, items_fit}
 use Rattle.bc_core.specs.WellFormed as fitting
-use Rattle.bc_scope_defs.specs.Scope.{Meant, Constant, Pending, Static, Global, Routine, Variable, OuterVariable, OuterLabel, StrayVariable, StrayLabel, LabelOutside, Undeclared, Env, Name, Numbers, meant_by, behind_labels}
+use Rattle.bc_scope_defs.specs.Scope.{Meant, Constant, Pending, Static, Global, Routine, Variable, OuterVariable, OuterLabel, StrayVariable, StrayLabel, LabelOutside, Undeclared, Env, Name, Numbers, meant_by, after_labels}
 use Rattle.bc_scope_defs.specs.Scope as scope
-use Rattle.bc_scope_defs.specs.Numbering.{behind, behind_all, behind_declarations, behind_declaration, behind_definition, behind_command, behind_block, labels_of, labels_in}
-use Rattle.bc_scope_defs.specs.Scoping.{pending, before_let, in_let, in_declaration, in_declarations, cells_in, level_behind, in_for, in_labels, in_list, in_valof}
+use Rattle.bc_scope_defs.specs.Numbering.{following, after_all, after_declarations, after_declaration, after_definition, after_command, after_block, labels_of, labels_in}
+use Rattle.bc_scope_defs.specs.Scoping.{pending, before_let, in_let, in_declaration, in_declarations, cells_in, level_after, in_for, in_labels, in_list, in_valof}
 use Rattle.bc_scope_defs.specs.Scoping as scoping
 use Rattle.bc_scope_defs.specs.Translation.{Forms, forms, forms_of_all, assignments, assignment, initials, core_definition, core_definitions, core_declarations, core_labels, core_block, core_items, block_of}
 use Rattle.bc_scope_defs.specs.Translation as translation
@@ -131,7 +131,7 @@ distinct_labels E k (tree.label (tree.Named n) ls) is h d =
 distinct : (E : Env) (k : ℕ) (at : Numbers) (is : tree.Items) (s : ℕ) → are_distinct (fitting.labels_of (core_items E k at is s)) ≡ true
 distinct E k at tree.no_items s = refl
 distinct E k at (tree.item (tree.Labelled ls c) is) s =
-    distinct_labels E k ls _ (λ m l. label_kept E (k + labels_of ls) (behind_command at c) is s m ∙ not_in_list (k + labels_of ls) is m l) (distinct E (k + labels_of ls) (behind_command at c) is s)
+    distinct_labels E k ls _ (λ m l. label_kept E (k + labels_of ls) (after_command at c) is s m ∙ not_in_list (k + labels_of ls) is m l) (distinct E (k + labels_of ls) (after_command at c) is s)
 distinct E k at (tree.item (tree.Labels_alone ls) is) s =
     distinct_labels E k ls _ (λ m l. label_kept E (k + labels_of ls) at is s m ∙ not_in_list (k + labels_of ls) is m l) (distinct E (k + labels_of ls) at is s)
 
@@ -155,10 +155,10 @@ no_case M E k at (tree.label (tree.Named n) ls) is h =
 no_cases : (M : faults.Met) (W : Allowed) (E : Env) (k : ℕ) (at : Numbers) (is : tree.Items) (s : ℕ) → along.items_fault false M W E at is s ≡ None → has_entries (core_items E k at is s) ≡ false
 no_cases M W E k at tree.no_items s h = refl
 no_cases M W E k at (tree.item (tree.Labelled ls c) is) s h =
-    let rest = along.items_fault false (faults.met_labels E M ls) W E (behind_command at c) is s in
+    let rest = along.items_fault false (faults.met_labels E M ls) W E (after_command at c) is s in
     let of_item = or_else (along.command_fault W E at c s) rest in
     no_case M E k at ls _ (none_left (along.labels_fault false M E at ls) of_item h)
-    ∙ no_cases (faults.met_labels E M ls) W E (k + labels_of ls) (behind_command at c) is s
+    ∙ no_cases (faults.met_labels E M ls) W E (k + labels_of ls) (after_command at c) is s
     (none_right (along.command_fault W E at c s) rest (none_right (along.labels_fault false M E at ls) of_item h))
 no_cases M W E k at (tree.item (tree.Labels_alone ls) is) s h =
     let rest = along.items_fault false (faults.met_labels E M ls) W E at is s in
@@ -216,8 +216,8 @@ sides_fit A E at tree.none ss so h = tt
 sides_fit A E at (tree.more e es) [] so h = tt
 sides_fit A E at (tree.more e es) (s ∷ ss) so h =
     let of_first = found E at e s in
-    let of_rest = found_in_sides E (behind at e) es ss in
-    (exp_fit A E at e s so (first (Stands A) of_first of_rest h), sides_fit A E (behind at e) es ss so (second (Stands A) of_first of_rest h))
+    let of_rest = found_in_sides E (following at e) es ss in
+    (exp_fit A E at e s so (first (Stands A) of_first of_rest h), sides_fit A E (following at e) es ss so (second (Stands A) of_first of_rest h))
 
 -- Declarations
 
@@ -241,11 +241,11 @@ initials_fit : {L : List ℕ} (A : Around) (E : Env) (at : Numbers) (es : tree.E
 initials_fit A E at tree.none s z so h = tt
 initials_fit A E at (tree.more e es) s z so h =
     let of_first = found E at e s in
-    let of_rest = found_in_initials E (behind at e) es s in
+    let of_rest = found_in_initials E (following at e) es s in
     let he = exp_fit A E at e s so (first (Stands A) of_first of_rest h) in
     let n : nodes (forms E at e).content ≤ 2 * exp_size e = (small E at e).1 in
     let e_few : nodes (forms E at e).content + 1 ≤ most_nodes = omega arith in
-    ((λ i. few (nodes (forms E at e).content + 1) e_few i && he.1 i && true), initials_fit A E (behind at e) es s (omega arith) so (second (Stands A) of_first of_rest h))
+    ((λ i. few (nodes (forms E at e).content + 1) e_few i && he.1 i && true), initials_fit A E (following at e) es s (omega arith) so (second (Stands A) of_first of_rest h))
 
 definition_fits : {L : List ℕ} (A : Around) (O E B : Env) (at : Numbers) (d : tree.Definition) (s : ℕ) → definition_size d ≤ most_size → Sound A.places L E → AllThings (Stands A) (found_in_definition O E at d s) → VariablesFit A (core_definition E B at d) s
 definition_fits A O E B at (tree.Variables ns es) s z so h = initials_fit A E at es s (omega arith) so h
@@ -257,10 +257,10 @@ definitions_fit : {L : List ℕ} (A : Around) (O E B : Env) (at : Numbers) (ds :
 definitions_fit A O E B at tree.no_definitions s z so h = tt
 definitions_fit A O E B at (tree.definition d ds) s z so h =
     let of_first = found_in_definition O E at d s in
-    let of_rest = found_in_definitions O E (behind_definition at d) ds s in
-    variables_append A (core_definition E B at d) (core_definitions E B (behind_definition at d) ds) s
+    let of_rest = found_in_definitions O E (after_definition at d) ds s in
+    variables_append A (core_definition E B at d) (core_definitions E B (after_definition at d) ds) s
     (definition_fits A O E B at d s (omega arith) so (first (Stands A) of_first of_rest h))
-    (definitions_fit A O E B (behind_definition at d) ds s (omega arith) so (second (Stands A) of_first of_rest h))
+    (definitions_fit A O E B (after_definition at d) ds s (omega arith) so (second (Stands A) of_first of_rest h))
 
 pub sound_declaration : {L : List ℕ} (A : Around) (E : Env) (at : Numbers) (d : tree.Declaration) (s : ℕ) → Sound A.places L E → AllThings (Stands A) (found_in_declaration E at d s) → along.declaration_fault E at d s ≡ None → Sound A.places L (in_declaration E at s d)
 sound_declaration A E at (tree.Constants k es) s so h n = sound_entries A k [] at es (pending k es E) h n (sound_pending A k at es E (pending k es E) h so)
@@ -271,8 +271,8 @@ pub sound_declarations : {L : List ℕ} (A : Around) (E : Env) (at : Numbers) (d
 sound_declarations A E at tree.no_declarations s so h n = so
 sound_declarations A E at (tree.declaration d ds) s so h n =
     let of_first = found_in_declaration E at d s in
-    let of_rest = found_in_declarations (in_declaration E at s d) (behind_declaration at d) ds (s + cells_in E d) in
-    sound_declarations A (in_declaration E at s d) (behind_declaration at d) ds (s + cells_in E d)
+    let of_rest = found_in_declarations (in_declaration E at s d) (after_declaration at d) ds (s + cells_in E d) in
+    sound_declarations A (in_declaration E at s d) (after_declaration at d) ds (s + cells_in E d)
     (sound_declaration A E at d s so (first (Stands A) of_first of_rest h) (none_left _ _ n)) (second (Stands A) of_first of_rest h) (none_right _ _ n)
 
 declarations_stand : {L : List ℕ} (A : Around) (E : Env) (at : Numbers) (ds : tree.Declarations) (s : ℕ) → declarations_size ds ≤ most_size → Sound A.places L E → AllThings (Stands A) (found_in_declarations E at ds s) → along.declarations_fault E at ds s ≡ None → declarations_fit A (core_declarations E at s ds) s ≡ true
@@ -280,7 +280,7 @@ declarations_stand A E at tree.no_declarations s z so h n = refl
 declarations_stand A E at (tree.declaration (tree.Constants k es) ds) s z so h n =
     let d : tree.Declaration = tree.Constants k es in
     let E1 = in_declaration E at s d in
-    let at1 = behind_declaration at d in
+    let at1 = after_declaration at d in
     let of_first = found_in_declaration E at d s in
     let of_rest = found_in_declarations E1 at1 ds (s + 0) in
     let e : s ≡ s + 0 = omega arith in
@@ -290,7 +290,7 @@ declarations_stand A E at (tree.declaration (tree.Let defs) ds) s z so h n =
     let d : tree.Declaration = tree.Let defs in
     let E1 = in_let E at s defs in
     let B = before_let defs E in
-    let at1 = behind_declaration at d in
+    let at1 = after_declaration at d in
     let m = scoping.cells_of_all B defs in
     let of_first = found_in_declaration E at d s in
     let of_rest = found_in_declarations E1 at1 ds (s + m) in
@@ -327,11 +327,11 @@ mutual
   pub block_fit : (A : Around) (W : Allowed) (L : List ℕ) (E : Env) (at : Numbers) (b : tree.Block) (s : ℕ) → block_size b ≤ most_size → Sound A.places L E → AllThings (Stands A) (found_in_block E at b s) → along.block_fault W E at b s ≡ None
       → block_fits A (jumps_of W L) (core_block E at b s) s ≡ true
   block_fit A W L E at (tree.block ds is) s z so h n =
-      let at1 = behind_declarations at ds in
+      let at1 = after_declarations at ds in
       let k = at1.label in
       let E1 = in_list k is (in_declarations E at s ds) in
-      let at2 = behind_labels at1 (labels_in is) in
-      let s1 = level_behind E at s ds in
+      let at2 = after_labels at1 (labels_in is) in
+      let s1 = level_after E at s ds in
       let of_first = found_in_declarations E at ds s in
       let of_rest = found_in_items E1 k at2 is s1 in
       let items = core_items E1 k at2 is s1 in
@@ -347,10 +347,10 @@ mutual
   items_stand A cases M W L E k at tree.no_items s z so h n = refl
   items_stand A cases M W L E k at (tree.item (tree.Labelled ls c) is) s z so h n =
       let of_first = found_in_command E at c s in
-      let of_rest = found_in_items E (k + labels_of ls) (behind_command at c) is s in
+      let of_rest = found_in_items E (k + labels_of ls) (after_command at c) is s in
       let n1 = none_right _ _ n in
       let hc = command_fit A W L E at c s (omega arith) so (first (Stands A) of_first of_rest h) (none_left _ _ n1) in
-      let hs = items_stand A cases (faults.met_labels E M ls) W L E (k + labels_of ls) (behind_command at c) is s (omega arith) so (second (Stands A) of_first of_rest h) (none_right _ _ n1) in
+      let hs = items_stand A cases (faults.met_labels E M ls) W L E (k + labels_of ls) (after_command at c) is s (omega arith) so (second (Stands A) of_first of_rest h) (none_right _ _ n1) in
       labels_fit A (jumps_of W L) E k ls _ s ∙ (λ i. hc i && hs i)
   items_stand A cases M W L E k at (tree.item (tree.Labels_alone ls) is) s z so h n =
       labels_fit A (jumps_of W L) E k ls _ s ∙ items_stand A cases (faults.met_labels E M ls) W L E (k + labels_of ls) at is s (omega arith) so h (none_right _ _ n)
@@ -359,7 +359,7 @@ mutual
       → command_fits A (jumps_of W L) (translation.core_command E at c s) s ≡ true
   command_fit A W L E at (tree.Assign xs es) s z so h n =
       let ss = side_levels E xs s in
-      let at1 = behind_all at xs in
+      let at1 = after_all at xs in
       let of_first = found_in_sides E at xs ss in
       let of_rest = found_in_sides E at1 es ss in
       let e = levels_kept E at xs s in
@@ -382,50 +382,50 @@ mutual
       λ i. no_fault _ _ (none_right _ _ n) i && root_fit A (forms E at e).content s (exp_size e) (small E at e).1 (omega arith) (exp_fit A E at e s so h).1 i
   command_fit A W L E at (tree.Repeat c) s z so h n = body_fits A (jumps_of (faults.in_a_loop W) L) (translation.core_command E at c s) s (command_fit A (faults.in_a_loop W) L E at c s (omega arith) so h n)
   command_fit A W L E at (tree.RepeatWhile c e) s z so h n =
-      let bc = behind_command at c in
+      let bc = after_command at c in
       let of_body = found_in_command E at c s in
       let of_test = found E bc e s in
       let hc = body_fits A (jumps_of (faults.in_a_loop W) L) (translation.core_command E at c s) s (command_fit A (faults.in_a_loop W) L E at c s (omega arith) so (first (Stands A) of_body of_test h) (none_left _ _ n)) in
       let he = exp_fit A E bc e s so (second (Stands A) of_body of_test h) in
       λ i. root_fit A (forms E bc e).content s (exp_size e) (small E bc e).1 (omega arith) he.1 i && hc i
   command_fit A W L E at (tree.RepeatUntil c e) s z so h n =
-      let bc = behind_command at c in
+      let bc = after_command at c in
       let of_body = found_in_command E at c s in
       let of_test = found E bc e s in
       let hc = body_fits A (jumps_of (faults.in_a_loop W) L) (translation.core_command E at c s) s (command_fit A (faults.in_a_loop W) L E at c s (omega arith) so (first (Stands A) of_body of_test h) (none_left _ _ n)) in
       let he = exp_fit A E bc e s so (second (Stands A) of_body of_test h) in
       λ i. root_fit A (forms E bc e).content s (exp_size e) (small E bc e).1 (omega arith) he.1 i && hc i
   command_fit A W L E at (tree.If e b) s z so h n =
-      let be = behind at e in
+      let be = following at e in
       let of_test = found E at e s in
       let of_body = found_in_block E be b s in
       let he = exp_fit A E at e s so (first (Stands A) of_test of_body h) in
       let hb = block_fit A W L E be b s (omega arith) so (second (Stands A) of_test of_body h) (none_right _ _ n) in
       λ i. root_fit A (forms E at e).content s (exp_size e) (small E at e).1 (omega arith) he.1 i && hb i
   command_fit A W L E at (tree.Unless e b) s z so h n =
-      let be = behind at e in
+      let be = following at e in
       let of_test = found E at e s in
       let of_body = found_in_block E be b s in
       let he = exp_fit A E at e s so (first (Stands A) of_test of_body h) in
       let hb = block_fit A W L E be b s (omega arith) so (second (Stands A) of_test of_body h) (none_right _ _ n) in
       λ i. root_fit A (forms E at e).content s (exp_size e) (small E at e).1 (omega arith) he.1 i && hb i
   command_fit A W L E at (tree.While e b) s z so h n =
-      let be = behind at e in
+      let be = following at e in
       let of_test = found E at e s in
       let of_body = found_in_block E be b s in
       let he = exp_fit A E at e s so (first (Stands A) of_test of_body h) in
       let hb = block_fit A (faults.in_a_loop W) L E be b s (omega arith) so (second (Stands A) of_test of_body h) (none_right _ _ n) in
       λ i. root_fit A (forms E at e).content s (exp_size e) (small E at e).1 (omega arith) he.1 i && hb i
   command_fit A W L E at (tree.Until e b) s z so h n =
-      let be = behind at e in
+      let be = following at e in
       let of_test = found E at e s in
       let of_body = found_in_block E be b s in
       let he = exp_fit A E at e s so (first (Stands A) of_test of_body h) in
       let hb = block_fit A (faults.in_a_loop W) L E be b s (omega arith) so (second (Stands A) of_test of_body h) (none_right _ _ n) in
       λ i. root_fit A (forms E at e).content s (exp_size e) (small E at e).1 (omega arith) he.1 i && hb i
   command_fit A W L E at (tree.Test e b c) s z so h n =
-      let be = behind at e in
-      let bb = behind_block be b in
+      let be = following at e in
+      let bb = after_block be b in
       let of_this = found_in_block E be b s in
       let of_that = found_in_block E bb c s in
       let rest = second (Stands A) (found E at e s) (of_this ++ of_that) h in
@@ -435,8 +435,8 @@ mutual
       λ i. root_fit A (forms E at e).content s (exp_size e) (small E at e).1 (omega arith) he.1 i && hb i && hc i
   command_fit A W L E at (tree.For x a y b) s z so h n =
       let s1 = level_in_for s in
-      let ba = behind at a in
-      let by = behind ba y in
+      let ba = following at a in
+      let by = following ba y in
       let of_start = found E at a s1 in
       let of_limit = found E ba y s1 in
       let of_body = found_in_block (in_for E x s) by b s1 in
@@ -451,8 +451,8 @@ mutual
       λ i. (few (nodes (forms E at a).content + 1) la i && ha.1 i && true) && (few (nodes (forms E ba y).content + 1) ly i && hy.1 i && true) && hb i
   command_fit A W L E at (tree.ForBy x a y k b) s z so h n =
       let s1 = level_in_for s in
-      let ba = behind at a in
-      let by = behind ba y in
+      let ba = following at a in
+      let by = following ba y in
       let of_start = found E at a s1 in
       let of_limit = found E ba y s1 in
       let of_body = found_in_block (in_for E x s) by b s1 in
@@ -466,10 +466,10 @@ mutual
       let hb = block_fit A (faults.in_a_loop W) L (in_for E x s) by b s1 (omega arith) (sound_more x (Variable s) tt so) (second (Stands A) of_limit of_body rest) (none_right (or_else (along.fault true E by k 0) (faults.not_constant E k)) _ (none_right (along.fault false E ba y s1) _ (none_right (along.fault false E at a s1) _ n))) in
       λ i. (few (nodes (forms E at a).content + 1) la i && ha.1 i && true) && (few (nodes (forms E ba y).content + 1) ly i && hy.1 i && true) && hb i
   command_fit A W L E at (tree.SwitchOn e is) s z so h n =
-      let be = behind at e in
+      let be = following at e in
       let k = be.label in
       let E1 = in_list k is E in
-      let at1 = behind_labels be (labels_in is) in
+      let at1 = after_labels be (labels_in is) in
       let of_items = found_in_items E1 k at1 is s in
       let items = core_items E1 k at1 is s in
       let he = exp_fit A E at e s so (first (Stands A) (found E at e s) of_items h) in

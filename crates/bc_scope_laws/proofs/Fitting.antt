@@ -4,7 +4,7 @@ use Rattle.std.specs.Prelude.{nat_le}
 use Rattle.bc_parse_tree.specs.Tree.{Declarations}
 use Rattle.bc_parse_tree.specs.Size.{exp_size, declarations_size}
 use Rattle.bc_core.specs.Commands as core
-use Rattle.bc_core.specs.Level.{level_behind_parameters}
+use Rattle.bc_core.specs.Level.{level_after_parameters}
 use Rattle.bc_core.specs.Layout.{frame_size, cells_of_valofs}
 use Rattle.bc_core.specs.WellFormed.{Around, stands_at, body_fits, places_fit, valofs_fit}
 use Rattle.bc_scope_defs.specs.Scope.{Env, nothing_known}
@@ -79,7 +79,7 @@ places_stand A all n q (Data m (AStatic v) ∷ fs) h st w c f = λ i. true && pl
 places_stand A all n q (Data m (ATable v) ∷ fs) h st w c f = λ i. true && places_stand A all n (q + 1) fs h.0 st.1 w c.1 f i
 places_stand A all n q (Data m (AText v) ∷ fs) h st w c f = λ i. le_is (length v) 255 c.0 i && places_stand A all n (q + 1) fs h.0 st.1 w c.1 f i
 places_stand A all n q (ARoutine r ∷ fs) h st w c f =
-    let s = level_behind_parameters r.parameters in
+    let s = level_after_parameters r.parameters in
     let V = cells_of_valofs 0 (valofs_of all) in
     let this : Option Fault = unless (nat_le (frame_of r) 32768) AFrameTooLarge in
     let wide = wide_in_routine all r (first_wide V (routine_body r) h.0.0 (subst (λ gs. AllWide V gs) h.0.1 w)) in
@@ -109,8 +109,8 @@ sections_fit ds z n =
     let places = length (places_of fs) in
     let A : Around = among places 0 (levels_of fs) in
     let nested = all_nested ds in
-    let behind = or_else (frames_fault fs) (places_fault fs) in
-    let n1 = none_left (frames_fault fs) (places_fault fs) (none_right (declarations_fault nothing_known section_start ds 0) behind (same_section_fault ds ∙ n)) in
+    let following = or_else (frames_fault fs) (places_fault fs) in
+    let n1 = none_left (frames_fault fs) (places_fault fs) (none_right (declarations_fault nothing_known section_start ds 0) following (same_section_fault ds ∙ n)) in
     let o : 1 ≤ 1 = omega arith in
     let w : 1 + length (places_of fs) ≤ places + 1 = omega arith in
     let g : (i : ℕ) → slice_get (levels_of fs) i ≡ slice_get (levels_of fs) (0 + i) = λ i. let m : i ≡ 0 + i = omega arith in ap (slice_get (levels_of fs)) m in

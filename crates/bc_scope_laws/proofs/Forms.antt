@@ -16,7 +16,7 @@ use Rattle.bc_core.specs.Meaning.{context}
 use Rattle.std.proofs.lemmas.Int.{ints}
 use Rattle.bc_scope_defs.specs.Scope.{Meant, Constant, Pending, Static, Global, Routine, Variable, OuterVariable, OuterLabel, StrayVariable, StrayLabel, LabelOutside, Undeclared, Env, meant_by, Numbers}
 use Rattle.bc_scope_defs.specs.Scope as scope
-use Rattle.bc_scope_defs.specs.Numbering.{behind}
+use Rattle.bc_scope_defs.specs.Numbering.{following}
 use Rattle.bc_scope_defs.specs.Scoping.{operator, count}
 use Rattle.bc_scope_defs.specs.Meaning.{Around, holds_call, worth_of_name, worth_of_monadic, worth_of_dyadic, Worth}
 use Rattle.bc_scope_defs.specs.Translation.{Forms, form_of_name, form_of_monadic, form_of_dyadic, forms, core_arguments, negation, opposite, or_not}
@@ -24,7 +24,7 @@ use Rattle.bc_scope_laws.proofs.Runs.{both_then, then_then}
 
 pub count_kept : (E : Env) (at : Numbers) (es : tree.Exps) → core.count (core_arguments E at es) ≡ count es
 count_kept E at tree.none = refl
-count_kept E at (tree.more e es) = ap (λ n. 1 + n) (count_kept E (behind at e) es)
+count_kept E at (tree.more e es) = ap (λ n. 1 + n) (count_kept E (following at e) es)
 
 -- Calls
 
@@ -84,10 +84,10 @@ calls_kept E at (tree.Valof b) = (refl, refl)
 calls_kept E at (tree.Call f es) = (refl, refl)
 calls_kept E at (tree.Monadic m e) = calls_of_monadic m _ _ (calls_kept E at e)
 calls_kept E at (tree.Dyadic o l r) =
-    calls_of_dyadic (operator o) _ _ _ (λ i. (calls_kept E at l).1 i || (calls_kept E (behind at l) r).1 i)
+    calls_of_dyadic (operator o) _ _ _ (λ i. (calls_kept E at l).1 i || (calls_kept E (following at l) r).1 i)
 calls_kept E at (tree.Condition c x y) =
     let h : has_call (forms E at (tree.Condition c x y)).content ≡ holds_call (tree.Condition c x y) =
-    λ i. (calls_kept E at c).1 i || (calls_kept E (behind at c) x).1 i || (calls_kept E (behind (behind at c) x) y).1 i in
+    λ i. (calls_kept E at c).1 i || (calls_kept E (following at c) x).1 i || (calls_kept E (following (following at c) x) y).1 i in
     (h, h)
 
 -- NOT of a relation

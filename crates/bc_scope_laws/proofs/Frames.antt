@@ -19,7 +19,7 @@ levels_are (f ∷ fs) s = λ i. side_level f.address s ∷ levels_are fs s i
 
 pub levels_are_the_sections : LevelsAreTheSections
 levels_are_the_sections = record {
-  behind_declarations = declared.level_kept;
+  after_declarations = declared.level_kept;
   of_sides = λ E at xs s. levels_kept E at xs s ∙ levels_are (forms_of_all E at xs) s;
   of_arguments = count_kept;
 }

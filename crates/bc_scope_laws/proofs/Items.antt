@@ -11,7 +11,7 @@ use Rattle.bc_core.specs.Value.{Context, assign}
 use Rattle.bc_core.specs.Lists.{Entry, Beginning, has_label, has_case, listed}
 use Rattle.bc_core.specs.Command.{perform, perform_block, perform_items}
 use Rattle.bc_scope_defs.specs.Scope.{Env, Numbers}
-use Rattle.bc_scope_defs.specs.Numbering.{behind_command, labels_of}
+use Rattle.bc_scope_defs.specs.Numbering.{after_command, labels_of}
 use Rattle.bc_scope_defs.specs.Scoping.{constant}
 use Rattle.bc_scope_defs.specs.Meaning.{met_labels, among_labels, has_label_in, among_cases, has_case_in, Side, set_side, set_sides}
 use Rattle.bc_scope_defs.specs.Translation.{Forms, core_labels, core_items, assignments, assignment, block_of}
@@ -36,7 +36,7 @@ label_among E k (tree.label (tree.Named n) ls) is l = ap (λ b. k == l || b) (la
 
 pub label_kept : (E : Env) (k : ℕ) (at : Numbers) (is : tree.Items) (s l : ℕ) → has_label (core_items E k at is s) l ≡ has_label_in k is l
 label_kept E k at tree.no_items s l = refl
-label_kept E k at (tree.item (tree.Labelled ls c) is) s l = label_among E k ls _ l ∙ ap (λ b. among_labels k ls l || b) (label_kept E (k + labels_of ls) (behind_command at c) is s l)
+label_kept E k at (tree.item (tree.Labelled ls c) is) s l = label_among E k ls _ l ∙ ap (λ b. among_labels k ls l || b) (label_kept E (k + labels_of ls) (after_command at c) is s l)
 label_kept E k at (tree.item (tree.Labels_alone ls) is) s l = label_among E k ls _ l ∙ ap (λ b. among_labels k ls l || b) (label_kept E (k + labels_of ls) at is s l)
 
 case_among : (E : Env) (k : ℕ) (ls : tree.Labels) (is : Items) (v : ℕ) → has_case (core_labels E k ls is) v ≡ (among_cases E ls v || has_case is v)
@@ -47,7 +47,7 @@ case_among E k (tree.label (tree.Named n) ls) is v = case_among E (k + 1) ls is 
 
 pub case_kept : (E : Env) (k : ℕ) (at : Numbers) (is : tree.Items) (s v : ℕ) → has_case (core_items E k at is s) v ≡ has_case_in E is v
 case_kept E k at tree.no_items s v = refl
-case_kept E k at (tree.item (tree.Labelled ls c) is) s v = case_among E k ls _ v ∙ ap (λ b. among_cases E ls v || b) (case_kept E (k + labels_of ls) (behind_command at c) is s v)
+case_kept E k at (tree.item (tree.Labelled ls c) is) s v = case_among E k ls _ v ∙ ap (λ b. among_cases E ls v || b) (case_kept E (k + labels_of ls) (after_command at c) is s v)
 case_kept E k at (tree.item (tree.Labels_alone ls) is) s v = case_among E k ls _ v ∙ ap (λ b. among_cases E ls v || b) (case_kept E (k + labels_of ls) at is s v)
 
 -- a block without declarations and labels does what its items do

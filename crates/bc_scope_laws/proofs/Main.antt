@@ -14,9 +14,9 @@ use Rattle.bc_core.specs.Loop.{agrees, while_loop, repeat_loop, repeat_while_loo
 use Rattle.bc_core.specs.Command.{perform, perform_block, perform_items, step_of_for}
 use Rattle.bc_core.specs.Command as core_command
 use Rattle.bc_core.specs.Meaning.{valof_value}
-use Rattle.bc_scope_defs.specs.Scope.{Env, Numbers, meant_by, behind_labels}
-use Rattle.bc_scope_defs.specs.Numbering.{behind, behind_all, behind_declarations, behind_declaration, behind_definition, behind_command, behind_block, labels_of, labels_in}
-use Rattle.bc_scope_defs.specs.Scoping.{operator, constant, count, before_let, in_let, in_declaration, in_declarations, level_behind, in_for, in_list}
+use Rattle.bc_scope_defs.specs.Scope.{Env, Numbers, meant_by, after_labels}
+use Rattle.bc_scope_defs.specs.Numbering.{following, after_all, after_declarations, after_declaration, after_definition, after_command, after_block, labels_of, labels_in}
+use Rattle.bc_scope_defs.specs.Scoping.{operator, constant, count, before_let, in_let, in_declaration, in_declarations, level_after, in_for, in_list}
 use Rattle.bc_scope_defs.specs.Scoping as scoping
 use Rattle.bc_scope_defs.specs.Sides.{side_levels}
 use Rattle.bc_scope_defs.specs.Meaning.{Around, Worth, plain, worth, worth_of_monadic, worth_of_dyadic, arguments, sides, set_variable, initial_values, initialise_one, initialise, declare, run_block, run_items, run_command, run_for, met_labels}
@@ -73,14 +73,14 @@ step_taken C by p s s1 =
 
 call_means : (A : Around) (V : Bodies) (p : ℕ) (E : Env) (at : Numbers) (f : tree.Exp) (es : tree.Exps) (s : ℕ)
     → worth A E at f p (routine_level s (count es)) ≡ worth_of (in_context A V) (forms E at f) p (routine_level s (count es))
-    → arguments A E (behind at f) es p (argument_level s) ≡ values (in_context A V) (core_arguments E (behind at f) es) p (argument_level s)
-    → then_do (arguments A E (behind at f) es p (argument_level s)) (λ vs. then_do (worth A E at f p (routine_level s (count es))).content.value (λ r. A.call r vs (p + s)))
-    ≡ value (in_context A V) (Call (core_arguments E (behind at f) es) (forms E at f).content) p s
+    → arguments A E (following at f) es p (argument_level s) ≡ values (in_context A V) (core_arguments E (following at f) es) p (argument_level s)
+    → then_do (arguments A E (following at f) es p (argument_level s)) (λ vs. then_do (worth A E at f p (routine_level s (count es))).content.value (λ r. A.call r vs (p + s)))
+    ≡ value (in_context A V) (Call (core_arguments E (following at f) es) (forms E at f).content) p s
 call_means A V p E at f es s hf hs =
     let C = in_context A V in
     (λ i. then_do (hs i) (λ vs. then_do (hf i).content.value (λ r. A.call r vs (p + s))))
-    ∙ (λ i. then_do (values C (core_arguments E (behind at f) es) p (argument_level s)) (λ vs.
-    then_do (value C (forms E at f).content p (routine_level s (sym (count_kept E (behind at f) es) i))) (λ r. A.call r vs (p + s))))
+    ∙ (λ i. then_do (values C (core_arguments E (following at f) es) p (argument_level s)) (λ vs.
+    then_do (value C (forms E at f).content p (routine_level s (sym (count_kept E (following at f) es) i))) (λ r. A.call r vs (p + s))))
 
 for_means : (C : Context) (by p s : ℕ) (start limit : Worth) (f g : Forms) (body : Run Exit) (b : core_commands.Block)
     → start ≡ worth_of C f p (level_in_for s) → limit ≡ worth_of C g p (level_in_for s) → body ≡ perform_block C b p (level_in_for s)
@@ -102,13 +102,13 @@ mutual
   exp_means A V p E at (tree.Monadic m e) s h = ap (worth_of_monadic m) (exp_means A V p E at e s h) ∙ monadic_means (in_context A V) m (forms E at e) p s
   exp_means A V p E at (tree.Dyadic o l r) s h =
       let s1 = operand_level s in
-      let hl = exp_means A V p E at l s1 (first A V p (found E at l s1) (found E (behind at l) r s1) h) in
-      let hr = exp_means A V p E (behind at l) r s1 (second A V p (found E at l s1) (found E (behind at l) r s1) h) in
-      (λ i. worth_of_dyadic (operator o) (sym (calls_kept E at l).1 i || sym (calls_kept E (behind at l) r).1 i) (hl i).content (hr i).content)
-      ∙ dyadic_means (in_context A V) (operator o) (forms E at l).content (forms E (behind at l) r).content p s
+      let hl = exp_means A V p E at l s1 (first A V p (found E at l s1) (found E (following at l) r s1) h) in
+      let hr = exp_means A V p E (following at l) r s1 (second A V p (found E at l s1) (found E (following at l) r s1) h) in
+      (λ i. worth_of_dyadic (operator o) (sym (calls_kept E at l).1 i || sym (calls_kept E (following at l) r).1 i) (hl i).content (hr i).content)
+      ∙ dyadic_means (in_context A V) (operator o) (forms E at l).content (forms E (following at l) r).content p s
   exp_means A V p E at (tree.Condition c x y) s h =
-      let bc = behind at c in
-      let bx = behind bc x in
+      let bc = following at c in
+      let bx = following bc x in
       let rest = found E bc x s ++ found E bx y s in
       let hxy = second A V p (found E at c s) rest h in
       let hc = exp_means A V p E at c s (first A V p (found E at c s) rest h) in
@@ -117,16 +117,16 @@ mutual
       λ i. plain (by_value (then_do (hc i).content.truth (λ t. choose t (hx i).content.value (hy i).content.value)))
   exp_means A V p E at (tree.Call f es) s h =
       let of_routine = found E at f (routine_level s (count es)) in
-      let of_arguments = found_in_arguments E (behind at f) es (argument_level s) in
+      let of_arguments = found_in_arguments E (following at f) es (argument_level s) in
       let hf = exp_means A V p E at f (routine_level s (count es)) (first A V p of_routine of_arguments h) in
-      let hs = arguments_mean A V p E (behind at f) es (argument_level s) (second A V p of_routine of_arguments h) in
+      let hs = arguments_mean A V p E (following at f) es (argument_level s) (second A V p of_routine of_arguments h) in
       ap (λ r. plain (by_value r)) (call_means A V p E at f es s hf hs)
 
   pub arguments_mean : (A : Around) (V : Bodies) (p : ℕ) (E : Env) (at : Numbers) (es : tree.Exps) (s : ℕ) → AllRight A V p (found_in_arguments E at es s) → arguments A E at es p s ≡ values (in_context A V) (core_arguments E at es) p s
   arguments_mean A V p E at tree.none s h = refl
   arguments_mean A V p E at (tree.more e es) s h =
-      let he = exp_means A V p E at e s (first A V p (found E at e s) (found_in_arguments E (behind at e) es (s + 1)) h) in
-      let hs = arguments_mean A V p E (behind at e) es (s + 1) (second A V p (found E at e s) (found_in_arguments E (behind at e) es (s + 1)) h) in
+      let he = exp_means A V p E at e s (first A V p (found E at e s) (found_in_arguments E (following at e) es (s + 1)) h) in
+      let hs = arguments_mean A V p E (following at e) es (s + 1) (second A V p (found E at e s) (found_in_arguments E (following at e) es (s + 1)) h) in
       λ i. then_do (he i).content.value (λ v. then_do (hs i) (λ vs. Done (v ∷ vs)))
 
   pub sides_mean : (A : Around) (V : Bodies) (p : ℕ) (E : Env) (at : Numbers) (es : tree.Exps) (ss : List ℕ) → AllRight A V p (found_in_sides E at es ss) → SidesAre (in_context A V) p (sides A E at es p ss) (forms_of_all E at es) ss
@@ -134,17 +134,17 @@ mutual
   sides_mean A V p E at (tree.more e es) [] h = tt
   sides_mean A V p E at (tree.more e es) (s ∷ ss) h =
       let of_first = found E at e s in
-      let of_rest = found_in_sides E (behind at e) es ss in
-      (calls_kept E at e, exp_means A V p E at e s (first A V p of_first of_rest h), sides_mean A V p E (behind at e) es ss (second A V p of_first of_rest h))
+      let of_rest = found_in_sides E (following at e) es ss in
+      (calls_kept E at e, exp_means A V p E at e s (first A V p of_first of_rest h), sides_mean A V p E (following at e) es ss (second A V p of_first of_rest h))
 
   pub initials_mean : (A : Around) (V : Bodies) (p : ℕ) (E : Env) (at : Numbers) (es : tree.Exps) (k s : ℕ) → AllRight A V p (found_in_initials E at es s)
       → initial_values A E at es p k s ≡ core_command.initialise (in_context A V) (initials (forms_of_all E at es)) p k s
   initials_mean A V p E at tree.none k s h = refl
   initials_mean A V p E at (tree.more e es) k s h =
       let of_first = found E at e s in
-      let of_rest = found_in_initials E (behind at e) es s in
+      let of_rest = found_in_initials E (following at e) es s in
       let he = exp_means A V p E at e s (first A V p of_first of_rest h) in
-      let hs = initials_mean A V p E (behind at e) es (k + 1) s (second A V p of_first of_rest h) in
+      let hs = initials_mean A V p E (following at e) es (k + 1) s (second A V p of_first of_rest h) in
       λ i. then_do (variable_set (in_context A V) p k s (worth A E at e p s) (forms E at e) he i) (λ u. hs i)
 
   pub definition_means : (A : Around) (V : Bodies) (p : ℕ) (O E B : Env) (at : Numbers) (d : tree.Definition) (k s : ℕ) → AllRight A V p (found_in_definition O E at d s)
@@ -159,27 +159,27 @@ mutual
   definitions_mean A V p O E B at tree.no_definitions k s h = refl
   definitions_mean A V p O E B at (tree.definition d ds) k s h =
       let of_first = found_in_definition O E at d s in
-      let of_rest = found_in_definitions O E (behind_definition at d) ds s in
+      let of_rest = found_in_definitions O E (after_definition at d) ds s in
       let hd = definition_means A V p O E B at d k s (first A V p of_first of_rest h) in
-      let hs = definitions_mean A V p O E B (behind_definition at d) ds (k + scoping.cells_of B d) s (second A V p of_first of_rest h) in
+      let hs = definitions_mean A V p O E B (after_definition at d) ds (k + scoping.cells_of B d) s (second A V p of_first of_rest h) in
       let C = in_context A V in
       (λ i. then_do (hd i) (λ u. hs i))
-      ∙ (λ i. then_do (core_command.initialise C (core_definition E B at d) p k s) (λ u. core_command.initialise C (core_definitions E B (behind_definition at d) ds) p (k + sym (cells_of_one E B at d) i) s))
-      ∙ initialise_append C (core_definition E B at d) (core_definitions E B (behind_definition at d) ds) p k s
+      ∙ (λ i. then_do (core_command.initialise C (core_definition E B at d) p k s) (λ u. core_command.initialise C (core_definitions E B (after_definition at d) ds) p (k + sym (cells_of_one E B at d) i) s))
+      ∙ initialise_append C (core_definition E B at d) (core_definitions E B (after_definition at d) ds) p k s
 
   pub declarations_mean : (A : Around) (V : Bodies) (p : ℕ) (E : Env) (at : Numbers) (ds : tree.Declarations) (s : ℕ) (r : Run Exit) → AllRight A V p (found_in_declarations E at ds s)
       → declare A E at ds p s r ≡ core_command.declare (in_context A V) (core_declarations E at s ds) p s r
   declarations_mean A V p E at tree.no_declarations s r h = refl
   declarations_mean A V p E at (tree.declaration (tree.Constants k es) ds) s r h =
       let E1 = in_declaration E at s (tree.Constants k es) in
-      let at1 = behind_declaration at (tree.Constants k es) in
+      let at1 = after_declaration at (tree.Constants k es) in
       let e : s + 0 ≡ s = omega arith in
       declarations_mean A V p E1 at1 ds (s + 0) r (second A V p (found_in_declaration E at (tree.Constants k es) s) (found_in_declarations E1 at1 ds (s + 0)) h)
       ∙ (λ i. core_command.declare (in_context A V) (core_declarations E1 at1 (s + 0) ds) p (e i) r)
   declarations_mean A V p E at (tree.declaration (tree.Let defs) ds) s r h =
       let E1 = in_let E at s defs in
       let B = before_let defs E in
-      let at1 = behind_declaration at (tree.Let defs) in
+      let at1 = after_declaration at (tree.Let defs) in
       let n = scoping.cells_of_all B defs in
       let of_first = found_in_definitions E E1 at defs (s + n) in
       let of_rest = found_in_declarations E1 at1 ds (s + n) in
@@ -192,11 +192,11 @@ mutual
   pub block_means : (A : Around) (V : Bodies) (p : ℕ) (E : Env) (at : Numbers) (b : tree.Block) (s : ℕ) → AllRight A V p (found_in_block E at b s)
       → run_block A E at b p s ≡ perform_block (in_context A V) (core_block E at b s) p s
   block_means A V p E at (tree.block ds is) s h =
-      let at1 = behind_declarations at ds in
+      let at1 = after_declarations at ds in
       let k = at1.label in
       let E1 = in_list k is (in_declarations E at s ds) in
-      let at2 = behind_labels at1 (labels_in is) in
-      let s1 = level_behind E at s ds in
+      let at2 = after_labels at1 (labels_in is) in
+      let s1 = level_after E at s ds in
       let of_first = found_in_declarations E at ds s in
       let of_rest = found_in_items E1 k at2 is s1 in
       let C = in_context A V in
@@ -210,10 +210,10 @@ mutual
   items_mean A V p E k at tree.no_items s from h = refl
   items_mean A V p E k at (tree.item (tree.Labelled ls c) is) s from h =
       let of_first = found_in_command E at c s in
-      let of_rest = found_in_items E (k + labels_of ls) (behind_command at c) is s in
+      let of_rest = found_in_items E (k + labels_of ls) (after_command at c) is s in
       let from1 = met_labels E k ls from in
       let hc = command_means A V p E at c s (first A V p of_first of_rest h) in
-      let hs = items_mean A V p E (k + labels_of ls) (behind_command at c) is s from1 (second A V p of_first of_rest h) in
+      let hs = items_mean A V p E (k + labels_of ls) (after_command at c) is s from1 (second A V p of_first of_rest h) in
       (λ i. then_do (from_entry from1 (hc i)) (onward (hs i)))
       ∙ sym (labels_met (in_context A V) E k ls _ p s from)
   items_mean A V p E k at (tree.item (tree.Labels_alone ls) is) s from h =
@@ -224,7 +224,7 @@ mutual
       → run_command A E at c p s ≡ perform (in_context A V) (translation.core_command E at c s) p s
   command_means A V p E at (tree.Assign xs es) s h =
       let ss = side_levels E xs s in
-      let at1 = behind_all at xs in
+      let at1 = after_all at xs in
       let of_first = found_in_sides E at xs ss in
       let of_rest = found_in_sides E at1 es ss in
       let C = in_context A V in
@@ -236,9 +236,9 @@ mutual
       (subst (λ ls. SidesAre C p (sides A E at1 es p ss) gs ls) e (sides_mean A V p E at1 es ss (second A V p of_first of_rest h)))
   command_means A V p E at (tree.Do f es) s h =
       let of_routine = found E at f (routine_level s (count es)) in
-      let of_arguments = found_in_arguments E (behind at f) es (argument_level s) in
+      let of_arguments = found_in_arguments E (following at f) es (argument_level s) in
       let hf = exp_means A V p E at f (routine_level s (count es)) (first A V p of_routine of_arguments h) in
-      let hs = arguments_mean A V p E (behind at f) es (argument_level s) (second A V p of_routine of_arguments h) in
+      let hs = arguments_mean A V p E (following at f) es (argument_level s) (second A V p of_routine of_arguments h) in
       ap (λ r. then_do r (λ v. Done Past)) (call_means A V p E at f es s hf hs)
   command_means A V p E at (tree.Compound b) s h = block_means A V p E at b s h
   command_means A V p E at tree.Break s h = refl
@@ -251,43 +251,43 @@ mutual
   command_means A V p E at (tree.Repeat c) s h = ap repeat_loop (command_means A V p E at c s h ∙ sym (one_command (in_context A V) (translation.core_command E at c s) p s))
   command_means A V p E at (tree.RepeatWhile c e) s h =
       let of_body = found_in_command E at c s in
-      let of_test = found E (behind_command at c) e s in
+      let of_test = found E (after_command at c) e s in
       let hc = command_means A V p E at c s (first A V p of_body of_test h) ∙ sym (one_command (in_context A V) (translation.core_command E at c s) p s) in
-      let he = exp_means A V p E (behind_command at c) e s (second A V p of_body of_test h) in
+      let he = exp_means A V p E (after_command at c) e s (second A V p of_body of_test h) in
       λ i. repeat_while_loop (hc i) true (he i).content.truth
   command_means A V p E at (tree.RepeatUntil c e) s h =
       let of_body = found_in_command E at c s in
-      let of_test = found E (behind_command at c) e s in
+      let of_test = found E (after_command at c) e s in
       let hc = command_means A V p E at c s (first A V p of_body of_test h) ∙ sym (one_command (in_context A V) (translation.core_command E at c s) p s) in
-      let he = exp_means A V p E (behind_command at c) e s (second A V p of_body of_test h) in
+      let he = exp_means A V p E (after_command at c) e s (second A V p of_body of_test h) in
       λ i. repeat_while_loop (hc i) false (he i).content.truth
   command_means A V p E at (tree.If e b) s h =
       let of_test = found E at e s in
-      let of_body = found_in_block E (behind at e) b s in
+      let of_body = found_in_block E (following at e) b s in
       let he = exp_means A V p E at e s (first A V p of_test of_body h) in
-      let hb = block_means A V p E (behind at e) b s (second A V p of_test of_body h) in
+      let hb = block_means A V p E (following at e) b s (second A V p of_test of_body h) in
       λ i. then_do (he i).content.truth (λ t. choose (agrees true t) (hb i) (Done Past))
   command_means A V p E at (tree.Unless e b) s h =
       let of_test = found E at e s in
-      let of_body = found_in_block E (behind at e) b s in
+      let of_body = found_in_block E (following at e) b s in
       let he = exp_means A V p E at e s (first A V p of_test of_body h) in
-      let hb = block_means A V p E (behind at e) b s (second A V p of_test of_body h) in
+      let hb = block_means A V p E (following at e) b s (second A V p of_test of_body h) in
       λ i. then_do (he i).content.truth (λ t. choose (agrees false t) (hb i) (Done Past))
   command_means A V p E at (tree.While e b) s h =
       let of_test = found E at e s in
-      let of_body = found_in_block E (behind at e) b s in
+      let of_body = found_in_block E (following at e) b s in
       let he = exp_means A V p E at e s (first A V p of_test of_body h) in
-      let hb = block_means A V p E (behind at e) b s (second A V p of_test of_body h) in
+      let hb = block_means A V p E (following at e) b s (second A V p of_test of_body h) in
       λ i. while_loop true (he i).content.truth (hb i)
   command_means A V p E at (tree.Until e b) s h =
       let of_test = found E at e s in
-      let of_body = found_in_block E (behind at e) b s in
+      let of_body = found_in_block E (following at e) b s in
       let he = exp_means A V p E at e s (first A V p of_test of_body h) in
-      let hb = block_means A V p E (behind at e) b s (second A V p of_test of_body h) in
+      let hb = block_means A V p E (following at e) b s (second A V p of_test of_body h) in
       λ i. while_loop false (he i).content.truth (hb i)
   command_means A V p E at (tree.Test e b c) s h =
-      let be = behind at e in
-      let bb = behind_block be b in
+      let be = following at e in
+      let bb = after_block be b in
       let rest = found_in_block E be b s ++ found_in_block E bb c s in
       let hbc = second A V p (found E at e s) rest h in
       let he = exp_means A V p E at e s (first A V p (found E at e s) rest h) in
@@ -296,8 +296,8 @@ mutual
       λ i. then_do (he i).content.truth (λ t. choose t (hb i) (hc i))
   command_means A V p E at (tree.For n a z b) s h =
       let s1 = level_in_for s in
-      let ba = behind at a in
-      let bz = behind ba z in
+      let ba = following at a in
+      let bz = following ba z in
       let of_start = found E at a s1 in
       let of_limit = found E ba z s1 in
       let of_body = found_in_block (in_for E n s) bz b s1 in
@@ -308,8 +308,8 @@ mutual
       for_means (in_context A V) 1 p s (worth A E at a p s1) (worth A E ba z p s1) (forms E at a) (forms E ba z) (run_block A (in_for E n s) bz b p s1) (core_block (in_for E n s) bz b s1) ha hz hb
   command_means A V p E at (tree.ForBy n a z k b) s h =
       let s1 = level_in_for s in
-      let ba = behind at a in
-      let bz = behind ba z in
+      let ba = following at a in
+      let bz = following ba z in
       let of_start = found E at a s1 in
       let of_limit = found E ba z s1 in
       let of_body = found_in_block (in_for E n s) bz b s1 in
@@ -319,10 +319,10 @@ mutual
       let hb = block_means A V p (in_for E n s) bz b s1 (second A V p of_limit of_body rest) in
       for_means (in_context A V) (constant E k) p s (worth A E at a p s1) (worth A E ba z p s1) (forms E at a) (forms E ba z) (run_block A (in_for E n s) bz b p s1) (core_block (in_for E n s) bz b s1) ha hz hb
   command_means A V p E at (tree.SwitchOn e is) s h =
-      let be = behind at e in
+      let be = following at e in
       let k = be.label in
       let E1 = in_list k is E in
-      let at1 = behind_labels be (labels_in is) in
+      let at1 = after_labels be (labels_in is) in
       let of_items = found_in_items E1 k at1 is s in
       let he = exp_means A V p E at e s (first A V p (found E at e s) of_items h) in
       λ i. switched (he i).content.value (λ v. sym (case_kept E1 k at1 is s v) i) (λ l. sym (label_kept E1 k at1 is s l) i)

@@ -1,7 +1,7 @@
 -- A program of sections means what the program of their translations means.
 use Rattle.std.proofs.Common.{◌≡◌, ◌∙◌, ℕ, ◌+◌, ◌==◌, Bool, true, false, List, [], ◌∷◌, ◌++◌, map, Option, Some, None, refl, sym, ap, subst}
 use Rattle.bc_parse_tree.specs.Tree.{Declarations}
-use Rattle.bc_core.specs.Level.{level_behind_parameters}
+use Rattle.bc_core.specs.Level.{level_after_parameters}
 use Rattle.bc_core.specs.Layout.{cells_of_valofs}
 use Rattle.bc_core.specs.Outcome.{then_do}
 use Rattle.bc_core.specs.Primitive.{Primitive, primitives, primitive_among}
@@ -25,10 +25,10 @@ use Rattle.bc_scope_laws.proofs.Widths.{AllWide, table_wide, wide_in_routine, fi
 
 -- both find the same
 
-routine_kept : (A : Around) (V : Bodies) (f : ℕ) (r : FoundRoutine) (b : RoutineBody) → AllRight A V f (found_in_routine r.names r.numbers b (level_behind_parameters r.parameters))
-    → routine_does A r b f ≡ body_value (in_context A V) (core_body r.names r.numbers b (level_behind_parameters r.parameters)) f (level_behind_parameters r.parameters)
-routine_kept A V f r (Gives e) h = λ i. (exp_means A V f r.names r.numbers e (level_behind_parameters r.parameters) h i).content.value
-routine_kept A V f r (Does b) h = λ i. then_do (block_means A V f r.names r.numbers b (level_behind_parameters r.parameters) h i) routine_value
+routine_kept : (A : Around) (V : Bodies) (f : ℕ) (r : FoundRoutine) (b : RoutineBody) → AllRight A V f (found_in_routine r.names r.numbers b (level_after_parameters r.parameters))
+    → routine_does A r b f ≡ body_value (in_context A V) (core_body r.names r.numbers b (level_after_parameters r.parameters)) f (level_after_parameters r.parameters)
+routine_kept A V f r (Gives e) h = λ i. (exp_means A V f r.names r.numbers e (level_after_parameters r.parameters) h i).content.value
+routine_kept A V f r (Does b) h = λ i. then_do (block_means A V f r.names r.numbers b (level_after_parameters r.parameters) h i) routine_value
 
 tested : (b : Bool) (x : Callee) (y : Entered) (c : Option Callee) (d : Option Entered) → Some y ≡ entered_of (Some x) → d ≡ entered_of c
     → elim b [ true ↦ Some y | false ↦ d ] ≡ entered_of (elim b [ true ↦ Some x | false ↦ c ])

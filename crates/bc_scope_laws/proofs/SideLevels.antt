@@ -14,7 +14,7 @@ use Rattle.bc_core.specs.Operand.{constant_of, direct, moved, first_some, sum_op
 use Rattle.bc_core.specs.Level.{side_level}
 use Rattle.bc_scope_defs.specs.Scope.{Meant, Constant, Pending, Static, Global, Routine, Variable, OuterVariable, OuterLabel, StrayVariable, StrayLabel, LabelOutside, Undeclared, Env, meant_by, Numbers}
 use Rattle.bc_scope_defs.specs.Scope as scope
-use Rattle.bc_scope_defs.specs.Numbering.{behind}
+use Rattle.bc_scope_defs.specs.Numbering.{following}
 use Rattle.bc_scope_defs.specs.Scoping.{operator}
 use Rattle.bc_scope_defs.specs.Sides.{Kind, ANumber, ACell, APlace, ASum, AContent, NoOperand, Kinds, kind_of_content, kind_of_sum, kinds_of_name, kinds_of_monadic, kinds_of_dyadic, kinds, is_operand_kind, side_levels, side_level_of}
 use Rattle.bc_scope_defs.specs.Translation.{Forms, form_of_name, form_of_monadic, form_of_dyadic, negation, opposite, or_not, forms, forms_of_all}
@@ -297,8 +297,8 @@ kinds_kept E at (tree.Table ks) = refl
 kinds_kept E at (tree.Valof b) = refl
 kinds_kept E at (tree.Monadic m e) = ap (kinds_of_monadic m) (kinds_kept E at e) ∙ monadic_kinds m (forms E at e)
 kinds_kept E at (tree.Dyadic o l r) =
-    (λ i. kinds_of_dyadic o (kinds_kept E at l i).content (kinds_kept E (behind at l) r i).content)
-    ∙ dyadic_kinds o (forms E at l).content (forms E (behind at l) r).content
+    (λ i. kinds_of_dyadic o (kinds_kept E at l i).content (kinds_kept E (following at l) r i).content)
+    ∙ dyadic_kinds o (forms E at l).content (forms E (following at l) r).content
 kinds_kept E at (tree.Condition c x y) = refl
 kinds_kept E at (tree.Call f es) = refl
 
@@ -312,4 +312,4 @@ level_kept E at x s = ap (λ b. cond b s (s + 1)) (operand_test E at x)
 
 pub levels_kept : (E : Env) (at : Numbers) (xs : tree.Exps) (s : ℕ) → side_levels E xs s ≡ levels (forms_of_all E at xs) s
 levels_kept E at tree.none s = refl
-levels_kept E at (tree.more x xs) s = λ i. level_kept E at x s i ∷ levels_kept E (behind at x) xs s i
+levels_kept E at (tree.more x xs) s = λ i. level_kept E at x s i ∷ levels_kept E (following at x) xs s i

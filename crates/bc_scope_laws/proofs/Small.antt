@@ -10,7 +10,7 @@ use Rattle.bc_core.specs.Tree.{Exp, Num, Frame, Glob, Place, Load, Neg, Not, Bin
 use Rattle.bc_core.specs.WellFormed.{nodes, nodes_of_args, most_nodes}
 use Rattle.bc_scope_defs.specs.Scope.{Meant, Constant, Pending, Static, Global, Routine, Variable, OuterVariable, OuterLabel, StrayVariable, StrayLabel, LabelOutside, Undeclared, Env, Numbers, meant_by}
 use Rattle.bc_scope_defs.specs.Scope as scope
-use Rattle.bc_scope_defs.specs.Numbering.{behind}
+use Rattle.bc_scope_defs.specs.Numbering.{following}
 use Rattle.bc_scope_defs.specs.Scoping.{operator}
 use Rattle.bc_scope_defs.specs.Translation.{Forms, form_of_name, form_of_monadic, form_of_dyadic, negation, opposite, or_not, forms, core_arguments, forms_of_all}
 
@@ -72,22 +72,22 @@ mutual
   small E at (tree.Table ks) = (omega arith, omega arith)
   small E at (tree.Valof b) = (omega arith, omega arith)
   small E at (tree.Monadic m e) = monadic_small m (forms E at e) (exp_size e) (small E at e)
-  small E at (tree.Dyadic o l r) = dyadic_small (operator o) _ _ (exp_size l) (exp_size r) (small E at l).1 (small E (behind at l) r).1
+  small E at (tree.Dyadic o l r) = dyadic_small (operator o) _ _ (exp_size l) (exp_size r) (small E at l).1 (small E (following at l) r).1
   small E at (tree.Condition c x y) =
       let hc = (small E at c).1 in
-      let hx = (small E (behind at c) x).1 in
-      let hy = (small E (behind (behind at c) x) y).1 in
+      let hx = (small E (following at c) x).1 in
+      let hy = (small E (following (following at c) x) y).1 in
       (omega arith, omega arith)
   small E at (tree.Call f es) =
       let hf = (small E at f).1 in
-      let hs = arguments_small E (behind at f) es in
+      let hs = arguments_small E (following at f) es in
       (omega arith, omega arith)
 
   pub arguments_small : (E : Env) (at : Numbers) (es : tree.Exps) → nodes_of_args (core_arguments E at es) ≤ 2 * exps_size es
   arguments_small E at tree.none = omega arith
   arguments_small E at (tree.more e es) =
       let he = (small E at e).1 in
-      let hs = arguments_small E (behind at e) es in
+      let hs = arguments_small E (following at e) es in
       omega arith
 
 -- the addresses, and the contents, of several
@@ -103,14 +103,14 @@ pub addresses_small : (E : Env) (at : Numbers) (es : tree.Exps) → nodes_of_add
 addresses_small E at tree.none = omega arith
 addresses_small E at (tree.more e es) =
     let he = (small E at e).0 in
-    let hs = addresses_small E (behind at e) es in
+    let hs = addresses_small E (following at e) es in
     omega arith
 
 pub contents_small : (E : Env) (at : Numbers) (es : tree.Exps) → nodes_of_contents (forms_of_all E at es) ≤ 2 * exps_size es
 contents_small E at tree.none = omega arith
 contents_small E at (tree.more e es) =
     let he = (small E at e).1 in
-    let hs = contents_small E (behind at e) es in
+    let hs = contents_small E (following at e) es in
     omega arith
 
 pub few : (n : ℕ) → n ≤ most_nodes → nat_le n most_nodes ≡ true

@@ -7,13 +7,13 @@ use Rattle.bc_parse_tree.specs.Tree as tree
 use Rattle.bc_core.specs.Tree.{Exp, Num, Frame, Glob, Place, Load, Neg, Not, Bin, Cond, Call, Valof}
 use Rattle.bc_core.specs.Commands as core
 use Rattle.bc_core.specs.Commands.{Items, no_item, command, case, default, label}
-use Rattle.bc_core.specs.Level.{operand_level, argument_level, routine_level, level_in_for, level_behind_parameters}
+use Rattle.bc_core.specs.Level.{operand_level, argument_level, routine_level, level_in_for, level_after_parameters}
 use Rattle.bc_core.specs.Operand.{is_operand}
 use Rattle.bc_core.specs.Layout.{Bodies, cells_of_exp, cells_of_args, cells_of_assignment, cells_of_initials, cells_of_declarations, cells_of_command, cells_of_block, cells_of_items, cells_of_valofs, cells_of_body, frame_size}
-use Rattle.bc_scope_defs.specs.Scope.{Meant, Constant, Pending, Static, Global, Routine, Variable, OuterVariable, OuterLabel, StrayVariable, StrayLabel, LabelOutside, Undeclared, Env, Numbers, meant_by, behind_valof, behind_labels}
+use Rattle.bc_scope_defs.specs.Scope.{Meant, Constant, Pending, Static, Global, Routine, Variable, OuterVariable, OuterLabel, StrayVariable, StrayLabel, LabelOutside, Undeclared, Env, Numbers, meant_by, after_valof, after_labels}
 use Rattle.bc_scope_defs.specs.Scope as scope
-use Rattle.bc_scope_defs.specs.Numbering.{behind, behind_all, behind_declarations, behind_declaration, behind_definition, behind_command, behind_block, labels_of, labels_in}
-use Rattle.bc_scope_defs.specs.Scoping.{operator, constant, count, before_let, in_let, in_declaration, in_declarations, cells_in, level_behind, in_for, in_list, in_valof}
+use Rattle.bc_scope_defs.specs.Numbering.{following, after_all, after_declarations, after_declaration, after_definition, after_command, after_block, labels_of, labels_in}
+use Rattle.bc_scope_defs.specs.Scoping.{operator, constant, count, before_let, in_let, in_declaration, in_declarations, cells_in, level_after, in_for, in_list, in_valof}
 use Rattle.bc_scope_defs.specs.Scoping as scoping
 use Rattle.bc_scope_defs.specs.Sides.{side_levels}
 use Rattle.bc_scope_defs.specs.Translation.{Forms, form_of_name, form_of_monadic, form_of_dyadic, negation, opposite, or_not, forms, core_arguments, forms_of_all, assignments, assignment, initials, core_definition, core_definitions, core_declarations, core_labels, core_block, core_items, block_of, valofs_of, core_routine, core_body}
@@ -146,15 +146,15 @@ assignment_wide V s xs es (f ∷ []) (g ∷ []) hx he =
 
 helds_kept : (E : Env) (at : Numbers) (xs : tree.Exps) (s : ℕ) → all_held E xs s ≡ helds (forms_of_all E at xs) s
 helds_kept E at tree.none s = refl
-helds_kept E at (tree.more x xs) s = λ i. cond (operand_test E at x i) 0 (s + 2) ∷ helds_kept E (behind at x) xs s i
+helds_kept E at (tree.more x xs) s = λ i. cond (operand_test E at x i) 0 (s + 2) ∷ helds_kept E (following at x) xs s i
 
 call_wide : (V : Bodies) (E : Env) (at : Numbers) (f : tree.Exp) (es : tree.Exps) (s : ℕ)
     → cells_of_exp V (forms E at f).content (routine_level s (count es)) ≡ width E at f (routine_level s (count es))
-    → cells_of_args V (core_arguments E (behind at f) es) (argument_level s) ≡ width_of_arguments E (behind at f) es (argument_level s)
-    → cells_of_exp V (Call (core_arguments E (behind at f) es) (forms E at f).content) s
-    ≡ max (s + 2 + count es) (max (width_of_arguments E (behind at f) es (argument_level s)) (width E at f (routine_level s (count es))))
+    → cells_of_args V (core_arguments E (following at f) es) (argument_level s) ≡ width_of_arguments E (following at f) es (argument_level s)
+    → cells_of_exp V (Call (core_arguments E (following at f) es) (forms E at f).content) s
+    ≡ max (s + 2 + count es) (max (width_of_arguments E (following at f) es (argument_level s)) (width E at f (routine_level s (count es))))
 call_wide V E at f es s hf hs =
-    (λ i. let n = count_kept E (behind at f) es i in max (s + 2 + n) (max (cells_of_args V (core_arguments E (behind at f) es) (argument_level s)) (cells_of_exp V (forms E at f).content (routine_level s n))))
+    (λ i. let n = count_kept E (following at f) es i in max (s + 2 + n) (max (cells_of_args V (core_arguments E (following at f) es) (argument_level s)) (cells_of_exp V (forms E at f).content (routine_level s n))))
     ∙ (λ i. max (s + 2 + count es) (max (hs i) (hf i)))
 
 mutual
@@ -170,12 +170,12 @@ mutual
   exp_wide V E at (tree.Monadic m e) s h = monadic_wide V m _ s _ (exp_wide V E at e s h)
   exp_wide V E at (tree.Dyadic o l r) s h =
       let s1 = operand_level s in
-      let hl = exp_wide V E at l s1 (first V (found E at l s1) (found E (behind at l) r s1) h) in
-      let hr = exp_wide V E (behind at l) r s1 (second V (found E at l s1) (found E (behind at l) r s1) h) in
+      let hl = exp_wide V E at l s1 (first V (found E at l s1) (found E (following at l) r s1) h) in
+      let hr = exp_wide V E (following at l) r s1 (second V (found E at l s1) (found E (following at l) r s1) h) in
       dyadic_wide V (operator o) _ _ s _ (λ i. max (s + 2) (max (hl.1 i) (hr.1 i)))
   exp_wide V E at (tree.Condition c x y) s h =
-      let bc = behind at c in
-      let bx = behind bc x in
+      let bc = following at c in
+      let bx = following bc x in
       let rest = found E bc x s ++ found E bx y s in
       let hxy = second V (found E at c s) rest h in
       let hc = exp_wide V E at c s (first V (found E at c s) rest h) in
@@ -185,9 +185,9 @@ mutual
       (k, k)
   exp_wide V E at (tree.Call f es) s h =
       let of_routine = found E at f (routine_level s (count es)) in
-      let of_arguments = found_in_arguments E (behind at f) es (argument_level s) in
+      let of_arguments = found_in_arguments E (following at f) es (argument_level s) in
       let hf = exp_wide V E at f (routine_level s (count es)) (first V of_routine of_arguments h) in
-      let hs = arguments_wide V E (behind at f) es (argument_level s) (second V of_routine of_arguments h) in
+      let hs = arguments_wide V E (following at f) es (argument_level s) (second V of_routine of_arguments h) in
       let k = call_wide V E at f es s hf.1 hs in
       (k, k)
 
@@ -195,9 +195,9 @@ mutual
   arguments_wide V E at tree.none s h = refl
   arguments_wide V E at (tree.more e es) s h =
       let of_first = found E at e s in
-      let of_rest = found_in_arguments E (behind at e) es (s + 1) in
+      let of_rest = found_in_arguments E (following at e) es (s + 1) in
       let he = exp_wide V E at e s (first V of_first of_rest h) in
-      let hs = arguments_wide V E (behind at e) es (s + 1) (second V of_first of_rest h) in
+      let hs = arguments_wide V E (following at e) es (s + 1) (second V of_first of_rest h) in
       λ i. max (he.1 i) (hs i)
 
   sides_wide : (V : Bodies) (E : Env) (at : Numbers) (es : tree.Exps) (ss : List ℕ) → AllWide V (found_in_sides E at es ss) → SidesWide V (widths E at es ss) (forms_of_all E at es) ss
@@ -205,16 +205,16 @@ mutual
   sides_wide V E at (tree.more e es) [] h = tt
   sides_wide V E at (tree.more e es) (s ∷ ss) h =
       let of_first = found E at e s in
-      let of_rest = found_in_sides E (behind at e) es ss in
-      (exp_wide V E at e s (first V of_first of_rest h), sides_wide V E (behind at e) es ss (second V of_first of_rest h))
+      let of_rest = found_in_sides E (following at e) es ss in
+      (exp_wide V E at e s (first V of_first of_rest h), sides_wide V E (following at e) es ss (second V of_first of_rest h))
 
   initials_wide : (V : Bodies) (E : Env) (at : Numbers) (es : tree.Exps) (s : ℕ) → AllWide V (found_in_initials E at es s) → cells_of_initials V (initials (forms_of_all E at es)) s ≡ width_of_initials E at es s
   initials_wide V E at tree.none s h = refl
   initials_wide V E at (tree.more e es) s h =
       let of_first = found E at e s in
-      let of_rest = found_in_initials E (behind at e) es s in
+      let of_rest = found_in_initials E (following at e) es s in
       let he = exp_wide V E at e s (first V of_first of_rest h) in
-      let hs = initials_wide V E (behind at e) es s (second V of_first of_rest h) in
+      let hs = initials_wide V E (following at e) es s (second V of_first of_rest h) in
       λ i. max (he.1 i) (hs i)
 
   definition_wide : (V : Bodies) (O E B : Env) (at : Numbers) (d : tree.Definition) (s : ℕ) → AllWide V (found_in_definition O E at d s) → cells_of_initials V (core_definition E B at d) s ≡ width_of_definition E at d s
@@ -227,16 +227,16 @@ mutual
   definitions_wide V O E B at tree.no_definitions s h = refl
   definitions_wide V O E B at (tree.definition d ds) s h =
       let of_first = found_in_definition O E at d s in
-      let of_rest = found_in_definitions O E (behind_definition at d) ds s in
+      let of_rest = found_in_definitions O E (after_definition at d) ds s in
       let hd = definition_wide V O E B at d s (first V of_first of_rest h) in
-      let hs = definitions_wide V O E B (behind_definition at d) ds s (second V of_first of_rest h) in
-      initials_append V (core_definition E B at d) (core_definitions E B (behind_definition at d) ds) s ∙ (λ i. max (hd i) (hs i))
+      let hs = definitions_wide V O E B (after_definition at d) ds s (second V of_first of_rest h) in
+      initials_append V (core_definition E B at d) (core_definitions E B (after_definition at d) ds) s ∙ (λ i. max (hd i) (hs i))
 
   declarations_wide : (V : Bodies) (E : Env) (at : Numbers) (ds : tree.Declarations) (s : ℕ) → AllWide V (found_in_declarations E at ds s) → cells_of_declarations V (core_declarations E at s ds) s ≡ width_of_declarations E at ds s
   declarations_wide V E at tree.no_declarations s h = refl
   declarations_wide V E at (tree.declaration (tree.Constants k es) ds) s h =
       let E1 = in_declaration E at s (tree.Constants k es) in
-      let at1 = behind_declaration at (tree.Constants k es) in
+      let at1 = after_declaration at (tree.Constants k es) in
       let e : s ≡ s + 0 = omega arith in
       let m : width_of_declarations E1 at1 ds (s + 0) ≡ max 0 (width_of_declarations E1 at1 ds (s + 0)) = omega arith in
       (λ i. cells_of_declarations V (core_declarations E1 at1 (s + 0) ds) (e i))
@@ -245,7 +245,7 @@ mutual
   declarations_wide V E at (tree.declaration (tree.Let defs) ds) s h =
       let E1 = in_let E at s defs in
       let B = before_let defs E in
-      let at1 = behind_declaration at (tree.Let defs) in
+      let at1 = after_declaration at (tree.Let defs) in
       let n = scoping.cells_of_all B defs in
       let of_first = found_in_definitions E E1 at defs (s + n) in
       let of_rest = found_in_declarations E1 at1 ds (s + n) in
@@ -258,11 +258,11 @@ mutual
 
   pub block_wide : (V : Bodies) (E : Env) (at : Numbers) (b : tree.Block) (s : ℕ) → AllWide V (found_in_block E at b s) → cells_of_block V (core_block E at b s) s ≡ width_of_block E at b s
   block_wide V E at (tree.block ds is) s h =
-      let at1 = behind_declarations at ds in
+      let at1 = after_declarations at ds in
       let k = at1.label in
       let E1 = in_list k is (in_declarations E at s ds) in
-      let at2 = behind_labels at1 (labels_in is) in
-      let s1 = level_behind E at s ds in
+      let at2 = after_labels at1 (labels_in is) in
+      let s1 = level_after E at s ds in
       let of_first = found_in_declarations E at ds s in
       let of_rest = found_in_items E1 k at2 is s1 in
       (λ i. max (declarations_wide V E at ds s (first V of_first of_rest h) i) (cells_of_items V (core_items E1 k at2 is s1) (sym (level_kept E at s ds) i)))
@@ -272,16 +272,16 @@ mutual
   items_wide V E k at tree.no_items s h = refl
   items_wide V E k at (tree.item (tree.Labelled ls c) is) s h =
       let of_first = found_in_command E at c s in
-      let of_rest = found_in_items E (k + labels_of ls) (behind_command at c) is s in
+      let of_rest = found_in_items E (k + labels_of ls) (after_command at c) is s in
       let hc = command_wide V E at c s (first V of_first of_rest h) in
-      let hs = items_wide V E (k + labels_of ls) (behind_command at c) is s (second V of_first of_rest h) in
+      let hs = items_wide V E (k + labels_of ls) (after_command at c) is s (second V of_first of_rest h) in
       items_labels V E k ls _ s ∙ (λ i. max (hc i) (hs i))
   items_wide V E k at (tree.item (tree.Labels_alone ls) is) s h = items_labels V E k ls _ s ∙ items_wide V E (k + labels_of ls) at is s h
 
   command_wide : (V : Bodies) (E : Env) (at : Numbers) (c : tree.Command) (s : ℕ) → AllWide V (found_in_command E at c s) → cells_of_command V (translation.core_command E at c s) s ≡ width_of_command E at c s
   command_wide V E at (tree.Assign xs es) s h =
       let ss = side_levels E xs s in
-      let at1 = behind_all at xs in
+      let at1 = after_all at xs in
       let of_first = found_in_sides E at xs ss in
       let of_rest = found_in_sides E at1 es ss in
       let fs = forms_of_all E at xs in
@@ -293,9 +293,9 @@ mutual
       ∙ (λ i. widest (sym (helds_kept E at xs s) i) (widths E at xs ss) (widths E at1 es ss))
   command_wide V E at (tree.Do f es) s h =
       let of_routine = found E at f (routine_level s (count es)) in
-      let of_arguments = found_in_arguments E (behind at f) es (argument_level s) in
+      let of_arguments = found_in_arguments E (following at f) es (argument_level s) in
       let hf = exp_wide V E at f (routine_level s (count es)) (first V of_routine of_arguments h) in
-      let hs = arguments_wide V E (behind at f) es (argument_level s) (second V of_routine of_arguments h) in
+      let hs = arguments_wide V E (following at f) es (argument_level s) (second V of_routine of_arguments h) in
       call_wide V E at f es s hf.1 hs
   command_wide V E at (tree.Compound b) s h = block_wide V E at b s h
   command_wide V E at tree.Break s h = refl
@@ -308,43 +308,43 @@ mutual
   command_wide V E at (tree.Repeat c) s h = one_wide V (translation.core_command E at c s) s _ (command_wide V E at c s h)
   command_wide V E at (tree.RepeatWhile c e) s h =
       let of_body = found_in_command E at c s in
-      let of_test = found E (behind_command at c) e s in
+      let of_test = found E (after_command at c) e s in
       let hc = one_wide V (translation.core_command E at c s) s _ (command_wide V E at c s (first V of_body of_test h)) in
-      let he = exp_wide V E (behind_command at c) e s (second V of_body of_test h) in
+      let he = exp_wide V E (after_command at c) e s (second V of_body of_test h) in
       λ i. max (hc i) (he.1 i)
   command_wide V E at (tree.RepeatUntil c e) s h =
       let of_body = found_in_command E at c s in
-      let of_test = found E (behind_command at c) e s in
+      let of_test = found E (after_command at c) e s in
       let hc = one_wide V (translation.core_command E at c s) s _ (command_wide V E at c s (first V of_body of_test h)) in
-      let he = exp_wide V E (behind_command at c) e s (second V of_body of_test h) in
+      let he = exp_wide V E (after_command at c) e s (second V of_body of_test h) in
       λ i. max (hc i) (he.1 i)
   command_wide V E at (tree.If e b) s h =
       let of_test = found E at e s in
-      let of_body = found_in_block E (behind at e) b s in
+      let of_body = found_in_block E (following at e) b s in
       let he = exp_wide V E at e s (first V of_test of_body h) in
-      let hb = block_wide V E (behind at e) b s (second V of_test of_body h) in
+      let hb = block_wide V E (following at e) b s (second V of_test of_body h) in
       λ i. max (he.1 i) (hb i)
   command_wide V E at (tree.Unless e b) s h =
       let of_test = found E at e s in
-      let of_body = found_in_block E (behind at e) b s in
+      let of_body = found_in_block E (following at e) b s in
       let he = exp_wide V E at e s (first V of_test of_body h) in
-      let hb = block_wide V E (behind at e) b s (second V of_test of_body h) in
+      let hb = block_wide V E (following at e) b s (second V of_test of_body h) in
       λ i. max (he.1 i) (hb i)
   command_wide V E at (tree.While e b) s h =
       let of_test = found E at e s in
-      let of_body = found_in_block E (behind at e) b s in
+      let of_body = found_in_block E (following at e) b s in
       let he = exp_wide V E at e s (first V of_test of_body h) in
-      let hb = block_wide V E (behind at e) b s (second V of_test of_body h) in
+      let hb = block_wide V E (following at e) b s (second V of_test of_body h) in
       λ i. max (he.1 i) (hb i)
   command_wide V E at (tree.Until e b) s h =
       let of_test = found E at e s in
-      let of_body = found_in_block E (behind at e) b s in
+      let of_body = found_in_block E (following at e) b s in
       let he = exp_wide V E at e s (first V of_test of_body h) in
-      let hb = block_wide V E (behind at e) b s (second V of_test of_body h) in
+      let hb = block_wide V E (following at e) b s (second V of_test of_body h) in
       λ i. max (he.1 i) (hb i)
   command_wide V E at (tree.Test e b c) s h =
-      let be = behind at e in
-      let bb = behind_block be b in
+      let be = following at e in
+      let bb = after_block be b in
       let rest = found_in_block E be b s ++ found_in_block E bb c s in
       let hbc = second V (found E at e s) rest h in
       let he = exp_wide V E at e s (first V (found E at e s) rest h) in
@@ -353,8 +353,8 @@ mutual
       λ i. max (he.1 i) (max (hb i) (hc i))
   command_wide V E at (tree.For n a z b) s h =
       let s1 = level_in_for s in
-      let ba = behind at a in
-      let bz = behind ba z in
+      let ba = following at a in
+      let bz = following ba z in
       let of_start = found E at a s1 in
       let of_limit = found E ba z s1 in
       let of_body = found_in_block (in_for E n s) bz b s1 in
@@ -365,8 +365,8 @@ mutual
       λ i. max (s1 + 2) (max (ha.1 i) (max (hz.1 i) (hb i)))
   command_wide V E at (tree.ForBy n a z k b) s h =
       let s1 = level_in_for s in
-      let ba = behind at a in
-      let bz = behind ba z in
+      let ba = following at a in
+      let bz = following ba z in
       let of_start = found E at a s1 in
       let of_limit = found E ba z s1 in
       let of_body = found_in_block (in_for E n s) bz b s1 in
@@ -376,10 +376,10 @@ mutual
       let hb = block_wide V (in_for E n s) bz b s1 (second V of_limit of_body rest) in
       λ i. max (s1 + 2) (max (ha.1 i) (max (hz.1 i) (hb i)))
   command_wide V E at (tree.SwitchOn e is) s h =
-      let be = behind at e in
+      let be = following at e in
       let k = be.label in
       let E1 = in_list k is E in
-      let at1 = behind_labels be (labels_in is) in
+      let at1 = after_labels be (labels_in is) in
       let of_items = found_in_items E1 k at1 is s in
       let he = exp_wide V E at e s (first V (found E at e s) of_items h) in
       let hs = items_wide V E1 k at1 is s (second V (found E at e s) of_items h) in
@@ -415,11 +415,11 @@ table_wide n q (AValof f ∷ fs) h =
 -- the frame of a routine
 
 pub wide_in_routine : (all : List Thing) (r : FoundRoutine) → AllWide (table 0 all) (routine_body r) → frame_of r ≡ frame_size (valofs_of all) (core_routine r)
-wide_in_routine all r h = λ i. max (level_behind_parameters r.parameters) (sym (of_body r.body h) i) where
-  of_body : (b : RoutineBody) → AllWide (table 0 all) (found_in_routine r.names r.numbers b (level_behind_parameters r.parameters))
-      → cells_of_body (table 0 all) (core_body r.names r.numbers b (level_behind_parameters r.parameters)) (level_behind_parameters r.parameters) ≡ width_of_body r.names r.numbers b (level_behind_parameters r.parameters)
-  of_body (Gives e) k = (exp_wide (table 0 all) r.names r.numbers e (level_behind_parameters r.parameters) k).1
-  of_body (Does b) k = block_wide (table 0 all) r.names r.numbers b (level_behind_parameters r.parameters) k
+wide_in_routine all r h = λ i. max (level_after_parameters r.parameters) (sym (of_body r.body h) i) where
+  of_body : (b : RoutineBody) → AllWide (table 0 all) (found_in_routine r.names r.numbers b (level_after_parameters r.parameters))
+      → cells_of_body (table 0 all) (core_body r.names r.numbers b (level_after_parameters r.parameters)) (level_after_parameters r.parameters) ≡ width_of_body r.names r.numbers b (level_after_parameters r.parameters)
+  of_body (Gives e) k = (exp_wide (table 0 all) r.names r.numbers e (level_after_parameters r.parameters) k).1
+  of_body (Does b) k = block_wide (table 0 all) r.names r.numbers b (level_after_parameters r.parameters) k
 
 pub first_wide : (V : Bodies) (fs gs : List Thing) → AllWide V (fs ++ gs) → AllWide V fs
 first_wide V fs gs h = first V fs gs h

@@ -8,12 +8,12 @@ use Rattle.bc_parse_tree.specs.declared.tree.Monadic.TheVariants as monadic
 use Rattle.bc_parse_tree.specs.Tree as tree
 use Rattle.bc_core.specs.Tree.{Exp, Num, Frame, Glob, Place, Load, Neg, Not, Bin, Cond, Call, Valof}
 use Rattle.bc_core.specs.Commands as core
-use Rattle.bc_core.specs.Level.{operand_level, argument_level, routine_level, level_in_for, level_behind_parameters}
+use Rattle.bc_core.specs.Level.{operand_level, argument_level, routine_level, level_in_for, level_after_parameters}
 use Rattle.bc_core.specs.Numbers.{is_word, has_words, args_have_words, variables_have_words, declarations_have_words, command_has_words, block_has_words, items_have_words, body_has_words, places_have_words, valofs_have_words}
-use Rattle.bc_scope_defs.specs.Scope.{Meant, Constant, Pending, Static, Global, Routine, Variable, OuterVariable, OuterLabel, StrayVariable, StrayLabel, LabelOutside, Undeclared, Env, nothing_known, Numbers, meant_by, behind_valof, behind_labels, behind_place}
+use Rattle.bc_scope_defs.specs.Scope.{Meant, Constant, Pending, Static, Global, Routine, Variable, OuterVariable, OuterLabel, StrayVariable, StrayLabel, LabelOutside, Undeclared, Env, nothing_known, Numbers, meant_by, after_valof, after_labels, after_place}
 use Rattle.bc_scope_defs.specs.Scope as scope
-use Rattle.bc_scope_defs.specs.Numbering.{behind, behind_all, behind_declarations, behind_declaration, behind_definition, behind_command, behind_block, labels_of, labels_in}
-use Rattle.bc_scope_defs.specs.Scoping.{operator, count, pending, in_entry, before_let, in_let, in_declaration, in_declarations, cells_in, cells_of_all, level_behind, in_for, in_list, in_valof}
+use Rattle.bc_scope_defs.specs.Numbering.{following, after_all, after_declarations, after_declaration, after_definition, after_command, after_block, labels_of, labels_in}
+use Rattle.bc_scope_defs.specs.Scoping.{operator, count, pending, in_entry, before_let, in_let, in_declaration, in_declarations, cells_in, cells_of_all, level_after, in_for, in_list, in_valof}
 use Rattle.bc_scope_defs.specs.Sides.{side_levels}
 use Rattle.bc_scope_defs.specs.Translation.{Forms, form_of_name, form_of_monadic, form_of_dyadic, negation, opposite, or_not, forms, core_arguments, forms_of_all, assignments, assignment, initials, core_definition, core_definitions, core_declarations, core_labels, core_block, core_items, core_command, block_of, core_datum, core_routine, valof_of, places_of, valofs_of}
 use Rattle.bc_scope_defs.specs.Found.{Thing, AValof, ARoutine, Data, AStatic, ATable, AText, in_parameters, section_start, found_in_section, found_in_entries, found, found_in_arguments, found_in_sides, found_in_initials, found_in_definition, found_in_definitions, found_in_declaration, found_in_declarations, found_in_block, found_in_items, found_in_command}
@@ -81,21 +81,21 @@ mutual
   exp_words E at (tree.Valof b) w h = (refl, refl)
   exp_words E at (tree.Monadic m e) w h = of_monadic m (forms E at e) (exp_words E at e w h)
   exp_words E at (tree.Dyadic o l r) w h =
-      of_dyadic (operator o) (forms E at l).content (forms E (behind at l) r).content (λ i. (exp_words E at l w h.0).1 i && (exp_words E (behind at l) r w h.1).1 i)
+      of_dyadic (operator o) (forms E at l).content (forms E (following at l) r).content (λ i. (exp_words E at l w h.0).1 i && (exp_words E (following at l) r w h.1).1 i)
   exp_words E at (tree.Condition c x y) w h =
-      let bc = behind at c in
-      let bx = behind bc x in
+      let bc = following at c in
+      let bx = following bc x in
       let k : has_words (forms E at (tree.Condition c x y)).content ≡ true =
       λ i. (exp_words E at c w h.0).1 i && (exp_words E bc x w h.1).1 i && (exp_words E bx y w h.2).1 i in
       (k, k)
   exp_words E at (tree.Call f es) w h =
       let k : has_words (forms E at (tree.Call f es)).content ≡ true =
-      λ i. arguments_words E (behind at f) es w h.1 i && (exp_words E at f w h.0).1 i in
+      λ i. arguments_words E (following at f) es w h.1 i && (exp_words E at f w h.0).1 i in
       (k, k)
 
   arguments_words : (E : Env) (at : Numbers) (es : tree.Exps) → Wordy E → ExpsHaveWords es → args_have_words (core_arguments E at es) ≡ true
   arguments_words E at tree.none w h = refl
-  arguments_words E at (tree.more e es) w h = λ i. (exp_words E at e w h.0).1 i && arguments_words E (behind at e) es w h.1 i
+  arguments_words E at (tree.more e es) w h = λ i. (exp_words E at e w h.0).1 i && arguments_words E (following at e) es w h.1 i
 
 -- Assignments
 
@@ -105,7 +105,7 @@ AllHaveWords (f ∷ fs) = FormsHaveWords f × AllHaveWords fs
 
 forms_words : (E : Env) (at : Numbers) (es : tree.Exps) → Wordy E → ExpsHaveWords es → AllHaveWords (forms_of_all E at es)
 forms_words E at tree.none w h = tt
-forms_words E at (tree.more e es) w h = (exp_words E at e w h.0, forms_words E (behind at e) es w h.1)
+forms_words E at (tree.more e es) w h = (exp_words E at e w h.0, forms_words E (following at e) es w h.1)
 
 pairs_words : (fs gs : List Forms) → AllHaveWords fs → AllHaveWords gs → items_have_words (assignments fs gs) ≡ true
 pairs_words [] gs h k = refl
@@ -121,14 +121,14 @@ assignment_words (f ∷ []) (g ∷ []) h k = λ i. k.0.1 i && h.0.0 i
 
 -- Declarations
 
-behind_both : (a b c : Bool) → (a && b) ≡ true → (b ≡ true → c ≡ true) → (a && c) ≡ true
-behind_both true b c e f = f e
-behind_both false b c e f = e
+after_both : (a b c : Bool) → (a && b) ≡ true → (b ≡ true → c ≡ true) → (a && c) ≡ true
+after_both true b c e f = f e
+after_both false b c e f = e
 
 variables_append : (vs ws : List core.Variable) → variables_have_words vs ≡ true → variables_have_words ws ≡ true → variables_have_words (vs ++ ws) ≡ true
 variables_append [] ws h k = k
-variables_append (core.Initial e ∷ vs) ws h k = behind_both (has_words e) (variables_have_words vs) _ h (λ t. variables_append vs ws t k)
-variables_append (core.Vector n ∷ vs) ws h k = behind_both (is_word n) (variables_have_words vs) _ h (λ t. variables_append vs ws t k)
+variables_append (core.Initial e ∷ vs) ws h k = after_both (has_words e) (variables_have_words vs) _ h (λ t. variables_append vs ws t k)
+variables_append (core.Vector n ∷ vs) ws h k = after_both (is_word n) (variables_have_words vs) _ h (λ t. variables_append vs ws t k)
 
 initials_words : (fs : List Forms) → AllHaveWords fs → variables_have_words (initials fs) ≡ true
 initials_words [] h = refl
@@ -143,18 +143,18 @@ definition_words E B at (tree.Routine n ps b) w v h = refl
 definitions_words : (E B : Env) (at : Numbers) (ds : tree.Definitions) → Wordy E → Wordy B → DefinitionsHaveWords ds → variables_have_words (core_definitions E B at ds) ≡ true
 definitions_words E B at tree.no_definitions w v h = refl
 definitions_words E B at (tree.definition d ds) w v h =
-    variables_append (core_definition E B at d) _ (definition_words E B at d w v h.0) (definitions_words E B (behind_definition at d) ds w v h.1)
+    variables_append (core_definition E B at d) _ (definition_words E B at d w v h.0) (definitions_words E B (after_definition at d) ds w v h.1)
 
 declarations_words : (E : Env) (at : Numbers) (s : ℕ) (ds : tree.Declarations) → Wordy E → DeclarationsHaveWords ds → declarations_have_words (core_declarations E at s ds) ≡ true
 declarations_words E at s tree.no_declarations w h = refl
 declarations_words E at s (tree.declaration (tree.Constants k es) ds) w h =
     let d : tree.Declaration = tree.Constants k es in
-    declarations_words (in_declaration E at s d) (behind_declaration at d) (s + 0) ds (wordy_declaration at s d E w h.0) h.1
+    declarations_words (in_declaration E at s d) (after_declaration at d) (s + 0) ds (wordy_declaration at s d E w h.0) h.1
 declarations_words E at s (tree.declaration (tree.Let defs) ds) w h =
     let w1 = wordy_let at s defs E w in
     let B = before_let defs E in
     λ i. definitions_words (in_let E at s defs) B at defs w1 (wordy_before defs E w) h.0 i
-    && declarations_words (in_let E at s defs) (behind_declaration at (tree.Let defs)) (s + cells_of_all B defs) ds w1 h.1 i
+    && declarations_words (in_let E at s defs) (after_declaration at (tree.Let defs)) (s + cells_of_all B defs) ds w1 h.1 i
 
 -- Commands
 
@@ -170,21 +170,21 @@ one_words c h = λ i. true && (h i && true)
 mutual
   block_words : (E : Env) (at : Numbers) (b : tree.Block) (s : ℕ) → Wordy E → BlockHasWords b → block_has_words (core_block E at b s) ≡ true
   block_words E at (tree.block ds is) s w h =
-      let at1 = behind_declarations at ds in
+      let at1 = after_declarations at ds in
       let k = at1.label in
       let E1 = in_declarations E at s ds in
       let w1 = wordy_declarations at s ds E w h.0 in
-      λ i. declarations_words E at s ds w h.0 i && items_words (in_list k is E1) k (behind_labels at1 (labels_in is)) is (level_behind E at s ds) (wordy_list k is E1 w1) h.1 i
+      λ i. declarations_words E at s ds w h.0 i && items_words (in_list k is E1) k (after_labels at1 (labels_in is)) is (level_after E at s ds) (wordy_list k is E1 w1) h.1 i
 
   items_words : (E : Env) (k : ℕ) (at : Numbers) (is : tree.Items) (s : ℕ) → Wordy E → ItemsHaveWords is → items_have_words (core_items E k at is s) ≡ true
   items_words E k at tree.no_items s w h = refl
   items_words E k at (tree.item (tree.Labelled ls c) is) s w h =
-      labels_words E k ls _ w h.0 (λ i. command_words E at c s w h.1 i && items_words E (k + labels_of ls) (behind_command at c) is s w h.2 i)
+      labels_words E k ls _ w h.0 (λ i. command_words E at c s w h.1 i && items_words E (k + labels_of ls) (after_command at c) is s w h.2 i)
   items_words E k at (tree.item (tree.Labels_alone ls) is) s w h = labels_words E k ls _ w h.0 (items_words E (k + labels_of ls) at is s w h.1)
 
   command_words : (E : Env) (at : Numbers) (c : tree.Command) (s : ℕ) → Wordy E → CommandHasWords c → command_has_words (core_command E at c s) ≡ true
-  command_words E at (tree.Assign xs es) s w h = assignment_words _ _ (forms_words E at xs w h.0) (forms_words E (behind_all at xs) es w h.1)
-  command_words E at (tree.Do f es) s w h = λ i. arguments_words E (behind at f) es w h.1 i && (exp_words E at f w h.0).1 i
+  command_words E at (tree.Assign xs es) s w h = assignment_words _ _ (forms_words E at xs w h.0) (forms_words E (after_all at xs) es w h.1)
+  command_words E at (tree.Do f es) s w h = λ i. arguments_words E (following at f) es w h.1 i && (exp_words E at f w h.0).1 i
   command_words E at (tree.Compound b) s w h = block_words E at b s w h
   command_words E at tree.Break s w h = refl
   command_words E at tree.Loop s w h = refl
@@ -194,25 +194,25 @@ mutual
   command_words E at (tree.Goto n) s w h = refl
   command_words E at (tree.ResultIs e) s w h = (exp_words E at e w h).1
   command_words E at (tree.Repeat c) s w h = one_words (core_command E at c s) (command_words E at c s w h)
-  command_words E at (tree.RepeatWhile c e) s w h = λ i. one_words (core_command E at c s) (command_words E at c s w h.0) i && (exp_words E (behind_command at c) e w h.1).1 i
-  command_words E at (tree.RepeatUntil c e) s w h = λ i. one_words (core_command E at c s) (command_words E at c s w h.0) i && (exp_words E (behind_command at c) e w h.1).1 i
-  command_words E at (tree.If e b) s w h = λ i. (exp_words E at e w h.0).1 i && block_words E (behind at e) b s w h.1 i
-  command_words E at (tree.Unless e b) s w h = λ i. (exp_words E at e w h.0).1 i && block_words E (behind at e) b s w h.1 i
-  command_words E at (tree.While e b) s w h = λ i. (exp_words E at e w h.0).1 i && block_words E (behind at e) b s w h.1 i
-  command_words E at (tree.Until e b) s w h = λ i. (exp_words E at e w h.0).1 i && block_words E (behind at e) b s w h.1 i
+  command_words E at (tree.RepeatWhile c e) s w h = λ i. one_words (core_command E at c s) (command_words E at c s w h.0) i && (exp_words E (after_command at c) e w h.1).1 i
+  command_words E at (tree.RepeatUntil c e) s w h = λ i. one_words (core_command E at c s) (command_words E at c s w h.0) i && (exp_words E (after_command at c) e w h.1).1 i
+  command_words E at (tree.If e b) s w h = λ i. (exp_words E at e w h.0).1 i && block_words E (following at e) b s w h.1 i
+  command_words E at (tree.Unless e b) s w h = λ i. (exp_words E at e w h.0).1 i && block_words E (following at e) b s w h.1 i
+  command_words E at (tree.While e b) s w h = λ i. (exp_words E at e w h.0).1 i && block_words E (following at e) b s w h.1 i
+  command_words E at (tree.Until e b) s w h = λ i. (exp_words E at e w h.0).1 i && block_words E (following at e) b s w h.1 i
   command_words E at (tree.Test e b c) s w h =
-      let be = behind at e in
-      λ i. (exp_words E at e w h.0).1 i && block_words E be b s w h.1 i && block_words E (behind_block be b) c s w h.2 i
+      let be = following at e in
+      λ i. (exp_words E at e w h.0).1 i && block_words E be b s w h.1 i && block_words E (after_block be b) c s w h.2 i
   command_words E at (tree.For n a z b) s w h =
-      let ba = behind at a in
-      λ i. (exp_words E at a w h.0).1 i && (exp_words E ba z w h.1).1 i && true && block_words (in_for E n s) (behind ba z) b (level_in_for s) (tt, w) h.2 i
+      let ba = following at a in
+      λ i. (exp_words E at a w h.0).1 i && (exp_words E ba z w h.1).1 i && true && block_words (in_for E n s) (following ba z) b (level_in_for s) (tt, w) h.2 i
   command_words E at (tree.ForBy n a z k b) s w h =
-      let ba = behind at a in
-      λ i. (exp_words E at a w h.0).1 i && (exp_words E ba z w h.1).1 i && word_of_constant E k w h.2 i && block_words (in_for E n s) (behind ba z) b (level_in_for s) (tt, w) h.3 i
+      let ba = following at a in
+      λ i. (exp_words E at a w h.0).1 i && (exp_words E ba z w h.1).1 i && word_of_constant E k w h.2 i && block_words (in_for E n s) (following ba z) b (level_in_for s) (tt, w) h.3 i
   command_words E at (tree.SwitchOn e is) s w h =
-      let be = behind at e in
+      let be = following at e in
       let k = be.label in
-      λ i. (exp_words E at e w h.0).1 i && items_words (in_list k is E) k (behind_labels be (labels_in is)) is s (wordy_list k is E w) h.1 i
+      λ i. (exp_words E at e w h.0).1 i && items_words (in_list k is E) k (after_labels be (labels_in is)) is s (wordy_list k is E w) h.1 i
 
 -- Things that are found
 
@@ -230,7 +230,7 @@ both_wordy fs gs h k = all_joined ThingHasWords fs gs h k
 entries_wordy : (s : Storage) (at : Numbers) (es : tree.Entries) (E : Env) → Wordy E → EntriesHaveWords es → AllWordy (found_in_entries s at es E)
 entries_wordy s at tree.no_entries E w h = tt
 entries_wordy storage.Static at (tree.entry n k es) E w h =
-    ((λ i. word_of_constant E k w h.0 i && true), entries_wordy storage.Static (behind_place at) es (in_entry storage.Static at n k E) (wordy_entry storage.Static at n k E w h.0) h.1)
+    ((λ i. word_of_constant E k w h.0 i && true), entries_wordy storage.Static (after_place at) es (in_entry storage.Static at n k E) (wordy_entry storage.Static at n k E w h.0) h.1)
 entries_wordy storage.Manifest at (tree.entry n k es) E w h = entries_wordy storage.Manifest at es (in_entry storage.Manifest at n k E) (wordy_entry storage.Manifest at n k E w h.0) h.1
 entries_wordy storage.Global at (tree.entry n k es) E w h = entries_wordy storage.Global at es (in_entry storage.Global at n k E) (wordy_entry storage.Global at n k E w h.0) h.1
 
@@ -245,54 +245,54 @@ mutual
   exp_wordy E at (tree.Table ks) s w h = ((λ i. table_words E ks w h i && true), tt)
   exp_wordy E at (tree.Valof b) s w h =
       let w1 = wordy_valof E w in
-      (block_words (in_valof E) (behind_valof at) b s w1 h, block_wordy (in_valof E) (behind_valof at) b s w1 h)
+      (block_words (in_valof E) (after_valof at) b s w1 h, block_wordy (in_valof E) (after_valof at) b s w1 h)
   exp_wordy E at (tree.Monadic m e) s w h = exp_wordy E at e s w h
   exp_wordy E at (tree.Dyadic o l r) s w h =
       let s1 = operand_level s in
-      both_wordy (found E at l s1) (found E (behind at l) r s1) (exp_wordy E at l s1 w h.0) (exp_wordy E (behind at l) r s1 w h.1)
+      both_wordy (found E at l s1) (found E (following at l) r s1) (exp_wordy E at l s1 w h.0) (exp_wordy E (following at l) r s1 w h.1)
   exp_wordy E at (tree.Condition c x y) s w h =
-      let bc = behind at c in
-      let bx = behind bc x in
+      let bc = following at c in
+      let bx = following bc x in
       both_wordy (found E at c s) (found E bc x s ++ found E bx y s) (exp_wordy E at c s w h.0)
       (both_wordy (found E bc x s) (found E bx y s) (exp_wordy E bc x s w h.1) (exp_wordy E bx y s w h.2))
   exp_wordy E at (tree.Call f es) s w h =
-      both_wordy (found E at f (routine_level s (count es))) (found_in_arguments E (behind at f) es (argument_level s))
-      (exp_wordy E at f (routine_level s (count es)) w h.0) (arguments_wordy E (behind at f) es (argument_level s) w h.1)
+      both_wordy (found E at f (routine_level s (count es))) (found_in_arguments E (following at f) es (argument_level s))
+      (exp_wordy E at f (routine_level s (count es)) w h.0) (arguments_wordy E (following at f) es (argument_level s) w h.1)
 
   arguments_wordy : (E : Env) (at : Numbers) (es : tree.Exps) (s : ℕ) → Wordy E → ExpsHaveWords es → AllWordy (found_in_arguments E at es s)
   arguments_wordy E at tree.none s w h = tt
   arguments_wordy E at (tree.more e es) s w h =
-      both_wordy (found E at e s) (found_in_arguments E (behind at e) es (s + 1)) (exp_wordy E at e s w h.0) (arguments_wordy E (behind at e) es (s + 1) w h.1)
+      both_wordy (found E at e s) (found_in_arguments E (following at e) es (s + 1)) (exp_wordy E at e s w h.0) (arguments_wordy E (following at e) es (s + 1) w h.1)
 
   sides_wordy : (E : Env) (at : Numbers) (es : tree.Exps) (ss : List ℕ) → Wordy E → ExpsHaveWords es → AllWordy (found_in_sides E at es ss)
   sides_wordy E at tree.none ss w h = tt
   sides_wordy E at (tree.more e es) [] w h =
-      both_wordy (found E at e 0) (found_in_sides E (behind at e) es []) (exp_wordy E at e 0 w h.0) (sides_wordy E (behind at e) es [] w h.1)
+      both_wordy (found E at e 0) (found_in_sides E (following at e) es []) (exp_wordy E at e 0 w h.0) (sides_wordy E (following at e) es [] w h.1)
   sides_wordy E at (tree.more e es) (s ∷ ss) w h =
-      both_wordy (found E at e s) (found_in_sides E (behind at e) es ss) (exp_wordy E at e s w h.0) (sides_wordy E (behind at e) es ss w h.1)
+      both_wordy (found E at e s) (found_in_sides E (following at e) es ss) (exp_wordy E at e s w h.0) (sides_wordy E (following at e) es ss w h.1)
 
   initials_wordy : (E : Env) (at : Numbers) (es : tree.Exps) (s : ℕ) → Wordy E → ExpsHaveWords es → AllWordy (found_in_initials E at es s)
   initials_wordy E at tree.none s w h = tt
   initials_wordy E at (tree.more e es) s w h =
-      both_wordy (found E at e s) (found_in_initials E (behind at e) es s) (exp_wordy E at e s w h.0) (initials_wordy E (behind at e) es s w h.1)
+      both_wordy (found E at e s) (found_in_initials E (following at e) es s) (exp_wordy E at e s w h.0) (initials_wordy E (following at e) es s w h.1)
 
   definition_wordy : (O E : Env) (at : Numbers) (d : tree.Definition) (s : ℕ) → Wordy E → DefinitionHasWords d → AllWordy (found_in_definition O E at d s)
   definition_wordy O E at (tree.Variables ns es) s w h = initials_wordy E at es s w h
   definition_wordy O E at (tree.Vector n k) s w h = tt
   definition_wordy O E at (tree.Function n ps e) s w h =
       let w1 = wordy_parameters ps E w in
-      let s1 = level_behind_parameters (length ps) in
-      ((exp_words (in_parameters ps E) (behind_place at) e w1 h).1, exp_wordy (in_parameters ps E) (behind_place at) e s1 w1 h)
+      let s1 = level_after_parameters (length ps) in
+      ((exp_words (in_parameters ps E) (after_place at) e w1 h).1, exp_wordy (in_parameters ps E) (after_place at) e s1 w1 h)
   definition_wordy O E at (tree.Routine n ps b) s w h =
       let w1 = wordy_parameters ps E w in
-      let s1 = level_behind_parameters (length ps) in
-      (block_words (in_parameters ps E) (behind_place at) b s1 w1 h, block_wordy (in_parameters ps E) (behind_place at) b s1 w1 h)
+      let s1 = level_after_parameters (length ps) in
+      (block_words (in_parameters ps E) (after_place at) b s1 w1 h, block_wordy (in_parameters ps E) (after_place at) b s1 w1 h)
 
   definitions_wordy : (O E : Env) (at : Numbers) (ds : tree.Definitions) (s : ℕ) → Wordy E → DefinitionsHaveWords ds → AllWordy (found_in_definitions O E at ds s)
   definitions_wordy O E at tree.no_definitions s w h = tt
   definitions_wordy O E at (tree.definition d ds) s w h =
-      both_wordy (found_in_definition O E at d s) (found_in_definitions O E (behind_definition at d) ds s)
-      (definition_wordy O E at d s w h.0) (definitions_wordy O E (behind_definition at d) ds s w h.1)
+      both_wordy (found_in_definition O E at d s) (found_in_definitions O E (after_definition at d) ds s)
+      (definition_wordy O E at d s w h.0) (definitions_wordy O E (after_definition at d) ds s w h.1)
 
   declaration_wordy : (E : Env) (at : Numbers) (d : tree.Declaration) (s : ℕ) → Wordy E → DeclarationHasWords d → AllWordy (found_in_declaration E at d s)
   declaration_wordy E at (tree.Constants k es) s w h = entries_wordy k at es (pending k es E) (wordy_pending k es E w) h
@@ -303,36 +303,36 @@ mutual
   declarations_wordy E at tree.no_declarations s w h = tt
   declarations_wordy E at (tree.declaration d ds) s w h =
       let E1 = in_declaration E at s d in
-      let at1 = behind_declaration at d in
+      let at1 = after_declaration at d in
       both_wordy (found_in_declaration E at d s) (found_in_declarations E1 at1 ds (s + cells_in E d))
       (declaration_wordy E at d s w h.0) (declarations_wordy E1 at1 ds (s + cells_in E d) (wordy_declaration at s d E w h.0) h.1)
 
   block_wordy : (E : Env) (at : Numbers) (b : tree.Block) (s : ℕ) → Wordy E → BlockHasWords b → AllWordy (found_in_block E at b s)
   block_wordy E at (tree.block ds is) s w h =
-      let at1 = behind_declarations at ds in
+      let at1 = after_declarations at ds in
       let k = at1.label in
       let E1 = in_declarations E at s ds in
       let E2 = in_list k is E1 in
-      let at2 = behind_labels at1 (labels_in is) in
-      let s1 = level_behind E at s ds in
+      let at2 = after_labels at1 (labels_in is) in
+      let s1 = level_after E at s ds in
       both_wordy (found_in_declarations E at ds s) (found_in_items E2 k at2 is s1)
       (declarations_wordy E at ds s w h.0) (items_wordy E2 k at2 is s1 (wordy_list k is E1 (wordy_declarations at s ds E w h.0)) h.1)
 
   items_wordy : (E : Env) (k : ℕ) (at : Numbers) (is : tree.Items) (s : ℕ) → Wordy E → ItemsHaveWords is → AllWordy (found_in_items E k at is s)
   items_wordy E k at tree.no_items s w h = tt
   items_wordy E k at (tree.item (tree.Labelled ls c) is) s w h =
-      both_wordy (found_in_command E at c s) (found_in_items E (k + labels_of ls) (behind_command at c) is s)
-      (command_wordy E at c s w h.1) (items_wordy E (k + labels_of ls) (behind_command at c) is s w h.2)
+      both_wordy (found_in_command E at c s) (found_in_items E (k + labels_of ls) (after_command at c) is s)
+      (command_wordy E at c s w h.1) (items_wordy E (k + labels_of ls) (after_command at c) is s w h.2)
   items_wordy E k at (tree.item (tree.Labels_alone ls) is) s w h = items_wordy E (k + labels_of ls) at is s w h.1
 
   command_wordy : (E : Env) (at : Numbers) (c : tree.Command) (s : ℕ) → Wordy E → CommandHasWords c → AllWordy (found_in_command E at c s)
   command_wordy E at (tree.Assign xs es) s w h =
       let ss = side_levels E xs s in
-      let at1 = behind_all at xs in
+      let at1 = after_all at xs in
       both_wordy (found_in_sides E at xs ss) (found_in_sides E at1 es ss) (sides_wordy E at xs ss w h.0) (sides_wordy E at1 es ss w h.1)
   command_wordy E at (tree.Do f es) s w h =
-      both_wordy (found E at f (routine_level s (count es))) (found_in_arguments E (behind at f) es (argument_level s))
-      (exp_wordy E at f (routine_level s (count es)) w h.0) (arguments_wordy E (behind at f) es (argument_level s) w h.1)
+      both_wordy (found E at f (routine_level s (count es))) (found_in_arguments E (following at f) es (argument_level s))
+      (exp_wordy E at f (routine_level s (count es)) w h.0) (arguments_wordy E (following at f) es (argument_level s) w h.1)
   command_wordy E at (tree.Compound b) s w h = block_wordy E at b s w h
   command_wordy E at tree.Break s w h = tt
   command_wordy E at tree.Loop s w h = tt
@@ -343,35 +343,35 @@ mutual
   command_wordy E at (tree.ResultIs e) s w h = exp_wordy E at e s w h
   command_wordy E at (tree.Repeat c) s w h = command_wordy E at c s w h
   command_wordy E at (tree.RepeatWhile c e) s w h =
-      let bc = behind_command at c in both_wordy (found_in_command E at c s) (found E bc e s) (command_wordy E at c s w h.0) (exp_wordy E bc e s w h.1)
+      let bc = after_command at c in both_wordy (found_in_command E at c s) (found E bc e s) (command_wordy E at c s w h.0) (exp_wordy E bc e s w h.1)
   command_wordy E at (tree.RepeatUntil c e) s w h =
-      let bc = behind_command at c in both_wordy (found_in_command E at c s) (found E bc e s) (command_wordy E at c s w h.0) (exp_wordy E bc e s w h.1)
-  command_wordy E at (tree.If e b) s w h = let be = behind at e in both_wordy (found E at e s) (found_in_block E be b s) (exp_wordy E at e s w h.0) (block_wordy E be b s w h.1)
-  command_wordy E at (tree.Unless e b) s w h = let be = behind at e in both_wordy (found E at e s) (found_in_block E be b s) (exp_wordy E at e s w h.0) (block_wordy E be b s w h.1)
-  command_wordy E at (tree.While e b) s w h = let be = behind at e in both_wordy (found E at e s) (found_in_block E be b s) (exp_wordy E at e s w h.0) (block_wordy E be b s w h.1)
-  command_wordy E at (tree.Until e b) s w h = let be = behind at e in both_wordy (found E at e s) (found_in_block E be b s) (exp_wordy E at e s w h.0) (block_wordy E be b s w h.1)
+      let bc = after_command at c in both_wordy (found_in_command E at c s) (found E bc e s) (command_wordy E at c s w h.0) (exp_wordy E bc e s w h.1)
+  command_wordy E at (tree.If e b) s w h = let be = following at e in both_wordy (found E at e s) (found_in_block E be b s) (exp_wordy E at e s w h.0) (block_wordy E be b s w h.1)
+  command_wordy E at (tree.Unless e b) s w h = let be = following at e in both_wordy (found E at e s) (found_in_block E be b s) (exp_wordy E at e s w h.0) (block_wordy E be b s w h.1)
+  command_wordy E at (tree.While e b) s w h = let be = following at e in both_wordy (found E at e s) (found_in_block E be b s) (exp_wordy E at e s w h.0) (block_wordy E be b s w h.1)
+  command_wordy E at (tree.Until e b) s w h = let be = following at e in both_wordy (found E at e s) (found_in_block E be b s) (exp_wordy E at e s w h.0) (block_wordy E be b s w h.1)
   command_wordy E at (tree.Test e b c) s w h =
-      let be = behind at e in
-      let bb = behind_block be b in
+      let be = following at e in
+      let bb = after_block be b in
       both_wordy (found E at e s) (found_in_block E be b s ++ found_in_block E bb c s) (exp_wordy E at e s w h.0)
       (both_wordy (found_in_block E be b s) (found_in_block E bb c s) (block_wordy E be b s w h.1) (block_wordy E bb c s w h.2))
   command_wordy E at (tree.For n a z b) s w h =
       let s1 = level_in_for s in
-      let ba = behind at a in
-      let bz = behind ba z in
+      let ba = following at a in
+      let bz = following ba z in
       both_wordy (found E at a s1) (found E ba z s1 ++ found_in_block (in_for E n s) bz b s1) (exp_wordy E at a s1 w h.0)
       (both_wordy (found E ba z s1) (found_in_block (in_for E n s) bz b s1) (exp_wordy E ba z s1 w h.1) (block_wordy (in_for E n s) bz b s1 (tt, w) h.2))
   command_wordy E at (tree.ForBy n a z k b) s w h =
       let s1 = level_in_for s in
-      let ba = behind at a in
-      let bz = behind ba z in
+      let ba = following at a in
+      let bz = following ba z in
       both_wordy (found E at a s1) (found E ba z s1 ++ found_in_block (in_for E n s) bz b s1) (exp_wordy E at a s1 w h.0)
       (both_wordy (found E ba z s1) (found_in_block (in_for E n s) bz b s1) (exp_wordy E ba z s1 w h.1) (block_wordy (in_for E n s) bz b s1 (tt, w) h.3))
   command_wordy E at (tree.SwitchOn e is) s w h =
-      let be = behind at e in
+      let be = following at e in
       let k = be.label in
       let E1 = in_list k is E in
-      let at1 = behind_labels be (labels_in is) in
+      let at1 = after_labels be (labels_in is) in
       both_wordy (found E at e s) (found_in_items E1 k at1 is s) (exp_wordy E at e s w h.0) (items_wordy E1 k at1 is s (wordy_list k is E w) h.1)
 
 -- Sections

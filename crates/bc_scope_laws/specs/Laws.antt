@@ -15,7 +15,7 @@ use Rattle.bc_core.specs.Command.{perform}
 use Rattle.bc_core.specs.Meaning.{context, valofs_from, meaning}
 use Rattle.bc_scope_defs.specs.Scope.{Meant, Static, Global, Routine, Variable, Env, Numbers}
 use Rattle.bc_scope_defs.specs.Scope as scope
-use Rattle.bc_scope_defs.specs.Scoping.{count, level_behind, seen_through}
+use Rattle.bc_scope_defs.specs.Scoping.{count, level_after, seen_through}
 use Rattle.bc_scope_defs.specs.Sides.{side_levels}
 use Rattle.bc_scope_defs.specs.Meaning.{Around, worth, run_command}
 use Rattle.bc_scope_defs.specs.Translation.{Forms, forms, forms_of_all, core_arguments, core_declarations, core_command, valofs_of, core_of}
@@ -46,11 +46,11 @@ CommandsKeepTheirMeaning =
     → run_command A E at c p s ≡ perform (context A.place A.call (valofs_from A.place A.call at.valof (valofs_of (found_in_command E at c s))))
     (core_command E at c s) p s
 
--- Levels and frame sizes are the section's own. The level behind declarations is that behind the cells of their
+-- Levels and frame sizes are the section's own. The level after declarations is that after the cells of their
 -- translation, the sides of an assignment stand where the translated addresses say, a call has as many arguments.
 pub record LevelsAreTheSections : Type 0 where
-  pub behind_declarations :
-      (E : Env) (at : Numbers) (s : ℕ) (ds : Declarations) → level_behind E at s ds ≡ s + cells_declared (core_declarations E at s ds)
+  pub after_declarations :
+      (E : Env) (at : Numbers) (s : ℕ) (ds : Declarations) → level_after E at s ds ≡ s + cells_declared (core_declarations E at s ds)
   pub of_sides : (E : Env) (at : Numbers) (xs : Exps) (s : ℕ) → side_levels E xs s ≡ map (λ (f : Forms). side_level f.address s) (forms_of_all E at xs)
   pub of_arguments : (E : Env) (at : Numbers) (es : Exps) → core.count (core_arguments E at es) ≡ count es
 

@@ -1,4 +1,4 @@
--- The bytes that strings stand for.
+-- The bytes that strings mean.
 use Rattle.std.specs.Prelude.{ℕ, ◌≡◌, ◌≤◌, List, [], ◌∷◌, ◌++◌, length, All}
 use Rattle.bc_lex_tokens.specs.Token.{Kind, Lexeme, Sign, Name, Number, Character, String}
 use Rattle.bc_lex.specs.Files.{File}
@@ -6,7 +6,7 @@ use Rattle.bc_lex.specs.Quotes.{Spells}
 use Rattle.bc_lex.specs.Tokens.{HasTokens}
 use Rattle.bc_scope_defs.specs.Characters.{decoded}
 
--- between its signs stands a text that spells the bytes that the string stands for, at most 255
+-- between its signs stands a text that spells the bytes that the string means, at most 255
 pub record IsDecoded (string : List ℕ) : Type 0 where
   pub text : List ℕ
   pub signs : string ≡ 34 ∷ (text ++ 34 ∷ [])

@@ -18,7 +18,7 @@ pub fn commands_keep_their_meaning()
     ensures { CommandsKeepTheirMeaning }
 {}
 
-/// The levels in a translation are those of the section: behind declarations, of both sides of an
+/// The levels in a translation are those of the section: after declarations, of both sides of an
 /// assignment, and of a call's arguments, of which there are as many.
 pub fn levels_are_the_sections()
     ensures { LevelsAreTheSections }

@@ -16,9 +16,9 @@ use Rattle.bc_scope_names.specs.declared.scope.Bound.{Bound}
 use Rattle.bc_scope_names.specs.declared.scope.Named.{Named}
 use Rattle.bc_scope_names.specs.declared.scope.Entry.{Entry}
 use Rattle.bc_scope_names.specs.declared.scope.Entry.TheVariants as entry
-use Rattle.bc_scope_names.specs.Index.{newest, borders_of, behind_routine, no_borders, is_key, names, spelled, Keeps, CanUndo, HasPosition}
-use Rattle.bc_scope_names.specs.View.{scope_view, behind_one, Extends, Declares}
-use Rattle.bc_scope_names.proofs.Names.{newest_last, borders_last, behind_push}
+use Rattle.bc_scope_names.specs.Index.{newest, borders_of, after_routine, no_borders, is_key, names, spelled, Keeps, CanUndo, HasPosition}
+use Rattle.bc_scope_names.specs.View.{scope_view, after_one, Extends, Declares}
+use Rattle.bc_scope_names.proofs.Names.{newest_last, borders_last, after_push}
 use Rattle.bc_scope_defs.specs.Scope.{Name, nothing_known, is_name}
 use Rattle.indexmap.specs.IndexMap.{IndexMap, keys, index_map_len, get, insert_entry, insert_index, with_value_at, IsUnique}
 use Rattle.indexmap.proofs.CallerLemmas.{keys-with_value_at, updates-with_value_at}
@@ -30,9 +30,9 @@ is_name-bytes_eq (x ∷ a) [] = refl
 is_name-bytes_eq (x ∷ a) (y ∷ b) = ap (λ t. (x == y) && t) (is_name-bytes_eq a b)
 
 -- what is declared is known, and nothing else changes
-pub declares_push : (es : List Entry) (e : Entry) → Declares es (es ++ e ∷ []) (behind_one e (scope_view es))
+pub declares_push : (es : List Entry) (e : Entry) → Declares es (es ++ e ∷ []) (after_one e (scope_view es))
 unfolding scope_view Extends
-declares_push es e = (behind_push es e nothing_known, take-append_seam es (e ∷ []))
+declares_push es e = (after_push es e nothing_known, take-append_seam es (e ∷ []))
 
 pub finds_name : (es : List Entry) (n : Named) (p : ℕ) (h : Option Bound) (q : Name) (r s : Option (Option Bound)) → s ≡ cond (bytes_eq n.name.now q) (Some (Some (record { meant = n.meant; place = length es }))) r → option_flatten r ≡ newest 0 es q None
     → option_flatten s ≡ newest 0 (es ++ entry.Name n p h ∷ []) q None
@@ -85,8 +85,8 @@ finds_back es n p h q r s e f k = ap option_flatten e ∙ by (bytes_eq n.name.no
     by false true p same g = absurd (true≢false p)
     by false false p same g = g
 
-pub routine_border : (es : List Entry) (b o : Borders) (n : ℕ) → b ≡ borders_of 0 es no_borders → n ≡ length (es ++ entry.Routine o ∷ []) → behind_routine n b ≡ borders_of 0 (es ++ entry.Routine o ∷ []) no_borders
-routine_border es b o n e l = ap (λ k. behind_routine k b) (l ∙ length_push es (entry.Routine o)) ∙ ap (λ x. behind_routine (length es + 1) x) e ∙ sym (borders_last es (entry.Routine o) no_borders)
+pub routine_border : (es : List Entry) (b o : Borders) (n : ℕ) → b ≡ borders_of 0 es no_borders → n ≡ length (es ++ entry.Routine o ∷ []) → after_routine n b ≡ borders_of 0 (es ++ entry.Routine o ∷ []) no_borders
+routine_border es b o n e l = ap (λ k. after_routine k b) (l ∙ length_push es (entry.Routine o)) ∙ ap (λ x. after_routine (length es + 1) x) e ∙ sym (borders_last es (entry.Routine o) no_borders)
 
 pub valof_border : (es : List Entry) (b o : Borders) (n : ℕ) → b ≡ borders_of 0 es no_borders → n ≡ length (es ++ entry.Valof o ∷ []) → record b { valof = n } ≡ borders_of 0 (es ++ entry.Valof o ∷ []) no_borders
 valof_border es b o n e l = ap (λ k. record b { valof = k }) (l ∙ length_push es (entry.Valof o)) ∙ ap (λ (x : Borders). record x { valof = length es + 1 }) e ∙ sym (borders_last es (entry.Valof o) no_borders)
@@ -115,8 +115,8 @@ stays (e ∷ es) k v zero q h = by (is_key k e.0)
 stays (e ∷ es) k v (suc i) q h = by (is_key k e.0) (stays es k v i q h)
   where
     by : (t : Bool) → slice_get (spelled (insert_entry is_key es k v)) i ≡ Some q → slice_get (spelled (if t then (e.0, v) ∷ es else e ∷ insert_entry is_key es k v)) (suc i) ≡ Some q
-    by true behind = h
-    by false behind = behind
+    by true following = h
+    by false following = following
 
 -- the name that is put in has the position that is answered
 stands : (es : List (Bor Name × Option Bound)) (k : Bor Name) (v : Option Bound) → slice_get (spelled (insert_entry is_key es k v)) (position_or_len (is_key k) (keys_of es)) ≡ Some k.now
@@ -127,8 +127,8 @@ stands (e ∷ es) k v = by (is_key k e.0) (λ h. sym (same_name k.now e.0.now (i
     n = position_or_len (is_key k) (keys_of es)
 
     by : (t : Bool) → (t ≡ true → e.0.now ≡ k.now) → slice_get (spelled (insert_entry is_key es k v)) n ≡ Some k.now → slice_get (spelled (if t then (e.0, v) ∷ es else e ∷ insert_entry is_key es k v)) (cond (not t) (1 + n) 0) ≡ Some k.now
-    by true same behind = ap Some (same refl)
-    by false same behind = let next : 1 + n ≡ suc n = omega arith in ap (slice_get (spelled (e ∷ insert_entry is_key es k v))) next ∙ behind
+    by true same following = ap Some (same refl)
+    by false same following = let next : 1 + n ≡ suc n = omega arith in ap (slice_get (spelled (e ∷ insert_entry is_key es k v))) next ∙ following
 
 module _ {S : Type 0} (m : IndexMap (Bor Name) (Option Bound) S) where
   -- a declared name has the position that the index gave it, and those before keep theirs

@@ -10,7 +10,7 @@ use Rattle.bc_scope_names.specs.Priors.{first_global, prior_at, global_before, g
 use Rattle.bc_scope_defs.specs.Scope.{Env, Name, Numbers, Meant, Constant, Pending, Static, Global, Routine, Variable, Label, OuterVariable, OuterLabel, StrayVariable, StrayLabel, LabelOutside, Undeclared, meant_by}
 use Rattle.bc_scope_defs.specs.Scoping.{any_numbers, cells_of, cells_of_all, routine_name, in_definition, in_definitions, own_names}
 use Rattle.bc_scope_defs.specs.Found.{global_of}
-use Rattle.bc_scope_defs.specs.Numbering.{behind_definition}
+use Rattle.bc_scope_defs.specs.Numbering.{after_definition}
 
 routine_is : (m : Meant) (n : Name) (l : ℕ) (E : Env) → routine_by (global_of m) n l E ≡ routine_name m n l E
 routine_is (Constant w) n l E = refl
@@ -46,9 +46,9 @@ declared_is B K at k (tree.Routine n ps b) E = routine_is (meant_by B n) n at.pl
 pub all_declared_is : (B K : Env) (at : Numbers) (k : ℕ) (ds : Definitions) (E : Env) → all_declared_by (globals_before B ds) (all_greatest_of K ds) at k ds E ≡ in_definitions B K at k ds E
 all_declared_is B K at k no_definitions E = refl
 all_declared_is B K at k (definition d ds) E =
-    ap (λ j. all_declared_by (globals_before B ds) (all_greatest_of K ds) (behind_definition at d) (k + j) ds (declared_by (record { global = global_before B d; greatest = greatest_of K d }) at k d E)) (cells_are B K d)
-    ∙ ap (λ F. all_declared_by (globals_before B ds) (all_greatest_of K ds) (behind_definition at d) (k + cells_of K d) ds F) (declared_is B K at k d E)
-    ∙ all_declared_is B K (behind_definition at d) (k + cells_of K d) ds (in_definition B at k d E)
+    ap (λ j. all_declared_by (globals_before B ds) (all_greatest_of K ds) (after_definition at d) (k + j) ds (declared_by (record { global = global_before B d; greatest = greatest_of K d }) at k d E)) (cells_are B K d)
+    ∙ ap (λ F. all_declared_by (globals_before B ds) (all_greatest_of K ds) (after_definition at d) (k + cells_of K d) ds F) (declared_is B K at k d E)
+    ∙ all_declared_is B K (after_definition at d) (k + cells_of K d) ds (in_definition B at k d E)
 
 one_own_is : (B : Env) (d : Definition) (E : Env) → declared_by (record { global = global_before B d; greatest = 0 }) any_numbers 0 d E ≡ in_definition B any_numbers 0 d E
 one_own_is B (tree.Variables ns es) E = refl
@@ -89,16 +89,16 @@ cells_on gs ws ds n j i d h q e =
 -- what it makes known, before the rest
 pub declared_on : (gs : List (Option ℕ)) (ws : List ℕ) (at : Numbers) (k : ℕ) (ds : List code.Definition) (n j i : ℕ) (d : code.Definition) (E : Env) → i < length ds → d ≡ get_or ds i d → j ≡ n + 1
     → all_declared_by (drop n gs) (drop n ws) at k (definitions_view (drop i ds)) E
-    ≡ all_declared_by (drop j gs) (drop j ws) (behind_definition at (definition_view d)) (k + cells_by (prior_at (drop n gs) (drop n ws)) (definition_view d)) (definitions_view (drop (i + 1) ds)) (declared_by (prior_at (drop n gs) (drop n ws)) at k (definition_view d) E)
+    ≡ all_declared_by (drop j gs) (drop j ws) (after_definition at (definition_view d)) (k + cells_by (prior_at (drop n gs) (drop n ws)) (definition_view d)) (definitions_view (drop (i + 1) ds)) (declared_by (prior_at (drop n gs) (drop n ws)) at k (definition_view d) E)
 declared_on gs ws at k ds n j i d E h q e =
     let p : Prior = prior_at (drop n gs) (drop n ws) in
-    let behind = behind_definition at (definition_view d) in
+    let following = after_definition at (definition_view d) in
     let level = k + cells_by p (definition_view d) in
     let rest = definitions_view (drop (i + 1) ds) in
     let known = declared_by p at k (definition_view d) E in
     ap (λ x. all_declared_by (drop n gs) (drop n ws) at k x E) (definitions_on ds i d h q)
-    ∙ ap (λ x. all_declared_by x (drop 1 (drop n ws)) behind level rest known) (drop-drop 1 n gs ∙ ap (λ m. drop m gs) (sym e))
-    ∙ ap (λ x. all_declared_by (drop j gs) x behind level rest known) (drop-drop 1 n ws ∙ ap (λ m. drop m ws) (sym e))
+    ∙ ap (λ x. all_declared_by x (drop 1 (drop n ws)) following level rest known) (drop-drop 1 n gs ∙ ap (λ m. drop m gs) (sym e))
+    ∙ ap (λ x. all_declared_by (drop j gs) x following level rest known) (drop-drop 1 n ws ∙ ap (λ m. drop m ws) (sym e))
 
 -- an own name, before the rest
 pub own_on : (gs : List (Option ℕ)) (ds : List code.Definition) (n j i : ℕ) (d : code.Definition) (E : Env) → i < length ds → d ≡ get_or ds i d → j ≡ n + 1
@@ -107,8 +107,8 @@ own_on gs ds n j i d E h q e =
     ap (λ x. own_by (drop n gs) x E) (definitions_on ds i d h q)
     ∙ ap (λ x. own_by x (definitions_view (drop (i + 1) ds)) (declared_by (prior_at (drop n gs) []) any_numbers 0 (definition_view d) E)) (drop-drop 1 n gs ∙ ap (λ k. drop k gs) (sym e))
 
-pub own_behind : (gs : List (Option ℕ)) (ds : List code.Definition) (i : ℕ) (E : Env) → length ds ≤ i → own_by gs (definitions_view (drop i ds)) E ≡ E
-own_behind gs ds i E h = ap (λ x. own_by gs (definitions_view x) E) (drop_all i ds h)
+pub own_after : (gs : List (Option ℕ)) (ds : List code.Definition) (i : ℕ) (E : Env) → length ds ≤ i → own_by gs (definitions_view (drop i ds)) E ≡ E
+own_after gs ds i E h = ap (λ x. own_by gs (definitions_view x) E) (drop_all i ds h)
 
 -- where nothing is left, nobody asks for the numbers
 pub declared_last : (gs : List (Option ℕ)) (ws : List ℕ) (at at1 : Numbers) (k : ℕ) (ds : List code.Definition) (i : ℕ) (E : Env) → length ds ≤ i
@@ -117,8 +117,8 @@ declared_last gs ws at at1 k ds i E h =
     ap (λ x. all_declared_by gs ws at k (definitions_view x) E) (drop_all i ds h) ∙ ap (λ x. all_declared_by gs ws at1 k (definitions_view x) E) (sym (drop_all i ds h))
 
 -- where nothing is left, nothing more is taken or made known
-pub cells_behind : (gs : List (Option ℕ)) (ws : List ℕ) (ds : List code.Definition) (i : ℕ) → length ds ≤ i → all_cells_by gs ws (definitions_view (drop i ds)) ≡ 0
-cells_behind gs ws ds i h = ap (λ x. all_cells_by gs ws (definitions_view x)) (drop_all i ds h)
+pub cells_after : (gs : List (Option ℕ)) (ws : List ℕ) (ds : List code.Definition) (i : ℕ) → length ds ≤ i → all_cells_by gs ws (definitions_view (drop i ds)) ≡ 0
+cells_after gs ws ds i h = ap (λ x. all_cells_by gs ws (definitions_view x)) (drop_all i ds h)
 
-pub declared_behind : (gs : List (Option ℕ)) (ws : List ℕ) (at : Numbers) (k : ℕ) (ds : List code.Definition) (i : ℕ) (E : Env) → length ds ≤ i → all_declared_by gs ws at k (definitions_view (drop i ds)) E ≡ E
-declared_behind gs ws at k ds i E h = ap (λ x. all_declared_by gs ws at k (definitions_view x) E) (drop_all i ds h)
+pub declared_after : (gs : List (Option ℕ)) (ws : List ℕ) (at : Numbers) (k : ℕ) (ds : List code.Definition) (i : ℕ) (E : Env) → length ds ≤ i → all_declared_by gs ws at k (definitions_view (drop i ds)) E ≡ E
+declared_after gs ws at k ds i E h = ap (λ x. all_declared_by gs ws at k (definitions_view x) E) (drop_all i ds h)

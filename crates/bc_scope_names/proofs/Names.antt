@@ -5,30 +5,30 @@ use Rattle.bc_scope_names.specs.declared.scope.Bound.{Bound}
 use Rattle.bc_scope_names.specs.declared.scope.Entry.{Entry}
 use Rattle.bc_scope_names.specs.declared.scope.Entry.TheVariants as entry
 use Rattle.bc_scope_names.specs.Crossing.{seen}
-use Rattle.bc_scope_names.specs.Index.{newest, newest_one, borders_of, behind_border, behind_routine, no_borders}
-use Rattle.bc_scope_names.specs.View.{meant_view, behind_one, behind_entries}
+use Rattle.bc_scope_names.specs.Index.{newest, newest_one, borders_of, after_border, after_routine, no_borders}
+use Rattle.bc_scope_names.specs.View.{meant_view, after_one, after_entries}
 use Rattle.bc_scope_defs.specs.Scope.{Env, Names, Name, nothing_known, with_name, is_name, meant_among, meant_by, Meant, Constant, Pending, Static, Global, Routine, Variable, Label, OuterVariable, OuterLabel, StrayVariable, StrayLabel, LabelOutside, Undeclared}
 use Rattle.bc_scope_defs.specs.Scoping.{around_routine, around_valof, seen_through, in_routine, in_valof}
 
 -- one entry more
 
-pub behind_push : (es : List Entry) (e : Entry) (E : Env) → behind_entries (es ++ e ∷ []) E ≡ behind_one e (behind_entries es E)
-behind_push [] e E = refl
-behind_push (x ∷ es) e E = behind_push es e (behind_one x E)
+pub after_push : (es : List Entry) (e : Entry) (E : Env) → after_entries (es ++ e ∷ []) E ≡ after_one e (after_entries es E)
+after_push [] e E = refl
+after_push (x ∷ es) e E = after_push es e (after_one x E)
 
 newest_push : (i : ℕ) (es : List Entry) (e : Entry) (q : Name) (k : Option Bound) → newest i (es ++ e ∷ []) q k ≡ newest_one (i + length es) e q (newest i es q k)
 newest_push i [] e q k = ap (λ j. newest_one j e q k) (omega arith)
 newest_push i (x ∷ es) e q k = newest_push (i + 1) es e q (newest_one i x q k) ∙ ap (λ j. newest_one j e q (newest (i + 1) es q (newest_one i x q k))) (omega arith)
 
-borders_push : (i : ℕ) (es : List Entry) (e : Entry) (b : Borders) → borders_of i (es ++ e ∷ []) b ≡ behind_border (i + length es) e (borders_of i es b)
-borders_push i [] e b = ap (λ j. behind_border j e b) (omega arith)
-borders_push i (x ∷ es) e b = borders_push (i + 1) es e (behind_border i x b) ∙ ap (λ j. behind_border j e (borders_of (i + 1) es (behind_border i x b))) (omega arith)
+borders_push : (i : ℕ) (es : List Entry) (e : Entry) (b : Borders) → borders_of i (es ++ e ∷ []) b ≡ after_border (i + length es) e (borders_of i es b)
+borders_push i [] e b = ap (λ j. after_border j e b) (omega arith)
+borders_push i (x ∷ es) e b = borders_push (i + 1) es e (after_border i x b) ∙ ap (λ j. after_border j e (borders_of (i + 1) es (after_border i x b))) (omega arith)
 
 pub newest_last : (es : List Entry) (e : Entry) (q : Name) (k : Option Bound) → newest 0 (es ++ e ∷ []) q k ≡ newest_one (length es) e q (newest 0 es q k)
 newest_last es e q k = newest_push 0 es e q k ∙ ap (λ j. newest_one j e q (newest 0 es q k)) (omega arith)
 
-pub borders_last : (es : List Entry) (e : Entry) (b : Borders) → borders_of 0 (es ++ e ∷ []) b ≡ behind_border (length es) e (borders_of 0 es b)
-borders_last es e b = borders_push 0 es e b ∙ ap (λ j. behind_border j e (borders_of 0 es b)) (omega arith)
+pub borders_last : (es : List Entry) (e : Entry) (b : Borders) → borders_of 0 (es ++ e ∷ []) b ≡ after_border (length es) e (borders_of 0 es b)
+borders_last es e b = borders_push 0 es e b ∙ ap (λ j. after_border j e (borders_of 0 es b)) (omega arith)
 
 -- the meanings of a routine's and a VALOF's surroundings, twice over
 
@@ -87,61 +87,61 @@ routed_again false false StrayLabel = refl
 routed_again false false LabelOutside = refl
 routed_again false false Undeclared = refl
 
-routed_behind_valof : (i : Bool) (m : Meant) → around_routine i (around_valof m) ≡ around_routine i m
-routed_behind_valof true (Constant w) = refl
-routed_behind_valof true Pending = refl
-routed_behind_valof true (Static w) = refl
-routed_behind_valof true (Global w) = refl
-routed_behind_valof true (Routine w) = refl
-routed_behind_valof true (Variable w) = refl
-routed_behind_valof true (Label w) = refl
-routed_behind_valof true OuterVariable = refl
-routed_behind_valof true OuterLabel = refl
-routed_behind_valof true StrayVariable = refl
-routed_behind_valof true StrayLabel = refl
-routed_behind_valof true LabelOutside = refl
-routed_behind_valof true Undeclared = refl
-routed_behind_valof false (Constant w) = refl
-routed_behind_valof false Pending = refl
-routed_behind_valof false (Static w) = refl
-routed_behind_valof false (Global w) = refl
-routed_behind_valof false (Routine w) = refl
-routed_behind_valof false (Variable w) = refl
-routed_behind_valof false (Label w) = refl
-routed_behind_valof false OuterVariable = refl
-routed_behind_valof false OuterLabel = refl
-routed_behind_valof false StrayVariable = refl
-routed_behind_valof false StrayLabel = refl
-routed_behind_valof false LabelOutside = refl
-routed_behind_valof false Undeclared = refl
+routed_after_valof : (i : Bool) (m : Meant) → around_routine i (around_valof m) ≡ around_routine i m
+routed_after_valof true (Constant w) = refl
+routed_after_valof true Pending = refl
+routed_after_valof true (Static w) = refl
+routed_after_valof true (Global w) = refl
+routed_after_valof true (Routine w) = refl
+routed_after_valof true (Variable w) = refl
+routed_after_valof true (Label w) = refl
+routed_after_valof true OuterVariable = refl
+routed_after_valof true OuterLabel = refl
+routed_after_valof true StrayVariable = refl
+routed_after_valof true StrayLabel = refl
+routed_after_valof true LabelOutside = refl
+routed_after_valof true Undeclared = refl
+routed_after_valof false (Constant w) = refl
+routed_after_valof false Pending = refl
+routed_after_valof false (Static w) = refl
+routed_after_valof false (Global w) = refl
+routed_after_valof false (Routine w) = refl
+routed_after_valof false (Variable w) = refl
+routed_after_valof false (Label w) = refl
+routed_after_valof false OuterVariable = refl
+routed_after_valof false OuterLabel = refl
+routed_after_valof false StrayVariable = refl
+routed_after_valof false StrayLabel = refl
+routed_after_valof false LabelOutside = refl
+routed_after_valof false Undeclared = refl
 
-valof_behind_routed : (i : Bool) (m : Meant) → around_valof (around_routine i m) ≡ around_routine i m
-valof_behind_routed true (Constant w) = refl
-valof_behind_routed true Pending = refl
-valof_behind_routed true (Static w) = refl
-valof_behind_routed true (Global w) = refl
-valof_behind_routed true (Routine w) = refl
-valof_behind_routed true (Variable w) = refl
-valof_behind_routed true (Label w) = refl
-valof_behind_routed true OuterVariable = refl
-valof_behind_routed true OuterLabel = refl
-valof_behind_routed true StrayVariable = refl
-valof_behind_routed true StrayLabel = refl
-valof_behind_routed true LabelOutside = refl
-valof_behind_routed true Undeclared = refl
-valof_behind_routed false (Constant w) = refl
-valof_behind_routed false Pending = refl
-valof_behind_routed false (Static w) = refl
-valof_behind_routed false (Global w) = refl
-valof_behind_routed false (Routine w) = refl
-valof_behind_routed false (Variable w) = refl
-valof_behind_routed false (Label w) = refl
-valof_behind_routed false OuterVariable = refl
-valof_behind_routed false OuterLabel = refl
-valof_behind_routed false StrayVariable = refl
-valof_behind_routed false StrayLabel = refl
-valof_behind_routed false LabelOutside = refl
-valof_behind_routed false Undeclared = refl
+valof_after_routed : (i : Bool) (m : Meant) → around_valof (around_routine i m) ≡ around_routine i m
+valof_after_routed true (Constant w) = refl
+valof_after_routed true Pending = refl
+valof_after_routed true (Static w) = refl
+valof_after_routed true (Global w) = refl
+valof_after_routed true (Routine w) = refl
+valof_after_routed true (Variable w) = refl
+valof_after_routed true (Label w) = refl
+valof_after_routed true OuterVariable = refl
+valof_after_routed true OuterLabel = refl
+valof_after_routed true StrayVariable = refl
+valof_after_routed true StrayLabel = refl
+valof_after_routed true LabelOutside = refl
+valof_after_routed true Undeclared = refl
+valof_after_routed false (Constant w) = refl
+valof_after_routed false Pending = refl
+valof_after_routed false (Static w) = refl
+valof_after_routed false (Global w) = refl
+valof_after_routed false (Routine w) = refl
+valof_after_routed false (Variable w) = refl
+valof_after_routed false (Label w) = refl
+valof_after_routed false OuterVariable = refl
+valof_after_routed false OuterLabel = refl
+valof_after_routed false StrayVariable = refl
+valof_after_routed false StrayLabel = refl
+valof_after_routed false LabelOutside = refl
+valof_after_routed false Undeclared = refl
 
 valof_again : (m : Meant) → around_valof (around_valof m) ≡ around_valof m
 valof_again (Constant w) = refl
@@ -218,8 +218,8 @@ zero_is n h = grind arith
 not_zero : (n : ℕ) → 1 ≤ n → (n == 0) ≡ false
 not_zero n h = grind arith
 
--- behind a routine's beginning all that was found stands before it
-routine_now : (i : ℕ) (b : Borders) (k : Option Bound) → Stands i k → IsFirst b → answered (behind_routine (i + 1) b) k ≡ around_routine (is_within b) (answered b k)
+-- after a routine's beginning all that was found stands before it
+routine_now : (i : ℕ) (b : Borders) (k : Option Bound) → Stands i k → IsFirst b → answered (after_routine (i + 1) b) k ≡ around_routine (is_within b) (answered b k)
 routine_now i b None s f = sym (nothing_routed (is_within b))
 routine_now i b (Some k) s f = by (b.outermost == 0) refl
   where
@@ -232,11 +232,11 @@ routine_now i b (Some k) s f = by (b.outermost == 0) refl
     inner : (t u v : Bool) → cond t (around_routine false m) (around_routine true m) ≡ around_routine true (cond t (around_routine false m) (cond u (around_routine true m) (cond v (around_valof m) m)))
     inner true u v = sym (routed_again true false m)
     inner false true v = sym (routed_again true true m)
-    inner false false true = sym (routed_behind_valof true m)
+    inner false false true = sym (routed_after_valof true m)
     inner false false false = refl
 
     first : (v : Bool) → around_routine false m ≡ around_routine false (cond v (around_valof m) m)
-    first true = sym (routed_behind_valof false m)
+    first true = sym (routed_after_valof false m)
     first false = refl
 
     by : (z : Bool) → (b.outermost == 0) ≡ z
@@ -255,13 +255,13 @@ valof_now i b (Some k) s = rw (below k.place (i + 1) (omega arith)) (by (ltb k.p
     m = meant_view k.meant
 
     by : (t u v : Bool) → cond t (around_routine false m) (cond u (around_routine true m) (around_valof m)) ≡ around_valof (cond t (around_routine false m) (cond u (around_routine true m) (cond v (around_valof m) m)))
-    by true u v = sym (valof_behind_routed false m)
-    by false true v = sym (valof_behind_routed true m)
+    by true u v = sym (valof_after_routed false m)
+    by false true v = sym (valof_after_routed true m)
     by false false true = sym (valof_again m)
     by false false false = refl
 
--- behind a routine's beginning there is a border
-first_stays : (i : ℕ) (b : Borders) → b.outermost ≤ i → (not (cond (b.outermost == 0) (i + 1) b.outermost == 0) ≡ true) × (cond (b.outermost == 0) (i + 1) b.outermost ≤ i + 1) × IsFirst (behind_routine (i + 1) b)
+-- after a routine's beginning there is a border
+first_stays : (i : ℕ) (b : Borders) → b.outermost ≤ i → (not (cond (b.outermost == 0) (i + 1) b.outermost == 0) ≡ true) × (cond (b.outermost == 0) (i + 1) b.outermost ≤ i + 1) × IsFirst (after_routine (i + 1) b)
 first_stays i b h = by (b.outermost == 0) refl
   where
     zero_not : b.outermost ≡ 0 → (b.outermost == 0) ≡ true
@@ -271,9 +271,9 @@ first_stays i b h = by (b.outermost == 0) refl
     by true e = (ap not (not_zero (i + 1) (omega arith)), omega arith, λ n. n)
     by false e = (ap not e, omega arith, λ n. absurd (true≢false (sym (zero_not n) ∙ e)))
 
--- what is found and what the borders are give what a name means behind more entries
+-- what is found and what the borders are give what a name means after more entries
 means : (es : List Entry) (i : ℕ) (E : Env) (q : Name) (b : Borders) (k : Option Bound) → E.inside ≡ is_within b → IsFirst b → meant_by E q ≡ answered b k → Stands i k → b.outermost ≤ i → b.routine ≤ i → b.valof ≤ i
-    → meant_by (behind_entries es E) q ≡ answered (borders_of i es b) (newest i es q k)
+    → meant_by (after_entries es E) q ≡ answered (borders_of i es b) (newest i es q k)
 means [] i E q b k n f h s o r v = h
 means (entry.Name x p y ∷ es) i E q b k n f h s o r v = means es (i + 1) (with_name x.name.now (meant_view x.meant) E) q b (cond (is_name x.name.now q) (Some (record { meant = x.meant; place = i })) k) n f (by (is_name x.name.now q)) (on (is_name x.name.now q)) (omega arith) (omega arith) (omega arith)
   where
@@ -286,20 +286,20 @@ means (entry.Name x p y ∷ es) i E q b k n f h s o r v = means es (i + 1) (with
     on false = stands_on i (i + 1) k (omega arith) s
 means (entry.Routine x ∷ es) i E q b k n f h s o r v =
     let g = first_stays i b o in
-    means es (i + 1) (in_routine E) q (behind_routine (i + 1) b) k (sym g.0) g.2
+    means es (i + 1) (in_routine E) q (after_routine (i + 1) b) k (sym g.0) g.2
     (meant_in_routine E q ∙ (λ j. around_routine (n j) (h j)) ∙ sym (routine_now i b k s f)) (stands_on i (i + 1) k (omega arith) s) g.1 (omega arith) (omega arith)
 means (entry.Valof x ∷ es) i E q b k n f h s o r v =
     means es (i + 1) (in_valof E) q (record b { valof = i + 1 }) k n f (meant_in_valof E q ∙ ap around_valof h ∙ sym (valof_now i b k s)) (stands_on i (i + 1) k (omega arith) s) (omega arith) (omega arith) (omega arith)
 
-pub meant_is : (es : List Entry) (q : Name) → meant_by (behind_entries es nothing_known) q ≡ answered (borders_of 0 es no_borders) (newest 0 es q None)
+pub meant_is : (es : List Entry) (q : Name) → meant_by (after_entries es nothing_known) q ≡ answered (borders_of 0 es no_borders) (newest 0 es q None)
 meant_is es q = means es 0 nothing_known q no_borders None refl (λ n. refl) refl tt (omega arith) (omega arith) (omega arith)
 
-within : (es : List Entry) (i : ℕ) (E : Env) (b : Borders) → E.inside ≡ is_within b → b.outermost ≤ i → (behind_entries es E).inside ≡ is_within (borders_of i es b)
+within : (es : List Entry) (i : ℕ) (E : Env) (b : Borders) → E.inside ≡ is_within b → b.outermost ≤ i → (after_entries es E).inside ≡ is_within (borders_of i es b)
 within [] i E b n o = n
 within (entry.Name x p y ∷ es) i E b n o = within es (i + 1) (with_name x.name.now (meant_view x.meant) E) b n (omega arith)
-within (entry.Routine x ∷ es) i E b n o = let g = first_stays i b o in within es (i + 1) (in_routine E) (behind_routine (i + 1) b) (sym g.0) g.1
+within (entry.Routine x ∷ es) i E b n o = let g = first_stays i b o in within es (i + 1) (in_routine E) (after_routine (i + 1) b) (sym g.0) g.1
 within (entry.Valof x ∷ es) i E b n o = within es (i + 1) (in_valof E) (record b { valof = i + 1 }) n (omega arith)
 
 -- and whether the place is inside a routine
-pub inside_is : (es : List Entry) → (behind_entries es nothing_known).inside ≡ is_within (borders_of 0 es no_borders)
+pub inside_is : (es : List Entry) → (after_entries es nothing_known).inside ≡ is_within (borders_of 0 es no_borders)
 inside_is es = within es 0 nothing_known no_borders refl (omega arith)

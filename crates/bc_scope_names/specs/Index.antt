@@ -15,7 +15,7 @@ use Rattle.bc_scope_defs.specs.Scope.{Name, is_name}
 abbrev pub is_key : Bor (List ℕ) → Bor (List ℕ) → Bool
 is_key k n = bytes_eq k.now n.now
 
--- the newest entry of a name behind one more, at this place
+-- the newest entry of a name after one more, at this place
 abbrev pub newest_one : (i : ℕ) → Entry → Name → Option Bound → Option Bound
 newest_one i (entry.Name n position hidden) q k = cond (is_name n.name.now q) (Some (record { meant = n.meant; place = i })) k
 newest_one i (entry.Routine b) q k = k
@@ -29,17 +29,17 @@ abbrev pub no_borders : Borders
 no_borders = record { outermost = 0; routine = 0; valof = 0 }
 
 -- where a routine begins with the last of these entries
-abbrev pub behind_routine : (entries : ℕ) → Borders → Borders
-behind_routine n b = record { outermost = cond (b.outermost == 0) n b.outermost; routine = n; valof = b.valof }
+abbrev pub after_routine : (entries : ℕ) → Borders → Borders
+after_routine n b = record { outermost = cond (b.outermost == 0) n b.outermost; routine = n; valof = b.valof }
 
-abbrev pub behind_border : (i : ℕ) → Entry → Borders → Borders
-behind_border i (entry.Name n position hidden) b = b
-behind_border i (entry.Routine o) b = behind_routine (i + 1) b
-behind_border i (entry.Valof o) b = record b { valof = i + 1 }
+abbrev pub after_border : (i : ℕ) → Entry → Borders → Borders
+after_border i (entry.Name n position hidden) b = b
+after_border i (entry.Routine o) b = after_routine (i + 1) b
+after_border i (entry.Valof o) b = record b { valof = i + 1 }
 
 abbrev pub borders_of : (i : ℕ) → List Entry → Borders → Borders
 borders_of i [] b = b
-borders_of i (e ∷ es) b = borders_of (i + 1) es (behind_border i e b)
+borders_of i (e ∷ es) b = borders_of (i + 1) es (after_border i e b)
 
 -- the index has the newest entry of each name
 abbrev pub Finds : {S : Type 0} → IndexMap (Bor (List ℕ)) (Option Bound) S → List Entry → Type 0

@@ -1,4 +1,4 @@
--- For proofs: what kinds of operands of the code stand for.
+-- For proofs: what kinds of operands of the code mean.
 use Rattle.bc_scope_names.specs.declared.sides.Kind.{Kind}
 use Rattle.bc_scope_names.specs.declared.sides.Kind.TheVariants as code
 use Rattle.bc_scope_names.specs.declared.sides.Kinds.{Kinds}

@@ -1,4 +1,4 @@
--- What names and meanings of the code stand for.
+-- What names and meanings of the code mean.
 use Rattle.bc_scope_names.specs.declared.scope.Meant.{Meant}
 use Rattle.bc_scope_names.specs.declared.scope.Meant.TheVariants as code
 use Rattle.bc_scope_defs.specs.Scope as scoping

@@ -7,7 +7,7 @@ use Rattle.bc_scope_names.specs.declared.declaring.Priors.{Priors}
 use Rattle.bc_scope_defs.specs.Scope.{Env, Name, Variable, Routine, Numbers, with_name, meant_by}
 use Rattle.bc_scope_defs.specs.Scoping.{constant, count, variables, any_numbers, before_let}
 use Rattle.bc_scope_defs.specs.Found.{global_of}
-use Rattle.bc_scope_defs.specs.Numbering.{behind_definition}
+use Rattle.bc_scope_defs.specs.Numbering.{after_definition}
 
 -- the global that a definition sets
 abbrev pub global_before : Env → Definition → Option ℕ
@@ -79,7 +79,7 @@ declared_by p at k (tree.Routine n ps b) E = routine_by p.global n at.place E
 abbrev pub all_declared_by : List (Option ℕ) → List ℕ → Numbers → (k : ℕ) → Definitions → Env → Env
 all_declared_by gs ws at k no_definitions E = E
 all_declared_by gs ws at k (definition d ds) E =
-    all_declared_by (drop 1 gs) (drop 1 ws) (behind_definition at d) (k + cells_by (prior_at gs ws) d) ds (declared_by (prior_at gs ws) at k d E)
+    all_declared_by (drop 1 gs) (drop 1 ws) (after_definition at d) (k + cells_by (prior_at gs ws) d) ds (declared_by (prior_at gs ws) at k d E)
 
 -- the own names of a LET, by the globals that its routines set
 abbrev pub own_by : List (Option ℕ) → Definitions → Env → Env

@@ -1,4 +1,4 @@
--- What scopes and numbers of the code stand for.
+-- What scopes and numbers of the code mean.
 pub use Rattle.bc_scope_names.specs.Known.{meant_view}
 use Rattle.std.specs.Prelude.{◌≡◌, List, [], ◌∷◌, length, take}
 use Rattle.bc_scope_names.specs.declared.scope.Entry.{Entry}
@@ -8,19 +8,19 @@ use Rattle.bc_scope_defs.specs.Scope as scoping
 use Rattle.bc_scope_defs.specs.Scope.{Env, nothing_known, with_name}
 use Rattle.bc_scope_defs.specs.Scoping.{in_routine, in_valof}
 
--- what is known behind an entry
-abbrev pub behind_one : Entry → Env → Env
-behind_one (entry.Name n position hidden) E = with_name n.name.now (meant_view n.meant) E
-behind_one (entry.Routine borders) E = in_routine E
-behind_one (entry.Valof borders) E = in_valof E
+-- what is known after an entry
+abbrev pub after_one : Entry → Env → Env
+after_one (entry.Name n position hidden) E = with_name n.name.now (meant_view n.meant) E
+after_one (entry.Routine borders) E = in_routine E
+after_one (entry.Valof borders) E = in_valof E
 
 -- entries, oldest first
-abbrev pub behind_entries : List Entry → Env → Env
-behind_entries [] E = E
-behind_entries (e ∷ es) E = behind_entries es (behind_one e E)
+abbrev pub after_entries : List Entry → Env → Env
+after_entries [] E = E
+after_entries (e ∷ es) E = after_entries es (after_one e E)
 
 unfoldable pub scope_view : List Entry → Env
-scope_view es = behind_entries es nothing_known
+scope_view es = after_entries es nothing_known
 
 -- the entries of one scope are the first ones of another
 unfoldable pub Extends : (before after : List Entry) → Type 0

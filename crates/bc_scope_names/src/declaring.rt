@@ -9,7 +9,7 @@ ghost use Rattle.bc_scope_names.specs.View.{meant_view, scope_view, numbers_view
 ghost use Rattle.bc_scope_names.specs.Priors.{global_before, globals_before, greatest_of, all_greatest_of, is_vector, has_vector, ArePriors, first_global, prior_at, cells_by, routine_by, declared_by, own_by};
 
 use crate::constants::{constant, constant_in};
-use crate::numbering::{behind_definition, labels_named};
+use crate::numbering::{after_definition, labels_named};
 use crate::numbers::{Numbers, sum};
 use crate::scope::{Meant, Scope};
 use bc_parse_tree::{Constant, Definition, Exp, Item, Label, Storage};
@@ -348,7 +348,7 @@ fn declare_definition<'s>(
     }
 }
 
-/// The names that a LET makes known, at this next free offset; given is the next free offset behind it.
+/// The names that a LET makes known, at this next free offset; given is the next free offset after it.
 #[tactic(auto, using(crate::proofs::Extends::extends_on, crate::proofs::Extends::extends_self, crate::proofs::Lets::all_cells_are, crate::proofs::Lets::all_declared_is))]
 pub fn declare_let<'s>(
     scope: &mut Scope<'s>,
@@ -358,8 +358,8 @@ pub fn declare_let<'s>(
     definitions: &[Definition<'s>],
 ) -> Result<u64, Memory>
     requires { ArePriors priors.now (scope_view scope.old) (definitions_view definitions.now) }
-    ensures { IfOk result (λ behind.
-        (behind ≡ level + cells_of_all (before_let (definitions_view definitions.now) (scope_view scope.old)) (definitions_view definitions.now))
+    ensures { IfOk result (λ following.
+        (following ≡ level + cells_of_all (before_let (definitions_view definitions.now) (scope_view scope.old)) (definitions_view definitions.now))
         × Declares scope.old scope.new (in_let (scope_view scope.old) (numbers_view at) level (definitions_view definitions.now))) }
 {
     let mut at = at;
@@ -370,9 +370,9 @@ pub fn declare_let<'s>(
         declare_definition(scope, prior, at, offset, definition)?;
         offset = sum(offset, cells_by(prior, definition)?)?;
         i = sum(i, 1)?;
-        // Nothing asks for the numbers behind the last definition, which may be a walk over a large body.
+        // Nothing asks for the numbers after the last definition, which may be a walk over a large body.
         if i < definitions.len() as u64 {
-            behind_definition(&mut at, definition)?;
+            after_definition(&mut at, definition)?;
         }
     }
     Ok(offset)
@@ -401,7 +401,7 @@ fn declare_label<'s>(scope: &mut Scope<'s>, number: u64, label: &Label<'s>) -> R
     }
 }
 
-/// The labels before a command, the first of which has this number; given is the number behind them.
+/// The labels before a command, the first of which has this number; given is the number after them.
 #[tactic(auto, using(crate::proofs::Extends::extends_on, crate::proofs::Extends::extends_self))]
 fn declare_labels<'s>(
     scope: &mut Scope<'s>,
@@ -420,7 +420,7 @@ fn declare_labels<'s>(
     Ok(number)
 }
 
-/// The labels before the command of an item, the first of which has this number; given is the number behind them.
+/// The labels before the command of an item, the first of which has this number; given is the number after them.
 fn declare_item<'s>(scope: &mut Scope<'s>, number: u64, item: &Item<'s>) -> Result<u64, Memory>
     ensures { IfOk result (λ n.
         Declares scope.old scope.new (in_item number (item_view item.now) (scope_view scope.old))

@@ -16,7 +16,7 @@ pub use declaring::{
     declare_parameters, declare_pending, has_vector, priors_of_let,
 };
 pub use error::ScopeError;
-pub use numbering::{behind_block, behind_definition, behind_entry, labels_in};
+pub use numbering::{after_block, after_definition, after_entry, labels_in};
 pub use numbers::{Numbers, short, sum};
 pub use scope::{Mark, Meant, Scope};
 pub use sides::{is_operand, side_levels};

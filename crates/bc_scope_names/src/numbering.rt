@@ -1,7 +1,7 @@
-//! The numbers behind a tree, in text order.
+//! The numbers after a tree, in text order.
 ghost use Rattle.std.specs.Prelude.{◌≡◌, IfOk};
 ghost use Rattle.bc_parse_tree.specs.View.{exp_view, exps_view, command_view, block_view, declaration_view, declarations_view, definition_view, definitions_view, label_view, labels_view, item_view, items_view, entries_view};
-ghost use Rattle.bc_scope_defs.specs.Numbering.{labels_named, labels_of, labels_in, behind_entry, behind_entries, behind, behind_all, behind_block, behind_declarations, behind_declaration, behind_definitions, behind_definition, behind_items, behind_item, behind_command};
+ghost use Rattle.bc_scope_defs.specs.Numbering.{labels_named, labels_of, labels_in, after_entry, after_entries, following, after_all, after_block, after_declarations, after_declaration, after_definitions, after_definition, after_items, after_item, after_command};
 ghost use Rattle.bc_scope_names.specs.View.{numbers_view};
 
 use crate::numbers::{Numbers, sum};
@@ -40,183 +40,179 @@ pub fn labels_in(items: &[Item<'_>]) -> Result<u64, Memory>
     Ok(count)
 }
 
-pub fn behind_entry(storage: Storage, at: Numbers) -> Result<Numbers, Memory>
-    ensures { IfOk result (λ n. numbers_view n ≡ behind_entry storage (numbers_view at)) }
+pub fn after_entry(storage: Storage, at: Numbers) -> Result<Numbers, Memory>
+    ensures { IfOk result (λ n. numbers_view n ≡ after_entry storage (numbers_view at)) }
 {
     match storage {
-        Storage::Static => at.behind_place(),
+        Storage::Static => at.after_place(),
         Storage::Manifest | Storage::Global => Ok(at),
     }
 }
 
-fn behind_entries(
-    storage: Storage,
-    at: &mut Numbers,
-    entries: &[Constant<'_>],
-) -> Result<(), Memory>
-    ensures { IfOk result (λ _. numbers_view at.new ≡ behind_entries storage (numbers_view at.old) (entries_view entries.now)) }
+fn after_entries(storage: Storage, at: &mut Numbers, entries: &[Constant<'_>]) -> Result<(), Memory>
+    ensures { IfOk result (λ _. numbers_view at.new ≡ after_entries storage (numbers_view at.old) (entries_view entries.now)) }
 {
     for _each in entries {
-        *at = behind_entry(storage, *at)?;
+        *at = after_entry(storage, *at)?;
     }
     Ok(())
 }
 
 #[cycle(numbering)]
-fn behind(at: &mut Numbers, e: &Exp<'_>) -> Result<(), Memory>
-    ensures { IfOk result (λ _. numbers_view at.new ≡ behind (numbers_view at.old) (exp_view e.now)) }
+fn following(at: &mut Numbers, e: &Exp<'_>) -> Result<(), Memory>
+    ensures { IfOk result (λ _. numbers_view at.new ≡ following (numbers_view at.old) (exp_view e.now)) }
 {
     match e {
         Exp::String(_) | Exp::Table(_) => {
-            *at = at.behind_place()?;
+            *at = at.after_place()?;
             Ok(())
         }
         Exp::Valof(body) => {
-            *at = at.behind_valof()?;
-            behind_block(at, body)
+            *at = at.after_valof()?;
+            after_block(at, body)
         }
-        Exp::Monadic(_, operand) => behind(at, operand),
+        Exp::Monadic(_, operand) => following(at, operand),
         Exp::Dyadic(_, left, right) => {
-            behind(at, left)?;
-            behind(at, right)
+            following(at, left)?;
+            following(at, right)
         }
         Exp::Condition { test, this, that } => {
-            behind(at, test)?;
-            behind(at, this)?;
-            behind(at, that)
+            following(at, test)?;
+            following(at, this)?;
+            following(at, that)
         }
         Exp::Call(routine, arguments) => {
-            behind(at, routine)?;
-            behind_all(at, arguments)
+            following(at, routine)?;
+            after_all(at, arguments)
         }
         Exp::Name(_) | Exp::Number(_) | Exp::Character(_) | Exp::True | Exp::False => Ok(()),
     }
 }
 
 #[cycle(numbering)]
-fn behind_all(at: &mut Numbers, list: &[Exp<'_>]) -> Result<(), Memory>
-    ensures { IfOk result (λ _. numbers_view at.new ≡ behind_all (numbers_view at.old) (exps_view list.now)) }
+fn after_all(at: &mut Numbers, list: &[Exp<'_>]) -> Result<(), Memory>
+    ensures { IfOk result (λ _. numbers_view at.new ≡ after_all (numbers_view at.old) (exps_view list.now)) }
 {
     for e in list {
-        behind(at, e)?;
+        following(at, e)?;
     }
     Ok(())
 }
 
-/// The numbers behind a block.
+/// The numbers after a block.
 ///
 /// `Memory` comes where one would pass what 64 bits hold.
 #[cycle(numbering)]
-pub fn behind_block(at: &mut Numbers, block: &Block<'_>) -> Result<(), Memory>
-    ensures { IfOk result (λ _. numbers_view at.new ≡ behind_block (numbers_view at.old) (block_view block.now)) }
+pub fn after_block(at: &mut Numbers, block: &Block<'_>) -> Result<(), Memory>
+    ensures { IfOk result (λ _. numbers_view at.new ≡ after_block (numbers_view at.old) (block_view block.now)) }
 {
-    behind_declarations(at, &block.declarations)?;
-    *at = at.behind_labels(labels_in(&block.items)?)?;
-    behind_items(at, &block.items)
+    after_declarations(at, &block.declarations)?;
+    *at = at.after_labels(labels_in(&block.items)?)?;
+    after_items(at, &block.items)
 }
 
 #[cycle(numbering)]
-fn behind_declarations(at: &mut Numbers, list: &[Declaration<'_>]) -> Result<(), Memory>
-    ensures { IfOk result (λ _. numbers_view at.new ≡ behind_declarations (numbers_view at.old) (declarations_view list.now)) }
+fn after_declarations(at: &mut Numbers, list: &[Declaration<'_>]) -> Result<(), Memory>
+    ensures { IfOk result (λ _. numbers_view at.new ≡ after_declarations (numbers_view at.old) (declarations_view list.now)) }
 {
     for declaration in list {
-        behind_declaration(at, declaration)?;
+        after_declaration(at, declaration)?;
     }
     Ok(())
 }
 
 #[cycle(numbering)]
-fn behind_declaration(at: &mut Numbers, declaration: &Declaration<'_>) -> Result<(), Memory>
-    ensures { IfOk result (λ _. numbers_view at.new ≡ behind_declaration (numbers_view at.old) (declaration_view declaration.now)) }
+fn after_declaration(at: &mut Numbers, declaration: &Declaration<'_>) -> Result<(), Memory>
+    ensures { IfOk result (λ _. numbers_view at.new ≡ after_declaration (numbers_view at.old) (declaration_view declaration.now)) }
 {
     match declaration {
-        Declaration::Constants(storage, entries) => behind_entries(*storage, at, entries),
-        Declaration::Let(definitions) => behind_definitions(at, definitions),
+        Declaration::Constants(storage, entries) => after_entries(*storage, at, entries),
+        Declaration::Let(definitions) => after_definitions(at, definitions),
     }
 }
 
 #[cycle(numbering)]
-fn behind_definitions(at: &mut Numbers, list: &[Definition<'_>]) -> Result<(), Memory>
-    ensures { IfOk result (λ _. numbers_view at.new ≡ behind_definitions (numbers_view at.old) (definitions_view list.now)) }
+fn after_definitions(at: &mut Numbers, list: &[Definition<'_>]) -> Result<(), Memory>
+    ensures { IfOk result (λ _. numbers_view at.new ≡ after_definitions (numbers_view at.old) (definitions_view list.now)) }
 {
     for definition in list {
-        behind_definition(at, definition)?;
+        after_definition(at, definition)?;
     }
     Ok(())
 }
 
-/// The numbers behind one definition.
+/// The numbers after one definition.
 ///
 /// `Memory` comes where one would pass what 64 bits hold.
 #[cycle(numbering)]
-pub fn behind_definition(at: &mut Numbers, definition: &Definition<'_>) -> Result<(), Memory>
-    ensures { IfOk result (λ _. numbers_view at.new ≡ behind_definition (numbers_view at.old) (definition_view definition.now)) }
+pub fn after_definition(at: &mut Numbers, definition: &Definition<'_>) -> Result<(), Memory>
+    ensures { IfOk result (λ _. numbers_view at.new ≡ after_definition (numbers_view at.old) (definition_view definition.now)) }
 {
     match definition {
-        Definition::Variables(_, values) => behind_all(at, values),
+        Definition::Variables(_, values) => after_all(at, values),
         Definition::Vector(_, _) => Ok(()),
         Definition::Function(_, _, value) => {
-            *at = at.behind_place()?;
-            behind(at, value)
+            *at = at.after_place()?;
+            following(at, value)
         }
         Definition::Routine(_, _, body) => {
-            *at = at.behind_place()?;
-            behind_block(at, body)
+            *at = at.after_place()?;
+            after_block(at, body)
         }
     }
 }
 
 #[cycle(numbering)]
-fn behind_items(at: &mut Numbers, list: &[Item<'_>]) -> Result<(), Memory>
-    ensures { IfOk result (λ _. numbers_view at.new ≡ behind_items (numbers_view at.old) (items_view list.now)) }
+fn after_items(at: &mut Numbers, list: &[Item<'_>]) -> Result<(), Memory>
+    ensures { IfOk result (λ _. numbers_view at.new ≡ after_items (numbers_view at.old) (items_view list.now)) }
 {
     for item in list {
-        behind_item(at, item)?;
+        after_item(at, item)?;
     }
     Ok(())
 }
 
 #[cycle(numbering)]
-fn behind_item(at: &mut Numbers, item: &Item<'_>) -> Result<(), Memory>
-    ensures { IfOk result (λ _. numbers_view at.new ≡ behind_item (numbers_view at.old) (item_view item.now)) }
+fn after_item(at: &mut Numbers, item: &Item<'_>) -> Result<(), Memory>
+    ensures { IfOk result (λ _. numbers_view at.new ≡ after_item (numbers_view at.old) (item_view item.now)) }
 {
     match &item.command {
-        Some(command) => behind_command(at, command),
+        Some(command) => after_command(at, command),
         None => Ok(()),
     }
 }
 
 #[cycle(numbering)]
-fn behind_command(at: &mut Numbers, command: &Command<'_>) -> Result<(), Memory>
-    ensures { IfOk result (λ _. numbers_view at.new ≡ behind_command (numbers_view at.old) (command_view command.now)) }
+fn after_command(at: &mut Numbers, command: &Command<'_>) -> Result<(), Memory>
+    ensures { IfOk result (λ _. numbers_view at.new ≡ after_command (numbers_view at.old) (command_view command.now)) }
 {
     match command {
         Command::Assign(places, values) => {
-            behind_all(at, places)?;
-            behind_all(at, values)
+            after_all(at, places)?;
+            after_all(at, values)
         }
         Command::Call(routine, arguments) => {
-            behind(at, routine)?;
-            behind_all(at, arguments)
+            following(at, routine)?;
+            after_all(at, arguments)
         }
-        Command::Block(block) => behind_block(at, block),
-        Command::ResultIs(value) => behind(at, value),
-        Command::Repeat(repeated) => behind_command(at, repeated),
+        Command::Block(block) => after_block(at, block),
+        Command::ResultIs(value) => following(at, value),
+        Command::Repeat(repeated) => after_command(at, repeated),
         Command::RepeatWhile(repeated, test) | Command::RepeatUntil(repeated, test) => {
-            behind_command(at, repeated)?;
-            behind(at, test)
+            after_command(at, repeated)?;
+            following(at, test)
         }
         Command::If(test, body)
         | Command::Unless(test, body)
         | Command::While(test, body)
         | Command::Until(test, body) => {
-            behind(at, test)?;
-            behind_block(at, body)
+            following(at, test)?;
+            after_block(at, body)
         }
         Command::Test { test, this, that } => {
-            behind(at, test)?;
-            behind_block(at, this)?;
-            behind_block(at, that)
+            following(at, test)?;
+            after_block(at, this)?;
+            after_block(at, that)
         }
         Command::For {
             start,
@@ -224,14 +220,14 @@ fn behind_command(at: &mut Numbers, command: &Command<'_>) -> Result<(), Memory>
             body,
             ..
         } => {
-            behind(at, start)?;
-            behind(at, limit)?;
-            behind_block(at, body)
+            following(at, start)?;
+            following(at, limit)?;
+            after_block(at, body)
         }
         Command::SwitchOn(value, items) => {
-            behind(at, value)?;
-            *at = at.behind_labels(labels_in(items)?)?;
-            behind_items(at, items)
+            following(at, value)?;
+            *at = at.after_labels(labels_in(items)?)?;
+            after_items(at, items)
         }
         Command::Break
         | Command::Loop

@@ -32,7 +32,7 @@ pub fn short(n: u64) -> Result<u16, Memory>
 
 impl Numbers {
     ghost use Rattle.bc_scope_names.specs.View.{numbers_view};
-    ghost use Rattle.bc_scope_defs.specs.Scope.{behind_place, behind_valof, behind_labels};
+    ghost use Rattle.bc_scope_defs.specs.Scope.{after_place, after_valof, after_labels};
     ghost use Rattle.bc_scope_defs.specs.Found.{section_start};
 
     /// The numbers of a section begin here.
@@ -46,8 +46,8 @@ impl Numbers {
         }
     }
 
-    pub fn behind_place(self) -> Result<Numbers, Memory>
-        ensures { IfOk result (λ n. numbers_view n ≡ behind_place (numbers_view self)) }
+    pub fn after_place(self) -> Result<Numbers, Memory>
+        ensures { IfOk result (λ n. numbers_view n ≡ after_place (numbers_view self)) }
     {
         Ok(Numbers {
             place: sum(self.place, 1)?,
@@ -56,8 +56,8 @@ impl Numbers {
         })
     }
 
-    pub fn behind_valof(self) -> Result<Numbers, Memory>
-        ensures { IfOk result (λ n. numbers_view n ≡ behind_valof (numbers_view self)) }
+    pub fn after_valof(self) -> Result<Numbers, Memory>
+        ensures { IfOk result (λ n. numbers_view n ≡ after_valof (numbers_view self)) }
     {
         Ok(Numbers {
             place: self.place,
@@ -66,8 +66,8 @@ impl Numbers {
         })
     }
 
-    pub fn behind_labels(self, count: u64) -> Result<Numbers, Memory>
-        ensures { IfOk result (λ n. numbers_view n ≡ behind_labels (numbers_view self) count) }
+    pub fn after_labels(self, count: u64) -> Result<Numbers, Memory>
+        ensures { IfOk result (λ n. numbers_view n ≡ after_labels (numbers_view self) count) }
     {
         Ok(Numbers {
             place: self.place,

@@ -3,7 +3,7 @@ ghost use Rattle.bc_scope_defs.specs.Scope.{meant_by, with_name};
 ghost use Rattle.bc_scope_defs.specs.Scoping.{around_routine, around_valof, in_routine, in_valof};
 ghost use Rattle.bc_scope_names.specs.View.{meant_view, scope_view, Declares};
 ghost use Rattle.bc_scope_names.specs.Crossing.{seen};
-ghost use Rattle.bc_scope_names.specs.Index.{newest, behind_routine};
+ghost use Rattle.bc_scope_names.specs.Index.{newest, after_routine};
 
 use bc_word::Memory;
 use indexmap::IndexMap;
@@ -86,7 +86,7 @@ pub struct Mark {
 /// The names that are known at a place; a later one hides an earlier one.
 ///
 /// Contracts see a scope as its entries, oldest first. It serves all places of a section in turn: what an inner place
-/// makes known is taken back behind it.
+/// makes known is taken back after it.
 #[derive(Drop)]
 pub struct Scope<'s> {
     alloc: Global,
@@ -170,7 +170,7 @@ impl<'s> Scope<'s> {
     pub fn declare(&mut self, name: &'s [u8], meant: Meant) -> Result<(), Memory>
         ensures { IfOk result (λ _. Declares self.old self.new (with_name name.entry.now (meant_view meant) (scope_view self.old))) }
     {
-        // Behind this an entry more can't be refused, when the index has changed already.
+        // After this an entry more can't be refused, when the index has changed already.
         self.entries.reserve(1)?;
         let place = self.entries.len();
         let (position, hidden) = self.index.insert_full(name, Some(Bound { meant, place }))?;
@@ -192,7 +192,7 @@ impl<'s> Scope<'s> {
         ensures { IfOk result (λ _. Declares self.old self.new (in_routine (scope_view self.old))) }
     {
         self.entries.push(Entry::Routine(self.borders))?;
-        self.borders = behind_routine(self.entries.len(), self.borders);
+        self.borders = after_routine(self.entries.len(), self.borders);
         Ok(())
     }
 
@@ -247,9 +247,9 @@ impl<'s> Scope<'s> {
     }
 }
 
-/// The borders behind the beginning of a routine, which is the last of this many entries.
-fn behind_routine(entries: usize, borders: Borders) -> Borders
-    ensures { result ≡ behind_routine entries borders }
+/// The borders after the beginning of a routine, which is the last of this many entries.
+fn after_routine(entries: usize, borders: Borders) -> Borders
+    ensures { result ≡ after_routine entries borders }
 {
     Borders {
         outermost: if borders.outermost == 0 {

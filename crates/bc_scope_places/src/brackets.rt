@@ -5,7 +5,7 @@ use crate::leaves::Leaves;
 use crate::span::Span;
 use bc_lex_tokens::{Symbol, Token, TokenKind};
 
-/// Whether this token is this symbol; none stands behind the last token.
+/// Whether this token is this symbol; none stands after the last token.
 fn is_symbol(tokens: &[Token<'_>], i: usize, symbol: Symbol) -> bool {
     i < tokens.len() && tokens[i].kind == TokenKind::Symbol(symbol)
 }
@@ -29,7 +29,7 @@ fn closes(tokens: &[Token<'_>], i: usize) -> bool {
 }
 
 /// Where these signs begin before a token: brackets may stand between them.
-fn behind_signs(tokens: &[Token<'_>], first: usize, signs: u64) -> usize
+fn after_signs(tokens: &[Token<'_>], first: usize, signs: u64) -> usize
     ensures { result ≤ first }
 {
     let mut begin = first;
@@ -49,7 +49,7 @@ fn behind_signs(tokens: &[Token<'_>], first: usize, signs: u64) -> usize
     begin.min(first)
 }
 
-/// How many brackets are closed between two tokens and not opened there, and how many are open behind them.
+/// How many brackets are closed between two tokens and not opened there, and how many are open after them.
 #[derive(Clone, Copy)]
 struct Unmatched {
     closed: usize,
@@ -77,7 +77,7 @@ fn count_unmatched(tokens: &[Token<'_>], first: usize, last: usize) -> Unmatched
 }
 
 /// Where a bracket begins that is opened for each of these, directly before a token.
-fn behind_open(tokens: &[Token<'_>], first: usize, closed: usize) -> usize
+fn after_open(tokens: &[Token<'_>], first: usize, closed: usize) -> usize
     ensures { result ≤ first }
 {
     let mut begin = first;
@@ -89,8 +89,8 @@ fn behind_open(tokens: &[Token<'_>], first: usize, closed: usize) -> usize
     begin.min(first)
 }
 
-/// The last token of the calls without arguments, and of the brackets to be closed, that stand behind a token.
-fn behind_calls(tokens: &[Token<'_>], last: usize, calls: u64, open: usize) -> usize
+/// The last token of the calls without arguments, and of the brackets to be closed, that stand after a token.
+fn after_calls(tokens: &[Token<'_>], last: usize, calls: u64, open: usize) -> usize
     requires { last < length tokens.now }
     ensures { (last ≤ result) × (result < length tokens.now) }
 {
@@ -120,9 +120,9 @@ pub fn around(tokens: &[Token<'_>], at: Leaves, first: usize, last: usize) -> Sp
     requires within { last < length tokens.now }
     ensures { (result.first ≤ result.last) × (result.last < length tokens.now) }
 {
-    let begin = behind_signs(tokens, first, at.signs);
-    let begin = behind_open(tokens, begin, count_unmatched(tokens, begin, last).closed);
-    let end = behind_calls(
+    let begin = after_signs(tokens, first, at.signs);
+    let begin = after_open(tokens, begin, count_unmatched(tokens, begin, last).closed);
+    let end = after_calls(
         tokens,
         last,
         at.calls,

@@ -47,7 +47,7 @@ impl<'s> Walk<'s> {
         self.call(false, routine, values, level)
     }
 
-    /// A command that is done again as a test behind it says.
+    /// A command that is done again as a test after it says.
     #[cycle(places)]
     fn repeated(
         &mut self,
@@ -128,7 +128,7 @@ impl<'s> Walk<'s> {
         Ok(0)
     }
 
-    /// A body behind an expression.
+    /// A body after an expression.
     #[cycle(places)]
     fn guarded(
         &mut self,
@@ -201,7 +201,7 @@ impl<'s> Walk<'s> {
         Ok(())
     }
 
-    /// The start and the limit of a FOR, which stand behind its two cells, as its own test and sum do.
+    /// The start and the limit of a FOR, which stand after its two cells, as its own test and sum do.
     #[cycle(places)]
     fn ends(&mut self, start: &Exp<'s>, limit: &Exp<'s>, level: u64) -> Result<u64, End> {
         let above = level.saturating_add(2);

@@ -20,7 +20,7 @@ struct OfLet<'s> {
 
 /// The declarations of a walk.
 impl<'s> Walk<'s> {
-    /// Declarations, each behind those before it.
+    /// Declarations, each after those before it.
     #[cycle(places)]
     pub fn declarations(&mut self, list: &[Declaration<'s>], level: u64) -> Result<Extent, End> {
         let mut all = Extent { level, width: 0 };
@@ -54,7 +54,7 @@ impl<'s> Walk<'s> {
         self.listed_entries(&mut before, storage, list)
     }
 
-    /// The entries of a list, one by one, behind these names.
+    /// The entries of a list, one by one, after these names.
     #[cycle(places)]
     fn listed_entries(
         &mut self,
@@ -71,7 +71,7 @@ impl<'s> Walk<'s> {
         Ok(())
     }
 
-    /// A constant, a static or a global at this leaf, behind its value.
+    /// A constant, a static or a global at this leaf, after its value.
     fn declared(&mut self, storage: Storage, entry: &Constant<'s>, leaf: u64) -> Result<(), End> {
         let answer = entry_fault(&self.scope, storage, entry.name, &entry.value);
         if let Err(fault) = answer {
@@ -108,7 +108,7 @@ impl<'s> Walk<'s> {
         Ok(Extent { level, width })
     }
 
-    /// Declares the names of a LET; gives the level behind its cells.
+    /// Declares the names of a LET; gives the level after its cells.
     fn declared_let(&mut self, list: &[Definition<'s>], level: u64) -> Result<u64, End> {
         let priors = priors_of_let(&mut self.scope, list)?;
         Ok(declare_let(&mut self.scope, &priors, Numbers::start(), level, list)?)
@@ -182,7 +182,7 @@ impl<'s> Walk<'s> {
         }
     }
 
-    /// A definition of a LET, at the level behind its cells.
+    /// A definition of a LET, at the level after its cells.
     #[cycle(places)]
     fn definition(
         &mut self,
@@ -252,7 +252,7 @@ impl<'s> Walk<'s> {
         self.inside(Leaves::one(leaf))
     }
 
-    /// The parameters of a routine, behind which is this level.
+    /// The parameters of a routine, after which is this level.
     fn parameters(&mut self, names: &[&'s [u8]]) -> Result<u64, End> {
         declare_parameters(&mut self.scope, names)?;
         let mut before = IndexMap::new(self.alloc);
@@ -272,7 +272,7 @@ impl<'s> Walk<'s> {
         self.record.variable(offset, 1, leaf)
     }
 
-    /// A routine that gives a value, behind its name. It takes no cells of the frame in which it stands.
+    /// A routine that gives a value, after its name. It takes no cells of the frame in which it stands.
     #[cycle(places)]
     fn function(
         &mut self,
@@ -290,7 +290,7 @@ impl<'s> Walk<'s> {
         Ok(0)
     }
 
-    /// A routine that does commands, behind its name. It takes no cells of the frame in which it stands.
+    /// A routine that does commands, after its name. It takes no cells of the frame in which it stands.
     #[cycle(places)]
     fn routine(
         &mut self,

@@ -9,7 +9,7 @@ pub struct Leaves {
     pub last: u64,
     /// How many operators of one operand the construct has before its first leaf.
     pub signs: u64,
-    /// How many pairs of brackets with nothing in them it has behind its last leaf: calls without arguments.
+    /// How many pairs of brackets with nothing in them it has after its last leaf: calls without arguments.
     pub calls: u64,
 }
 
@@ -35,7 +35,7 @@ impl Leaves {
             first,
             last,
             signs: signs_before(e),
-            calls: calls_behind(e),
+            calls: calls_after(e),
         }
     }
 }
@@ -58,15 +58,15 @@ fn signs_before(e: &Exp<'_>) -> u64 {
     }
 }
 
-/// How many calls without arguments end behind the last leaf of an expression.
-fn calls_behind(e: &Exp<'_>) -> u64 {
+/// How many calls without arguments end after the last leaf of an expression.
+fn calls_after(e: &Exp<'_>) -> u64 {
     match e {
-        Exp::Monadic(_, operand) => calls_behind(operand),
-        Exp::Dyadic(_, _, right) => calls_behind(right),
-        Exp::Condition { that, .. } => calls_behind(that),
+        Exp::Monadic(_, operand) => calls_after(operand),
+        Exp::Dyadic(_, _, right) => calls_after(right),
+        Exp::Condition { that, .. } => calls_after(that),
         Exp::Call(called, values) => match values.last() {
-            Some(value) => calls_behind(value),
-            None => calls_behind(called).saturating_add(1),
+            Some(value) => calls_after(value),
+            None => calls_after(called).saturating_add(1),
         },
         Exp::Name(_)
         | Exp::Number(_)

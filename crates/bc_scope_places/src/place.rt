@@ -149,7 +149,7 @@ pub fn sites_of(alloc: Global, section: &Section<'_>) -> Result<Option<Sites>, M
 ///
 /// The section is the one that `bc_parse` reads from these tokens, and the fault is the one that `bc_scope::resolve`
 /// refuses it by. The place is that of the construct: a name; the expression of `NotConstant` and `NotAssignable`; the
-/// word BREAK, LOOP, ENDCASE, RETURN, RESULTIS, CASE or DEFAULT, the name behind a GOTO, a label that is used as a
+/// word BREAK, LOOP, ENDCASE, RETURN, RESULTIS, CASE or DEFAULT, the name after a GOTO, a label that is used as a
 /// value, or the names that are declared as variables outside of routines; the second declaration, CASE or DEFAULT;
 /// the name of the first routine whose frame is too large; and the name, TABLE or string of the one with which the
 /// places are more than 8,000.

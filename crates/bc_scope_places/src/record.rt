@@ -59,9 +59,9 @@ impl Sites {
         }
     }
 
-    /// The place among all expressions, tests and assignments of the one of a body behind which this many of the same body stand.
-    pub fn root(&self, body: BodyOf, behind: u64) -> Option<usize> {
-        let mut left = behind;
+    /// The place among all expressions, tests and assignments of the one of a body after which this many of the same body stand.
+    pub fn root(&self, body: BodyOf, following: u64) -> Option<usize> {
+        let mut left = following;
         for (index, site) in self.roots.iter().enumerate().rev() {
             if site.body == body {
                 if left == 0 {

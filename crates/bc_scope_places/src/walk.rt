@@ -33,7 +33,7 @@ pub struct Found<'s> {
     pub beside: Beside,
 }
 
-/// Why a walk ends before the section does: by a fault, which the walk keeps, or for want of memory.
+/// Why a walk ends before the section does: by a fault, which the walk keeps, or because memory ran out.
 #[derive(Clone, Copy)]
 pub enum End {
     Found,
@@ -188,7 +188,7 @@ impl<'s> Walk<'s> {
         }
     }
 
-    /// A name of an enclosing routine: the walk ends at its declaration, which may stand before it or behind.
+    /// A name of an enclosing routine: the walk ends at its declaration, which may stand before it or after.
     fn of_another(&mut self, name: &'s [u8], leaf: u64) -> Result<(), End> {
         let Some(declared) = self.newest(name) else {
             return self.not_free(name, leaf, Beside::Nothing);

@@ -8,9 +8,9 @@ use Rattle.bc_core.specs.Tree.{Exp, Args, no_argument, argument}
 use Rattle.bc_core.specs.Commands as core
 use Rattle.bc_core.specs.View.{exp, args, items, command}
 use Rattle.bc_parse_tree.specs.Tree as source
-use Rattle.bc_scope_defs.specs.Scope.{Env, Numbers, behind_labels}
-use Rattle.bc_scope_defs.specs.Numbering.{labels_of, labels_in, behind_command, behind_declarations}
-use Rattle.bc_scope_defs.specs.Scoping.{constant, in_declarations, in_list, level_behind}
+use Rattle.bc_scope_defs.specs.Scope.{Env, Numbers, after_labels}
+use Rattle.bc_scope_defs.specs.Numbering.{labels_of, labels_in, after_command, after_declarations}
+use Rattle.bc_scope_defs.specs.Scoping.{constant, in_declarations, in_list, level_after}
 use Rattle.bc_scope_defs.specs.Translation.{core_declarations, core_labels, core_block, core_items, core_command}
 use Rattle.bc_scope_translate.specs.Seen.{args_list, Entry, ACommand, ACase, ADefault, ALabel, entry_view, entry_list, label_entries, items_entries}
 
@@ -70,8 +70,8 @@ labels_entered E k (source.label (source.Named n) ls) is = ap (◌∷◌ (ALabel
 entered : (E : Env) (k : ℕ) (at : Numbers) (is : source.Items) (s : ℕ) → entry_list (core_items E k at is s) ≡ items_entries E k at is s
 entered E k at source.no_items s = refl
 entered E k at (source.item (source.Labelled ls c) is) s =
-    labels_entered E k ls (core.command (core_command E at c s) (core_items E (k + labels_of ls) (behind_command at c) is s))
-    ∙ ap (λ es. label_entries E k ls ++ (ACommand (core_command E at c s) ∷ es)) (entered E (k + labels_of ls) (behind_command at c) is s)
+    labels_entered E k ls (core.command (core_command E at c s) (core_items E (k + labels_of ls) (after_command at c) is s))
+    ∙ ap (λ es. label_entries E k ls ++ (ACommand (core_command E at c s) ∷ es)) (entered E (k + labels_of ls) (after_command at c) is s)
 entered E k at (source.item (source.Labels_alone ls) is) s =
     labels_entered E k ls (core_items E (k + labels_of ls) at is s)
     ∙ ap (λ es. label_entries E k ls ++ es) (entered E (k + labels_of ls) at is s)
@@ -85,14 +85,14 @@ items_done vs ts i F E k at is s h z e =
 
 -- a block, whose list sees the names and numbers that its declarations leave
 pub block_made : (ps : List (List core.Variable)) (qs : core.Items) (S E : Env) (N at : Numbers) (ds : source.Declarations) (is : source.Items) (l s : ℕ)
-    → ps ≡ core_declarations E at s ds → N ≡ behind_declarations at ds → S ≡ in_declarations E at s ds → l ≡ level_behind E at s ds
-    → qs ≡ core_items (in_list N.label is S) N.label (behind_labels N (labels_in is)) is l
+    → ps ≡ core_declarations E at s ds → N ≡ after_declarations at ds → S ≡ in_declarations E at s ds → l ≡ level_after E at s ds
+    → qs ≡ core_items (in_list N.label is S) N.label (after_labels N (labels_in is)) is l
     → core.block ps qs ≡ core_block E at (source.block ds is) s
 block_made ps qs S E N at ds is l s p n d k q =
-    let B = behind_declarations at ds in
+    let B = after_declarations at ds in
     ap (λ xs. core.block xs qs) p
     ∙ ap (core.block (core_declarations E at s ds))
     (q
-    ∙ ap (λ (M : Numbers). core_items (in_list M.label is S) M.label (behind_labels M (labels_in is)) is l) n
-    ∙ ap (λ D. core_items (in_list B.label is D) B.label (behind_labels B (labels_in is)) is l) d
-    ∙ ap (λ m. core_items (in_list B.label is (in_declarations E at s ds)) B.label (behind_labels B (labels_in is)) is m) k)
+    ∙ ap (λ (M : Numbers). core_items (in_list M.label is S) M.label (after_labels M (labels_in is)) is l) n
+    ∙ ap (λ D. core_items (in_list B.label is D) B.label (after_labels B (labels_in is)) is l) d
+    ∙ ap (λ m. core_items (in_list B.label is (in_declarations E at s ds)) B.label (after_labels B (labels_in is)) is m) k)

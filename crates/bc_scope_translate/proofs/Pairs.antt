@@ -11,19 +11,19 @@ use Rattle.bc_scope_translate.proofs.Lists.{items_seen}
 use Rattle.bc_core.specs.Commands as core
 use Rattle.bc_parse_tree.specs.declared.tree.Exp.{Exp}
 use Rattle.bc_parse_tree.specs.View.{exp_view, exps_view}
-use Rattle.bc_scope_defs.specs.Numbering.{behind, behind_all}
+use Rattle.bc_scope_defs.specs.Numbering.{following, after_all}
 use Rattle.bc_scope_defs.specs.Scope.{Env, Numbers}
 use Rattle.bc_scope_defs.specs.Translation.{Forms, forms, forms_of_all, assignment, assignments}
 
 pub single_is : (E : Env) (at : Numbers) (xs es : List Exp) (x e : Exp) → length xs ≡ 1 → length es ≡ 1 → x ≡ get_or xs 0 x → e ≡ get_or es 0 e
-    → core.Assign (forms E (behind at (exp_view x)) (exp_view e)).content (forms E at (exp_view x)).address ≡ assignment (forms_of_all E at (exps_view xs)) (forms_of_all E (behind_all at (exps_view xs)) (exps_view es))
+    → core.Assign (forms E (following at (exp_view x)) (exp_view e)).content (forms E at (exp_view x)).address ≡ assignment (forms_of_all E at (exps_view xs)) (forms_of_all E (after_all at (exps_view xs)) (exps_view es))
 single_is E at [] es x e lx le px pe = absurd (omega (arith, lx))
 single_is E at (y ∷ z ∷ xs) es x e lx le px pe = absurd (omega (arith, lx))
 single_is E at (y ∷ []) [] x e lx le px pe = absurd (omega (arith, le))
 single_is E at (y ∷ []) (f ∷ g ∷ es) x e lx le px pe = absurd (omega (arith, le))
 single_is E at (y ∷ []) (f ∷ []) x e lx le px pe =
-    ap (λ a. core.Assign (forms E (behind at (exp_view a)) (exp_view e)).content (forms E at (exp_view a)).address) px
-    ∙ ap (λ b. core.Assign (forms E (behind at (exp_view y)) (exp_view b)).content (forms E at (exp_view y)).address) pe
+    ap (λ a. core.Assign (forms E (following at (exp_view a)) (exp_view e)).content (forms E at (exp_view a)).address) px
+    ∙ ap (λ b. core.Assign (forms E (following at (exp_view y)) (exp_view b)).content (forms E at (exp_view y)).address) pe
 
 pub several_addresses : (E : Env) (at at1 : Numbers) (xs es : List Exp) → length xs ≢ 1
     → core.Nested (core.block [] (assignments (forms_of_all E at (exps_view xs)) (forms_of_all E at1 (exps_view es)))) ≡ assignment (forms_of_all E at (exps_view xs)) (forms_of_all E at1 (exps_view es))

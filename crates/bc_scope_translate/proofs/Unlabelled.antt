@@ -2,8 +2,8 @@
 use Rattle.std.proofs.Common.{◌≡◌, ◌+◌, ℕ, refl, ap, ◌∙◌, arith}
 use Rattle.bc_core.specs.Commands as core
 use Rattle.bc_parse_tree.specs.Tree.{Item, Items, no_items, item, Labelled, Labels_alone, Case, Default, Named, Labels, no_labels, label}
-use Rattle.bc_scope_defs.specs.Scope.{Env, Numbers, behind_labels}
-use Rattle.bc_scope_defs.specs.Numbering.{labels_of, labels_of_item, labels_in, behind_command, behind_items}
+use Rattle.bc_scope_defs.specs.Scope.{Env, Numbers, after_labels}
+use Rattle.bc_scope_defs.specs.Numbering.{labels_of, labels_of_item, labels_in, after_command, after_items}
 use Rattle.bc_scope_defs.specs.Scoping.{constant, in_labels, in_item, in_list}
 use Rattle.bc_scope_defs.specs.Translation.{core_labels, core_items, core_command}
 
@@ -37,21 +37,21 @@ labels_alike E k m (label (Named n) ls) is h = absurd (omega (arith, h))
 items_alike : (E : Env) (k m : ℕ) (at : Numbers) (is : Items) (s : ℕ) → labels_in is ≡ 0 → core_items E k at is s ≡ core_items E m at is s
 items_alike E k m at no_items s h = refl
 items_alike E k m at (item (Labelled ls c) is) s h =
-    labels_alike E k m ls (core.command (core_command E at c s) (core_items E (k + labels_of ls) (behind_command at c) is s)) (first_none (labels_of ls) (labels_in is) h)
-    ∙ ap (λ js. core_labels E m ls (core.command (core_command E at c s) js)) (items_alike E (k + labels_of ls) (m + labels_of ls) (behind_command at c) is s (rest_none (labels_of ls) (labels_in is) h))
+    labels_alike E k m ls (core.command (core_command E at c s) (core_items E (k + labels_of ls) (after_command at c) is s)) (first_none (labels_of ls) (labels_in is) h)
+    ∙ ap (λ js. core_labels E m ls (core.command (core_command E at c s) js)) (items_alike E (k + labels_of ls) (m + labels_of ls) (after_command at c) is s (rest_none (labels_of ls) (labels_in is) h))
 items_alike E k m at (item (Labels_alone ls) is) s h =
     labels_alike E k m ls (core_items E (k + labels_of ls) at is s) (first_none (labels_of ls) (labels_in is) h)
     ∙ ap (λ js. core_labels E m ls js) (items_alike E (k + labels_of ls) (m + labels_of ls) at is s (rest_none (labels_of ls) (labels_in is) h))
 
-none_counted : (at : Numbers) (n : ℕ) → n ≡ 0 → behind_labels at n ≡ at
+none_counted : (at : Numbers) (n : ℕ) → n ≡ 0 → after_labels at n ≡ at
 none_counted at n h = ap (λ (k : ℕ). record { place = at.place; valof = at.valof; label = k }) (omega (arith, h))
 
 -- the names, the labels and the numbers of such a list
-pub unlabelled : (E : Env) (k : ℕ) (at : Numbers) (is : Items) (s : ℕ) → labels_in is ≡ 0 → core_items (in_list k is E) k (behind_labels at (labels_in is)) is s ≡ core_items E 0 at is s
+pub unlabelled : (E : Env) (k : ℕ) (at : Numbers) (is : Items) (s : ℕ) → labels_in is ≡ 0 → core_items (in_list k is E) k (after_labels at (labels_in is)) is s ≡ core_items E 0 at is s
 unlabelled E k at is s h =
-    ap (λ F. core_items F k (behind_labels at (labels_in is)) is s) (no_list_names k is E h)
+    ap (λ F. core_items F k (after_labels at (labels_in is)) is s) (no_list_names k is E h)
     ∙ ap (λ (N : Numbers). core_items E k N is s) (none_counted at (labels_in is) h)
     ∙ items_alike E k 0 at is s h
 
-pub behind_unlabelled : (at : Numbers) (is : Items) → labels_in is ≡ 0 → behind_items (behind_labels at (labels_in is)) is ≡ behind_items at is
-behind_unlabelled at is h = ap (λ (N : Numbers). behind_items N is) (none_counted at (labels_in is) h)
+pub after_unlabelled : (at : Numbers) (is : Items) → labels_in is ≡ 0 → after_items (after_labels at (labels_in is)) is ≡ after_items at is
+after_unlabelled at is h = ap (λ (N : Numbers). after_items N is) (none_counted at (labels_in is) h)

@@ -1,4 +1,4 @@
--- What the trees of the code that hold several parts stand for.
+-- What the trees of the code that hold several parts mean.
 use Rattle.std.proofs.Common.{◌≡◌, ◌∙◌, ◌++◌, ◌⊎◌, inl, inr, ℕ, List, Option, Some, None, Vec, sym, ap}
 use Rattle.std.specs.Borrow.{Bor}
 use Rattle.std.specs.declared.alloc.Global.{Global}
@@ -25,7 +25,7 @@ use Rattle.bc_parse_tree.specs.View.{exp_view, exps_view, block_view, command_vi
 use Rattle.bc_core.specs.Level.{level_in_for}
 use Rattle.bc_scope_defs.specs.Scope.{Env, Numbers}
 use Rattle.bc_scope_defs.specs.Scoping.{in_for}
-use Rattle.bc_scope_defs.specs.Numbering.{behind, behind_block, behind_command}
+use Rattle.bc_scope_defs.specs.Numbering.{following, after_block, after_command}
 use Rattle.bc_scope_defs.specs.Found.{found, found_in_block, found_in_command}
 
 pub block_seen : (b : code_block.Block) → block_view b ≡ block (declarations_view (out-Block b).declarations.items) (items_view (out-Block b).items.items)
@@ -85,29 +85,29 @@ for_view n a z b = ap command_view (sym (commands.rolls-For n a z None b)) ∙ f
 for_by_view : (n : Bor (List ℕ)) (a z k : Box code.Exp Global) (b : code_block.Block) → command_view (commands.For n a z (Some k) b) ≡ tree.ForBy n.now (exp_view a.value) (exp_view z.value) (exp_view k.value) (block_view b)
 for_by_view n a z k b = ap command_view (sym (commands.rolls-For n a z (Some k) b)) ∙ fold-roll-Command Command Declaration Definition Exp Label Block (List ℕ × Exp) Item command_step declaration_step definition_step exp_step label_step block_step constant_step item_step (Command-F.For n a z (Some k) b)
 
--- a body behind an expression: the numbers behind it, and what is found
+-- a body after an expression: the numbers after it, and what is found
 pub guarded : (E : Env) (at : Numbers) (s : ℕ) (c : code_command.Command) (e : code.Exp) (b : code_block.Block)
     → (c ≡ commands.If e b) ⊎ ((c ≡ commands.Unless e b) ⊎ ((c ≡ commands.While e b) ⊎ (c ≡ commands.Until e b)))
-    → (behind_command at (command_view c) ≡ behind_block (behind at (exp_view e)) (block_view b))
-    × (found_in_command E at (command_view c) s ≡ found E at (exp_view e) s ++ found_in_block E (behind at (exp_view e)) (block_view b) s)
-guarded E at s c e b (inl h) = let v = ap command_view h ∙ if_view e b in (ap (behind_command at) v, ap (λ d. found_in_command E at d s) v)
-guarded E at s c e b (inr (inl h)) = let v = ap command_view h ∙ unless_view e b in (ap (behind_command at) v, ap (λ d. found_in_command E at d s) v)
-guarded E at s c e b (inr (inr (inl h))) = let v = ap command_view h ∙ while_view e b in (ap (behind_command at) v, ap (λ d. found_in_command E at d s) v)
-guarded E at s c e b (inr (inr (inr h))) = let v = ap command_view h ∙ until_view e b in (ap (behind_command at) v, ap (λ d. found_in_command E at d s) v)
+    → (after_command at (command_view c) ≡ after_block (following at (exp_view e)) (block_view b))
+    × (found_in_command E at (command_view c) s ≡ found E at (exp_view e) s ++ found_in_block E (following at (exp_view e)) (block_view b) s)
+guarded E at s c e b (inl h) = let v = ap command_view h ∙ if_view e b in (ap (after_command at) v, ap (λ d. found_in_command E at d s) v)
+guarded E at s c e b (inr (inl h)) = let v = ap command_view h ∙ unless_view e b in (ap (after_command at) v, ap (λ d. found_in_command E at d s) v)
+guarded E at s c e b (inr (inr (inl h))) = let v = ap command_view h ∙ while_view e b in (ap (after_command at) v, ap (λ d. found_in_command E at d s) v)
+guarded E at s c e b (inr (inr (inr h))) = let v = ap command_view h ∙ until_view e b in (ap (after_command at) v, ap (λ d. found_in_command E at d s) v)
 
--- an expression behind a command
+-- an expression after a command
 pub repeated : (E : Env) (at : Numbers) (s : ℕ) (c : code_command.Command) (r : Box code_command.Command Global) (e : code.Exp)
     → (c ≡ commands.RepeatWhile r e) ⊎ (c ≡ commands.RepeatUntil r e)
-    → (behind_command at (command_view c) ≡ behind (behind_command at (command_view r.value)) (exp_view e))
-    × (found_in_command E at (command_view c) s ≡ found_in_command E at (command_view r.value) s ++ found E (behind_command at (command_view r.value)) (exp_view e) s)
-repeated E at s c r e (inl h) = let v = ap command_view h ∙ repeat_while_view r e in (ap (behind_command at) v, ap (λ d. found_in_command E at d s) v)
-repeated E at s c r e (inr h) = let v = ap command_view h ∙ repeat_until_view r e in (ap (behind_command at) v, ap (λ d. found_in_command E at d s) v)
+    → (after_command at (command_view c) ≡ following (after_command at (command_view r.value)) (exp_view e))
+    × (found_in_command E at (command_view c) s ≡ found_in_command E at (command_view r.value) s ++ found E (after_command at (command_view r.value)) (exp_view e) s)
+repeated E at s c r e (inl h) = let v = ap command_view h ∙ repeat_while_view r e in (ap (after_command at) v, ap (λ d. found_in_command E at d s) v)
+repeated E at s c r e (inr h) = let v = ap command_view h ∙ repeat_until_view r e in (ap (after_command at) v, ap (λ d. found_in_command E at d s) v)
 
 -- a FOR, with a BY or without
 pub counted : (E : Env) (at : Numbers) (s : ℕ) (c : code_command.Command) (n : Bor (List ℕ)) (a z : Box code.Exp Global) (k : Option (Box code.Exp Global)) (b : code_block.Block)
     → c ≡ commands.For n a z k b
-    → (behind_command at (command_view c) ≡ behind_block (behind (behind at (exp_view a.value)) (exp_view z.value)) (block_view b))
+    → (after_command at (command_view c) ≡ after_block (following (following at (exp_view a.value)) (exp_view z.value)) (block_view b))
     × (found_in_command E at (command_view c) s
-    ≡ found E at (exp_view a.value) (level_in_for s) ++ (found E (behind at (exp_view a.value)) (exp_view z.value) (level_in_for s) ++ found_in_block (in_for E n.now s) (behind (behind at (exp_view a.value)) (exp_view z.value)) (block_view b) (level_in_for s)))
-counted E at s c n a z None b h = let v = ap command_view h ∙ for_view n a z b in (ap (behind_command at) v, ap (λ d. found_in_command E at d s) v)
-counted E at s c n a z (Some k) b h = let v = ap command_view h ∙ for_by_view n a z k b in (ap (behind_command at) v, ap (λ d. found_in_command E at d s) v)
+    ≡ found E at (exp_view a.value) (level_in_for s) ++ (found E (following at (exp_view a.value)) (exp_view z.value) (level_in_for s) ++ found_in_block (in_for E n.now s) (following (following at (exp_view a.value)) (exp_view z.value)) (block_view b) (level_in_for s)))
+counted E at s c n a z None b h = let v = ap command_view h ∙ for_view n a z b in (ap (after_command at) v, ap (λ d. found_in_command E at d s) v)
+counted E at s c n a z (Some k) b h = let v = ap command_view h ∙ for_by_view n a z k b in (ap (after_command at) v, ap (λ d. found_in_command E at d s) v)

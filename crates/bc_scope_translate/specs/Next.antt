@@ -4,13 +4,13 @@ use Rattle.bc_scope_translate.specs.declared.numbering.NextNumbers.{NextNumbers}
 use Rattle.bc_scope_translate.specs.declared.numbering.Passed.{Passed}
 use Rattle.bc_scope_translate.specs.declared.numbering.Passed.TheVariants as passed
 use Rattle.bc_scope_defs.specs.Scope as scoping
-use Rattle.bc_scope_defs.specs.Numbering.{behind_block, behind_definition}
+use Rattle.bc_scope_defs.specs.Numbering.{after_block, after_definition}
 use Rattle.bc_scope_names.specs.View.{numbers_view}
 
-abbrev pub behind_passed : scoping.Numbers → Passed → scoping.Numbers
-behind_passed at passed.Nothing = at
-behind_passed at (passed.Routine d) = behind_definition at (definition_view d.now)
-behind_passed at (passed.Body b) = behind_block at (block_view b.now)
+abbrev pub after_passed : scoping.Numbers → Passed → scoping.Numbers
+after_passed at passed.Nothing = at
+after_passed at (passed.Routine d) = after_definition at (definition_view d.now)
+after_passed at (passed.Body b) = after_block at (block_view b.now)
 
 unfoldable pub next_numbers : NextNumbers → scoping.Numbers
-next_numbers n = behind_passed (numbers_view n.counted) n.passed
+next_numbers n = after_passed (numbers_view n.counted) n.passed

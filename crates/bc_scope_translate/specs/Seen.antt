@@ -1,4 +1,4 @@
--- For proofs: what the translation's own data stand for.
+-- For proofs: what the translation's own data mean.
 use Rattle.std.specs.Prelude.{◌≡◌, ◌+◌, ℕ, List, [], ◌∷◌, ◌++◌, map, Bool, Result, IfOk}
 use Rattle.bc_core.specs.declared.command.Condition.{Condition}
 use Rattle.bc_core.specs.declared.command.ListItem as code_entry
@@ -13,7 +13,7 @@ use Rattle.bc_scope_translate.specs.declared.forms.Formed.TheVariants as formed
 use Rattle.bc_scope_defs.specs.Translation.{Forms, cell, plain, core_command}
 use Rattle.bc_scope_defs.specs.Scope as scoping
 use Rattle.bc_scope_defs.specs.Scoping.{constant}
-use Rattle.bc_scope_defs.specs.Numbering.{labels_named, labels_of, behind_item}
+use Rattle.bc_scope_defs.specs.Numbering.{labels_named, labels_of, after_item}
 use Rattle.bc_scope_names.specs.declared.scope.Entry as names
 use Rattle.bc_scope_translate.specs.declared.numbering.NextNumbers.{NextNumbers}
 use Rattle.bc_scope_translate.specs.Next.{next_numbers}
@@ -73,17 +73,17 @@ labels_before (tree.Labels_alone ls) = ls
 abbrev pub items_entries : scoping.Env → (k : ℕ) → scoping.Numbers → tree.Items → (s : ℕ) → List Entry
 items_entries E k at tree.no_items s = []
 items_entries E k at (tree.item i is) s =
-    label_entries E k (labels_before i) ++ (command_entry E at i s ++ items_entries E (k + labels_of (labels_before i)) (behind_item at i) is s)
+    label_entries E k (labels_before i) ++ (command_entry E at i s ++ items_entries E (k + labels_of (labels_before i)) (after_item at i) is s)
 
--- the answer of a part's translation, and the numbers behind it
-abbrev pub Translates : {X Y E : Type 0} → (X → Y) → Result X E → Y → (after : NextNumbers) → (behind : scoping.Numbers) → Type 0
-Translates view result y after behind = IfOk result (λ x. (view x ≡ y) × (next_numbers after ≡ behind))
+-- the answer of a part's translation, and the numbers after it
+abbrev pub Translates : {X Y E : Type 0} → (X → Y) → Result X E → Y → (after : NextNumbers) → (following : scoping.Numbers) → Type 0
+Translates view result y after following = IfOk result (λ x. (view x ≡ y) × (next_numbers after ≡ following))
 
 -- the same, and the names that are known are then those that were known before
-abbrev pub TranslatesWithin : {X Y E : Type 0} → (X → Y) → Result X E → Y → (after : NextNumbers) → (behind : scoping.Numbers)
+abbrev pub TranslatesWithin : {X Y E : Type 0} → (X → Y) → Result X E → Y → (after : NextNumbers) → (following : scoping.Numbers)
     → (known_before known_after : List names.Entry) → Type 0
-TranslatesWithin view result y after behind known_before known_after =
-    IfOk result (λ x. (view x ≡ y) × (next_numbers after ≡ behind) × (known_after ≡ known_before))
+TranslatesWithin view result y after following known_before known_after =
+    IfOk result (λ x. (view x ≡ y) × (next_numbers after ≡ following) × (known_after ≡ known_before))
 
 -- the sense and the test of a condition
 abbrev pub condition_view : Condition → Bool × Exp

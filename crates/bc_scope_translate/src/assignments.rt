@@ -3,7 +3,7 @@ ghost use Rattle.std.specs.Prelude.{◌≡◌, [], IfOk};
 ghost use Rattle.bc_core.specs.Commands.{Assign, Nested, block};
 ghost use Rattle.bc_core.specs.View.{command as command_of, items as items_of};
 ghost use Rattle.bc_parse_tree.specs.View.{exp_view, exps_view};
-ghost use Rattle.bc_scope_defs.specs.Numbering.{behind, behind_all};
+ghost use Rattle.bc_scope_defs.specs.Numbering.{following, after_all};
 ghost use Rattle.bc_scope_defs.specs.Translation.{forms, forms_of_all, assignment, assignments};
 ghost use Rattle.bc_scope_names.specs.View.{scope_view};
 ghost use Rattle.bc_scope_translate.specs.Next.{next_numbers};
@@ -26,7 +26,7 @@ fn side<'t, 's>(
     list: &'t [Exp<'s>],
 ) -> Result<Vec<Formed>, Memory>
     ensures { Translates (λ fs. formed_list fs.items) result (forms_of_all (scope_view scope.now) (next_numbers at.old) (exps_view list.now)) at.new
-        (behind_all (next_numbers at.old) (exps_view list.now)) }
+        (after_all (next_numbers at.old) (exps_view list.now)) }
 {
     let mut formed = Vec::with_capacity(scope.alloc(), list.len())?;
     for e in list {
@@ -57,9 +57,9 @@ fn single<'t, 's>(
     assigned: &'t Exp<'s>,
 ) -> Result<CoreCommand, Memory>
     ensures { Translates command_of result
-        (Assign (forms (scope_view scope.now) (behind (next_numbers at.old) (exp_view place.now)) (exp_view assigned.now)).content
+        (Assign (forms (scope_view scope.now) (following (next_numbers at.old) (exp_view place.now)) (exp_view assigned.now)).content
         (forms (scope_view scope.now) (next_numbers at.old) (exp_view place.now)).address) at.new
-        (behind (behind (next_numbers at.old) (exp_view place.now)) (exp_view assigned.now)) }
+        (following (following (next_numbers at.old) (exp_view place.now)) (exp_view assigned.now)) }
 {
     let place = expression(scope, at, place)?;
     Ok(CoreCommand::Assign {
@@ -78,8 +78,8 @@ fn several<'t, 's>(
 ) -> Result<CoreCommand, Memory>
     ensures { Translates command_of result
         (Nested (block [] (assignments (forms_of_all (scope_view scope.now) (next_numbers at.old) (exps_view places.now))
-        (forms_of_all (scope_view scope.now) (behind_all (next_numbers at.old) (exps_view places.now)) (exps_view values.now))))) at.new
-        (behind_all (behind_all (next_numbers at.old) (exps_view places.now)) (exps_view values.now)) }
+        (forms_of_all (scope_view scope.now) (after_all (next_numbers at.old) (exps_view places.now)) (exps_view values.now))))) at.new
+        (after_all (after_all (next_numbers at.old) (exps_view places.now)) (exps_view values.now)) }
 {
     let places = side(scope, at, places)?;
     let values = side(scope, at, values)?;
@@ -100,8 +100,8 @@ pub fn assigned<'t, 's>(
     values: &'t [Exp<'s>],
 ) -> Result<CoreCommand, Memory>
     ensures { Translates command_of result (assignment (forms_of_all (scope_view scope.now) (next_numbers at.old) (exps_view places.now))
-        (forms_of_all (scope_view scope.now) (behind_all (next_numbers at.old) (exps_view places.now)) (exps_view values.now))) at.new
-        (behind_all (behind_all (next_numbers at.old) (exps_view places.now)) (exps_view values.now)) }
+        (forms_of_all (scope_view scope.now) (after_all (next_numbers at.old) (exps_view places.now)) (exps_view values.now))) at.new
+        (after_all (after_all (next_numbers at.old) (exps_view places.now)) (exps_view values.now)) }
 {
     if places.len() != 1 {
         return several(scope, at, places, values);

@@ -8,9 +8,9 @@ ghost use Rattle.bc_core.specs.Tree.{Call as call_of};
 ghost use Rattle.bc_core.specs.View.{variable, declarations as declarations_of, command as command_of, items as items_of, block_of as core_block_of};
 ghost use Rattle.bc_parse_tree.specs.View.{exp_view, exps_view, command_view, block_view, declaration_view, declarations_view, definition_view, definitions_view, entries_view, label_view, labels_view, item_view, items_view};
 ghost use Rattle.bc_scope_defs.specs.Meaning.{label_number as label_number_of};
-ghost use Rattle.bc_scope_defs.specs.Scoping.{in_entries, in_declaration, in_declarations, in_list, in_for, cells_in, level_behind};
-ghost use Rattle.bc_scope_defs.specs.Scope.{behind_labels, meant_by};
-ghost use Rattle.bc_scope_defs.specs.Numbering.{labels_of, labels_in as labels_in_of, behind_entries, behind, behind_all, behind_block, behind_declarations, behind_definitions, behind_declaration, behind_definition as behind_definition_of, behind_items, behind_item, behind_command};
+ghost use Rattle.bc_scope_defs.specs.Scoping.{in_entries, in_declaration, in_declarations, in_list, in_for, cells_in, level_after};
+ghost use Rattle.bc_scope_defs.specs.Scope.{after_labels, meant_by};
+ghost use Rattle.bc_scope_defs.specs.Numbering.{labels_of, labels_in as labels_in_of, after_entries, following, after_all, after_block, after_declarations, after_definitions, after_declaration, after_definition as after_definition_of, after_items, after_item, after_command};
 ghost use Rattle.bc_scope_defs.specs.Translation.{forms, forms_of_all, initials as initials_of, core_declaration, core_declarations, core_block, core_items, core_command, core_arguments, block_of as block_of_one};
 ghost use Rattle.bc_core.specs.Level.{level_in_for};
 ghost use Rattle.bc_scope_names.specs.View.{meant_view, scope_view, Declares};
@@ -29,7 +29,7 @@ use bc_core::{
 };
 use bc_parse_tree::{Block, Command, Constant, Declaration, Definition, Exp, Item, Label, Storage};
 use bc_scope_names::{
-    Meant, Priors, Scope, behind_entry, constant, declare_entry, declare_let, declare_list,
+    Meant, Priors, Scope, after_entry, constant, declare_entry, declare_let, declare_list,
     declare_pending, labels_in, priors_of_let, short, sum,
 };
 use bc_word::{Memory, Word};
@@ -50,7 +50,7 @@ fn initials<'t, 's>(
 ) -> Result<(), Memory>
     ensures { Translates (λ _. map variable variables.new.items) result (map variable variables.old.items
         ++ initials_of (forms_of_all (scope_view scope.now) (next_numbers at.old) (exps_view list.now))) at.new
-        (behind_all (next_numbers at.old) (exps_view list.now)) }
+        (after_all (next_numbers at.old) (exps_view list.now)) }
 {
     for e in list {
         variables.push(Variable::Value(value(scope, at, e)?))?;
@@ -68,7 +68,7 @@ fn definition<'t, 's>(
 ) -> Result<(), Memory>
     ensures { Translates (λ _. map variable variables.new.items) result (map variable variables.old.items
         ++ core_definition_by greatest (scope_view scope.now) (next_numbers at.old) (definition_view tree.now)) at.new
-        (behind_definition_of (next_numbers at.old) (definition_view tree.now)) }
+        (after_definition_of (next_numbers at.old) (definition_view tree.now)) }
 {
     match tree {
         Definition::Variables(_, values) => initials(scope, at, variables, values),
@@ -98,7 +98,7 @@ fn definitions<'t, 's>(
     list: &'t [Definition<'s>],
 ) -> Result<Vec<Variable>, Memory>
     ensures { Translates (λ vs. map variable vs.items) result (core_definitions_by priors.now.greatest.items (scope_view scope.now) (next_numbers at.old)
-        (definitions_view list.now)) at.new (behind_definitions (next_numbers at.old) (definitions_view list.now)) }
+        (definitions_view list.now)) at.new (after_definitions (next_numbers at.old) (definitions_view list.now)) }
 {
     let mut variables = Vec::with_capacity(scope.alloc(), variables_in(list))?;
     let mut i = 0u64;
@@ -118,17 +118,17 @@ fn entries<'t, 's>(
     list: &[Constant<'s>],
 ) -> Result<(), Memory>
     ensures { IfOk result (λ _. Declares scope.old scope.new (in_entries storage (next_numbers at.old) (entries_view list.now) (scope_view scope.old))
-        × (next_numbers at.new ≡ behind_entries storage (next_numbers at.old) (entries_view list.now))) }
+        × (next_numbers at.new ≡ after_entries storage (next_numbers at.old) (entries_view list.now))) }
 {
     for entry in list {
         let numbers = at.count()?;
         declare_entry(scope, storage, numbers, entry)?;
-        *at = NextNumbers::new(behind_entry(storage, numbers)?);
+        *at = NextNumbers::new(after_entry(storage, numbers)?);
     }
     Ok(())
 }
 
-/// A declaration at this next free offset, whose names are then known; given is the next free offset behind it.
+/// A declaration at this next free offset, whose names are then known; given is the next free offset after it.
 fn declaration<'t, 's>(
     scope: &mut Scope<'s>,
     at: &mut NextNumbers<'t, 's>,
@@ -138,7 +138,7 @@ fn declaration<'t, 's>(
 ) -> Result<u64, Memory>
     ensures { IfOk result (λ s. (s ≡ level + cells_in (scope_view scope.old) (declaration_view tree.now))
         × Declares scope.old scope.new (in_declaration (scope_view scope.old) (next_numbers at.old) level (declaration_view tree.now))
-        × (next_numbers at.new ≡ behind_declaration (next_numbers at.old) (declaration_view tree.now))
+        × (next_numbers at.new ≡ after_declaration (next_numbers at.old) (declaration_view tree.now))
         × (declarations_of declarations.new.items ≡ declarations_of declarations.old.items
         ++ core_declaration (scope_view scope.old) (next_numbers at.old) level (declaration_view tree.now))) }
 {
@@ -151,15 +151,15 @@ fn declaration<'t, 's>(
         Declaration::Let(list) => {
             let priors = priors_of_let(scope, list)?;
             let numbers = at.settle()?;
-            let behind = declare_let(scope, &priors, numbers, level, list)?;
+            let following = declare_let(scope, &priors, numbers, level, list)?;
             let variables = definitions(scope, &priors, at, list)?;
             declarations.push(CoreDeclaration { variables })?;
-            Ok(behind)
+            Ok(following)
         }
     }
 }
 
-/// Declarations from this next free offset on, whose names are then known; given is the next free offset behind them.
+/// Declarations from this next free offset on, whose names are then known; given is the next free offset after them.
 #[inline(never)]
 fn declarations<'t, 's>(
     scope: &mut Scope<'s>,
@@ -168,20 +168,20 @@ fn declarations<'t, 's>(
     list: &'t [Declaration<'s>],
     level: u64,
 ) -> Result<u64, Memory>
-    ensures { IfOk result (λ s. (s ≡ level_behind (scope_view scope.old) (next_numbers at.old) level (declarations_view list.now))
+    ensures { IfOk result (λ s. (s ≡ level_after (scope_view scope.old) (next_numbers at.old) level (declarations_view list.now))
         × Declares scope.old scope.new (in_declarations (scope_view scope.old) (next_numbers at.old) level (declarations_view list.now))
-        × (next_numbers at.new ≡ behind_declarations (next_numbers at.old) (declarations_view list.now))
+        × (next_numbers at.new ≡ after_declarations (next_numbers at.old) (declarations_view list.now))
         × (declarations_of declarations.new.items ≡ declarations_of declarations.old.items
         ++ core_declarations (scope_view scope.old) (next_numbers at.old) level (declarations_view list.now))) }
 {
-    let mut behind = level;
+    let mut following = level;
     for tree in list {
-        behind = declaration(scope, at, declarations, tree, behind)?;
+        following = declaration(scope, at, declarations, tree, following)?;
     }
-    Ok(behind)
+    Ok(following)
 }
 
-/// The labels before a command, the first of which has this number; given is the number behind them.
+/// The labels before a command, the first of which has this number; given is the number after them.
 #[inline(never)]
 fn labels<'s>(
     scope: &Scope<'s>,
@@ -213,7 +213,7 @@ fn condition<'t, 's>(
     test: &'t Exp<'s>,
 ) -> Result<Condition, Memory>
     ensures { Translates condition_view result (sense, (forms (scope_view scope.now) (next_numbers at.old) (exp_view test.now)).content) at.new
-        (behind (next_numbers at.old) (exp_view test.now)) }
+        (following (next_numbers at.old) (exp_view test.now)) }
 {
     let test = value(scope, at, test)?;
     Ok(Condition { sense, test })
@@ -234,7 +234,7 @@ fn entry(labelled: CoreCommand) -> ListItem
     ListItem::Command(labelled)
 }
 
-/// Puts a command behind the items of a list.
+/// Puts a command after the items of a list.
 #[inline(never)]
 fn push_command(list: &mut Vec<ListItem>, labelled: CoreCommand) -> Result<(), Memory>
     ensures { IfOk result (λ _. map entry_view list.new.items ≡ map entry_view list.old.items ++ ACommand (command_of labelled) ∷ []) }
@@ -251,7 +251,7 @@ pub fn block<'t, 's>(
     level: u64,
 ) -> Result<CoreBlock, Memory>
     ensures { TranslatesWithin core_block_of result (core_block (scope_view scope.old) (next_numbers at.old) (block_view tree.now) level) at.new
-        (behind_block (next_numbers at.old) (block_view tree.now)) scope.old scope.new }
+        (after_block (next_numbers at.old) (block_view tree.now)) scope.old scope.new }
 {
     let outside = scope.mark();
     let mut opened = Vec::new(scope.alloc());
@@ -265,7 +265,7 @@ pub fn block<'t, 's>(
 }
 
 /// A command list, whose labels are known in it.
-#[tactic(auto, using(crate::proofs::Unlabelled::unlabelled, crate::proofs::Unlabelled::behind_unlabelled))]
+#[tactic(auto, using(crate::proofs::Unlabelled::unlabelled, crate::proofs::Unlabelled::after_unlabelled))]
 #[cycle(blocks)]
 fn command_list<'t, 's>(
     scope: &mut Scope<'s>,
@@ -275,8 +275,8 @@ fn command_list<'t, 's>(
 ) -> Result<Vec<ListItem>, Memory>
     ensures { TranslatesWithin (λ is. items_of is.items) result
         (core_items (in_list (next_numbers at.old).label (items_view trees.now) (scope_view scope.old)) (next_numbers at.old).label
-        (behind_labels (next_numbers at.old) (labels_in_of (items_view trees.now))) (items_view trees.now) level) at.new
-        (behind_items (behind_labels (next_numbers at.old) (labels_in_of (items_view trees.now))) (items_view trees.now)) scope.old scope.new }
+        (after_labels (next_numbers at.old) (labels_in_of (items_view trees.now))) (items_view trees.now) level) at.new
+        (after_items (after_labels (next_numbers at.old) (labels_in_of (items_view trees.now))) (items_view trees.now)) scope.old scope.new }
 {
     let labels = labels_in(trees)?;
     if labels == 0 {
@@ -284,7 +284,7 @@ fn command_list<'t, 's>(
         return items(scope, at, 0, trees, level);
     }
     let numbers = at.count()?;
-    *at = NextNumbers::new(numbers.behind_labels(labels)?);
+    *at = NextNumbers::new(numbers.after_labels(labels)?);
     labelled_list(scope, at, numbers.label, trees, level)
 }
 
@@ -299,7 +299,7 @@ fn labelled_list<'t, 's>(
     level: u64,
 ) -> Result<Vec<ListItem>, Memory>
     ensures { TranslatesWithin (λ is. items_of is.items) result (core_items (in_list number (items_view trees.now) (scope_view scope.old)) number
-        (next_numbers at.old) (items_view trees.now) level) at.new (behind_items (next_numbers at.old) (items_view trees.now)) scope.old scope.new }
+        (next_numbers at.old) (items_view trees.now) level) at.new (after_items (next_numbers at.old) (items_view trees.now)) scope.old scope.new }
 {
     let before_labels = scope.mark();
     declare_list(scope, number, trees)?;
@@ -319,7 +319,7 @@ fn items<'t, 's>(
 ) -> Result<Vec<ListItem>, Memory>
     ensures { TranslatesWithin (λ is. items_of is.items) result
         (core_items (scope_view scope.old) number (next_numbers at.old) (items_view trees.now) level) at.new
-        (behind_items (next_numbers at.old) (items_view trees.now)) scope.old scope.new }
+        (after_items (next_numbers at.old) (items_view trees.now)) scope.old scope.new }
 {
     let mut list = Vec::with_capacity(scope.alloc(), trees.len())?;
     let mut number = number;
@@ -329,7 +329,7 @@ fn items<'t, 's>(
     Ok(list)
 }
 
-/// An item behind those of this list, the first label of which has this number; given is the number behind its labels.
+/// An item after those of this list, the first label of which has this number; given is the number after its labels.
 #[cycle(blocks)]
 fn item<'t, 's>(
     scope: &mut Scope<'s>,
@@ -341,16 +341,16 @@ fn item<'t, 's>(
 ) -> Result<u64, Memory>
     ensures { IfOk result (λ n. (map entry_view list.new.items ≡ map entry_view list.old.items
         ++ (label_entries (scope_view scope.old) number (labels_before (item_view tree.now)) ++ command_entry (scope_view scope.old) (next_numbers at.old)
-        (item_view tree.now) level)) × (next_numbers at.new ≡ behind_item (next_numbers at.old) (item_view tree.now))
+        (item_view tree.now) level)) × (next_numbers at.new ≡ after_item (next_numbers at.old) (item_view tree.now))
         × (n ≡ number + labels_of (labels_before (item_view tree.now))) × (scope.new ≡ scope.old)) }
 {
-    let behind = labels(scope, list, number, &tree.labels)?;
+    let following = labels(scope, list, number, &tree.labels)?;
     match &tree.command {
         Some(labelled) => {
             push_command(list, command(scope, at, labelled, level)?)?;
-            Ok(behind)
+            Ok(following)
         }
-        None => Ok(behind),
+        None => Ok(following),
     }
 }
 
@@ -365,7 +365,7 @@ fn body<'t, 's>(
 ) -> Result<CoreBlock, Memory>
     ensures { TranslatesWithin core_block_of result
         (block_of_one (core_command (scope_view scope.old) (next_numbers at.old) (command_view tree.now) level)) at.new
-        (behind_command (next_numbers at.old) (command_view tree.now)) scope.old scope.new }
+        (after_command (next_numbers at.old) (command_view tree.now)) scope.old scope.new }
 {
     let repeated = command(scope, at, tree, level)?;
     block_of(scope.alloc(), repeated)
@@ -383,7 +383,7 @@ fn counted<'t, 's>(
     level: u64,
 ) -> Result<CoreBlock, Memory>
     ensures { TranslatesWithin core_block_of result (core_block (in_for (scope_view scope.old) variable.entry.now level) (next_numbers at.old)
-        (block_view tree.now) (level_in_for level)) at.new (behind_block (next_numbers at.old) (block_view tree.now)) scope.old scope.new }
+        (block_view tree.now) (level_in_for level)) at.new (after_block (next_numbers at.old) (block_view tree.now)) scope.old scope.new }
 {
     let before_variable = scope.mark();
     scope.declare(variable, Meant::Variable(level))?;
@@ -404,8 +404,8 @@ fn guarded<'t, 's>(
     level: u64,
 ) -> Result<CoreCommand, Memory>
     ensures { TranslatesWithin command_of result (If sense (forms (scope_view scope.old) (next_numbers at.old) (exp_view test.now)).content
-        (core_block (scope_view scope.old) (behind (next_numbers at.old) (exp_view test.now)) (block_view tree.now) level)) at.new
-        (behind_block (behind (next_numbers at.old) (exp_view test.now)) (block_view tree.now)) scope.old scope.new }
+        (core_block (scope_view scope.old) (following (next_numbers at.old) (exp_view test.now)) (block_view tree.now) level)) at.new
+        (after_block (following (next_numbers at.old) (exp_view test.now)) (block_view tree.now)) scope.old scope.new }
 {
     let test = condition(scope, at, sense, test)?;
     Ok(conditional(test, block(scope, at, tree, level)?))
@@ -423,8 +423,8 @@ fn guarded_loop<'t, 's>(
     level: u64,
 ) -> Result<CoreCommand, Memory>
     ensures { TranslatesWithin command_of result (While sense (forms (scope_view scope.old) (next_numbers at.old) (exp_view test.now)).content
-        (core_block (scope_view scope.old) (behind (next_numbers at.old) (exp_view test.now)) (block_view tree.now) level)) at.new
-        (behind_block (behind (next_numbers at.old) (exp_view test.now)) (block_view tree.now)) scope.old scope.new }
+        (core_block (scope_view scope.old) (following (next_numbers at.old) (exp_view test.now)) (block_view tree.now) level)) at.new
+        (after_block (following (next_numbers at.old) (exp_view test.now)) (block_view tree.now)) scope.old scope.new }
 {
     let test = condition(scope, at, sense, test)?;
     Ok(looped(test, block(scope, at, tree, level)?))
@@ -441,7 +441,7 @@ fn endless_loop<'t, 's>(
 ) -> Result<CoreCommand, Memory>
     ensures { TranslatesWithin command_of result
         (Repeat (block_of_one (core_command (scope_view scope.old) (next_numbers at.old) (command_view tree.now) level))) at.new
-        (behind_command (next_numbers at.old) (command_view tree.now)) scope.old scope.new }
+        (after_command (next_numbers at.old) (command_view tree.now)) scope.old scope.new }
 {
     Ok(forever(body(scope, at, tree, level)?))
 }
@@ -459,8 +459,8 @@ fn tested_loop<'t, 's>(
 ) -> Result<CoreCommand, Memory>
     ensures { TranslatesWithin command_of result
         (RepeatWhile (block_of_one (core_command (scope_view scope.old) (next_numbers at.old) (command_view tree.now) level)) sense
-        (forms (scope_view scope.old) (behind_command (next_numbers at.old) (command_view tree.now)) (exp_view test.now)).content) at.new
-        (behind (behind_command (next_numbers at.old) (command_view tree.now)) (exp_view test.now)) scope.old scope.new }
+        (forms (scope_view scope.old) (after_command (next_numbers at.old) (command_view tree.now)) (exp_view test.now)).content) at.new
+        (following (after_command (next_numbers at.old) (command_view tree.now)) (exp_view test.now)) scope.old scope.new }
 {
     let body = body(scope, at, tree, level)?;
     Ok(repeated(body, condition(scope, at, sense, test)?))
@@ -477,10 +477,10 @@ fn switched<'t, 's>(
     level: u64,
 ) -> Result<CoreCommand, Memory>
     ensures { TranslatesWithin command_of result (SwitchOn (forms (scope_view scope.old) (next_numbers at.old) (exp_view of.now)).content
-        (core_items (in_list (behind (next_numbers at.old) (exp_view of.now)).label (items_view trees.now) (scope_view scope.old))
-        (behind (next_numbers at.old) (exp_view of.now)).label
-        (behind_labels (behind (next_numbers at.old) (exp_view of.now)) (labels_in_of (items_view trees.now))) (items_view trees.now) level)) at.new
-        (behind_items (behind_labels (behind (next_numbers at.old) (exp_view of.now)) (labels_in_of (items_view trees.now)))
+        (core_items (in_list (following (next_numbers at.old) (exp_view of.now)).label (items_view trees.now) (scope_view scope.old))
+        (following (next_numbers at.old) (exp_view of.now)).label
+        (after_labels (following (next_numbers at.old) (exp_view of.now)) (labels_in_of (items_view trees.now))) (items_view trees.now) level)) at.new
+        (after_items (after_labels (following (next_numbers at.old) (exp_view of.now)) (labels_in_of (items_view trees.now)))
         (items_view trees.now)) scope.old scope.new }
 {
     let of = value(scope, at, of)?;
@@ -500,9 +500,9 @@ fn first_branch<'t, 's>(
 ) -> Result<Branch, Memory>
     ensures { TranslatesWithin branch_view result (
       (forms (scope_view scope.old) (next_numbers at.old) (exp_view test.now)).content,
-      core_block (scope_view scope.old) (behind (next_numbers at.old) (exp_view test.now)) (block_view tree.now) level,
+      core_block (scope_view scope.old) (following (next_numbers at.old) (exp_view test.now)) (block_view tree.now) level,
     ) at.new
-        (behind_block (behind (next_numbers at.old) (exp_view test.now)) (block_view tree.now)) scope.old scope.new }
+        (after_block (following (next_numbers at.old) (exp_view test.now)) (block_view tree.now)) scope.old scope.new }
 {
     let test = value(scope, at, test)?;
     let this = block(scope, at, tree, level)?;
@@ -521,7 +521,7 @@ fn second_branch<'t, 's>(
 ) -> Result<CoreCommand, Memory>
     ensures { TranslatesWithin command_of result
         (Test (branch_view first).0 (branch_view first).1 (core_block (scope_view scope.old) (next_numbers at.old) (block_view tree.now) level)) at.new
-        (behind_block (next_numbers at.old) (block_view tree.now)) scope.old scope.new }
+        (after_block (next_numbers at.old) (block_view tree.now)) scope.old scope.new }
 {
     let that = block(scope, at, tree, level)?;
     let Branch { test, this } = first;
@@ -542,10 +542,10 @@ fn counted_loop<'t, 's>(
     level: u64,
 ) -> Result<CoreCommand, Memory>
     ensures { TranslatesWithin command_of result (For (forms (scope_view scope.old) (next_numbers at.old) (exp_view start.now)).content
-        (forms (scope_view scope.old) (behind (next_numbers at.old) (exp_view start.now)) (exp_view limit.now)).content by
+        (forms (scope_view scope.old) (following (next_numbers at.old) (exp_view start.now)) (exp_view limit.now)).content by
         (core_block (in_for (scope_view scope.old) variable.entry.now level)
-        (behind (behind (next_numbers at.old) (exp_view start.now)) (exp_view limit.now)) (block_view tree.now) (level_in_for level))) at.new
-        (behind_block (behind (behind (next_numbers at.old) (exp_view start.now)) (exp_view limit.now)) (block_view tree.now)) scope.old scope.new }
+        (following (following (next_numbers at.old) (exp_view start.now)) (exp_view limit.now)) (block_view tree.now) (level_in_for level))) at.new
+        (after_block (following (following (next_numbers at.old) (exp_view start.now)) (exp_view limit.now)) (block_view tree.now)) scope.old scope.new }
 {
     let start = value(scope, at, start)?;
     let limit = value(scope, at, limit)?;
@@ -562,9 +562,9 @@ fn called<'t, 's>(
     values: &'t [Exp<'s>],
 ) -> Result<CoreCommand, Memory>
     ensures { Translates command_of result (Call
-        (call_of (core_arguments (scope_view scope.now) (behind (next_numbers at.old) (exp_view routine.now)) (exps_view values.now))
+        (call_of (core_arguments (scope_view scope.now) (following (next_numbers at.old) (exp_view routine.now)) (exps_view values.now))
         (forms (scope_view scope.now) (next_numbers at.old) (exp_view routine.now)).content)) at.new
-        (behind_all (behind (next_numbers at.old) (exp_view routine.now)) (exps_view values.now)) }
+        (after_all (following (next_numbers at.old) (exp_view routine.now)) (exps_view values.now)) }
 {
     Ok(CoreCommand::Call(call(scope, at, routine, values)?))
 }
@@ -577,7 +577,7 @@ fn given<'t, 's>(
     tree: &'t Exp<'s>,
 ) -> Result<CoreCommand, Memory>
     ensures { Translates command_of result (ResultIs (forms (scope_view scope.now) (next_numbers at.old) (exp_view tree.now)).content) at.new
-        (behind (next_numbers at.old) (exp_view tree.now)) }
+        (following (next_numbers at.old) (exp_view tree.now)) }
 {
     Ok(CoreCommand::ResultIs(value(scope, at, tree)?))
 }
@@ -600,7 +600,7 @@ fn inner_block<'t, 's>(
     level: u64,
 ) -> Result<CoreCommand, Memory>
     ensures { TranslatesWithin command_of result (Nested (core_block (scope_view scope.old) (next_numbers at.old) (block_view tree.now) level)) at.new
-        (behind_block (next_numbers at.old) (block_view tree.now)) scope.old scope.new }
+        (after_block (next_numbers at.old) (block_view tree.now)) scope.old scope.new }
 {
     Ok(nested(block(scope, at, tree, level)?))
 }
@@ -614,7 +614,7 @@ fn command<'t, 's>(
     level: u64,
 ) -> Result<CoreCommand, Memory>
     ensures { TranslatesWithin command_of result (core_command (scope_view scope.old) (next_numbers at.old) (command_view tree.now) level) at.new
-        (behind_command (next_numbers at.old) (command_view tree.now)) scope.old scope.new }
+        (after_command (next_numbers at.old) (command_view tree.now)) scope.old scope.new }
 {
     match tree {
         Command::Assign(places, values) => assigned(scope, at, places, values),

@@ -1,11 +1,11 @@
-//! The bytes that a string stands for.
+//! The bytes that a string means.
 ghost use Rattle.std.specs.Prelude.{◌≡◌, false, IfOk};
 ghost use Rattle.bc_scope_defs.specs.Characters.{escaped, characters, decoded};
 
 use bc_word::Memory;
 use std::alloc::Global;
 
-/// The byte of an escape, by the letter behind `*`; what is no such letter stands for itself.
+/// The byte of an escape, by the letter after `*`; what is no such letter means itself.
 fn escaped(letter: u8) -> u8
     ensures { result ≡ escaped letter }
 {

@@ -3,8 +3,8 @@ ghost use Rattle.std.specs.Prelude.{◌≡◌, IfOk};
 ghost use Rattle.bc_core.specs.Tree.{Call, Place, Valof};
 ghost use Rattle.bc_core.specs.View.{exp, args};
 ghost use Rattle.bc_parse_tree.specs.View.{exp_view, exps_view, block_view};
-ghost use Rattle.bc_scope_defs.specs.Numbering.{behind, behind_all, behind_block};
-ghost use Rattle.bc_scope_defs.specs.Scope.{behind_place, behind_valof};
+ghost use Rattle.bc_scope_defs.specs.Numbering.{following, after_all, after_block};
+ghost use Rattle.bc_scope_defs.specs.Scope.{after_place, after_valof};
 ghost use Rattle.bc_scope_defs.specs.Translation.{forms, core_arguments, plain};
 ghost use Rattle.bc_scope_names.specs.View.{scope_view};
 ghost use Rattle.bc_scope_translate.specs.Next.{next_numbers};
@@ -26,24 +26,24 @@ fn called(values: Vec<CoreExp>, routine: Box<CoreExp>) -> CoreExp
 
 /// A string or a TABLE, which is a place.
 fn place(at: &mut NextNumbers<'_, '_>) -> Result<Formed, Memory>
-    ensures { Translates formed_view result (plain (Place (next_numbers at.old).place)) at.new (behind_place (next_numbers at.old)) }
+    ensures { Translates formed_view result (plain (Place (next_numbers at.old).place)) at.new (after_place (next_numbers at.old)) }
 {
     let numbers = at.count()?;
-    *at = NextNumbers::new(numbers.behind_place()?);
+    *at = NextNumbers::new(numbers.after_place()?);
     Ok(Formed::Plain(CoreExp::Place(short(numbers.place)?)))
 }
 
 /// A VALOF, whose body is passed by.
 fn valof<'t, 's>(at: &mut NextNumbers<'t, 's>, body: &'t Block<'s>) -> Result<Formed, Memory>
     ensures { Translates formed_view result (plain (Valof (next_numbers at.old).valof)) at.new
-        (behind_block (behind_valof (next_numbers at.old)) (block_view body.now)) }
+        (after_block (after_valof (next_numbers at.old)) (block_view body.now)) }
 {
     let numbers = at.count()?;
-    *at = NextNumbers::behind_body(numbers.behind_valof()?, body);
+    *at = NextNumbers::after_body(numbers.after_valof()?, body);
     Ok(Formed::Plain(CoreExp::Valof(short(numbers.valof)?)))
 }
 
-/// An expression at these numbers, which are then those behind it.
+/// An expression at these numbers, which are then those after it.
 #[cycle(expressions)]
 pub fn expression<'t, 's>(
     scope: &Scope<'s>,
@@ -51,7 +51,7 @@ pub fn expression<'t, 's>(
     e: &'t Exp<'s>,
 ) -> Result<Formed, Memory>
     ensures { Translates formed_view result (forms (scope_view scope.now) (next_numbers at.old) (exp_view e.now)) at.new
-        (behind (next_numbers at.old) (exp_view e.now)) }
+        (following (next_numbers at.old) (exp_view e.now)) }
 {
     match e {
         Exp::Name(name) => of_name(scope.meant_by(name)),
@@ -91,7 +91,7 @@ pub fn value<'t, 's>(
     e: &'t Exp<'s>,
 ) -> Result<CoreExp, Memory>
     ensures { Translates exp result (forms (scope_view scope.now) (next_numbers at.old) (exp_view e.now)).content at.new
-        (behind (next_numbers at.old) (exp_view e.now)) }
+        (following (next_numbers at.old) (exp_view e.now)) }
 {
     let formed = expression(scope, at, e)?;
     formed.content(scope.alloc())
@@ -104,7 +104,7 @@ fn boxed<'t, 's>(
     e: &'t Exp<'s>,
 ) -> Result<Box<CoreExp>, Memory>
     ensures { Translates (λ b. exp b.value) result (forms (scope_view scope.now) (next_numbers at.old) (exp_view e.now)).content at.new
-        (behind (next_numbers at.old) (exp_view e.now)) }
+        (following (next_numbers at.old) (exp_view e.now)) }
 {
     let value = value(scope, at, e)?;
     Ok(Box::new(scope.alloc(), value)?)
@@ -117,7 +117,7 @@ fn arguments<'t, 's>(
     list: &'t [Exp<'s>],
 ) -> Result<Vec<CoreExp>, Memory>
     ensures { Translates (λ es. args es.items) result (core_arguments (scope_view scope.now) (next_numbers at.old) (exps_view list.now)) at.new
-        (behind_all (next_numbers at.old) (exps_view list.now)) }
+        (after_all (next_numbers at.old) (exps_view list.now)) }
 {
     let mut values = Vec::with_capacity(scope.alloc(), list.len())?;
     for e in list {
@@ -135,9 +135,9 @@ pub fn call<'t, 's>(
     values: &'t [Exp<'s>],
 ) -> Result<CoreExp, Memory>
     ensures { Translates exp result
-        (Call (core_arguments (scope_view scope.now) (behind (next_numbers at.old) (exp_view routine.now)) (exps_view values.now))
+        (Call (core_arguments (scope_view scope.now) (following (next_numbers at.old) (exp_view routine.now)) (exps_view values.now))
         (forms (scope_view scope.now) (next_numbers at.old) (exp_view routine.now)).content) at.new
-        (behind_all (behind (next_numbers at.old) (exp_view routine.now)) (exps_view values.now)) }
+        (after_all (following (next_numbers at.old) (exp_view routine.now)) (exps_view values.now)) }
 {
     let routine = boxed(scope, at, routine)?;
     let values = arguments(scope, at, values)?;

@@ -21,7 +21,7 @@ pub enum Formed {
 }
 
 impl Formed {
-    /// The address; what has no cell stands for itself.
+    /// The address; what has no cell means itself.
     pub fn address(self) -> CoreExp
         ensures { exp result ≡ (formed_view self).address }
     {

@@ -7,8 +7,8 @@ mod characters;
 mod commands;
 mod expressions;
 mod forms;
-mod found;
-mod gathering;
+mod gathered;
 mod numbering;
+mod places_and_valofs;
 
-pub use found::{Translated, translate};
+pub use places_and_valofs::{Translated, translate};

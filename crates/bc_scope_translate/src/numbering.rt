@@ -1,12 +1,12 @@
 //! The numbers of a translation, counted as far as something asked for them.
 ghost use Rattle.std.specs.Prelude.{◌≡◌, IfOk};
 ghost use Rattle.bc_parse_tree.specs.View.{block_view, definition_view};
-ghost use Rattle.bc_scope_defs.specs.Numbering.{behind_block as behind_block_of, behind_definition as behind_definition_of};
+ghost use Rattle.bc_scope_defs.specs.Numbering.{after_block as after_block_of, after_definition as after_definition_of};
 ghost use Rattle.bc_scope_names.specs.View.{numbers_view};
 ghost use Rattle.bc_scope_translate.specs.Next.{next_numbers};
 
 use bc_parse_tree::{Block, Definition};
-use bc_scope_names::{Numbers, behind_block, behind_definition};
+use bc_scope_names::{Numbers, after_block, after_definition};
 use bc_word::Memory;
 
 /// What was passed by since the numbers were counted last.
@@ -21,7 +21,7 @@ enum Passed<'t, 's> {
 
 /// The next numbers.
 ///
-/// What stands in a routine or a VALOF is translated apart. The numbers behind it are a walk over all of it, and are
+/// What stands in a routine or a VALOF is translated apart. The numbers after it are a walk over all of it, and are
 /// counted only where something asks for them: else each of many routines, one within another, would be walked once
 /// for each that it stands in.
 #[derive(Clone, Copy)]
@@ -42,9 +42,9 @@ impl<'t, 's> NextNumbers<'t, 's> {
         }
     }
 
-    /// The numbers behind the body of a VALOF at these numbers.
-    pub fn behind_body(counted: Numbers, body: &'t Block<'s>) -> NextNumbers<'t, 's>
-        ensures { next_numbers result ≡ behind_block_of (numbers_view counted) (block_view body.now) }
+    /// The numbers after the body of a VALOF at these numbers.
+    pub fn after_body(counted: Numbers, body: &'t Block<'s>) -> NextNumbers<'t, 's>
+        ensures { next_numbers result ≡ after_block_of (numbers_view counted) (block_view body.now) }
     {
         NextNumbers {
             counted,
@@ -52,9 +52,9 @@ impl<'t, 's> NextNumbers<'t, 's> {
         }
     }
 
-    /// The numbers behind a routine at these numbers.
-    fn behind_routine(counted: Numbers, routine: &'t Definition<'s>) -> NextNumbers<'t, 's>
-        ensures { next_numbers result ≡ behind_definition_of (numbers_view counted) (definition_view routine.now) }
+    /// The numbers after a routine at these numbers.
+    fn after_routine(counted: Numbers, routine: &'t Definition<'s>) -> NextNumbers<'t, 's>
+        ensures { next_numbers result ≡ after_definition_of (numbers_view counted) (definition_view routine.now) }
     {
         NextNumbers {
             counted,
@@ -71,8 +71,8 @@ impl<'t, 's> NextNumbers<'t, 's> {
         let mut numbers = self.counted;
         match self.passed {
             Passed::Nothing => {}
-            Passed::Routine(routine) => behind_definition(&mut numbers, routine)?,
-            Passed::Body(body) => behind_block(&mut numbers, body)?,
+            Passed::Routine(routine) => after_definition(&mut numbers, routine)?,
+            Passed::Body(body) => after_block(&mut numbers, body)?,
         }
         Ok(numbers)
     }
@@ -92,10 +92,10 @@ impl<'t, 's> NextNumbers<'t, 's> {
     ///
     /// `Memory` comes where a number would pass what 64 bits hold.
     pub fn pass(&mut self, routine: &'t Definition<'s>) -> Result<(), Memory>
-        ensures { IfOk result (λ _. next_numbers self.new ≡ behind_definition_of (next_numbers self.old) (definition_view routine.now)) }
+        ensures { IfOk result (λ _. next_numbers self.new ≡ after_definition_of (next_numbers self.old) (definition_view routine.now)) }
     {
         let counted = self.count()?;
-        *self = NextNumbers::behind_routine(counted, routine);
+        *self = NextNumbers::after_routine(counted, routine);
         Ok(())
     }
 }

@@ -3,7 +3,7 @@ use Rattle.std.proofs.Common.{◌≡◌, ℕ, ◌+◌, List, [], ◌∷◌, ◌+
 use Rattle.std.proofs.Math.Seq.{take-append_seam, drop-append_seam}
 use Rattle.bc_core.specs.Tree.{Exp, Num, Frame, Glob, Place, Load, Neg, Not, Bin, Cond, Call, Valof, Args, no_argument, argument, count}
 use Rattle.bc_core.specs.WellFormed.{nodes, nodes_of_args}
-use Rattle.bc_select.specs.declared.part.Part.{Part}
+use Rattle.bc_select.specs.declared.node.Part.{Part}
 use Rattle.bc_select.specs.Vector.{node, before, before_all, vector, ending}
 
 ending_length : (ns : List Part) (e : Exp) (s : ℕ) → length (ending ns e s) ≡ length ns + 1

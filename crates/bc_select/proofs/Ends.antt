@@ -1,37 +1,37 @@
 -- Where the nodes of expressions end among those of a root.
 use Rattle.std.proofs.Common.{◌≡◌, ℕ, ◌+◌, ◌-◌, List, [], ◌∷◌, ◌++◌, length, ap, sym, ◌∙◌, arith, length-append, append_assoc, append-nil}
 use Rattle.bc_core.specs.Tree.{Exp}
-use Rattle.bc_select.specs.declared.part.Part.{Part}
+use Rattle.bc_select.specs.declared.node.Part.{Part}
 use Rattle.bc_select.specs.Ends.{EndsAt}
 use Rattle.bc_select.specs.Vector.{node, before, vector}
 
--- all of them end behind the last
+-- all of them end after the last
 pub all_end : (ns ys : List Part) (end : ℕ) → ns ≡ ys → end ≡ length ns → EndsAt ns end ys
-all_end ns ys end h i = record { front = []; behind = []; is = h ∙ sym (append-nil ys); count = omega (arith, i, ap length h) }
+all_end ns ys end h i = record { front = []; following = []; is = h ∙ sym (append-nil ys); count = omega (arith, i, ap length h) }
 
 -- of parts side by side the last ends where all end
 pub last_part : (ns : List Part) (end : ℕ) (xs ys : List Part) → EndsAt ns end (xs ++ ys) → EndsAt ns end ys
 last_part ns end xs ys h = record {
   front = h.front ++ xs;
-  behind = h.behind;
-  is = h.is ∙ ap (λ x. x ++ h.behind) (sym (append_assoc h.front xs ys));
+  following = h.following;
+  is = h.is ∙ ap (λ x. x ++ h.following) (sym (append_assoc h.front xs ys));
   count = omega (arith, h.count, length-append xs ys, length-append h.front xs);
 }
 
--- and those in front of it end where it begins
+-- and those before it end where it begins
 pub first_part : (ns : List Part) (end start : ℕ) (xs ys : List Part) → EndsAt ns end (xs ++ ys) → start ≡ end - length ys → EndsAt ns start xs
 first_part ns end start xs ys h i = record {
   front = h.front;
-  behind = ys ++ h.behind;
-  is = h.is ∙ ap (λ x. x ++ h.behind) (sym (append_assoc h.front xs ys)) ∙ append_assoc (h.front ++ xs) ys h.behind;
+  following = ys ++ h.following;
+  is = h.is ∙ ap (λ x. x ++ h.following) (sym (append_assoc h.front xs ys)) ∙ append_assoc (h.front ++ xs) ys h.following;
   count = omega (arith, h.count, i, length-append xs ys);
 }
 
 -- the node of the expression itself is the last
-pub at_end : (ns : List Part) (end : ℕ) (xs : List Part) (e : Exp) (s : ℕ) (h : EndsAt ns end (xs ++ vector e s)) → ns ≡ ((h.front ++ (xs ++ before e s)) ++ (node e s ∷ [])) ++ h.behind
+pub at_end : (ns : List Part) (end : ℕ) (xs : List Part) (e : Exp) (s : ℕ) (h : EndsAt ns end (xs ++ vector e s)) → ns ≡ ((h.front ++ (xs ++ before e s)) ++ (node e s ∷ [])) ++ h.following
 at_end ns end xs e s h =
     let last : List Part = node e s ∷ [] in
-    h.is ∙ ap (λ x. x ++ h.behind) (ap (λ x. h.front ++ x) (sym (append_assoc xs (before e s) last)) ∙ sym (append_assoc h.front (xs ++ before e s) last))
+    h.is ∙ ap (λ x. x ++ h.following) (ap (λ x. h.front ++ x) (sym (append_assoc xs (before e s) last)) ∙ sym (append_assoc h.front (xs ++ before e s) last))
 
 pub at_end_count : (ns : List Part) (end : ℕ) (xs : List Part) (e : Exp) (s : ℕ) (h : EndsAt ns end (xs ++ vector e s)) → end ≡ length (h.front ++ (xs ++ before e s)) + 1
 at_end_count ns end xs e s h =

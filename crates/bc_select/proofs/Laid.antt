@@ -11,8 +11,8 @@ use Rattle.bc_rules_defs.specs.declared.rule.Table.TheVariants.{Two}
 use Rattle.bc_rules_defs.specs.Piece.{w}
 use Rattle.bc_select_defs.specs.Choices.{choices, words_of_all, cond_choices}
 use Rattle.bc_select_defs.specs.Options.{plus, sum, words_of}
-use Rattle.bc_select.specs.declared.part.Part.{Part}
-use Rattle.bc_select.specs.declared.whole.Arguments.{Arguments}
+use Rattle.bc_select.specs.declared.node.Part.{Part}
+use Rattle.bc_select.specs.declared.node_of_parts.Arguments.{Arguments}
 use Rattle.bc_select.specs.Cut.{IsCut}
 use Rattle.bc_select.specs.Laid.{EndsInParts, EndsInArguments, AreFew, words_before}
 use Rattle.bc_select.specs.Small.{Small}
@@ -36,11 +36,11 @@ routine_of ns es f s h = h.is ∙ sym (append_assoc h.front (before_all es (s + 
 stored : Exp → ℕ → Option ℕ
 stored e s = plus (words_of (choices Two e s).any) (w s)
 
-pub words_before-then : (es : Args) (e : Exp) (s : ℕ) (behind : Option ℕ) → words_before (then_argument es e) s behind ≡ words_before es s (sum (plus (words_of (choices Two e (s + count es)).any) (w (s + count es))) behind)
+pub words_before-then : (es : Args) (e : Exp) (s : ℕ) (following : Option ℕ) → words_before (then_argument es e) s following ≡ words_before es s (sum (plus (words_of (choices Two e (s + count es)).any) (w (s + count es))) following)
 unfolding stored
-words_before-then no_argument e s behind = let same : s ≡ s + count no_argument = omega arith in ap (λ n. sum (stored e n) behind) same
-words_before-then (argument d es) e s behind =
-    ap (sum (stored d s)) (words_before-then es e (s + 1) behind) ∙ ap (λ n. sum (stored d s) (words_before es (s + 1) (sum (stored e n) behind))) (omega arith)
+words_before-then no_argument e s following = let same : s ≡ s + count no_argument = omega arith in ap (λ n. sum (stored e n) following) same
+words_before-then (argument d es) e s following =
+    ap (sum (stored d s)) (words_before-then es e (s + 1) following) ∙ ap (λ n. sum (stored d s) (words_before es (s + 1) (sum (stored e n) following))) (omega arith)
 
 pub words_all : (es : Args) (s : ℕ) → words_before es s (Some 0) ≡ words_of_all Two es s
 words_all no_argument s = refl
@@ -69,10 +69,10 @@ last_argument ns es others e s h i =
 pub last_nodes : (es others : List CoreExp) (e : CoreExp) → es ≡ others ++ (e ∷ []) → nodes_of_args (args es) ≡ nodes_of_args (args others) + nodes (exp e)
 last_nodes es others e h = ap nodes_of_args (ap args h ∙ args_append others e) ∙ nodes-then (args others) (exp e)
 
-pub last_words : (es others : List CoreExp) (e : CoreExp) (s : ℕ) (behind : Option ℕ) → es ≡ others ++ (e ∷ []) → words_before (args es) s behind ≡ words_before (args others) s (sum (plus (words_of (choices Two (exp e) (s + length others)).any) (w (s + length others))) behind)
-last_words es others e s behind h =
-    ap (λ x. words_before x s behind) (ap args h ∙ args_append others e) ∙ words_before-then (args others) (exp e) s behind
-    ∙ ap (λ m. words_before (args others) s (sum (plus (words_of (choices Two (exp e) (s + m)).any) (w (s + m))) behind)) (args_count others)
+pub last_words : (es others : List CoreExp) (e : CoreExp) (s : ℕ) (following : Option ℕ) → es ≡ others ++ (e ∷ []) → words_before (args es) s following ≡ words_before (args others) s (sum (plus (words_of (choices Two (exp e) (s + length others)).any) (w (s + length others))) following)
+last_words es others e s following h =
+    ap (λ x. words_before x s following) (ap args h ∙ args_append others e) ∙ words_before-then (args others) (exp e) s following
+    ∙ ap (λ m. words_before (args others) s (sum (plus (words_of (choices Two (exp e) (s + m)).any) (w (s + m))) following)) (args_count others)
 
 -- what `last` and `cut` say of some nodes
 abbrev pub CutOf : List Part → List Part → List Part → Type 0

@@ -4,9 +4,9 @@ use Rattle.bc_rules_defs.specs.declared.derivation.Derivation.{Derivation}
 use Rattle.bc_rules_defs.specs.declared.rule.Rule.{Rule}
 use Rattle.bc_rules_defs.specs.Rules.{Tree, Trees, by, no_part, part, one, end_with}
 use Rattle.bc_rules_defs.specs.View.{derivation, derivations}
-use Rattle.bc_select.specs.declared.mark.Mark.{Mark}
-use Rattle.bc_select.specs.declared.part.Part.{Part}
-use Rattle.bc_select.specs.declared.waiting.Waiting.{Waiting}
+use Rattle.bc_select.specs.declared.derivations.Mark.{Mark}
+use Rattle.bc_select.specs.declared.node.Part.{Part}
+use Rattle.bc_select.specs.declared.pending.Waiting.{Waiting}
 use Rattle.bc_select.specs.Marks.{size, marks, marks_of_all, first, rest, close, unwind}
 use Rattle.bc_select.specs.Waiting.{tree_of, trees_of, Added}
 use Rattle.bc_select.proofs.Waits.{joined, joined_nothing, joined_shift, joined_size, trees_append, trees_size}

@@ -7,13 +7,13 @@ use Rattle.bc_core.specs.View.{exp}
 use Rattle.bc_core.specs.WellFormed.{nodes, nodes_of_args}
 use Rattle.bc_select_defs.specs.Nodes.{in_order, all_in_order}
 use Rattle.bc_select.specs.declared.layout.AtLevel.{AtLevel}
-use Rattle.bc_select.specs.declared.part.Part.{Part}
+use Rattle.bc_select.specs.declared.node.Part.{Part}
 use Rattle.bc_select.specs.Order.{expression_at, from_the_end, in_order_of, parts_in_order, Fits, AllFit, listed, AreOf, ArgumentsPut, PartsPut, node_at, CanFollow}
 use Rattle.bc_select.specs.Selection.{root_vector}
 use Rattle.bc_select.proofs.Bounds.{some_node, count_of_args}
 use Rattle.bc_select.proofs.Vectors.{before_is, root_vector_is}
 
--- an expression comes behind what stands below it
+-- an expression comes after what stands below it
 whole_last : (e : Exp) (s : ℕ) → in_order e s ≡ parts_in_order e s ++ ((e, s) ∷ [])
 whole_last (Num n) s = refl
 whole_last (Frame k) s = refl
@@ -49,7 +49,7 @@ fit_last (y ∷ xs) x h = fit_last xs x h.1
 end_more : (xs : List AtLevel) (x : AtLevel) → from_the_end (xs ++ (x ∷ [])) ≡ expression_at x ∷ from_the_end xs
 end_more xs x = ap (map expression_at) (reverse-append xs (x ∷ []))
 
--- the arguments of a call are put behind what waits, and its routine is the last part
+-- the arguments of a call are put after what waits, and its routine is the last part
 pub call_parts : (old new : List AtLevel) (es : Args) (f : Exp) (s : ℕ) (x whole : AtLevel) → exp whole.e.now ≡ Call es f → whole.level ≡ s → ArgumentsPut old new es (s + 2) → exp x.e.now ≡ f → x.level ≡ s + 2 + count es → Fits whole → PartsPut old new (Some x) whole
 call_parts old new es f s x whole h i j k l m =
     let few = count_of_args es in let n : nodes (exp whole.e.now) ≡ 1 + nodes_of_args es + nodes f = ap nodes h in let o : nodes (exp x.e.now) ≡ nodes f = ap nodes k in let p = m.is in

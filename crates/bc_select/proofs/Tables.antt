@@ -1,10 +1,10 @@
--- Rows and spans stand for nodes.
+-- Rows and spans mean nodes.
 use Rattle.std.proofs.Common.{◌≡◌, ℕ, List, [], ◌∷◌, ◌++◌, length, map, take, drop, Option, Some, None, refl, ap, sym, ◌∙◌}
 use Rattle.std.proofs.lemmas.List.{take-map, drop-map, map-append, length-map}
 use Rattle.bc_select_defs.specs.declared.choice.Choice.{Choice}
 use Rattle.bc_select_defs.specs.declared.choice.Choices.{Choices}
 use Rattle.bc_select_defs.specs.Options.{words_of, rule_of}
-use Rattle.bc_select.specs.declared.part.Part.{Part}
+use Rattle.bc_select.specs.declared.node.Part.{Part}
 use Rattle.bc_select.specs.declared.row.Row.{Row}
 use Rattle.bc_select.specs.declared.table.Span.{Span}
 use Rattle.bc_select.specs.Row.{row_of, row_of_part, span_of, choice_in, choices_in, part_in, parts_in, AreParts}

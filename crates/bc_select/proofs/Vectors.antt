@@ -14,7 +14,7 @@ use Rattle.bc_select_defs.specs.Options.{words_of}
 use Rattle.bc_select_defs.specs.Nodes.{in_order, all_in_order, root_in_order}
 use Rattle.bc_select_defs.specs.Chosen.{chosen, chosen_words, root_choice}
 use Rattle.bc_select_defs.proofs.Words.{choices_are_least}
-use Rattle.bc_select.specs.declared.part.Part.{Part}
+use Rattle.bc_select.specs.declared.node.Part.{Part}
 use Rattle.bc_select.specs.declared.row.Row.{Row}
 use Rattle.bc_select.specs.Order.{node_at, parts_in_order}
 use Rattle.bc_select.specs.Vector.{node, before, before_all, vector}
@@ -37,8 +37,8 @@ all_right (at ∷ ats) = (row_right at, all_right ats)
 both : (xs ys : List Part) (ats bts : List (Exp × ℕ)) → xs ≡ map node_at ats → ys ≡ map node_at bts → xs ++ ys ≡ map node_at (ats ++ bts)
 both xs ys ats bts h i = ap (λ zs. zs ++ ys) h ∙ ap (λ zs. map node_at ats ++ zs) i ∙ sym (map-append node_at ats bts)
 
-behind : (xs : List Part) (e : Exp) (s : ℕ) (ats : List (Exp × ℕ)) → xs ≡ map node_at ats → xs ++ (node e s ∷ []) ≡ map node_at (ats ++ ((e, s) ∷ []))
-behind xs e s ats h = both xs (node e s ∷ []) ats ((e, s) ∷ []) h refl
+following : (xs : List Part) (e : Exp) (s : ℕ) (ats : List (Exp × ℕ)) → xs ≡ map node_at ats → xs ++ (node e s ∷ []) ≡ map node_at (ats ++ ((e, s) ∷ []))
+following xs e s ats h = both xs (node e s ∷ []) ats ((e, s) ∷ []) h refl
 
 -- the nodes are those of the expressions in their order
 mutual
@@ -60,12 +60,12 @@ mutual
   vector_is (Frame k) s = refl
   vector_is (Glob n) s = refl
   vector_is (Place m) s = refl
-  vector_is (Load e) s = behind (vector e s) (Load e) s (in_order e s) (vector_is e s)
-  vector_is (Neg e) s = behind (vector e s) (Neg e) s (in_order e s) (vector_is e s)
-  vector_is (Not e) s = behind (vector e s) (Not e) s (in_order e s) (vector_is e s)
-  vector_is (Bin op a b) s = behind _ (Bin op a b) s _ (both (vector a (s + 1)) (vector b (s + 1)) (in_order a (s + 1)) (in_order b (s + 1)) (vector_is a (s + 1)) (vector_is b (s + 1)))
-  vector_is (Cond c x y) s = behind _ (Cond c x y) s _ (both _ _ _ _ (both (vector c s) (vector x s) (in_order c s) (in_order x s) (vector_is c s) (vector_is x s)) (vector_is y s))
-  vector_is (Call es f) s = behind _ (Call es f) s _ (both (before_all es (s + 2)) (vector f (s + 2 + count es)) (all_in_order es (s + 2)) (in_order f (s + 2 + count es)) (before_all_is es (s + 2)) (vector_is f (s + 2 + count es)))
+  vector_is (Load e) s = following (vector e s) (Load e) s (in_order e s) (vector_is e s)
+  vector_is (Neg e) s = following (vector e s) (Neg e) s (in_order e s) (vector_is e s)
+  vector_is (Not e) s = following (vector e s) (Not e) s (in_order e s) (vector_is e s)
+  vector_is (Bin op a b) s = following _ (Bin op a b) s _ (both (vector a (s + 1)) (vector b (s + 1)) (in_order a (s + 1)) (in_order b (s + 1)) (vector_is a (s + 1)) (vector_is b (s + 1)))
+  vector_is (Cond c x y) s = following _ (Cond c x y) s _ (both _ _ _ _ (both (vector c s) (vector x s) (in_order c s) (in_order x s) (vector_is c s) (vector_is x s)) (vector_is y s))
+  vector_is (Call es f) s = following _ (Call es f) s _ (both (before_all es (s + 2)) (vector f (s + 2 + count es)) (all_in_order es (s + 2)) (in_order f (s + 2 + count es)) (before_all_is es (s + 2)) (vector_is f (s + 2 + count es)))
   vector_is (Valof n) s = refl
 
   before_all_is : (es : Args) (s : ℕ) → before_all es s ≡ map node_at (all_in_order es s)

@@ -15,8 +15,8 @@ use Rattle.bc_select_defs.specs.declared.choice.Asked.{Asked}
 use Rattle.bc_select_defs.specs.Options.{plus, words_of}
 use Rattle.bc_rules_defs.specs.Piece.{w}
 use Rattle.bc_select_defs.specs.Choices.{leaf_choices, number_choices, number_tests, by_value, unary_choices, cond_choices, call_choices, pair_choices, words_of_all, choices, node_of}
-use Rattle.bc_select.specs.declared.part.Part.{Part}
-use Rattle.bc_select.specs.declared.pair.Pair.{Pair}
+use Rattle.bc_select.specs.declared.node.Part.{Part}
+use Rattle.bc_select.specs.declared.binary_choices.Pair.{Pair}
 use Rattle.bc_select.specs.Vector.{node, pair_of, part_of_pair}
 use Rattle.bc_select.specs.Small.{Small}
 use Rattle.bc_select.proofs.Bounds.{value_small, line_bound, by_value_bound, number_tests_bound, under_small}

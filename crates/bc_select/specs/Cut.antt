@@ -1,6 +1,6 @@
 -- For proofs: a list that is cut in two.
 use Rattle.std.specs.Prelude.{◌≡◌, List}
-use Rattle.bc_select.specs.declared.part.Part.{Part}
+use Rattle.bc_select.specs.declared.node.Part.{Part}
 
 pub record IsCut (first second : List Part) (xs ys : List Part) : Type 0 where
   pub first_is : first ≡ xs

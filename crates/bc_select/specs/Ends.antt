@@ -1,10 +1,10 @@
 -- For proofs: where the nodes of expressions end among those of a root.
 use Rattle.std.specs.Prelude.{◌≡◌, ℕ, ◌+◌, List, ◌++◌, length}
-use Rattle.bc_select.specs.declared.part.Part.{Part}
+use Rattle.bc_select.specs.declared.node.Part.{Part}
 
 -- these nodes are the last of the first ones, so many
 pub record EndsAt (nodes : List Part) (end : ℕ) (own : List Part) : Type 0 where
   pub front : List Part
-  pub behind : List Part
-  pub is : nodes ≡ (front ++ own) ++ behind
+  pub following : List Part
+  pub is : nodes ≡ (front ++ own) ++ following
   pub count : end ≡ length front + length own

@@ -5,8 +5,8 @@ use Rattle.bc_rules_defs.specs.declared.rule.Table.TheVariants.{Two}
 use Rattle.bc_rules_defs.specs.Piece.{w}
 use Rattle.bc_select_defs.specs.Choices.{choices}
 use Rattle.bc_select_defs.specs.Options.{plus, sum, words_of}
-use Rattle.bc_select.specs.declared.whole.Arguments.{Arguments}
-use Rattle.bc_select.specs.declared.part.Part.{Part}
+use Rattle.bc_select.specs.declared.node_of_parts.Arguments.{Arguments}
+use Rattle.bc_select.specs.declared.node.Part.{Part}
 use Rattle.bc_select.specs.Small.{UpTo}
 use Rattle.bc_select.specs.Vector.{before, before_all}
 
@@ -18,10 +18,10 @@ pub record EndsInArguments (nodes : List Part) (es : Args) (s : ℕ) : Type 0 wh
   pub front : List Part
   pub is : nodes ≡ front ++ before_all es s
 
--- the words of arguments and of those behind them, each stored in its cell
+-- the words of arguments and of those after them, each stored in its cell
 abbrev pub words_before : Args → ℕ → Option ℕ → Option ℕ
-words_before no_argument s behind = behind
-words_before (argument e es) s behind = sum (plus (words_of (choices Two e s).any) (w s)) (words_before es (s + 1) behind)
+words_before no_argument s following = following
+words_before (argument e es) s following = sum (plus (words_of (choices Two e s).any) (w s)) (words_before es (s + 1) following)
 
 pub record AreFew (a : Arguments) : Type 0 where
   pub words : UpTo a.words (16 * a.nodes)

@@ -1,7 +1,7 @@
 -- For proofs: trees as the list of their rules, wholes before parts and the last part first, each with the number of its parts.
 use Rattle.std.specs.Prelude.{ℕ, zero, suc, ◌+◌, ◌-◌, List, [], ◌∷◌, ◌++◌}
 use Rattle.bc_rules_defs.specs.Rules.{Tree, Trees, by, no_part, part, end_with}
-use Rattle.bc_select.specs.declared.mark.Mark.{Mark}
+use Rattle.bc_select.specs.declared.derivations.Mark.{Mark}
 
 abbrev pub size : Trees → ℕ
 size no_part = 0

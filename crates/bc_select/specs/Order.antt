@@ -5,7 +5,7 @@ use Rattle.bc_core.specs.View.{exp}
 use Rattle.bc_core.specs.WellFormed.{nodes}
 use Rattle.bc_select_defs.specs.Nodes.{in_order, all_in_order, root_in_order}
 use Rattle.bc_select.specs.declared.layout.AtLevel.{AtLevel}
-use Rattle.bc_select.specs.declared.part.Part.{Part}
+use Rattle.bc_select.specs.declared.node.Part.{Part}
 use Rattle.bc_select.specs.Laid.{EndsInParts}
 use Rattle.bc_select.specs.Vector.{node}
 
@@ -46,7 +46,7 @@ pub record AreOf (found : List AtLevel) (r : Root) : Type 0 where
   pub fit : AllFit found
   pub order : in_order_of found ≡ root_in_order r
 
--- the arguments of a call were put behind what waits
+-- the arguments of a call were put after what waits
 pub record ArgumentsPut (old new : List AtLevel) (es : Args) (s : ℕ) : Type 0 where
   pub added : List AtLevel
   pub is : new ≡ old ++ added
@@ -63,7 +63,7 @@ pub record PartsPut (old new : List AtLevel) (last : Option AtLevel) (whole : At
 abbrev pub node_at : Exp × ℕ → Part
 node_at at = node at.0 at.1
 
--- the next node, behind those of its parts; and these nodes one after the other
+-- the next node, after those of its parts; and these nodes one after the other
 pub record IsNext (made : List Part) (at : Exp × ℕ) : Type 0 where
   pub fits : at.1 + 2 * nodes at.0 ≤ 2 ^ 40
   pub laid : EndsInParts made at.0 at.1

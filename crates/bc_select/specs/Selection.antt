@@ -3,7 +3,7 @@ use Rattle.std.specs.Prelude.{ℕ, List, ◌++◌, Option, Some, None}
 use Rattle.bc_core.specs.Tree.{Root, Value, Test, Assign}
 use Rattle.bc_core.specs.Level.{side_level}
 use Rattle.bc_select_defs.specs.declared.choice.Choice.{Choice}
-use Rattle.bc_select.specs.declared.part.Part.{Part}
+use Rattle.bc_select.specs.declared.node.Part.{Part}
 use Rattle.bc_select.specs.Vector.{vector}
 
 abbrev pub words_or_none : Option Choice → ℕ

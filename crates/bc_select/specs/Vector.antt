@@ -7,8 +7,8 @@ use Rattle.bc_core.specs.WellFormed.{nodes}
 use Rattle.bc_select_defs.specs.Choices.{choices, node_of, pair_choices}
 use Rattle.bc_core.specs.declared.operands.Operand.{Operand}
 use Rattle.bc_word.specs.declared.operator.Op.{Op}
-use Rattle.bc_select.specs.declared.pair.Pair.{Pair}
-use Rattle.bc_select.specs.declared.part.Part.{Part}
+use Rattle.bc_select.specs.declared.binary_choices.Pair.{Pair}
+use Rattle.bc_select.specs.declared.node.Part.{Part}
 
 abbrev pub node : Exp → ℕ → Part
 node e s = record { choices = choices Two e s; calls = has_call e; nodes = nodes e }

@@ -6,8 +6,8 @@ use Rattle.bc_rules_defs.specs.declared.rule.Table.TheVariants.{Two}
 use Rattle.bc_rules_defs.specs.Rules.{Tree, Trees, no_part, part}
 use Rattle.bc_select_defs.specs.Choices.{choice_for, choices}
 use Rattle.bc_select_defs.specs.Readings.{tree_for, readings}
-use Rattle.bc_select.specs.declared.part.Part.{Part}
-use Rattle.bc_select.specs.declared.waiting.Waiting.{Waiting}
+use Rattle.bc_select.specs.declared.node.Part.{Part}
+use Rattle.bc_select.specs.declared.pending.Waiting.{Waiting}
 use Rattle.bc_select.specs.Ends.{EndsAt}
 use Rattle.bc_select.specs.Reads.{rule_or_v1}
 use Rattle.bc_select.specs.Vector.{vector}

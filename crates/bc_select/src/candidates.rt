@@ -99,7 +99,7 @@ pub fn alone(operand: Option<Operand>) -> Option<u64>
     Some(operand_words(operand))
 }
 
-/// The words of an expression, and of an operand in the instruction behind it.
+/// The words of an expression, and of an operand in the instruction after it.
 pub fn with_operand(x: Option<u64>, operand: Option<Operand>) -> Option<u64>
     requires { Small x }
     ensures { result ≡ sum_of x (operand_cost operand) }

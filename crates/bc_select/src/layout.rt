@@ -6,8 +6,8 @@ ghost use Rattle.bc_core.specs.View.{exp, args};
 ghost use Rattle.bc_core.specs.WellFormed.{nodes_of_args};
 ghost use Rattle.bc_select.specs.Order.{Fits, AllFit, ArgumentsPut, PartsPut, listed, in_order_of, from_the_end, node_at, CanFollow};
 
+use crate::node_of_parts::node;
 use crate::table::Table;
-use crate::whole::node;
 use bc_core::CoreExp;
 use bc_word::Memory;
 use std::alloc::Global;
@@ -28,7 +28,7 @@ pub fn at_level<'a>(e: &'a CoreExp, level: u64) -> AtLevel<'a>
     AtLevel { e, level }
 }
 
-/// Puts the arguments of a call, the first of which stands at this level, behind those that wait.
+/// Puts the arguments of a call, the first of which stands at this level, after those that wait.
 fn put_arguments<'a>(
     arguments: &'a [CoreExp],
     level: u64,
@@ -44,7 +44,7 @@ fn put_arguments<'a>(
     put_arguments(others, level + 1, waiting)
 }
 
-/// Puts the parts of an expression but the last behind those that wait, and gives the last.
+/// Puts the parts of an expression but the last after those that wait, and gives the last.
 #[inline(always)]
 #[tactic(auto, using(bc_core::proofs::Rows::call_view))]
 fn put_parts<'a>(
@@ -74,9 +74,9 @@ fn put_parts<'a>(
             Ok(Some(at_level(that, level)))
         }
         CoreExp::Call(arguments, routine) => {
-            let behind = level + 2 + arguments.len() as u64;
+            let following = level + 2 + arguments.len() as u64;
             put_arguments(arguments, level + 2, waiting)?;
-            Ok(Some(at_level(routine, behind)))
+            Ok(Some(at_level(routine, following)))
         }
     }
 }

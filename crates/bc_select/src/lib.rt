@@ -1,25 +1,25 @@
 //! The derivation of least words of a root, with the least words of each of its nodes.
 #![tactic(auto)]
 
+mod binary_choices;
 mod candidates;
-mod counting;
+mod derivations;
 mod layout;
-mod line;
-mod mark;
-mod pair;
-mod part;
-mod reading;
+mod node;
+mod node_count;
+mod node_of_parts;
+mod pending;
+mod pending_parts;
 mod row;
 mod selection;
-mod split;
+mod subtrees;
 mod table;
 mod tree;
-mod waiting;
-mod whole;
+mod unary_choices;
 
 pub use bc_rules_defs::{Derivation, Rule};
+pub use binary_choices::{Pair, free, given, only};
 pub use candidates::{alone, any_words, better, number_cost};
-pub use counting::is_selectable;
-pub use pair::{Pair, free, given, only};
+pub use node_count::is_selectable;
 pub use row::Row;
 pub use selection::{Selected, rows, select};

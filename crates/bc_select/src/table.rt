@@ -5,7 +5,7 @@ ghost use Rattle.bc_select_defs.specs.Choices.{choice_for as choice_of};
 ghost use Rattle.bc_select.specs.Reads.{rule_or_v1};
 ghost use Rattle.bc_select.specs.Row.{row_of_part};
 
-use crate::part::Part;
+use crate::node::Part;
 use crate::row::{Row, last_choices, row_from, rule_for, rules_from};
 use bc_rules_defs::{Aim, Rule};
 use bc_word::Memory;
@@ -41,7 +41,7 @@ fn last_span(spans: &[Span]) -> Span
     }
 }
 
-/// The span behind which so many end.
+/// The span after which so many end.
 #[inline(always)]
 fn span_at(spans: &[Span], end: usize) -> Span
     ensures { (xs ys : List Span) (p : Span) → spans.now ≡ (xs ++ (p ∷ [])) ++ ys → end ≡ length xs + 1 → result ≡ p }
@@ -63,7 +63,7 @@ pub struct Table {
 
 impl Model for Table {
     ghost use Rattle.std.specs.Prelude.{List};
-    ghost use Rattle.bc_select.specs.declared.part.Part.{Part};
+    ghost use Rattle.bc_select.specs.declared.node.Part.{Part};
     ghost use Rattle.bc_select.specs.Row.{parts_in, AreParts};
 
     ghost Value = { List Part };
@@ -84,7 +84,7 @@ pub struct Nodes<'a> {
 
 impl<'a> Model for Nodes<'a> {
     ghost use Rattle.std.specs.Prelude.{List};
-    ghost use Rattle.bc_select.specs.declared.part.Part.{Part};
+    ghost use Rattle.bc_select.specs.declared.node.Part.{Part};
     ghost use Rattle.bc_select.specs.Row.{parts_in, AreParts};
 
     ghost Value = { List Part };
@@ -116,7 +116,7 @@ impl Table {
         }
     }
 
-    /// Puts a node behind the others.
+    /// Puts a node after the others.
     ///
     /// `Memory` comes where a vector could not grow.
     pub fn push(&mut self, node: &Part) -> Result<(), Memory>
@@ -194,7 +194,7 @@ impl<'a> Nodes<'a> {
         last_span(self.spans).nodes
     }
 
-    /// How many nodes the one has, below it and with itself, behind which so many end.
+    /// How many nodes the one has, below it and with itself, after which so many end.
     #[inline(always)]
     pub fn count_at(&self, end: usize) -> usize
         ensures { (xs ys : List Part) (p : Part) → self.now ≡ (xs ++ (p ∷ [])) ++ ys → end ≡ length xs + 1 → result ≡ p.nodes }
@@ -202,7 +202,7 @@ impl<'a> Nodes<'a> {
         span_at(self.spans, end).nodes
     }
 
-    /// The rule for an aim by which the node gets its code behind which so many end.
+    /// The rule for an aim by which the node gets its code after which so many end.
     #[inline(always)]
     pub fn rule_at(&self, end: usize, aim: Aim) -> Rule
         ensures { (xs ys : List Part) (p : Part) → self.now ≡ (xs ++ (p ∷ [])) ++ ys → end ≡ length xs + 1 → result ≡ rule_or_v1 (choice_of aim p.choices) }

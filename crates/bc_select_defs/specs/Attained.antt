@@ -264,7 +264,7 @@ beside_taken : (aim : Aim) (zero : Bool) (ra rb : Readings) → one (tree_for ai
 beside_taken aim true ra rb = refl
 beside_taken aim false ra rb = refl
 
--- one operand is worked out, the other stands in the instruction
+-- one operand is computed, the other stands in the instruction
 beside_operand : (T : Table) (e e1 : Exp) (m : Mode) (s : ℕ) (p : Option Operand) (r : Rule) (x z : Option ℕ) (t : Tree) (c : Derives T e (Gets m)
     × OperandOf p → ℕ) (rule_of : Derives T e (Gets m) × OperandOf p → Derives T e1 (Gets m))
     → ((q : Derives T e (Gets m) × OperandOf p) → cost (rule_of q) s ≡ c q)
@@ -392,7 +392,7 @@ pub some_operator : (p : Option Op) → IsTrue (is_some p) → (q : Op) × (p �
 some_operator None h = cc
 some_operator (Some q) h = (q, refl)
 
--- the rules with both operands worked out
+-- the rules with both operands computed
 worked_attained : (T : Table) (op : Op) (a b : Exp) (s : ℕ) (ca cb : Choices) (ra rb : Readings) → Attains T a (s + 1) ca ra → Attains T b (s + 1) cb rb
     → AllMake T (Bin op a b) (Gets Any) s (pair_parts (zero_number (constant_of b)) ra rb (Gets Any)) (worked op (node a ca) (node b cb) s)
 worked_attained T op a b s ca cb ra rb ha hb =

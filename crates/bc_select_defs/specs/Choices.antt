@@ -102,7 +102,7 @@ mixed op a b x y =
     ∷ candidate V11 (only Subtract op (given (free a b) (sum y (more 1 (operand_cost a.operand)))))
     ∷ []
 
--- the rules by which both operands are worked out
+-- the rules by which both operands are computed
 abbrev pub worked : Op → Asked → Asked → (s : ℕ) → List Candidate
 worked op a b s =
     let x = words_of a.choices.any in

@@ -10,4 +10,4 @@ pub mod Chosen
 pub mod LeastDerivation
 pub mod Nodes
 pub mod Laws
-pub mod examples
+pub mod worked

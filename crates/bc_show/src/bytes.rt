@@ -1,6 +1,6 @@
 use std::fmt;
 
-/// Bytes as text: one from 32 to 126 stands for itself, any other is written as `\x` and two hexadecimal digits.
+/// Bytes as text: one from 32 to 126 means itself, any other is written as `\x` and two hexadecimal digits.
 #[derive(Drop)]
 pub struct ShownBytes<'b>(pub &'b [u8]);
 

@@ -12,8 +12,8 @@ pub fn sign(op: Op) -> &'static str {
     SIGNS.get(op as usize).copied().unwrap_or("")
 }
 
-/// An expression whose names are resolved. A number stands for itself, `P2` for the address of offset 2 of the frame, `G14` for
-/// that of global 14, `L3` for that of place 3, `V0` for the VALOF with the number 0; `!` is the content of what stands behind it. The
+/// An expression whose names are resolved. A number means itself, `P2` for the address of offset 2 of the frame, `G14` for
+/// that of global 14, `L3` for that of place 3, `V0` for the VALOF with the number 0; `!` is the content of what stands after it. The
 /// others stand in brackets, their operator first: `(+ !P2 1)`, `(NEG 1)`, `(NOT 1)`, `(-> !P2 1 2)`, and a call with its
 /// routine in front, `(CALL !G14 65)`.
 #[derive(Drop)]
@@ -25,7 +25,7 @@ impl fmt::Display for ShownExpression<'_> {
     }
 }
 
-/// An expression behind a blank.
+/// An expression after a blank.
 #[cycle(showing)]
 fn write_part<W: fmt::Write>(f: &mut fmt::Formatter<W>, e: &CoreExp) -> fmt::Result {
     f.write_char(' ')?;
@@ -47,7 +47,7 @@ fn write_leaf<W: fmt::Write>(f: &mut fmt::Formatter<W>, e: &CoreExp) -> fmt::Res
     }
 }
 
-/// Expressions, each behind a blank.
+/// Expressions, each after a blank.
 #[cycle(showing)]
 fn write_parts<W: fmt::Write>(f: &mut fmt::Formatter<W>, list: &[CoreExp]) -> fmt::Result {
     for e in list {

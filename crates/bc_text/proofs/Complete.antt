@@ -68,7 +68,7 @@ digits_read s i head from negative value n (d ∷ digits) more all fits =
     ∙ digits_read s i head from negative next (n + 1) digits more here.1 fits
     ∙ counted more s i _ (n + 1 + length digits) (n + length (d ∷ digits)) (omega arith)
 
--- the place takes a first digit as the beginning of a number behind this head
+-- the place takes a first digit as the beginning of a number after this head
 abbrev pub TakesNumber : Place → Head → ℕ → Bool → ℕ → Type 0
 TakesNumber place head from negative n =
     (s : List (List Item)) (i : List Item) (d : ℕ) → is_ascii_digit d ≡ true
@@ -83,7 +83,7 @@ head_takes_number head n s i d h = rw h refl
 pub minus_takes_number : (head : Head) (from n : ℕ) → TakesNumber (places.Minus head from) head from true n
 minus_takes_number head from n s i d h = rw h refl
 
--- a number is read, up to what stands behind its digits
+-- a number is read, up to what stands after its digits
 pub number_read : (s : List (List Item)) (i : List Item) (place : Place) (head : Head) (from : ℕ) (negative : Bool) (limit value n : ℕ) (digits more : List ℕ)
     → TakesNumber place head from negative n → limit ≡ greatest head negative → IsNumber limit digits value
     → answer (digits ++ more) (state s i place n) ≡ answer more (state s i (places.Digits head from negative value) (n + length digits))
@@ -190,7 +190,7 @@ unended : (i : List Item) (it : Item) (s : List (List Item)) → Err errors.Unen
 unended [] it s = refl
 unended (x ∷ i) it s = refl
 
--- a byte that is no digit ends a number, and begins what comes behind its item
+-- a byte that is no digit ends a number, and begins what comes after its item
 number_ended : (s : List (List Item)) (i : List Item) (head : Head) (from : ℕ) (negative : Bool) (value n : ℕ) (it : Item) (byte at : ℕ)
     → is_ascii_digit byte ≡ false → ended_number head negative value ≡ ended.Item it
     → at_place (state s i (places.Digits head from negative value) n) (places.Digits head from negative value) byte at
@@ -211,7 +211,7 @@ ended_read s i head from negative value n it (byte ∷ more) last made =
     ∙ begun-place s (i ++ it ∷ []) place (n + 1) byte (capped n)
     ∙ sym (step-state s (i ++ it ∷ []) places.Between n byte))
 
--- a number without sign behind a head, and its item
+-- a number without sign after a head, and its item
 pub unsigned_read : (s : List (List Item)) (i : List Item) (place : Place) (head : Head) (from limit value n : ℕ) (it : Item) (digits more : List ℕ)
     → TakesNumber place head from false n → limit ≡ greatest head false → IsNumber limit digits value → BeginsWithNoDigit more
     → ended_number head false value ≡ ended.Item it
@@ -220,12 +220,12 @@ unsigned_read s i place head from limit value n it digits more takes same number
     number_read s i place head from false limit value n digits more takes same number
     ∙ ended_read s i head from false value (n + length digits) it more last made
 
--- the place that a `-` leads to behind a head
+-- the place that a `-` leads to after a head
 pub minus_read : (head : Head) (s : List (List Item)) (i : List Item) (n : ℕ) → allows head 45 ≡ true
     → at_place (state s i (places.Head head) (n + 1)) (places.Head head) 45 (capped n) ≡ Ok (state s i (places.Minus head (capped n)) (n + 1))
 minus_read head s i n h = rw h refl
 
--- a number that may have a sign behind a head, and its item
+-- a number that may have a sign after a head, and its item
 pub signed_read : (s : List (List Item)) (i : List Item) (head : Head) (value n : ℕ) (item_of : ℕ → Item) (text more : List ℕ)
     → allows head 45 ≡ true → limit head ≡ 65535 → ((negative : Bool) (v : ℕ) → ended_number head negative v ≡ ended.Item (item_of (word_of negative v)))
     → IsSignedNumber text value → BeginsWithNoDigit more
@@ -261,12 +261,12 @@ operation_number_read s i function indirect bases.P value n text more number las
 operation_number_read s i function indirect bases.G value n text more number last =
     signed_read s i (plain function indirect bases.G) value n (items.Operation function indirect bases.G) text more refl refl (λ _ _. refl) number last
 
--- a head and what stands behind it
-behind_read : (s : List (List Item)) (i : List Item) (head : Head) (n : ℕ) (front rest text more : List ℕ) (it : Item)
+-- a head and what stands after it
+after_read : (s : List (List Item)) (i : List Item) (head : Head) (n : ℕ) (front rest text more : List ℕ) (it : Item)
     → text ≡ front ++ rest → IsHead front head → head ≢ heads.Label
     → answer (rest ++ more) (state s i (places.Head head) (n + length front)) ≡ answer more (state s (i ++ it ∷ []) places.Between (n + length front + length rest))
     → answer (text ++ more) (state s i places.Between n) ≡ answer more (state s (i ++ it ∷ []) places.Between (n + length text))
-behind_read s i head n front rest text more it is opens other h =
+after_read s i head n front rest text more it is opens other h =
     ap (λ bytes. answer bytes (state s i places.Between n)) (ap (λ bytes. bytes ++ more) is ∙ append_assoc front rest more)
     ∙ head_read s i head n front (rest ++ more) opens other
     ∙ h
@@ -278,22 +278,22 @@ pub item_read : (s : List (List Item)) (i : List Item) (it : Item) (n : ℕ) (te
 item_read s i (items.Label m) n text more number last =
     unsigned_read s i places.Between heads.Label (capped n) 65535 m n (items.Label m) text more (between_takes_label n) refl number last refl
 item_read s i (items.Data m) n text more (rest, is, number) last =
-    behind_read s i heads.Data n (68 ∷ []) rest text more (items.Data m) is refl (λ e. cc)
+    after_read s i heads.Data n (68 ∷ []) rest text more (items.Data m) is refl (λ e. cc)
     (signed_read s i heads.Data m (n + 1) items.Data rest more refl refl (λ _ _. refl) number last)
 item_read s i (items.DataLabel m) n text more (rest, is, number) last =
-    behind_read s i heads.DataLabel n (68 ∷ 76 ∷ []) rest text more (items.DataLabel m) is refl (λ e. cc)
+    after_read s i heads.DataLabel n (68 ∷ 76 ∷ []) rest text more (items.DataLabel m) is refl (λ e. cc)
     (unsigned_read s i (places.Head heads.DataLabel) heads.DataLabel (capped (n + 2)) 65535 m (n + 2) (items.DataLabel m) rest more (head_takes_number heads.DataLabel (n + 2)) refl number last refl)
 item_read s i (items.Byte m) n text more (rest, is, number) last =
-    behind_read s i heads.Byte n (67 ∷ []) rest text more (items.Byte m) is refl (λ e. cc)
+    after_read s i heads.Byte n (67 ∷ []) rest text more (items.Byte m) is refl (λ e. cc)
     (unsigned_read s i (places.Head heads.Byte) heads.Byte (capped (n + 1)) 255 m (n + 1) (items.Byte m) rest more (head_takes_number heads.Byte (n + 1)) refl number last refl)
 item_read s i (items.Operation function indirect base m) n text more (rest, is, number) last =
     let front = operation_letters function indirect base in
-    behind_read s i (plain function indirect base) n front rest text more (items.Operation function indirect base m) is refl (λ e. cc)
+    after_read s i (plain function indirect base) n front rest text more (items.Operation function indirect base m) is refl (λ e. cc)
     (operation_number_read s i function indirect base m (n + length front) rest more number last)
 item_read s i (items.Global g m) n text more (number, label, is, one, two) last =
     let head = heads.GlobalLabel g in
     let front = 71 ∷ (number ++ 76 ∷ []) in
-    behind_read s i head n front label text more (items.Global g m) (is ∙ ap (λ t. 71 ∷ t) (sym (append_assoc number (76 ∷ []) label))) (number, refl, one) (λ e. cc)
+    after_read s i head n front label text more (items.Global g m) (is ∙ ap (λ t. 71 ∷ t) (sym (append_assoc number (76 ∷ []) label))) (number, refl, one) (λ e. cc)
     (unsigned_read s i (places.Head head) head (capped (n + length front)) 65535 m (n + length front) (items.Global g m) label more (head_takes_number head (n + length front)) refl two last refl)
 
 -- ---- Elements and separators

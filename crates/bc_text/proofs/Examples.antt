@@ -96,7 +96,7 @@ blank_inside = (
 pub label_wanted : HasFault (codes "G1 Z") (errors.MissingLabel 2)
 label_wanted = (0, [], codes "G1 Z", nothing, refl, no_label 0 32 1 (codes "Z") (codes "1") (refl, refl, omega arith) refl (λ e. cc))
 
--- `5-3`: a number ends at the first other byte, and what follows is judged anew
+-- `5-3`: a number ends at the first other byte, and what follows is judged again
 pub judged_anew : HasFault (codes "5-3") (errors.BadCharacter 1)
 judged_anew =
     (1, _, codes "-3", item (codes "5") (Label 5) (refl, refl, omega arith) refl nothing, refl, no_item 1 45 (codes "3") refl)

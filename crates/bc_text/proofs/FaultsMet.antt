@@ -10,7 +10,7 @@ use Rattle.bc_text_items.specs.declared.item.Base.TheVariants as bases
 use Rattle.bc_text.specs.Numbers.{value_from, value_of_digits}
 use Rattle.bc_text.specs.Letters.{is_blank}
 use Rattle.bc_text.specs.Heads.{IsHead, allows, limit}
-use Rattle.bc_text.specs.Faults.{capped, may_begin, first_letters, Breaks, no_item, no_digit, no_digit_behind_minus, too_large, too_small, no_label, HasFault}
+use Rattle.bc_text.specs.Faults.{capped, may_begin, first_letters, Breaks, no_item, no_digit, no_digit_after_minus, too_large, too_small, no_label, HasFault}
 use Rattle.bc_text.specs.Steps.{Progress, at_place, longer, head_of, if_in_range, greatest, placed_at, answer, answer_of, run, start, finished_at}
 use Rattle.bc_text.specs.declared.head.Head.{Head}
 use Rattle.bc_text.specs.declared.head.Head.TheVariants as heads
@@ -82,7 +82,7 @@ not_longer (heads.Operation function indirect bases.Label) byte h = refl
 not_longer heads.Global byte h = refl
 not_longer (heads.GlobalLabel n) byte h = refl
 
--- no `-` stands behind a head that does not allow the byte
+-- no `-` stands after a head that does not allow the byte
 pub no_minus : (head : Head) (byte : ℕ) → allows head byte ≡ false → (eqb byte 45 && allows head 45) ≡ false
 no_minus head byte h = go (eqb byte 45) refl
   where
@@ -133,7 +133,7 @@ digits_stop s i place head from negative n d (x ∷ digits) more takes all low h
     ∙ answer-stop s i there m d more (errors.BadNumber from)
     (rw (a.1) (ap (placed_at (state s i there (m + 1))) (out_of_range head from negative (value * 10 + (d - 48)) past)))
 
--- the same behind a head that is no label
+-- the same after a head that is no label
 head_digits_stop : (s : List (List Item)) (i : List Item) (head : Head) (n d : ℕ) (front digits more : List ℕ) → IsHead front head
     → all_ascii_digits (digits ++ d ∷ []) ≡ true → value_of_digits digits ≤ limit head → limit head < value_of_digits (digits ++ d ∷ [])
     → answer (front ++ digits ++ d ∷ more) (state s i places.Between n) ≡ Err (errors.BadNumber (capped (n + length front)))
@@ -168,11 +168,11 @@ minus_is_of_word (heads.Operation function indirect base) h = (λ e. cc, refl)
 minus_is_of_word heads.Global h = absurd cc
 minus_is_of_word (heads.GlobalLabel g) h = absurd cc
 
--- a head and the `-` behind it are read
-minus_behind_read : (s : List (List Item)) (i : List Item) (head : Head) (n : ℕ) (front more : List ℕ) → IsHead front head → allows head 45 ≡ true
+-- a head and the `-` after it are read
+minus_after_read : (s : List (List Item)) (i : List Item) (head : Head) (n : ℕ) (front more : List ℕ) → IsHead front head → allows head 45 ≡ true
     → answer (front ++ 45 ∷ more) (state s i places.Between n)
     ≡ answer more (state s i (places.Minus head (capped (n + length front))) (n + length front + 1))
-minus_behind_read s i head n front more is allowed =
+minus_after_read s i head n front more is allowed =
     head_read s i head n front (45 ∷ more) is (minus_is_of_word head allowed).0
     ∙ answer-step s i (places.Head head) (n + length front) 45 more _ (minus_read head s i (n + length front) allowed)
 
@@ -183,15 +183,15 @@ breaks_met s i (no_item at byte more h) = answer-stop s i places.Between at byte
 breaks_met s i (no_digit at byte more front head is other d h) =
     head_read s i head at front (byte ∷ more) is other
     ∙ answer-stop s i (places.Head head) (at + length front) byte more _ (no_digit_met s i head (at + length front) byte d h)
-breaks_met s i (no_digit_behind_minus at byte more front head is allowed d) =
+breaks_met s i (no_digit_after_minus at byte more front head is allowed d) =
     let n = at + length front in
-    minus_behind_read s i head at front (byte ∷ more) is allowed
+    minus_after_read s i head at front (byte ∷ more) is allowed
     ∙ answer-stop s i (places.Minus head (capped n)) (n + 1) byte more (errors.BadNumber (capped (n + 1))) (rw d refl)
 breaks_met s i (too_large at digit more front digits head is all low high) = head_digits_stop s i head at digit front digits more is all low high
 breaks_met s i (too_small at digit more front digits head is allowed all low high) =
     let n = at + length front in
     let bound = (minus_is_of_word head allowed).1 in
-    minus_behind_read s i head at front (digits ++ digit ∷ more) is allowed
+    minus_after_read s i head at front (digits ++ digit ∷ more) is allowed
     ∙ digits_stop s i (places.Minus head (capped n)) head (capped n) true (n + 1) digit digits more (minus_takes_number head (capped n) (n + 1)) all (rw bound low) (rw bound high)
 breaks_met s i (no_label at byte n more number is d other) =
     let m = at + (1 + length number) in
@@ -221,7 +221,7 @@ refused_in_run (Err f) fault e = inl (let same : f ≡ fault = cc in ap (λ x. E
 not_unended : {at : ℕ} {rest : List ℕ} {fault : TextError} → Breaks at rest fault → fault ≢ errors.Unended
 not_unended (no_item at byte more h) e = cc
 not_unended (no_digit at byte more front head is other d h) e = cc
-not_unended (no_digit_behind_minus at byte more front head is allowed d) e = cc
+not_unended (no_digit_after_minus at byte more front head is allowed d) e = cc
 not_unended (too_large at digit more front digits head is all low high) e = cc
 not_unended (too_small at digit more front digits head is allowed all low high) e = cc
 not_unended (no_label at byte n more number is d other) e = cc

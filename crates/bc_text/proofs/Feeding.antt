@@ -15,7 +15,7 @@ use Rattle.bc_text.proofs.Complete.{text_read}
 use Rattle.bc_text.proofs.FaultsMet.{fault_met}
 use Rattle.bc_text.proofs.Whole.{run_goes_on, run_has_fault, text_of_answer, fault_of_answer, answer_of_fault}
 
--- a run goes on behind what was read
+-- a run goes on after what was read
 run-read : (bytes piece : List ℕ) (p : Progress) → run bytes start ≡ Ok p → run (bytes ++ piece) start ≡ run piece p
 run-read bytes piece p e = run-append bytes piece start ∙ ap (λ r. on_ok r (run piece)) e
 

@@ -1,4 +1,4 @@
--- What a writer has taken, behind what it had taken before.
+-- What a writer has taken, after what it had taken before.
 use Rattle.std.proofs.Common.{◌≡◌, ℕ, ◌+◌, ◌-◌, ◌<◌, ◌≤◌, min, List, [], ◌∷◌, ◌++◌, length, take, drop, get_or, flat_map, Option, sym, ap, subst, ◌∙◌, arith, append_assoc, append-nil, take-append-drop, length-drop}
 use Rattle.std.proofs.Math.Seq.{take-add, take-append-add}
 use Rattle.std.proofs.lemmas.List.{take_min, take_all, take-append-le, take_more, drop_all}
@@ -8,7 +8,7 @@ use Rattle.std.specs.Io.KnownBytes.{Appends}
 use Rattle.bc_text_items.specs.declared.item.Item.{Item}
 use Rattle.bc_text.specs.Printed.{line, printed_segment, AppendsFront}
 
--- the slice of the bytes that are left is what is behind the first n
+-- the slice of the bytes that are left is what is after the first n
 slice_left : (bytes : List ℕ) (n : ℕ) → take (length bytes - n) (drop n bytes) ≡ drop n bytes
 slice_left bytes n = take_all (length bytes - n) (drop n bytes) (omega (arith, length-drop n bytes))
 
@@ -51,7 +51,7 @@ pub segment_parted_at : (items : List Item) (i : ℕ) (it : Item) (bytes : List 
 segment_parted_at items i it bytes h is spelled =
     segment_parted items i it h ∙ ap (λ t. flat_map line (take i items) ++ (t ++ printed_segment (drop (i + 1) items))) (sym (spelled ∙ ap line is))
 
--- behind the last line stands the `Z`
+-- after the last line stands the `Z`
 pub segment_whole : (items : List Item) (i : ℕ) → length items ≤ i → printed_segment items ≡ flat_map line (take i items) ++ ((90 ∷ 10 ∷ []) ++ [])
 segment_whole items i h =
     ap (λ t. flat_map line t ++ 90 ∷ 10 ∷ []) (sym (sym (append-nil (take i items)) ∙ ap (λ t. take i items ++ t) (sym (drop_all i items h)) ∙ take-append-drop i items))

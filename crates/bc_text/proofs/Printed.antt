@@ -17,7 +17,7 @@ use Rattle.bc_text.specs.Printed.{printed, line, printed_segment, IsItem, ReadsB
 use Rattle.bc_text.proofs.FaultsMet.{value_from-append}
 use Rattle.bc_text.proofs.Sound.{all_digits-more}
 
--- digits that stand for the number
+-- digits that mean the number
 abbrev Stands : ℕ → List ℕ → Type 0
 Stands n digits = (all_ascii_digits digits ≡ true) × (value_of_digits digits ≡ n) × (0 < length digits)
 

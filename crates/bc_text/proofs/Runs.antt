@@ -5,7 +5,7 @@ use Rattle.bc_text.specs.Steps.{Progress, step, run, on_ok}
 use Rattle.bc_text.specs.declared.text_error.TextError.{TextError}
 use Rattle.bc_text.specs.declared.text_error.TextError.TheVariants as errors
 
--- the run from a place on is a step and the run behind it
+-- the run from a place on is a step and the run after it
 pub run-drop : (bytes : List ℕ) (i : ℕ) (p : Progress) → i < length bytes → run (drop i bytes) p ≡ on_ok (step p (get_or bytes i 0)) (run (drop (i + 1) bytes))
 unfolding run
 run-drop bytes i p h = rw (add-one, drop-cons bytes i 0)

@@ -14,8 +14,8 @@ use Rattle.bc_text.specs.Letters.{letter, operation_letters, is_blank}
 use Rattle.bc_text.specs.Spelling.{Spells}
 use Rattle.bc_text.specs.Texts.{HasNoLineEnd, Begins, elements_of, Element, an_item, end_of_segment, nothing, blank, comment, item, segment_end}
 use Rattle.bc_text.specs.Heads.{IsHead, allows, limit}
-use Rattle.bc_text.specs.Faults.{capped, first_letters, Breaks, no_item, no_digit, no_digit_behind_minus, too_large, too_small, no_label, HasFault}
-use Rattle.bc_text.specs.Steps.{Progress, step, at_place, behind_letter, longer, head_of, with_digit, greatest, placed, placed_at, closed, with_item, begun, between, ended_number, word_of, behind_number}
+use Rattle.bc_text.specs.Faults.{capped, first_letters, Breaks, no_item, no_digit, no_digit_after_minus, too_large, too_small, no_label, HasFault}
+use Rattle.bc_text.specs.Steps.{Progress, step, at_place, after_letter, longer, head_of, with_digit, greatest, placed, placed_at, closed, with_item, begun, between, ended_number, word_of, after_number}
 use Rattle.bc_text.specs.declared.head.Head.{Head}
 use Rattle.bc_text.specs.declared.head.Head.TheVariants as heads
 use Rattle.bc_text.specs.declared.head.Ended.{Ended}
@@ -28,9 +28,9 @@ use Rattle.bc_text.proofs.States.{capped-more}
 use Rattle.bc_text.proofs.Complete.{and_true}
 use Rattle.bc_text.proofs.FaultsMet.{minus_is_of_word, value_from-append}
 
--- ---- Elements and what stands behind them
+-- ---- Elements and what stands after them
 
--- elements behind elements
+-- elements after elements
 pub begins-trans : {bytes mid rest : List ℕ} {one two : List Element} → Begins bytes one mid → Begins mid two rest → Begins bytes (one ++ two) rest
 begins-trans nothing h = h
 begins-trans (blank is more) h = blank is (begins-trans more h)
@@ -81,7 +81,7 @@ IsOpen (places.Digits head from negative value) at held =
     (front digits : List ℕ) × (held ≡ front ++ (sign negative ++ digits)) × IsHead front head × (negative ≡ true → allows head 45 ≡ true)
     × IsNumber (greatest head negative) digits value × (from ≡ capped (at + length front))
 
--- the bytes are the elements that were read, and then what is open, whatever comes behind them
+-- the bytes are the elements that were read, and then what is open, whatever comes after them
 pub record Stands (bytes : List ℕ) (p : Progress) : Type 0 where
   pub before : List ℕ
   pub held : List ℕ
@@ -108,7 +108,7 @@ by_test : {X : Type 0} (P : X → Type 0) (test : Bool) (x y : X) → (test ≡ 
 by_test P true x y if_so if_not = if_so refl
 by_test P false x y if_so if_not = if_not refl
 
--- ---- A byte behind what is open
+-- ---- A byte after what is open
 
 -- the progress that the byte meets
 abbrev counted : Progress → Progress
@@ -259,10 +259,10 @@ head_of_is byte =
 
 letter_leads : (bytes : List ℕ) (byte : ℕ) (p : Progress) → AreElements bytes byte p → p.at ≡ capped (length (bytes ++ byte ∷ []))
     → (is_blank byte ≡ false) → (eqb byte 47 ≡ false) → (eqb byte 90 ≡ false) → (is_ascii_digit byte ≡ false)
-    → LeadsOn bytes byte (placed_at p (behind_letter (head_of byte) (errors.BadCharacter (capped (length bytes)))))
+    → LeadsOn bytes byte (placed_at p (after_letter (head_of byte) (errors.BadCharacter (capped (length bytes)))))
 letter_leads bytes byte p h count a b c d = go (head_of byte) (head_of_is byte)
   where
-    go : (found : Option Head) → IsHeadOf byte found → LeadsOn bytes byte (placed_at p (behind_letter found (errors.BadCharacter (capped (length bytes)))))
+    go : (found : Option Head) → IsHeadOf byte found → LeadsOn bytes byte (placed_at p (after_letter found (errors.BadCharacter (capped (length bytes)))))
     go (Some head) is = grown bytes byte p (places.Head head) (meets_at bytes byte p h count) is
     go None is = broken bytes byte p _ (meets_at bytes byte p h count) (λ more. no_item (length bytes) byte more (rw (a, b, c, d, is) refl))
 
@@ -371,12 +371,12 @@ longer_is held (heads.Operation function indirect bases.Label) byte is minus = r
 longer_is held heads.Global byte is minus = refl
 longer_is held (heads.GlobalLabel g) byte is minus = refl
 
--- a letter behind a head
-letter_behind_leads : (bytes : List ℕ) (byte : ℕ) (p : Progress) (m : Meets bytes byte p) (at : ℕ) (head : Head) (found : Option Head)
+-- a letter after a head
+letter_after_leads : (bytes : List ℕ) (byte : ℕ) (p : Progress) (m : Meets bytes byte p) (at : ℕ) (head : Head) (found : Option Head)
     → IsHead m.held head → (head ≢ heads.Label) → at ≡ capped (length m.before + length m.held) → is_ascii_digit byte ≡ false → IsLonger m.held head byte found
-    → LeadsOn bytes byte (placed_at p (behind_letter found (errors.BadNumber at)))
-letter_behind_leads bytes byte p m at head (Some found) opens other there d is = grown bytes byte p (places.Head found) m is
-letter_behind_leads bytes byte p m at head None opens other there d is =
+    → LeadsOn bytes byte (placed_at p (after_letter found (errors.BadNumber at)))
+letter_after_leads bytes byte p m at head (Some found) opens other there d is = grown bytes byte p (places.Head found) m is
+letter_after_leads bytes byte p m at head None opens other there d is =
     broken bytes byte p (errors.BadNumber at) m (λ more. rw there (no_digit (length m.before) byte more m.held head opens other d is))
 
 head_leads : (bytes : List ℕ) (byte : ℕ) (segments : List (List Item)) (i : List Item) (at : ℕ) (head : Head) → Stands bytes (stood segments i (places.Head head) at)
@@ -391,7 +391,7 @@ head_leads bytes byte segments i at head s =
     (λ d. by_test P (eqb byte 45 && allows head 45) _ _
     (λ e. let parts = and_true (eqb byte 45) (allows head 45) e in
     grown bytes byte (counted p) (places.Minus head at) m (s.held, with_letter s.held s.held byte 45 refl parts.0, s.is_open.0, parts.1, there))
-    (λ n. letter_behind_leads bytes byte (counted p) m at head (longer head byte) s.is_open.0 s.is_open.1 there d (longer_is s.held head byte s.is_open.0 n)))
+    (λ n. letter_after_leads bytes byte (counted p) m at head (longer head byte) s.is_open.0 s.is_open.1 there d (longer_is s.held head byte s.is_open.0 n)))
 
 minus_leads : (bytes : List ℕ) (byte : ℕ) (segments : List (List Item)) (i : List Item) (at : ℕ) (head : Head) (from : ℕ) → Stands bytes (stood segments i (places.Minus head from) at)
     → LeadsFrom bytes byte segments i (places.Minus head from) at
@@ -406,11 +406,11 @@ minus_leads bytes byte segments i at head from s =
     by_test P (is_ascii_digit byte) _ _
     (λ d. digit_leads bytes byte (counted p) m head from true 0 front [] is s.is_open.2 (λ e. s.is_open.3) refl refl (omega arith) s.is_open.4 d)
     (λ d. broken bytes byte (counted p) (errors.BadNumber at) m (λ more.
-    rw (is, append_assoc front (45 ∷ []) (byte ∷ more), there) (no_digit_behind_minus (length s.before) byte more front head s.is_open.2 s.is_open.3 d)))
+    rw (is, append_assoc front (45 ∷ []) (byte ∷ more), there) (no_digit_after_minus (length s.before) byte more front head s.is_open.2 s.is_open.3 d)))
 
 -- ---- The end of a number
 
--- what digits spell behind a head, with or without sign
+-- what digits spell after a head, with or without sign
 spelled_operation : (held digits : List ℕ) (function : Function) (indirect : Bool) (base : Base) (negative : Bool) (value : ℕ)
     → held ≡ operation_letters function indirect base ++ (sign negative ++ digits) → (negative ≡ true → allows (heads.Operation function indirect base) 45 ≡ true)
     → IsNumber (cond negative 32768 65535) digits value → Spells held (items.Operation function indirect base (word_of negative value))
@@ -449,9 +449,9 @@ spelled held front digits (heads.GlobalLabel g) true value is opens allowed numb
 spelled held front digits (heads.GlobalLabel g) false value is opens allowed number =
     (opens.0, digits, is ∙ ap (λ t. t ++ digits) opens.1 ∙ ap (λ t. 71 ∷ t) (append_assoc opens.0 (76 ∷ []) digits), opens.2, number)
 
--- what a byte that is no digit leads to behind a number
+-- what a byte that is no digit leads to after a number
 ended_leads : (bytes : List ℕ) (byte : ℕ) (p : Progress) (s : Stands bytes p) (e : Ended) → IsSpelled s.held e → is_ascii_digit byte ≡ false
-    → LeadsOn bytes byte (behind_number (counted p) e byte (capped (length bytes)))
+    → LeadsOn bytes byte (after_number (counted p) e byte (capped (length bytes)))
 ended_leads bytes byte p s (ended.Item it) spells d =
     let m = meets bytes byte p s in
     let h : AreElements bytes byte (with_item (counted p) it) = λ after.
@@ -476,9 +476,9 @@ digits_leads bytes byte segments i at head from negative value s =
     let m = meets bytes byte p s in
     let (front, digits, is, opens, allowed, number, place) = s.is_open in
     let parts = number_parts (greatest head negative) value digits number in
-    by_test (LeadsOn bytes byte) (is_ascii_digit byte) (placed_at (counted p) (with_digit head from negative value byte)) (behind_number (counted p) (ended_number head negative value) byte at)
+    by_test (LeadsOn bytes byte) (is_ascii_digit byte) (placed_at (counted p) (with_digit head from negative value byte)) (after_number (counted p) (ended_number head negative value) byte at)
     (λ d. digit_leads bytes byte (counted p) m head from negative value front digits is opens allowed parts.0 parts.1 parts.2 place d)
-    (λ d. subst (λ k. LeadsOn bytes byte (behind_number (counted p) (ended_number head negative value) byte k)) (sym s.count)
+    (λ d. subst (λ k. LeadsOn bytes byte (after_number (counted p) (ended_number head negative value) byte k)) (sym s.count)
     (ended_leads bytes byte p s (ended_number head negative value) (spelled s.held front digits head negative value is opens allowed number) d))
 
 -- a byte leads on from where the reader stands, or makes a fault

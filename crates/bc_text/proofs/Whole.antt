@@ -45,7 +45,7 @@ run_tells_from done (byte ∷ bytes) p s = go (step p byte) (step_leads done byt
 pub run_tells : (bytes : List ℕ) → RunTells bytes (run bytes start)
 run_tells bytes = run_tells_from [] bytes start start_stands
 
--- at the end, nothing is open and no item stands behind the last segment
+-- at the end, nothing is open and no item stands after the last segment
 finished_tells : (bytes : List ℕ) (place : Place) (i : List Item) (s segments : List (List Item)) (at : ℕ)
     → Stands bytes (record { segments = s; items = i; place = place; at = at }) → finished_at place i s ≡ Ok segments → IsText bytes segments
 finished_tells bytes places.Between [] s segments at stands e =
@@ -71,7 +71,7 @@ finished_tells bytes (places.Digits head from negative value) i s segments at st
 
 -- ---- Every place goes on to the end of a segment
 
--- bytes behind which a progress is at an end
+-- bytes after which a progress is at an end
 abbrev Ends : Progress → Type 0
 Ends p = (more : List ℕ) × (segments : List (List Item)) × (answer more p ≡ Ok segments)
 
@@ -116,7 +116,7 @@ place_ends s i at (places.Digits head from negative value) = digits_end s i at h
 
 -- ---- Answers
 
--- the answer to bytes behind others
+-- the answer to bytes after others
 answer-append : (xs ys : List ℕ) (p : Progress) → run xs start ≡ Ok p → answer (xs ++ ys) start ≡ answer ys p
 answer-append xs ys p e = ap answer_of (run-append xs ys start ∙ ap (λ r. on_ok r (run ys)) e)
 

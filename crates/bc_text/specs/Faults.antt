@@ -32,12 +32,12 @@ pub data Breaks : ℕ → List ℕ → TextError → Type 0 where
   -- a byte begins no item
   no_item : (at byte : ℕ) (more : List ℕ) → may_begin byte ≡ false
       → Breaks at (byte ∷ more) (errors.BadCharacter (capped at))
-  -- behind a head stands neither a digit nor another byte that may stand there
+  -- after a head stands neither a digit nor another byte that may stand there
   no_digit : (at byte : ℕ) (more front : List ℕ) (head : Head) → IsHead front head → head ≢ heads.Label
       → is_ascii_digit byte ≡ false → allows head byte ≡ false
       → Breaks at (front ++ byte ∷ more) (errors.BadNumber (capped (at + length front)))
-  -- behind a `-` stands no digit
-  no_digit_behind_minus : (at byte : ℕ) (more front : List ℕ) (head : Head) → IsHead front head → allows head 45 ≡ true
+  -- after a `-` stands no digit
+  no_digit_after_minus : (at byte : ℕ) (more front : List ℕ) (head : Head) → IsHead front head → allows head 45 ≡ true
       → is_ascii_digit byte ≡ false
       → Breaks at (front ++ 45 ∷ byte ∷ more) (errors.BadNumber (capped (at + length front + 1)))
   -- a digit takes a number out of range: the place is that of the number's first byte
@@ -45,12 +45,12 @@ pub data Breaks : ℕ → List ℕ → TextError → Type 0 where
       → all_ascii_digits (digits ++ digit ∷ []) ≡ true → value_of_digits digits ≤ limit head
       → limit head < value_of_digits (digits ++ digit ∷ [])
       → Breaks at (front ++ digits ++ digit ∷ more) (errors.BadNumber (capped (at + length front)))
-  -- the same behind a `-`, which is the number's first byte
+  -- the same after a `-`, which is the number's first byte
   too_small : (at digit : ℕ) (more front digits : List ℕ) (head : Head) → IsHead front head → allows head 45 ≡ true
       → all_ascii_digits (digits ++ digit ∷ []) ≡ true → value_of_digits digits ≤ 32768
       → 32768 < value_of_digits (digits ++ digit ∷ [])
       → Breaks at (front ++ 45 ∷ (digits ++ digit ∷ more)) (errors.BadNumber (capped (at + length front)))
-  -- behind the number of a global stands no `L`
+  -- after the number of a global stands no `L`
   no_label : (at byte n : ℕ) (more number : List ℕ) → IsNumber 511 number n → is_ascii_digit byte ≡ false → byte ≢ 76
       → Breaks at (71 ∷ (number ++ byte ∷ more)) (errors.MissingLabel (capped (at + 1 + length number)))
 
@@ -60,7 +60,7 @@ HasFault bytes fault =
     (at : ℕ) × (elements : List Element) × (rest : List ℕ)
     × Begins bytes elements rest × (at + length rest ≡ length bytes) × Breaks at rest fault
 
--- the bytes are no text, and go on to one: they end in an item, or have items behind the last `Z`
+-- the bytes are no text, and go on to one: they end in an item, or have items after the last `Z`
 abbrev pub IsUnended : List ℕ → Type 0
 IsUnended bytes = ((segments : List (List Item)) → IsText bytes segments → ⊥) × GoesOn bytes
 

@@ -1,4 +1,4 @@
--- What an item has in front of its last number: which bytes may stand behind it, and which numbers.
+-- What an item has before its last number: which bytes may stand after it, and which numbers.
 use Rattle.std.specs.Prelude.{ℕ, ◌==◌, ◌≡◌, List, [], ◌∷◌, ◌++◌, Bool, true, false}
 use Rattle.std.specs.List.{list_any}
 use Rattle.bc_text_items.specs.declared.item.Base.TheVariants as bases
@@ -17,25 +17,25 @@ IsHead text (heads.Operation function indirect base) = text ≡ operation_letter
 IsHead text heads.Global = text ≡ 71 ∷ []
 IsHead text (heads.GlobalLabel n) = (number : List ℕ) × (text ≡ 71 ∷ number ++ 76 ∷ []) × IsNumber 511 number n
 
--- the bytes that may stand behind the head beside a digit: `I`, `P`, `G`, `L` and `-`
-abbrev pub others_behind : Head → List ℕ
-others_behind heads.Label = []
-others_behind heads.Data = 76 ∷ 45 ∷ []
-others_behind heads.DataLabel = []
-others_behind heads.Byte = []
-others_behind (heads.Operation function false bases.Number) = 73 ∷ 80 ∷ 71 ∷ 76 ∷ 45 ∷ []
-others_behind (heads.Operation function true bases.Number) = 80 ∷ 71 ∷ 76 ∷ 45 ∷ []
-others_behind (heads.Operation function indirect bases.P) = 45 ∷ []
-others_behind (heads.Operation function indirect bases.G) = 45 ∷ []
-others_behind (heads.Operation function indirect bases.Label) = []
-others_behind heads.Global = []
-others_behind (heads.GlobalLabel n) = []
+-- the bytes that may stand after the head beside a digit: `I`, `P`, `G`, `L` and `-`
+abbrev pub others_after : Head → List ℕ
+others_after heads.Label = []
+others_after heads.Data = 76 ∷ 45 ∷ []
+others_after heads.DataLabel = []
+others_after heads.Byte = []
+others_after (heads.Operation function false bases.Number) = 73 ∷ 80 ∷ 71 ∷ 76 ∷ 45 ∷ []
+others_after (heads.Operation function true bases.Number) = 80 ∷ 71 ∷ 76 ∷ 45 ∷ []
+others_after (heads.Operation function indirect bases.P) = 45 ∷ []
+others_after (heads.Operation function indirect bases.G) = 45 ∷ []
+others_after (heads.Operation function indirect bases.Label) = []
+others_after heads.Global = []
+others_after (heads.GlobalLabel n) = []
 
--- whether this byte, no digit, may stand behind the head
+-- whether this byte, no digit, may stand after the head
 abbrev pub allows : Head → ℕ → Bool
-allows head byte = list_any (λ other. byte == other) (others_behind head)
+allows head byte = list_any (λ other. byte == other) (others_after head)
 
--- the greatest number behind the head; one with a `-` goes to 32,768
+-- the greatest number after the head; one with a `-` goes to 32,768
 abbrev pub limit : Head → ℕ
 limit heads.Label = 65535
 limit heads.Data = 65535

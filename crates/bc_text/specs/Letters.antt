@@ -28,7 +28,7 @@ base_letter bases.P = 80 ∷ []
 base_letter bases.G = 71 ∷ []
 base_letter bases.Label = 76 ∷ []
 
--- what an operation has in front of its number
+-- what an operation has before its number
 abbrev pub operation_letters : Function → Bool → Base → List ℕ
 operation_letters function indirect base = letter function ∷ indirection indirect ++ base_letter base
 

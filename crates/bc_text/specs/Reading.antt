@@ -42,7 +42,7 @@ Finishes None result = result ≡ Err errors.Failed
 Finishes (Some p) (Ok v) = finished p ≡ Ok v.items
 Finishes (Some p) (Err fault) = finished p ≡ Err fault
 
--- the bytes of pieces, one behind another
+-- the bytes of pieces, one after another
 abbrev pub bytes_of : List (Bor (List ℕ)) → List ℕ
 bytes_of pieces = flat_map (λ piece. piece.now) pieces
 

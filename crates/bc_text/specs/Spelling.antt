@@ -15,22 +15,22 @@ IsOperationNumber bases.P text n = IsSignedNumber text n
 IsOperationNumber bases.G text n = IsSignedNumber text n
 
 -- the text is `front`, and then a text of which `P` holds
-abbrev pub Behind : List ℕ → (List ℕ → Type 0) → List ℕ → Type 0
-Behind front P text = (rest : List ℕ) × (text ≡ front ++ rest) × P rest
+abbrev pub After : List ℕ → (List ℕ → Type 0) → List ℕ → Type 0
+After front P text = (rest : List ℕ) × (text ≡ front ++ rest) × P rest
 
 -- the text spells the item
 abbrev pub Spells : List ℕ → Item → Type 0
 -- n
 Spells text (Label n) = IsNumber 65535 text n
 -- Dn
-Spells text (Data n) = Behind (68 ∷ []) (λ rest. IsSignedNumber rest n) text
+Spells text (Data n) = After (68 ∷ []) (λ rest. IsSignedNumber rest n) text
 -- DLm
-Spells text (DataLabel m) = Behind (68 ∷ 76 ∷ []) (λ rest. IsNumber 65535 rest m) text
+Spells text (DataLabel m) = After (68 ∷ 76 ∷ []) (λ rest. IsNumber 65535 rest m) text
 -- Cn
-Spells text (Byte n) = Behind (67 ∷ []) (λ rest. IsNumber 255 rest n) text
+Spells text (Byte n) = After (67 ∷ []) (λ rest. IsNumber 255 rest n) text
 -- F[I][P|G]n and F[I]Lm
 Spells text (Operation function indirect base n) =
-    Behind (operation_letters function indirect base) (λ rest. IsOperationNumber base rest n) text
+    After (operation_letters function indirect base) (λ rest. IsOperationNumber base rest n) text
 -- GnLm
 Spells text (Global n m) =
     (number label : List ℕ) × (text ≡ 71 ∷ number ++ 76 ∷ label) × IsNumber 511 number n × IsNumber 65535 label m

@@ -18,7 +18,7 @@ use Rattle.bc_text.specs.declared.head.Place.TheVariants as places
 use Rattle.bc_text.specs.declared.text_error.TextError.{TextError}
 use Rattle.bc_text.specs.declared.text_error.TextError.TheVariants as errors
 
--- What a reader has read: whole segments, the items behind them, where it stands, and how many bytes.
+-- What a reader has read: whole segments, the items after them, where it stands, and how many bytes.
 pub record Progress : Type 0 where
   pub segments : List (List Item)
   pub items : List Item
@@ -53,16 +53,16 @@ longer (heads.Operation function indirect bases.Number) byte =
     (cond (byte == 76) (Some (heads.Operation function indirect bases.Label)) None)))
 longer head byte = None
 
--- behind the head that a letter made, or the fault that there is none
-abbrev pub behind_letter : Option Head → TextError → Result Place TextError
-behind_letter (Some head) fault = Ok (places.Head head)
-behind_letter None fault = Err fault
+-- after the head that a letter made, or the fault that there is none
+abbrev pub after_letter : Option Head → TextError → Result Place TextError
+after_letter (Some head) fault = Ok (places.Head head)
+after_letter None fault = Err fault
 
--- the greatest number behind the head, with or without sign
+-- the greatest number after the head, with or without sign
 abbrev pub greatest : Head → Bool → ℕ
 greatest head negative = cond negative (min (limit head) 32768) (limit head)
 
--- a number that is being read is one that may stand behind its head
+-- a number that is being read is one that may stand after its head
 abbrev pub is_in_range : Place → Bool
 is_in_range places.Between = true
 is_in_range places.Comment = true
@@ -79,16 +79,16 @@ if_in_range head from negative value =
 abbrev pub with_digit : Head → ℕ → Bool → ℕ → ℕ → Result Place TextError
 with_digit head from negative value byte = if_in_range head from negative (value * 10 + (byte - 48))
 
--- what a byte makes behind a head
-abbrev pub behind_head : Head → ℕ → ℕ → Result Place TextError
-behind_head head byte at =
+-- what a byte makes after a head
+abbrev pub after_head : Head → ℕ → ℕ → Result Place TextError
+after_head head byte at =
     cond (is_ascii_digit byte) (with_digit head at false 0 byte)
     (cond (byte == 45 && allows head 45) (Ok (places.Minus head at))
-    (behind_letter (longer head byte) (errors.BadNumber at)))
+    (after_letter (longer head byte) (errors.BadNumber at)))
 
--- what a byte makes behind a `-`
-abbrev pub behind_minus : Head → ℕ → ℕ → ℕ → Result Place TextError
-behind_minus head from byte at =
+-- what a byte makes after a `-`
+abbrev pub after_minus : Head → ℕ → ℕ → ℕ → Result Place TextError
+after_minus head from byte at =
     cond (is_ascii_digit byte) (with_digit head from true 0 byte) (Err (errors.BadNumber at))
 
 -- what a byte makes between items, where it is not `Z`
@@ -97,11 +97,11 @@ between byte at =
     cond (is_blank byte) (Ok places.Between)
     (cond (byte == 47) (Ok places.Comment)
     (cond (is_ascii_digit byte) (with_digit heads.Label at false 0 byte)
-    (behind_letter (head_of byte) (errors.BadCharacter at))))
+    (after_letter (head_of byte) (errors.BadCharacter at))))
 
--- what a byte makes behind the number of a global
-abbrev pub behind_global : ℕ → ℕ → ℕ → Result Place TextError
-behind_global number byte at =
+-- what a byte makes after the number of a global
+abbrev pub after_global : ℕ → ℕ → ℕ → Result Place TextError
+after_global number byte at =
     cond (byte == 76) (Ok (places.Head (heads.GlobalLabel number))) (Err (errors.MissingLabel at))
 
 -- the word of a number with or without sign
@@ -139,23 +139,23 @@ with_item p item = record p { items = p.items ++ item ∷ [] }
 abbrev pub begun : Progress → ℕ → ℕ → Result Progress TextError
 begun p byte at = cond (byte == 90) (Ok (closed p)) (placed_at p (between byte at))
 
--- what the end of a number makes, and the byte behind it
-abbrev pub behind_number : Progress → Ended → ℕ → ℕ → Result Progress TextError
-behind_number p (ended.Item item) byte at = begun (with_item p item) byte at
-behind_number p (ended.Global number) byte at = placed_at p (behind_global number byte at)
+-- what the end of a number makes, and the byte after it
+abbrev pub after_number : Progress → Ended → ℕ → ℕ → Result Progress TextError
+after_number p (ended.Item item) byte at = begun (with_item p item) byte at
+after_number p (ended.Global number) byte at = placed_at p (after_global number byte at)
 
 -- what a byte makes in the digits of a number
 abbrev pub in_digits : Progress → Head → ℕ → Bool → ℕ → ℕ → ℕ → Result Progress TextError
 in_digits p head from negative value byte at =
     cond (is_ascii_digit byte) (placed_at p (with_digit head from negative value byte))
-    (behind_number p (ended_number head negative value) byte at)
+    (after_number p (ended_number head negative value) byte at)
 
 -- what a byte makes at a place
 abbrev pub at_place : Progress → Place → ℕ → ℕ → Result Progress TextError
 at_place p places.Between byte at = begun p byte at
 at_place p places.Comment byte at = cond (byte == 10) (Ok (placed p places.Between)) (Ok p)
-at_place p (places.Head head) byte at = placed_at p (behind_head head byte at)
-at_place p (places.Minus head from) byte at = placed_at p (behind_minus head from byte at)
+at_place p (places.Head head) byte at = placed_at p (after_head head byte at)
+at_place p (places.Minus head from) byte at = placed_at p (after_minus head from byte at)
 at_place p (places.Digits head from negative value) byte at = in_digits p head from negative value byte at
 
 -- one byte more
@@ -172,7 +172,7 @@ unfoldable pub run : List ℕ → Progress → Result Progress TextError
 run [] p = Ok p
 run (byte ∷ bytes) p = on_ok (step p byte) (run bytes)
 
--- the segments at the end of the bytes, if no item is open and none stands behind the last `Z`
+-- the segments at the end of the bytes, if no item is open and none stands after the last `Z`
 abbrev pub finished_at : Place → List Item → List (List Item) → Result (List (List Item)) TextError
 finished_at places.Between [] segments = Ok segments
 finished_at places.Comment [] segments = Ok segments

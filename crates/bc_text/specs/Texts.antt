@@ -10,7 +10,7 @@ pub data Element : Type 0 where
   an_item : Item → Element
   end_of_segment : Element
 
--- a number ends at the first byte that is no digit: none begins what stands behind it
+-- a number ends at the first byte that is no digit: none begins what stands after it
 abbrev pub BeginsWithNoDigit : List ℕ → Type 0
 BeginsWithNoDigit [] = Unit {0}
 BeginsWithNoDigit (byte ∷ bytes) = is_ascii_digit byte ≡ false
@@ -20,7 +20,7 @@ abbrev pub HasNoLineEnd : List ℕ → Type 0
 HasNoLineEnd [] = Unit {0}
 HasNoLineEnd (byte ∷ bytes) = (byte ≢ 10) × HasNoLineEnd bytes
 
--- a comment goes to the end of its line: a line feed or nothing stands behind it
+-- a comment goes to the end of its line: a line feed or nothing stands after it
 abbrev pub BeginsWithLineEnd : List ℕ → Type 0
 BeginsWithLineEnd [] = Unit {0}
 BeginsWithLineEnd (byte ∷ bytes) = byte ≡ 10

@@ -1,6 +1,6 @@
 use bc_text_items::{Base, Function, GlobalNumber, Item};
 
-/// What an item has in front of its last number, and so which item it is once the number is there.
+/// What an item has before its last number, and so which item it is once the number is there.
 #[derive(Clone, Copy, Debug, PartialEq, Eq)]
 pub enum Head {
     /// Nothing: the number of a label that stands here.
@@ -17,7 +17,7 @@ pub enum Head {
         indirect: bool,
         base: Base,
     },
-    /// `G`, in front of the global's number.
+    /// `G`, before the global's number.
     Global,
     /// `G`, the global's number and `L`.
     GlobalLabel(GlobalNumber),
@@ -28,7 +28,7 @@ pub enum Head {
 pub enum Ended {
     /// An item.
     Item(Item),
-    /// The number of a global, behind which an `L` is wanted.
+    /// The number of a global, after which an `L` is wanted.
     Global(GlobalNumber),
 }
 
@@ -39,9 +39,9 @@ pub enum Place {
     Between,
     /// In a comment.
     Comment,
-    /// Behind a head: a digit is wanted, or another byte that the head allows.
+    /// After a head: a digit is wanted, or another byte that the head allows.
     Head(Head),
-    /// Behind the `-` of a number, which stands at `from`: a digit is wanted.
+    /// After the `-` of a number, which stands at `from`: a digit is wanted.
     Minus {
         head: Head,
         from: u64,

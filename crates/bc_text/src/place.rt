@@ -4,7 +4,7 @@ ghost use Rattle.std.specs.Prelude.{◌≡◌, ◌≤◌, ◌+◌, ◌<◌, IsTr
 ghost use Rattle.std.specs.Char.{is_ascii_digit};
 ghost use Rattle.bc_text.specs.Letters.{is_blank};
 ghost use Rattle.bc_text.specs.Heads.{allows, limit};
-ghost use Rattle.bc_text.specs.Steps.{head_of, longer, greatest, with_digit, behind_letter, behind_head, behind_minus, between, behind_global, ended_number, word_of, is_in_range};
+ghost use Rattle.bc_text.specs.Steps.{head_of, longer, greatest, with_digit, after_letter, after_head, after_minus, between, after_global, ended_number, word_of, is_in_range};
 
 use crate::head::{Ended, Head, Place};
 use crate::text_error::TextError;
@@ -19,7 +19,7 @@ pub fn is_blank(byte: u8) -> bool
     matches!(byte, b' ' | b'\t' | b'\r' | b'\n' | b'$')
 }
 
-/// Whether a `-` may stand behind the head.
+/// Whether a `-` may stand after the head.
 #[inline]
 pub fn allows_minus(head: &Head) -> bool
     ensures { result ≡ allows head.now 45 }
@@ -31,7 +31,7 @@ pub fn allows_minus(head: &Head) -> bool
     }
 }
 
-/// The greatest number behind the head, where it has no sign.
+/// The greatest number after the head, where it has no sign.
 #[inline]
 pub fn limit(head: &Head) -> u16
     ensures { result ≡ limit head.now }
@@ -131,10 +131,10 @@ pub fn with_digit(
     })
 }
 
-/// What a byte makes behind a head.
+/// What a byte makes after a head.
 #[inline]
-pub fn behind_head(head: &Head, byte: u8, at: u64) -> Result<Place, TextError>
-    ensures is { result ≡ behind_head head.now byte at }
+pub fn after_head(head: &Head, byte: u8, at: u64) -> Result<Place, TextError>
+    ensures is { result ≡ after_head head.now byte at }
     ensures in_range { IfOk result (λ place. IsTrue (is_in_range place)) }
 {
     if byte.is_ascii_digit() {
@@ -152,10 +152,10 @@ pub fn behind_head(head: &Head, byte: u8, at: u64) -> Result<Place, TextError>
     }
 }
 
-/// What a byte makes behind the `-` of a number.
+/// What a byte makes after the `-` of a number.
 #[inline]
-pub fn behind_minus(head: &Head, from: u64, byte: u8, at: u64) -> Result<Place, TextError>
-    ensures is { result ≡ behind_minus head.now from byte at }
+pub fn after_minus(head: &Head, from: u64, byte: u8, at: u64) -> Result<Place, TextError>
+    ensures is { result ≡ after_minus head.now from byte at }
     ensures in_range { IfOk result (λ place. IsTrue (is_in_range place)) }
 {
     if byte.is_ascii_digit() {
@@ -186,10 +186,10 @@ pub fn between(byte: u8, at: u64) -> Result<Place, TextError>
     }
 }
 
-/// What a byte makes behind the number of a global.
+/// What a byte makes after the number of a global.
 #[inline]
-pub fn behind_global(number: GlobalNumber, byte: u8, at: u64) -> Result<Place, TextError>
-    ensures is { result ≡ behind_global number byte at }
+pub fn after_global(number: GlobalNumber, byte: u8, at: u64) -> Result<Place, TextError>
+    ensures is { result ≡ after_global number byte at }
     ensures in_range { IfOk result (λ place. IsTrue (is_in_range place)) }
 {
     if byte == b'L' {

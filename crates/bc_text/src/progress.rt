@@ -1,16 +1,16 @@
 //! What a reader has read so far.
 
 ghost use Rattle.std.specs.Prelude.{◌≡◌, ◌⊎◌, Ok, Err, MatchResult, IfOk, IsTrue};
-ghost use Rattle.bc_text.specs.Steps.{is_in_range, start, step, run, finished, begun, closed, placed_at, behind_number};
+ghost use Rattle.bc_text.specs.Steps.{is_in_range, start, step, run, finished, begun, closed, placed_at, after_number};
 
 use crate::head::{Ended, Place};
-use crate::place::{behind_global, behind_head, behind_minus, between, ended_number, with_digit};
+use crate::place::{after_global, after_head, after_minus, between, ended_number, with_digit};
 use crate::text_error::TextError;
 use bc_text_items::{Item, Segment};
 use std::alloc::Global;
 use std::mem;
 
-/// Whole segments, the items behind them, the place in the text, and how many bytes stand in front of it.
+/// Whole segments, the items after them, the place in the text, and how many bytes stand before it.
 #[derive(Drop)]
 pub struct Progress {
     segments: Vec<Segment>,
@@ -74,17 +74,17 @@ impl Progress {
         }
     }
 
-    /// The byte behind a number's digits, with what they made.
+    /// The byte after a number's digits, with what they made.
     #[inline]
     fn end_number(&mut self, ended: Ended, byte: u8, at: u64) -> Result<(), TextError>
-        ensures { Reaches result (progress_of self.new) (behind_number (progress_of self.old) ended byte at) }
+        ensures { Reaches result (progress_of self.new) (after_number (progress_of self.old) ended byte at) }
     {
         match ended {
             Ended::Item(item) => {
                 self.items.push(item)?;
                 self.begin(byte, at)
             }
-            Ended::Global(number) => self.go_to(behind_global(number, byte, at)),
+            Ended::Global(number) => self.go_to(after_global(number, byte, at)),
         }
     }
 
@@ -104,8 +104,8 @@ impl Progress {
                 }
                 Ok(())
             }
-            Place::Head(head) => self.go_to(behind_head(&head, byte, at)),
-            Place::Minus { head, from } => self.go_to(behind_minus(&head, from, byte, at)),
+            Place::Head(head) => self.go_to(after_head(&head, byte, at)),
+            Place::Minus { head, from } => self.go_to(after_minus(&head, from, byte, at)),
             Place::Digits {
                 head,
                 from,

@@ -29,7 +29,7 @@ impl Model for Reader {
 }
 
 impl Reader {
-    /// A reader in front of the first byte. It takes no memory.
+    /// A reader before the first byte. It takes no memory.
     pub fn new(alloc: Global) -> Reader
         ensures { HasRead result [] }
     {
@@ -51,7 +51,7 @@ impl Reader {
     }
 
     /// Takes the next piece of the text. A refusal comes in the call that holds the byte at which the fault
-    /// is known; `Memory` comes where an allocation was refused. Behind either, each further call answers
+    /// is known; `Memory` comes where an allocation was refused. After either, each further call answers
     /// `Failed`.
     pub fn feed(&mut self, piece: &[u8]) -> Result<(), TextError>
         // Ok just where the bytes so far go on to a text, and else their first fault.
@@ -64,7 +64,7 @@ impl Reader {
     }
 
     /// The segments, at the end of the text. It takes no memory. `Unended` comes where the text ends in an
-    /// item or has items behind the last `Z`, and `Failed` where a call of `feed` has refused.
+    /// item or has items after the last `Z`, and `Failed` where a call of `feed` has refused.
     pub fn finish(self) -> Result<Vec<Segment>, TextError>
         // The segments that the bytes are a text of, or what is wrong with them.
         ensures answer { (bytes : List ℕ) → HasRead self bytes → IsAnswerAtEnd bytes result }

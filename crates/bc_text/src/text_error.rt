@@ -3,7 +3,7 @@ use thiserror::Error;
 
 /// Why a text was not read, or not written.
 ///
-/// A place is the number of bytes in front of it, counted from the stream's start; it stays at 2^64 - 1.
+/// A place is the number of bytes before it, counted from the stream's start; it stays at 2^64 - 1.
 #[derive(Clone, Copy, Debug, PartialEq, Eq, Hash, Error)]
 pub enum TextError {
     /// The byte at this place begins no item.
@@ -15,7 +15,7 @@ pub enum TextError {
     /// At this place the `L` of a global is wanted and another byte stands.
     #[error("a global without its label, at {0}")]
     MissingLabel(u64),
-    /// The text ends in an item, or with items behind the last `Z`.
+    /// The text ends in an item, or with items after the last `Z`.
     #[error("the text ends before its last segment does")]
     Unended,
     /// The writer failed.

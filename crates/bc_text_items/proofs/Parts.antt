@@ -44,7 +44,7 @@ length-assembled address (Global n m ∷ items) = omega (arith, length-assembled
 
 -- ---- Parts
 
--- a byte in front of what is no byte stands alone
+-- a byte before what is no byte stands alone
 byte_apart : (address : ℕ → ℕ) (start a : ℕ) (others : List Item) → BeginsWithNoByte others → StandApart address start (Byte a ∷ []) others
 byte_apart address start a [] h = record { words = refl; size = refl; places = refl; settings = refl }
 byte_apart address start a (Byte b ∷ others) h = absurd h
@@ -54,7 +54,7 @@ byte_apart address start a (DataLabel m ∷ others) h = record { words = refl; s
 byte_apart address start a (Operation f i b n ∷ others) h = record { words = refl; size = refl; places = refl; settings = refl }
 byte_apart address start a (Global n m ∷ others) h = record { words = refl; size = refl; places = refl; settings = refl }
 
--- the address behind k words, and behind n more
+-- the address after k words, and after n more
 moved : (start k n : ℕ) (others : List Item) → label_places (start + k + n) others ≡ label_places (start + (k + n)) others
 moved start k n others = ap (λ at. label_places at others) (omega arith)
 

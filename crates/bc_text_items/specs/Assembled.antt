@@ -60,7 +60,7 @@ assembled address (Byte high ∷ Byte low ∷ items) = (high * 256 + low) ∷ as
 assembled address (item ∷ items) = words_of_item address item ++ assembled address items
 
 -- Each label with its address, where the items stand from `start` on: the address of the next word
--- behind it. A label at the end has the address behind the last word.
+-- after it. A label at the end has the address after the last word.
 abbrev pub label_places : ℕ → List Item → List (ℕ × ℕ)
 label_places start [] = []
 label_places start (Label m ∷ items) = (m, start) ∷ label_places start items

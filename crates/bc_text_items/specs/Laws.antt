@@ -5,7 +5,7 @@ use Rattle.bc_text_items.specs.Assembled.{assembled, label_places, global_settin
 use Rattle.bc_text_items.specs.declared.item.Item.{Item}
 use Rattle.bc_text_items.specs.declared.item.Item.TheVariants.{Label, Data, DataLabel, Byte, Operation, Global}
 
--- what comes first is no byte, so that it shares no word with one in front of it
+-- what comes first is no byte, so that it shares no word with one before it
 abbrev pub BeginsWithNoByte : List Item → Type 0
 BeginsWithNoByte [] = Unit {0}
 BeginsWithNoByte (Byte b ∷ items) = ⊥
@@ -19,7 +19,7 @@ BeginsWithNoByte (Global n m ∷ items) = Unit {0}
 abbrev pub HasItsSize : (ℕ → ℕ) → List Item → Type 0
 HasItsSize address items = length (assembled address items) ≡ size_of_all items
 
--- items behind which no byte comes become what they become alone, and what follows is behind them
+-- items after which no byte comes become what they become alone, and what follows is after them
 pub record StandApart (address : ℕ → ℕ) (start : ℕ) (items others : List Item) : Type 0 where
   pub words : assembled address (items ++ others) ≡ assembled address items ++ assembled address others
   pub size : size_of_all (items ++ others) ≡ size_of_all items + size_of_all others

@@ -10,7 +10,7 @@ pub fn assembled_has_its_size()
     ensures { (address : ℕ → ℕ) (items : List Item) → HasItsSize address items }
 {}
 
-/// A list of items may be cut in front of any item but a byte: the words, the size, the places of the labels
+/// A list of items may be cut before any item but a byte: the words, the size, the places of the labels
 /// and the settings of the whole are those of the parts.
 pub fn parts_stand_apart()
     ensures { (address : ℕ → ℕ) (start : ℕ) (items others : List Item) → BeginsWithNoByte others → StandApart address start items others }

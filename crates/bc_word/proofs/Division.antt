@@ -36,7 +36,7 @@ signed_remainder b a q p h = read_back _ ∙ int_wrap_fits w16 _ (remainder_fits
 mod_first : (m n : ℕ) → (m + n) % 65536 ≡ (m % 65536 + n) % 65536
 mod_first m n = omega arith
 
--- Q * A + R, worked out on words, reads as B
+-- Q * A + R, computed on words, reads as B
 recombined : (b a : ℕ) → b < 65536 → a < 65536 → (Q R : ℤ) → Q *ℤ signed a +ℤ R ≡ signed b → (wrapped Q * a + wrapped R) % 65536 ≡ b
 recombined b a q p Q R e =
     sym (of_z-to_z w16 ((wrapped Q * a + wrapped R) % 65536) (omega arith))

@@ -70,7 +70,7 @@ impl From<Op> for Word {
     }
 }
 
-/// The operator that the machine's operation of this number works out.
+/// The operator that the machine's operation of this number computes.
 ///
 /// `NotAnOperator` comes for every number but 5 to 21.
 impl TryFrom<Word> for Op {

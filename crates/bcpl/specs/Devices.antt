@@ -1,4 +1,4 @@
--- What the devices of a run tell of their bytes: what the one that they stand for tells.
+-- What the devices of a run tell of their bytes: what the one that they mean tells.
 use Rattle.std.specs.Prelude.{ℕ, List, [], Option, Some}
 use Rattle.bcpl.specs.declared.devices.Sink.{Sink}
 use Rattle.bcpl.specs.declared.devices.Sink.TheVariants as sinks

@@ -1,7 +1,7 @@
 //! The command `check`.
 
-use crate::loading::{all_contents, explained, readable, segments_of, texts_of};
 use crate::output::of_output;
+use crate::texts::{all_contents, explained, readable, segments_of, texts_of};
 use bc_cert::{CheckFault, Judged, Mismatch, Verdict, check, check_against, check_sums};
 use bc_text_items::Segment;
 use bc_word::Memory;

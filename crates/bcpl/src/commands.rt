@@ -5,14 +5,14 @@ ghost use Rattle.bcpl_cli.specs.Statuses.{status_of};
 
 use crate::checking::check_certificate;
 use crate::compiling::compile;
-use crate::hinting::{Taken, line_on_words, with_hints};
+use crate::explain::explain;
+use crate::hints::{Taken, line_on_words, with_hints};
 use crate::interpreting::{Console, Standards, interpret_files};
 use crate::listing::list;
-use crate::loading::{LinkedProgram, all_contents, program_of};
 use crate::output::{of_output, print_words, tell_lines};
-use crate::reporting::explain;
 use crate::running::{run, run_input};
 use crate::showing::show;
+use crate::texts::{LinkedProgram, all_contents, program_of};
 use bcpl_cli::{
     AssembleOrder, BadWords, BuildOrder, Cause, CheckOrder, Clean, ConvertOrder, ExplainOrder,
     Failure, InterpretOrder, ListOrder, Order, Places, RunOrder, ShowOrder, Wanted, places_of,

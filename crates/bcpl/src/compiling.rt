@@ -6,10 +6,10 @@ ghost use Rattle.bc_rules_defs.specs.View.{entry as entry_view};
 ghost use Rattle.bc_cert_write.specs.Workings.{WorkedOut};
 ghost use Rattle.bcpl_cli.specs.declared.failure.Cause.TheVariants as causes;
 
-use crate::explaining::{Program, explained, warnings_of};
-use crate::gathering::{Gathered, sources_of};
-use crate::ignored::ignored_gets;
+use crate::diagnostics::{Program, explained, warnings_of};
 use crate::output::of_output;
+use crate::source_files::{Gathered, sources_of};
+use crate::unused_gets::ignored_gets;
 use bc_build::{BuildError, Built, build};
 use bc_cert::{CertFault, write_worked};
 use bc_text::{TextError, print};
@@ -22,7 +22,7 @@ use std::io::Write;
 use std::mem::forget;
 use std::rt::Files;
 
-/// The failure of a build that was refused for this fault, with what is told of it and of the mains behind. `shows` says whether anything is.
+/// The failure of a build that was refused for this fault, with what is told of it and of the mains after. `shows` says whether anything is.
 pub fn refused(alloc: Global, program: &Program<'_, '_>, fault: BuildError, shows: bool) -> Failure
     ensures { result.cause ≡ causes.Build fault }
 {

@@ -2,11 +2,11 @@
 
 use crate::compiling::{refused, warnings_on};
 use crate::devices::Source;
-use crate::explaining::Program;
-use crate::gathering::{Gathered, sources_of};
+use crate::diagnostics::Program;
 use crate::output::{tell_lines, unfinished};
+use crate::protected_files::spare_files;
 use crate::running::{Streams, streams_of};
-use crate::sparing::spare_files;
+use crate::source_files::{Gathered, sources_of};
 use bc_build::{Built, build};
 use bc_interpret_sources::{
     Cause as Access, Ending, Interpreted, Outcome, Program as Sections, interpret,
@@ -30,7 +30,7 @@ pub struct Standards<R: Read + Drop, O: Write + Drop> {
     pub shows: bool,
 }
 
-/// The standard streams of a run, and where what there is to warn of is told in front of it.
+/// The standard streams of a run, and where what there is to warn of is told before it.
 #[derive(Drop)]
 pub struct Console<'e, R: Read + Drop, O: Write + Drop, E: Write + Drop> {
     pub standards: Standards<R, O>,

@@ -1,9 +1,9 @@
 //! The command `list`.
 
 use crate::checking::verdict_of;
-use crate::growing::Growing;
-use crate::loading::{LinkedProgram, all_contents, in_memory, linked, segments_of, texts_of};
+use crate::growing_list::Growing;
 use crate::output::{of_output, print_all};
+use crate::texts::{LinkedProgram, all_contents, in_memory, linked, segments_of, texts_of};
 use bc_cert::{Judged, check_against};
 use bc_core::Root;
 use bc_text_items::Segment;

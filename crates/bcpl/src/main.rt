@@ -5,27 +5,27 @@ mod checking;
 mod commands;
 mod compiling;
 mod devices;
-mod explaining;
-mod gathering;
-mod growing;
-mod hinting;
-mod ignored;
+mod diagnostics;
+mod explain;
+mod growing_list;
+mod hints;
 mod interpreting;
 mod listing;
-mod loading;
 mod output;
-mod reporting;
+mod protected_files;
 mod running;
 mod showing;
-mod sparing;
-mod watching;
+mod source_files;
+mod texts;
+mod unused_gets;
+mod watched_run;
 
 use crate::commands::{Standard, Terminals, command_on};
 use std::io::{BufWriter, IsTerminal};
 use std::process::ExitCode;
 use std::{env, fs, io};
 
-/// Does what the words behind the program's name ask for.
+/// Does what the words after the program's name ask for.
 fn status(rt: &HostRuntime) -> io::Result<u8> {
     // The system gives the number of a standard stream that is closed to the next file that is opened: to these, which can
     // be neither read nor written.
@@ -49,7 +49,7 @@ fn status(rt: &HostRuntime) -> io::Result<u8> {
     Ok(command_on(rt, rt.alloc(), texts.as_slice(), standard))
 }
 
-/// The status where the words themselves can't be had: for want of memory, or since one is no text.
+/// The status where the words themselves can't be had: because memory ran out, or since one is no text.
 fn without_words(rt: &HostRuntime, error: &io::Error) -> u8 {
     if error.kind() == io::ErrorKind::OutOfMemory {
         let _ = rt.eprintln("bcpl: memory");

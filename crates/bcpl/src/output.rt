@@ -37,7 +37,7 @@ pub fn print_all<O: Write + Drop>(text: &[u8], out: &mut O) -> io::Result<()> {
     out.flush()
 }
 
-/// Tells what is told beside the status of a command, or behind it.
+/// Tells what is told beside the status of a command, or after it.
 pub fn tell_lines<E: Write + Drop>(lines: &str, err: &mut E) {
     let _ = err.write_all(lines.as_bytes());
     let _ = err.flush();

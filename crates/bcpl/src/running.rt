@@ -7,12 +7,12 @@ ghost use Rattle.bcpl_cli.specs.declared.failure.Cause.TheVariants as causes;
 
 use crate::devices::{Sink, Source};
 use crate::interpreting::Standards;
-use crate::loading::{
+use crate::output::unfinished;
+use crate::protected_files::spare_files;
+use crate::texts::{
     LinkedProgram, add, all_contents, explained, linked, program_of, standard_text, texts_of,
 };
-use crate::output::unfinished;
-use crate::sparing::spare_files;
-use crate::watching::{Last, Notes, is_watched, spare_texts, window_of};
+use crate::watched_run::{Last, Notes, is_watched, spare_texts, window_of};
 use bc_machine::{FileStreams, Machine, Named, StreamsError};
 use bc_machine_defs::{End, Image};
 use bc_word::{Memory, Word};
@@ -170,7 +170,7 @@ fn told_of_stop(alloc: Global, manner: &Manner<'_, '_>, stop: &Stop, failure: Fa
     explained(failure, lines)
 }
 
-/// The failure of a run that ended so, or of its outputs behind that, with what is told of it.
+/// The failure of a run that ended so, or of its outputs after that, with what is told of it.
 fn told_of_end(
     alloc: Global,
     manner: &Manner<'_, '_>,

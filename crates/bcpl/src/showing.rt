@@ -6,11 +6,11 @@ ghost use Rattle.bc_parse_tree.specs.Size.{declarations_size};
 ghost use Rattle.bc_parse_tree.specs.View.{section_view};
 
 use crate::compiling::refused;
-use crate::explaining::Program;
-use crate::gathering::{Gathered, sources_of};
-use crate::loading::in_memory;
+use crate::diagnostics::Program;
+use crate::explain::entries_of;
 use crate::output::{of_output, print_all};
-use crate::reporting::entries_of;
+use crate::source_files::{Gathered, sources_of};
+use crate::texts::in_memory;
 use bc_build::{BuildError, Built, build};
 use bc_lex::{Token, lex};
 use bc_parse::{ParseError, Section, parse, spell};
@@ -212,7 +212,7 @@ impl<'a, 's> Shown<'a, 's> {
     }
 }
 
-/// The segments in front of the source's own, which are those of the library.
+/// The segments before the source's own, which are those of the library.
 fn libraries(built: &Built) -> &[Segment] {
     let segments = built.segments.as_slice();
     match segments.split_last() {
@@ -237,7 +237,7 @@ fn start_of(built: &Built, index: usize) -> u64 {
     }
 }
 
-/// How many words stand in front of the source's segment: the first cells, the primitives, and the library's segments.
+/// How many words stand before the source's segment: the first cells, the primitives, and the library's segments.
 fn first_of(built: &Built) -> [u64; 3] {
     let primitives = start_of(built, 0);
     let library = start_of(built, 1);

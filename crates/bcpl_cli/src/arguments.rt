@@ -47,7 +47,7 @@ pub struct AssembleOrder<'a> {
     pub places: Places,
 }
 
-/// When the place of a refusal is told behind its first line.
+/// When the place of a refusal is told after its first line.
 #[derive(Clone, Copy)]
 pub enum Places {
     /// Always.
@@ -58,7 +58,7 @@ pub enum Places {
     Never,
 }
 
-/// Which library stands in front of a program's files.
+/// Which library stands before a program's files.
 #[derive(Clone, Copy)]
 pub enum Library {
     /// LIBHDR and BLIB.
@@ -262,7 +262,7 @@ fn sources_of<'a>(reading: &mut Reading<'_, 'a>) -> Sources<'a> {
     }
 }
 
-/// What the words behind `interpret` ask for.
+/// What the words after `interpret` ask for.
 fn interpret_order<'a>(reading: &mut Reading<'_, 'a>) -> InterpretOrder<'a> {
     InterpretOrder {
         turns: reading.number("turns", DEFAULT_TURNS),
@@ -274,7 +274,7 @@ fn interpret_order<'a>(reading: &mut Reading<'_, 'a>) -> InterpretOrder<'a> {
     }
 }
 
-/// What the words behind `run` say of what is noted.
+/// What the words after `run` say of what is noted.
 fn watch_order<'a>(reading: &Reading<'_, 'a>) -> WatchOrder<'a> {
     WatchOrder {
         trace: reading.word("trace"),
@@ -284,7 +284,7 @@ fn watch_order<'a>(reading: &Reading<'_, 'a>) -> WatchOrder<'a> {
     }
 }
 
-/// What the words behind `run` ask for.
+/// What the words after `run` ask for.
 fn run_order<'a>(reading: &mut Reading<'_, 'a>) -> RunOrder<'a> {
     RunOrder {
         steps: reading.number("steps", 0),
@@ -296,7 +296,7 @@ fn run_order<'a>(reading: &mut Reading<'_, 'a>) -> RunOrder<'a> {
     }
 }
 
-/// What the words behind `asm` ask for.
+/// What the words after `asm` ask for.
 fn assemble_order<'a>(reading: &mut Reading<'_, 'a>) -> AssembleOrder<'a> {
     AssembleOrder {
         texts: reading.words("TEXT"),
@@ -304,7 +304,7 @@ fn assemble_order<'a>(reading: &mut Reading<'_, 'a>) -> AssembleOrder<'a> {
     }
 }
 
-/// What the words behind `build` ask for.
+/// What the words after `build` ask for.
 fn build_order<'a>(reading: &mut Reading<'_, 'a>) -> BuildOrder<'a> {
     BuildOrder {
         out: reading.word("out").unwrap_or(""),
@@ -315,7 +315,7 @@ fn build_order<'a>(reading: &mut Reading<'_, 'a>) -> BuildOrder<'a> {
     }
 }
 
-/// What the words behind `show` ask for.
+/// What the words after `show` ask for.
 fn show_order<'a>(reading: &mut Reading<'_, 'a>) -> ShowOrder<'a> {
     ShowOrder {
         listing: listing_of(reading),
@@ -324,7 +324,7 @@ fn show_order<'a>(reading: &mut Reading<'_, 'a>) -> ShowOrder<'a> {
     }
 }
 
-/// What the words behind `explain` ask for.
+/// What the words after `explain` ask for.
 fn explain_order<'a>(reading: &mut Reading<'_, 'a>) -> ExplainOrder<'a> {
     ExplainOrder {
         out: reading.word("out"),
@@ -333,7 +333,7 @@ fn explain_order<'a>(reading: &mut Reading<'_, 'a>) -> ExplainOrder<'a> {
     }
 }
 
-/// What the words behind `list` ask for.
+/// What the words after `list` ask for.
 fn list_order<'a>(reading: &mut Reading<'_, 'a>) -> ListOrder<'a> {
     ListOrder {
         certificate: reading.word("cert"),
@@ -342,7 +342,7 @@ fn list_order<'a>(reading: &mut Reading<'_, 'a>) -> ListOrder<'a> {
     }
 }
 
-/// What the words behind `check` ask for.
+/// What the words after `check` ask for.
 fn check_order<'a>(reading: &mut Reading<'_, 'a>) -> CheckOrder<'a> {
     CheckOrder {
         certificate: reading.word("CERT").unwrap_or(""),
@@ -351,7 +351,7 @@ fn check_order<'a>(reading: &mut Reading<'_, 'a>) -> CheckOrder<'a> {
     }
 }
 
-/// What the words behind this command ask for.
+/// What the words after this command ask for.
 fn order_of<'a>(command: &str, reading: &mut Reading<'_, 'a>) -> Order<'a> {
     match command {
         "asm" => Order::Assemble(assemble_order(reading)),

@@ -6,7 +6,7 @@ use std::io::Write;
 /// How many bytes go at once.
 const PIECE: usize = 256;
 
-/// The byte in front of a control character from 128 on in UTF-8.
+/// The byte before a control character from 128 on in UTF-8.
 const HIGH: u8 = 0xC2;
 
 /// A writer that, where it is a terminal, shows control bytes as `?`. Line breaks and tabs stay.
@@ -18,7 +18,7 @@ pub struct Clean<W: Write + Drop> {
     last: u8,
 }
 
-/// What is shown for a byte behind another one.
+/// What is shown for a byte after another one.
 fn shown(last: u8, byte: u8) -> u8 {
     let is_low = byte < b' ' && byte != b'\n' && byte != b'\t' || byte == 0x7F;
     let is_high = last == HIGH && (0x80..0xA0).contains(&byte);

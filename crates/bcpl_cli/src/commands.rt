@@ -13,7 +13,7 @@ const PLACES: Argument = Argument {
     help: "Tell the place of a refusal and what to do: always, never, or auto, which is on a terminal",
 };
 
-/// The option that puts a further library in front of the files.
+/// The option that puts a further library before the files.
 const LIBRARY: Argument = Argument {
     name: "library",
     form: Form::Option("LIBRARY"),

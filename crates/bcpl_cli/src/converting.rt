@@ -1,4 +1,4 @@
-//! The words behind `convert`.
+//! The words after `convert`.
 
 use crate::arguments::{Places, when_told};
 use crate::reading::Reading;
@@ -70,7 +70,7 @@ fn files_of<'a>(reading: &mut Reading<'_, 'a>) -> Vec<&'a str> {
     files
 }
 
-/// What the words behind `convert` ask for.
+/// What the words after `convert` ask for.
 pub fn convert_order<'a>(reading: &mut Reading<'_, 'a>) -> ConvertOrder<'a> {
     ConvertOrder {
         files: files_of(reading),

@@ -32,7 +32,7 @@ pub enum Wild {
     FrameTooLarge(u64),
 }
 
-/// Why a command was not done. Its text is what stands behind `bcpl: `.
+/// Why a command was not done. Its text is what stands after `bcpl: `.
 #[derive(Drop)]
 pub struct Failure {
     pub cause: Cause,
@@ -47,7 +47,7 @@ pub enum Cause {
     Text(TextError),
     /// A program was not built.
     Build(BuildError),
-    /// A certificate was not written, for want of memory.
+    /// A certificate was not written, because memory ran out.
     Certificate,
     /// A certificate was refused.
     Check(CheckFault),
@@ -71,7 +71,7 @@ pub enum Cause {
     Memory,
 }
 
-/// What is said of a path that is empty, in the place of a reason.
+/// What is said of a path that is empty, instead of a reason.
 const NO_PATH: &str =
     "the path of this file is empty: an option or a word that names a file has nothing in it\n";
 

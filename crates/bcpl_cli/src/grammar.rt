@@ -3,7 +3,7 @@
 use clap::{Arg, ArgAction, Command, value_parser};
 use std::alloc::{AllocError, Global};
 
-/// How an argument stands among the words, with what help calls its value. An option stands behind `--` and its name.
+/// How an argument stands among the words, with what help calls its value. An option stands after `--` and its name.
 #[derive(Clone, Copy)]
 pub enum Form {
     /// A word by its place.
@@ -52,7 +52,7 @@ pub struct Argument {
 pub struct Described {
     pub name: &'static str,
     pub about: &'static str,
-    /// What help says behind the arguments.
+    /// What help says after the arguments.
     pub more: &'static str,
     pub arguments: &'static [Argument],
 }
@@ -67,7 +67,7 @@ fn numbered<'a>(arg: Arg<'a>, value: &'a str) -> Arg<'a> {
     arg.value_name(value).value_parser(value_parser!(u64))
 }
 
-/// An argument with its form, behind its name.
+/// An argument with its form, after its name.
 fn formed<'a>(form: Form, arg: Arg<'a>) -> Arg<'a> {
     match form {
         Form::Word(value) | Form::Option(value) => arg.value_name(value),

@@ -8,15 +8,15 @@ use clap::error::ErrorKind;
 pub enum Guess<'a> {
     /// A command: this word stands in its place.
     Command(&'a str),
-    /// `--steps`, behind `run` and with this text.
+    /// `--steps`, after `run` and with this text.
     Steps(&'a str),
-    /// `--out`, behind `build` and with this source.
+    /// `--out`, after `build` and with this source.
     Out(&'a str),
-    /// `--out` in front of this text, which stands behind a source.
+    /// `--out` before this text, which stands after a source.
     OutOf { text: &'a str, source: &'a str },
-    /// A number in digits behind this option.
+    /// A number in digits after this option.
     Digits(&'a str),
-    /// A second dash in front of this option.
+    /// A second dash before this option.
     Dash(&'a str),
 }
 
@@ -39,7 +39,7 @@ fn last_file<'a>(words: &[&'a str]) -> Option<&'a str> {
     }
 }
 
-/// The word in front of the last one, if it is a source's name and the last one is no source's.
+/// The word before the last one, if it is a source's name and the last one is no source's.
 fn source_before<'a>(words: &[&'a str], last: &str) -> Option<&'a str> {
     let (_, front) = words.split_last()?;
     match front.last() {
@@ -56,7 +56,7 @@ fn out_for<'a>(words: &[&'a str], file: &'a str) -> Guess<'a> {
     }
 }
 
-/// What these words lack, behind which something must stand.
+/// What these words lack, after which something must stand.
 fn lacking<'a>(words: &[&'a str], first: &str) -> Option<Guess<'a>> {
     let file = last_file(words)?;
     match first {
@@ -73,7 +73,7 @@ fn is_of_digits(word: &str) -> bool {
     !word.is_empty() && word.bytes().all(|byte| byte.is_ascii_digit())
 }
 
-/// The option that a word is with its number behind a `=`, where that has more than digits.
+/// The option that a word is with its number after a `=`, where that has more than digits.
 fn unnumbered_within<'a>(word: &'a str) -> Option<&'a str> {
     match word.split_once('=') {
         Some((option, number)) if NUMBERED.contains(&option) && !is_of_digits(number) => {
@@ -83,7 +83,7 @@ fn unnumbered_within<'a>(word: &'a str) -> Option<&'a str> {
     }
 }
 
-/// The first option whose number, behind it or behind its `=`, has more than digits.
+/// The first option whose number, after it or after its `=`, has more than digits.
 fn unnumbered<'a>(words: &[&'a str]) -> Option<&'a str> {
     let mut before = "";
     for word in words {

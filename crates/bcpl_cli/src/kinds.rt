@@ -53,8 +53,8 @@ fn has_returns_alone(bytes: &[u8]) -> bool {
     bytes.contains(&b'\r') && !bytes.contains(&b'\n')
 }
 
-/// What stands behind the first place of these bytes in a text; nothing where they stand nowhere.
-fn behind<'t>(text: &'t [u8], close: &[u8]) -> &'t [u8] {
+/// What stands after the first place of these bytes in a text; nothing where they stand nowhere.
+fn following<'t>(text: &'t [u8], close: &[u8]) -> &'t [u8] {
     let at = text
         .windows(close.len().max(1))
         .position(|part| part == close);
@@ -64,14 +64,14 @@ fn behind<'t>(text: &'t [u8], close: &[u8]) -> &'t [u8] {
     }
 }
 
-/// The text behind blanks and comments of a source.
-fn behind_comments(text: &[u8]) -> &[u8] {
+/// The text after blanks and comments of a source.
+fn after_comments(text: &[u8]) -> &[u8] {
     let mut rest = text;
     for _ in 0..text.len() {
         rest = if rest.starts_with(b"//") || rest.starts_with(b"||") {
-            behind(rest, b"\n")
+            following(rest, b"\n")
         } else if rest.starts_with(b"/*") {
-            behind(rest, b"*/")
+            following(rest, b"*/")
         } else {
             match rest.split_first() {
                 Some((first, others)) if first.is_ascii_whitespace() => others,
@@ -84,7 +84,7 @@ fn behind_comments(text: &[u8]) -> &[u8] {
 
 /// Whether the first word of a text begins a source.
 fn begins_source(text: &[u8]) -> bool {
-    let rest = behind_comments(text);
+    let rest = after_comments(text);
     let count = rest
         .iter()
         .position(|byte| !byte.is_ascii_alphanumeric() && *byte != b'.')

@@ -8,7 +8,7 @@ use std::os::unix::fs::MetadataExt;
 use std::rt::Files;
 use std::{fs, io};
 
-/// What stands behind the name of a file while it is written; a number follows where files of such names are there.
+/// What stands after the name of a file while it is written; a number follows where files of such names are there.
 const UNFINISHED: &str = ".unfinished";
 
 /// How many such names are tried.
@@ -152,7 +152,7 @@ pub fn is_one_file<F: Files>(rt: &F, one: &str, other: &str) -> bool {
     }
 }
 
-/// The path among these that leads to a file to which one in front of it leads, too; none where they lead to a file each.
+/// The path among these that leads to a file to which one before it leads, too; none where they lead to a file each.
 pub fn named_twice<'a, F: Files>(rt: &F, paths: &[&'a str]) -> Option<&'a str> {
     for (number, path) in paths.iter().enumerate() {
         for other in paths.iter().take(number) {

@@ -1,8 +1,8 @@
 //! The command.
 
 use crate::job::{Job, Target, write_job};
-use crate::sparing::spare;
-use crate::told::{add_told, told_of};
+use crate::protected_files::spare;
+use crate::summary::{add_told, told_of};
 use bc_convert::{Header, NameList, Options, Program, Renaming, convert, renamings};
 use bcpl_cli::{Cause, ConvertHeader, ConvertOrder, Failure, Places, contents};
 use std::alloc::Global;

@@ -6,7 +6,7 @@ use std::alloc::{AllocError, Global};
 use std::io::Write;
 use std::rt::Files;
 
-/// What stands behind the name of the file that keeps what a source was before it was converted in its place.
+/// What stands after the name of the file that keeps what a source was before it was converted in its place.
 const KEPT: &str = ".old";
 
 /// Where what a source becomes is to go.

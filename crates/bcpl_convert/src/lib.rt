@@ -3,8 +3,8 @@
 
 mod command;
 mod job;
-mod sparing;
-mod told;
+mod protected_files;
+mod summary;
 
 pub use command::convert_file;
-pub use told::told_of;
+pub use summary::told_of;

@@ -20,7 +20,7 @@ use std::alloc::Global;
 /// Where a line goes on below itself, it has at most so many free columns in front, and two.
 const MOST_FREE: u64 = 16;
 
-/// How many columns are free in front of a line's text, with a tab to each eighth.
+/// How many columns are free before a line's text, with a tab to each eighth.
 fn free_columns(text: &[u8]) -> u64 {
     let mut columns: u64 = 0;
     for byte in text {
@@ -34,9 +34,9 @@ fn free_columns(text: &[u8]) -> u64 {
 }
 
 /// Says so where other lines' code stands between what ends here, if anything does, and what begins there.
-fn add_gap(html: &mut Html, behind: Option<usize>, from: usize) {
-    match behind {
-        Some(behind) if behind != from => {
+fn add_gap(html: &mut Html, following: Option<usize>, from: usize) {
+    match following {
+        Some(following) if following != from => {
             html.mark("<div class=\"gap\">behind the code of other lines:</div>")
         }
         _ => {}
@@ -221,11 +221,11 @@ impl<'b, 'p, 's> File<'b, 'p, 's> {
     /// Adds the line with this number, with its code.
     fn add_line(&self, html: &mut Html, number: usize, runs: &[Run]) {
         self.begin_line(html, self.basis.ground.spot_at(number));
-        let mut behind: Option<usize> = None;
+        let mut following: Option<usize> = None;
         for run in runs {
-            add_gap(html, behind, run.from);
+            add_gap(html, following, run.from);
             self.add_run(html, *run);
-            behind = Some(run.to);
+            following = Some(run.to);
         }
         html.mark("</div></div>\n");
     }

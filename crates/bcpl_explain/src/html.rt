@@ -72,7 +72,7 @@ impl Html {
     }
 
     /// Adds bytes as text: signs of markup by their names, and a question mark for each byte of what is no UTF-8, and for each other byte
-    /// that stands for no sign.
+    /// that means no sign.
     pub fn say(&mut self, bytes: &[u8]) {
         let is_text = str::from_utf8(bytes).is_ok();
         for byte in bytes {
@@ -129,7 +129,7 @@ impl Html {
         }
     }
 
-    /// Adds these, one behind the other.
+    /// Adds these, one after the other.
     pub fn all(&mut self, parts: &[Part<'_>]) {
         for part in parts {
             self.part(*part);
@@ -158,7 +158,7 @@ impl Html {
     }
 }
 
-/// Whether a byte stands for itself in a text, of UTF-8 or not.
+/// Whether a byte means itself in a text, of UTF-8 or not.
 fn is_shown(byte: u8, is_text: bool) -> bool {
     match byte {
         b'\t' | 32..=126 => true,

@@ -97,8 +97,8 @@ impl<'s> Locals<'s> {
         }
     }
 
-    /// The name of the cell at this offset behind a scope, where in front of it the cell has this name, or none.
-    fn name_behind(&self, local: &Local<'s>, name: &'s [u8], offset: u16) -> &'s [u8] {
+    /// The name of the cell at this offset after a scope, where before it the cell has this name, or none.
+    fn name_after(&self, local: &Local<'s>, name: &'s [u8], offset: u16) -> &'s [u8] {
         match local.kind {
             Kind::Routine => b"",
             kind if name.is_empty() && self.offset(kind) == Some(offset) => local.name,
@@ -111,7 +111,7 @@ impl<'s> Locals<'s> {
         let mut name: &'s [u8] = b"";
         for local in &self.locals {
             if local.from <= leaf && leaf < local.to {
-                name = self.name_behind(local, name, offset);
+                name = self.name_after(local, name, offset);
             }
         }
         name
@@ -134,7 +134,7 @@ impl<'s> Locals<'s> {
         }
     }
 
-    /// The scopes from this one on end in front of the next leaf, where they didn't before.
+    /// The scopes from this one on end before the next leaf, where they didn't before.
     fn close(&mut self, first: usize) {
         let leaves = self.leaves;
         for local in self.locals.iter_mut().skip(first) {
@@ -209,7 +209,7 @@ impl<'s> Locals<'s> {
         }
     }
 
-    /// The scopes of the variables of a LET begin, all in front of its values.
+    /// The scopes of the variables of a LET begin, all before its values.
     fn open_all(&mut self, list: &[Definition<'s>]) {
         for definition in list {
             match definition {
@@ -224,7 +224,7 @@ impl<'s> Locals<'s> {
         }
     }
 
-    /// The variable with this index among the scopes has its first value from the root at the next leaf; gives the index behind it.
+    /// The variable with this index among the scopes has its first value from the root at the next leaf; gives the index after it.
     fn set(&mut self, index: usize) -> usize {
         let leaf = self.leaves;
         if let Some(local) = self.locals.get_mut(index) {
@@ -242,7 +242,7 @@ impl<'s> Locals<'s> {
         }
     }
 
-    /// A definition, whose variables have the scopes from this index on; gives the index behind them.
+    /// A definition, whose variables have the scopes from this index on; gives the index after them.
     #[cycle(walking)]
     fn definition(&mut self, first: usize, definition: &Definition<'s>) -> usize {
         match definition {
@@ -272,7 +272,7 @@ impl<'s> Locals<'s> {
         }
     }
 
-    /// The first values of the variables from this index on; gives the index behind them.
+    /// The first values of the variables from this index on; gives the index after them.
     #[cycle(walking)]
     fn values(&mut self, first: usize, values: &[Exp<'s>]) -> usize {
         let mut next = first;

@@ -48,7 +48,7 @@ pub fn cell_name<'s>(names: Names<'_, 's>, offset: u16) -> &'s [u8] {
     }
 }
 
-/// Puts the globals of a list behind those that are there, where their numbers are written as such. Memory is answered where a growth was refused.
+/// Puts the globals of a list after those that are there, where their numbers are written as such. Memory is answered where a growth was refused.
 fn add_globals<'s>(globals: &mut Vec<GlobalName<'s>>, list: &[Constant<'s>]) -> Result<(), Memory> {
     for constant in list {
         if let Exp::Number(number) = &constant.value {

@@ -11,7 +11,7 @@ pub const ANY: Aim = Aim::Gets(Mode::Any);
 /// A value that is pushed.
 pub const PUSH: Aim = Aim::Gets(Mode::Push);
 
-/// An expression in a root: so many nodes stand in front of its end, itself among them, and its level.
+/// An expression in a root: so many nodes stand before its end, itself among them, and its level.
 #[derive(Clone, Copy)]
 pub struct At<'e> {
     pub e: &'e CoreExp,

@@ -8,11 +8,11 @@ use std::alloc::Global;
 /// Items beside one another that have one owner.
 #[derive(Clone, Copy)]
 pub struct Run {
-    /// The index of the first item, and that behind the last.
+    /// The index of the first item, and that after the last.
     pub from: usize,
     pub to: usize,
     pub owner: Owner,
-    /// Whether no run in front of it has the same owner.
+    /// Whether no run before it has the same owner.
     pub is_first: bool,
 }
 
@@ -78,7 +78,7 @@ fn meet(met: &mut Vec<bool>, owner: Owner) -> bool {
     true
 }
 
-/// The empty runs, and behind them those of the items. Which roots own items is noted.
+/// The empty runs, and after them those of the items. Which roots own items is noted.
 fn found_runs(alloc: Global, marks: &Marks, entries: &[Entry], owns: &mut Vec<bool>) -> Finding {
     let mut runs = Finding {
         found: Vec::new(alloc),

@@ -1,6 +1,6 @@
 use crate::page::Page;
 use crate::references::{Manner, Reference, of_label, references};
-use crate::strings::{run_behind, say_bytes};
+use crate::strings::{run_after, say_bytes};
 use bc_machine_defs::Image;
 use bc_text_items::{Base, Function, Item, Segment};
 use bc_word::{Memory, Word};
@@ -78,7 +78,7 @@ fn word_at(image: &Image, address: usize) -> u16 {
     }
 }
 
-/// The library's name for a global, and the sign behind it; nothing where it has none.
+/// The library's name for a global, and the sign after it; nothing where it has none.
 fn known_name(number: u16) -> (&'static str, &'static str) {
     match library_name(number) {
         Some(name) => (name, ", "),
@@ -101,7 +101,7 @@ fn is_jump(function: Function) -> bool {
     )
 }
 
-/// The byte that shares its word with the byte in front of the item with this index.
+/// The byte that shares its word with the byte before the item with this index.
 fn second_byte(listed: &Listed<'_>, index: usize, address: usize) -> Option<u8> {
     let next = listed.addresses.as_slice().get(index)?;
     match listed.items.get(index)? {
@@ -275,11 +275,11 @@ impl<'p> Listing<'p> {
         }
     }
 
-    /// A label, what it is of, and in the same line or those behind it what speaks of it.
+    /// A label, what it is of, and in the same line or those after it what speaks of it.
     fn add_label(&mut self, listed: &Listed<'p>, index: usize, label: u16) {
         self.begin_alone();
         self.page.add_number(usize::from(label));
-        self.say_run(run_behind(listed.items, index));
+        self.say_run(run_after(listed.items, index));
         let uses = of_label(listed.references.as_slice(), label);
         let beside = if self.page.said() == 0 {
             uses.len().min(IN_A_LINE)
@@ -292,7 +292,7 @@ impl<'p> Listing<'p> {
         self.add_uses(others);
     }
 
-    /// Says what the bytes or words of data are that stand behind a label; nothing where there are none.
+    /// Says what the bytes or words of data are that stand after a label; nothing where there are none.
     fn say_run(&mut self, run: &[Item]) {
         match run.first() {
             Some(Item::Byte(_)) => say_bytes(&mut self.page, run),
@@ -311,7 +311,7 @@ impl<'p> Listing<'p> {
         });
     }
 
-    /// Says at which address a label stands, if it has one, behind this word.
+    /// Says at which address a label stands, if it has one, after this word.
     fn say_address(&mut self, segment: usize, label: Word, word: &str) {
         if let Some(address) = address_of(self.program.image, segment, label) {
             self.page.say_number(word, usize::from(address));
@@ -428,7 +428,7 @@ impl<'p> Listing<'p> {
         })
     }
 
-    /// The line in front of a segment, which begins at this address.
+    /// The line before a segment, which begins at this address.
     fn add_head(&mut self, segment: usize, start: usize) {
         let name = self.name_of(segment);
         self.page.add("\n/ segment ");
@@ -482,7 +482,7 @@ impl<'p> Listing<'p> {
 
 /// A listing of a program that was linked: the boot, the cells of the globals that are set, and the segments, each word on a line of its
 /// own with its address, the word, the item that it is of, and what is said of it. A label stands on a line of its own, with what is
-/// behind it and what speaks of it; two bytes share a word. Memory is answered where a growth was refused.
+/// after it and what speaks of it; two bytes share a word. Memory is answered where a growth was refused.
 pub fn image_listing(alloc: Global, program: Program<'_>) -> Result<String, Memory> {
     let mut listing = Listing {
         alloc,

@@ -80,7 +80,7 @@ impl Page {
         self.said = None;
     }
 
-    /// Begins what is said of the line's item, in a column behind it.
+    /// Begins what is said of the line's item, in a column after it.
     fn begin_said(&mut self) {
         let taken = self.text.len().saturating_sub(self.item);
         for _ in taken..ITEM {
@@ -98,7 +98,7 @@ impl Page {
         self.add(text);
     }
 
-    /// Adds a number to it, behind this text.
+    /// Adds a number to it, after this text.
     pub fn say_number(&mut self, text: &str, number: usize) {
         self.say(text);
         self.add_number(number);

@@ -6,7 +6,7 @@ use bc_text_items::Item;
 /// How long what is told of a string may grow before the rest is left out.
 const WIDTH: usize = 60;
 
-/// The index behind the last of the items that are like this one: bytes beside bytes, words of data beside such.
+/// The index after the last of the items that are like this one: bytes beside bytes, words of data beside such.
 fn end_of_run(items: &[Item], from: usize) -> usize {
     let mut end = from;
     let is_byte = matches!(items.get(from), Some(Item::Byte(_)));
@@ -24,10 +24,10 @@ fn end_of_run(items: &[Item], from: usize) -> usize {
     end
 }
 
-/// The bytes, or the words of data, that stand behind the item with this index.
-pub fn run_behind(items: &[Item], index: usize) -> &[Item] {
-    let behind = index.saturating_add(1);
-    match items.get(behind..end_of_run(items, behind)) {
+/// The bytes, or the words of data, that stand after the item with this index.
+pub fn run_after(items: &[Item], index: usize) -> &[Item] {
+    let following = index.saturating_add(1);
+    match items.get(following..end_of_run(items, following)) {
         Some(run) => run,
         None => &[],
     }

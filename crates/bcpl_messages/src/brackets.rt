@@ -1,13 +1,13 @@
 use crate::draft::{Draft, Fill};
 use crate::sides::closed_in_front;
-use crate::trial::{Change, Reach, reached};
+use crate::trial_parse::{Change, Reach, reached};
 use crate::words::{back, is_at, is_symbol};
 use bc_lex_tokens::{Symbol, Token, TokenKind};
 use bc_word::Memory;
 use bcpl_places::Span;
 use std::alloc::Global;
 
-/// The tag of a section bracket: what stands behind its two signs.
+/// The tag of a section bracket: what stands after its two signs.
 fn tag<'s>(token: &Token<'s>) -> &'s [u8] {
     token.text.get(2..).unwrap_or(b"")
 }
@@ -35,7 +35,7 @@ fn close(open: &mut Vec<usize>, tokens: &[Token<'_>], name: &[u8]) {
     }
 }
 
-/// The indexes of the section brackets that are open in front of the token `end`, outermost first. Memory is answered where a
+/// The indexes of the section brackets that are open before the token `end`, outermost first. Memory is answered where a
 /// growth was refused.
 pub fn open_before(alloc: Global, tokens: &[Token<'_>], end: usize) -> Result<Vec<usize>, Memory> {
     let mut open = Vec::new(alloc);
@@ -55,7 +55,7 @@ pub fn open_at(draft: &mut Draft, tokens: &[Token<'_>], end: usize) -> Vec<usize
     draft.found(open_before(alloc, tokens, end), Vec::new(alloc))
 }
 
-/// The innermost bracket, round or of a section, that is open in front of a place.
+/// The innermost bracket, round or of a section, that is open before a place.
 fn open_bracket(tokens: &[Token<'_>], index: usize) -> Option<usize> {
     let mut closed: usize = 0;
     for count in 1..index.saturating_add(1) {
@@ -67,7 +67,7 @@ fn open_bracket(tokens: &[Token<'_>], index: usize) -> Option<usize> {
     None
 }
 
-/// Whether the innermost bracket that is open in front of a place is a round one.
+/// Whether the innermost bracket that is open before a place is a round one.
 pub fn is_in_round(tokens: &[Token<'_>], index: usize) -> bool {
     match open_bracket(tokens, index) {
         Some(open) => is_at(tokens, open, Symbol::OpenBracket),
@@ -75,18 +75,18 @@ pub fn is_in_round(tokens: &[Token<'_>], index: usize) -> bool {
     }
 }
 
-/// Whether more is read than the token at a place with a `)` in front of it, and what is refused then is no further `)`.
+/// Whether more is read than the token at a place with a `)` before it, and what is refused then is no further `)`.
 fn lacks_round(draft: &mut Draft, tokens: &[Token<'_>], index: usize) -> bool {
     let change = Change::Insert(TokenKind::Symbol(Symbol::CloseBracket));
     let reach = reached(draft, tokens, index, change);
     let is_closed_twice = match reach {
-        Reach::Behind(next) => is_at(tokens, next, Symbol::CloseBracket),
+        Reach::After(next) => is_at(tokens, next, Symbol::CloseBracket),
         Reach::Before | Reach::End => false,
     };
-    reach.is_behind(index) && !is_closed_twice
+    reach.is_after(index) && !is_closed_twice
 }
 
-/// What is said where a `(` is open in front of a place that is refused, and a `)` helps there: the `(` is told.
+/// What is said where a `(` is open before a place that is refused, and a `)` helps there: the `(` is told.
 pub fn help_for_round(
     draft: &mut Draft,
     tokens: &[Token<'_>],
@@ -105,7 +105,7 @@ pub fn help_for_round(
     Some("write the ) that closes it")
 }
 
-/// Says of the bracket with a tag at a place that a blank was likely meant behind its signs.
+/// Says of the bracket with a tag at a place that a blank was likely meant after its signs.
 pub fn say_blank(draft: &mut Draft, tokens: &[Token<'_>], place: usize) {
     if let Some(bracket) = tokens.get(place) {
         draft.help(
@@ -119,7 +119,7 @@ pub fn say_blank(draft: &mut Draft, tokens: &[Token<'_>], place: usize) {
     }
 }
 
-/// Whether more is read than the token at a place with the tag of this bracket as a word behind it; no if it has none.
+/// Whether more is read than the token at a place with the tag of this bracket as a word after it; no if it has none.
 fn is_glued(draft: &mut Draft, tokens: &[Token<'_>], index: usize, open: usize) -> bool {
     let name = tag_at(tokens, open);
     if name.is_empty() {
@@ -129,11 +129,11 @@ fn is_glued(draft: &mut Draft, tokens: &[Token<'_>], index: usize, open: usize) 
         Some(symbol) => TokenKind::Symbol(symbol),
         None => TokenKind::Name(b"N"),
     };
-    let behind = open.saturating_add(1);
-    reached(draft, tokens, behind, Change::Insert(kind)).is_behind(index)
+    let following = open.saturating_add(1);
+    reached(draft, tokens, following, Change::Insert(kind)).is_after(index)
 }
 
-/// Says so where the section that a place stands in is opened by a bracket with a tag, and with a blank behind its signs more is read;
+/// Says so where the section that a place stands in is opened by a bracket with a tag, and with a blank after its signs more is read;
 /// whether that is so.
 pub fn says_tag(draft: &mut Draft, tokens: &[Token<'_>], index: usize) -> bool {
     let Some(open) = open_at(draft, tokens, index).last().copied() else {

@@ -98,12 +98,12 @@ pub fn reason_of(
     first: usize,
     last: usize,
 ) -> Option<Reason> {
-    let behind = last.saturating_add(1);
-    for index in first..behind {
+    let following = last.saturating_add(1);
+    for index in first..following {
         if let Some(declared) = reason_at(draft, tokens, index) {
             return Some(Reason::Name(index, declared));
         }
     }
-    let expression = tokens.get(first..behind).unwrap_or(&[]);
+    let expression = tokens.get(first..following).unwrap_or(&[]);
     divides_by_zero(tokens, first, expression).then_some(Reason::Division)
 }

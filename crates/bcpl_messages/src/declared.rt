@@ -29,7 +29,7 @@ enum Kind {
     Label,
 }
 
-/// Where a name is declared, and what is said of it behind the name.
+/// Where a name is declared, and what is said of it after the name.
 #[derive(Clone, Copy)]
 pub struct Declared {
     /// The index of the token.
@@ -37,8 +37,8 @@ pub struct Declared {
     pub sentence: &'static str,
 }
 
-/// What the names behind a symbol declare, given what those in front of it did.
-fn behind_symbol(listed: Listed, symbol: Symbol) -> Listed {
+/// What the names after a symbol declare, given what those before it did.
+fn after_symbol(listed: Listed, symbol: Symbol) -> Listed {
     match (listed, symbol) {
         (_, Symbol::Let | Symbol::And) => Listed::Defined,
         (_, Symbol::For) => Listed::Counter,
@@ -51,10 +51,10 @@ fn behind_symbol(listed: Listed, symbol: Symbol) -> Listed {
     }
 }
 
-/// What the names behind a token declare, given what those in front of it did.
-fn behind(listed: Listed, token: &Token<'_>) -> Listed {
+/// What the names after a token declare, given what those before it did.
+fn following(listed: Listed, token: &Token<'_>) -> Listed {
     match token.kind {
-        TokenKind::Symbol(symbol) => behind_symbol(listed, symbol),
+        TokenKind::Symbol(symbol) => after_symbol(listed, symbol),
         TokenKind::Name(_) => match listed {
             Listed::Counter => Listed::Nothing,
             _ => listed,
@@ -81,7 +81,7 @@ fn begins(tokens: &[Token<'_>], place: usize) -> bool {
         || is_at(tokens, before, Symbol::Colon)
 }
 
-/// How the name at a place is declared there, if it is, given what the tokens in front of it list.
+/// How the name at a place is declared there, if it is, given what the tokens before it list.
 fn kind_at(tokens: &[Token<'_>], place: usize, listed: Listed) -> Option<Kind> {
     let next = place.saturating_add(1);
     match listed {
@@ -100,7 +100,7 @@ fn kind_at(tokens: &[Token<'_>], place: usize, listed: Listed) -> Option<Kind> {
     }
 }
 
-/// The section bracket that is open in front of a place, with so many others open within it, if there is one.
+/// The section bracket that is open before a place, with so many others open within it, if there is one.
 fn bracket_around(
     alloc: Global,
     tokens: &[Token<'_>],
@@ -114,7 +114,7 @@ fn bracket_around(
     })
 }
 
-/// Whether a section bracket is open in front of a place.
+/// Whether a section bracket is open before a place.
 fn is_open(
     alloc: Global,
     tokens: &[Token<'_>],
@@ -144,13 +144,13 @@ fn encloses(
 }
 
 /// What is said of a declaration at one place whose name is used at another.
-fn sentence_on(kind: Kind, is_enclosed: bool, is_behind: bool) -> &'static str {
+fn sentence_on(kind: Kind, is_enclosed: bool, is_after: bool) -> &'static str {
     match kind {
         Kind::Parameter => "is a parameter here, known in this routine alone",
         Kind::Counter => "is declared here for a FOR, and known in it alone",
         Kind::Label => "is a label here, of another routine or an inner block",
         Kind::Defined | Kind::Constant => {
-            if is_enclosed && is_behind {
+            if is_enclosed && is_after {
                 "is declared here, behind its use"
             } else {
                 "is declared here, within another block"
@@ -183,7 +183,7 @@ pub fn declaration_of(
                 first = first.or(Some(found));
             }
         }
-        listed = behind(listed, token);
+        listed = following(listed, token);
     }
     Ok(first)
 }
@@ -207,8 +207,8 @@ fn shares_list(
     })
 }
 
-/// Where a name is likely declared that has a meaning at the token with this index: behind it in the list of names that has the token, or
-/// else the nearest declaration in front of it that its block has, or else the first behind it. Memory is answered where a growth was
+/// Where a name is likely declared that has a meaning at the token with this index: after it in the list of names that has the token, or
+/// else the nearest declaration before it that its block has, or else the first after it. Memory is answered where a growth was
 /// refused.
 pub fn meaning_of(
     alloc: Global,
@@ -232,7 +232,7 @@ pub fn meaning_of(
                 }
             }
         }
-        listed = behind(listed, token);
+        listed = following(listed, token);
     }
     Ok(nearest)
 }

@@ -99,7 +99,7 @@ fn number_size(text: &[u8], at: usize) -> usize {
     size.max(1)
 }
 
-/// How far behind the sign of a character constant another one stands on its line, if one does.
+/// How far after the sign of a character constant another one stands on its line, if one does.
 fn closing(text: &[u8], at: usize) -> Option<usize> {
     let rest = text.get(at.saturating_add(1)..)?;
     let end = rest
@@ -205,11 +205,11 @@ fn tell_get(draft: &mut Draft, site: Site<'_>) {
 /// Tells of an escape that there isn't.
 fn tell_escape(draft: &mut Draft, site: Site<'_>) {
     let Site { text, file, at } = site;
-    let behind = text.get(at.saturating_add(1)).copied().unwrap_or(0);
+    let following = text.get(at.saturating_add(1)).copied().unwrap_or(0);
     draft.place(span(file, at, 2));
-    if behind.is_ascii_graphic() {
-        draft.say("no escape is written *{}", &[Fill::Shown(&[behind])]);
-    } else if behind == b' ' {
+    if following.is_ascii_graphic() {
+        draft.say("no escape is written *{}", &[Fill::Shown(&[following])]);
+    } else if following == b' ' {
         draft.say("no escape is written by * and a blank", &[]);
     } else {
         draft.say("no escape is written so", &[]);

@@ -6,6 +6,7 @@ mod brackets;
 mod constants;
 mod declared;
 mod draft;
+mod expected;
 mod hidden;
 mod lexical;
 mod likeness;
@@ -17,8 +18,7 @@ mod report;
 mod scopes;
 mod sides;
 mod syntax;
-mod trial;
-mod wanted;
+mod trial_parse;
 mod words;
 
 pub use draft::{Draft, Fill};

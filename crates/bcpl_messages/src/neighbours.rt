@@ -61,7 +61,7 @@ const PAIRS: [(&[u8], &[u8], &str); 21] = [
     ),
 ];
 
-/// What is said of a spelling, whatever stands behind it.
+/// What is said of a spelling, whatever stands after it.
 const FIRSTS: [(&[u8], &str); 7] = [
     (
         b"RETURN",
@@ -162,7 +162,7 @@ fn text_of<'s>(token: Option<&Token<'s>>) -> &'s [u8] {
 }
 
 /// What is said of two tokens without a blank between them: how the first one begins, how the second one may, and the help. Where
-/// nothing stands for the second one, it begins with a letter, a digit or a quote.
+/// nothing means the second one, it begins with a letter, a digit or a quote.
 const GLUED: [(&[u8], &[u8], &str); 3] = [
     (
         b"#",
@@ -256,7 +256,7 @@ fn help_for_pair(before: &[u8], at: &[u8]) -> Option<&'static str> {
 pub const VECTOR_WITHOUT_SIZE: &str =
     "perhaps VEC lacks its size, and this line was read as that: LET V = VEC 10";
 
-/// In how many tokens in front of a place the begin of its line is looked for.
+/// In how many tokens before a place the begin of its line is looked for.
 const LOOK_BACK: usize = 12;
 
 /// The place of the token that begins the line of the one at a place, if it is near.
@@ -270,8 +270,8 @@ fn begin_of_line(tokens: &[Token<'_>], index: usize) -> Option<usize> {
     None
 }
 
-/// Whether VEC ends the line in front of that of a place, so that the name which begins this line was read as the vector's size.
-fn is_behind_open_vector(tokens: &[Token<'_>], index: usize) -> bool {
+/// Whether VEC ends the line before that of a place, so that the name which begins this line was read as the vector's size.
+fn is_after_open_vector(tokens: &[Token<'_>], index: usize) -> bool {
     match begin_of_line(tokens, index) {
         Some(begin) => {
             is_name(tokens.get(begin)) && is_at(tokens, begin.wrapping_sub(1), Symbol::Vector)
@@ -280,11 +280,11 @@ fn is_behind_open_vector(tokens: &[Token<'_>], index: usize) -> bool {
     }
 }
 
-/// What is said where a line was read on behind VEC, or two tokens stand without a blank between them.
+/// What is said where a line was read on after VEC, or two tokens stand without a blank between them.
 fn help_for_number(tokens: &[Token<'_>], index: usize) -> Option<&'static str> {
     let before = back(tokens, index, 1)?;
     let at = tokens.get(index)?;
-    if is_behind_open_vector(tokens, index) {
+    if is_after_open_vector(tokens, index) {
         Some(VECTOR_WITHOUT_SIZE)
     } else if before.end == at.start {
         help_for_glued(before.text, at.text)
@@ -293,26 +293,26 @@ fn help_for_number(tokens: &[Token<'_>], index: usize) -> Option<&'static str> {
     }
 }
 
-/// What is said of a `*` that stands for the cell at an address.
+/// What is said of a `*` that means the cell at an address.
 pub const POINTER: &str =
     "the cell at P is written !P; a line that begins with * goes on with the one in front of it";
 
-/// Whether a `*` begins the line of the token in front of a place.
-pub fn is_behind_star(tokens: &[Token<'_>], index: usize) -> bool {
+/// Whether a `*` begins the line of the token before a place.
+pub fn is_after_star(tokens: &[Token<'_>], index: usize) -> bool {
     match begin_of_line(tokens, index.wrapping_sub(1)) {
         Some(begin) => is_at(tokens, begin, Symbol::Multiply),
         None => false,
     }
 }
 
-/// Whether a `*` stands at a place, and a name behind it.
+/// Whether a `*` stands at a place, and a name after it.
 fn is_pointer(tokens: &[Token<'_>], index: usize) -> bool {
     is_at(tokens, index, Symbol::Multiply) && is_name(tokens.get(index.saturating_add(1)))
 }
 
-/// What is said of a `:=` that is refused, by what stands in front of it.
+/// What is said of a `:=` that is refused, by what stands before it.
 fn help_for_assign(tokens: &[Token<'_>], index: usize) -> Option<&'static str> {
-    if is_behind_star(tokens, index) {
+    if is_after_star(tokens, index) {
         Some(POINTER)
     } else if is_in_round(tokens, index) {
         Some(
@@ -336,7 +336,7 @@ fn help_for_sign(tokens: &[Token<'_>], index: usize) -> Option<&'static str> {
     }
 }
 
-/// Whether two names stand behind LET or AND, the second of them at a place.
+/// Whether two names stand after LET or AND, the second of them at a place.
 fn is_typed(tokens: &[Token<'_>], index: usize) -> bool {
     is_let(back(tokens, index, 2)) && is_name(back(tokens, index, 1)) && is_name(tokens.get(index))
 }
@@ -346,7 +346,7 @@ fn are_at(tokens: &[Token<'_>], place: usize, one: Symbol, other: Symbol) -> boo
     is_at(tokens, place, one) && is_at(tokens, place.wrapping_add(1), other)
 }
 
-/// What is said of known mistakes that have a further token in front of a place and the one before it, or behind it.
+/// What is said of known mistakes that have a further token before a place and the one before it, or after it.
 fn help_for_further(tokens: &[Token<'_>], index: usize) -> Option<&'static str> {
     if is_typed(tokens, index) {
         Some("a variable has no type, and is declared by LET X = 1")

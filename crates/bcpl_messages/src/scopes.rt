@@ -2,10 +2,10 @@ use crate::constants::{Reason, reason_of};
 use crate::declared::{Declared, declaration_of};
 use crate::draft::{Draft, Fill};
 use crate::likeness::nearest;
-use crate::neighbours::{POINTER, VECTOR_WITHOUT_SIZE, is_behind_star};
+use crate::neighbours::{POINTER, VECTOR_WITHOUT_SIZE, is_after_star};
 use crate::read::Read;
 use crate::syntax::{is_heading, name_of};
-use crate::trial::replaced;
+use crate::trial_parse::replaced;
 use crate::words::{back, is_at, is_symbol};
 use bc_build::ScopeFault;
 use bc_lex::{Source, lex};
@@ -19,13 +19,13 @@ use bc_word::Memory;
 use bcpl_places::gets_of;
 use std::alloc::Global;
 
-/// What is said of a fault: the words in front of a name and behind it, and a help.
+/// What is said of a fault: the words before a name and after it, and a help.
 #[derive(Clone, Copy)]
 struct Said<'a> {
     front: &'static str,
     /// The name; nothing, where there is none.
     name: &'a [u8],
-    behind: &'static str,
+    following: &'static str,
     help: Option<&'static str>,
 }
 
@@ -35,7 +35,7 @@ impl<'a> Said<'a> {
         Said {
             front: sentence,
             name: b"",
-            behind: "",
+            following: "",
             help: Some(help),
         }
     }
@@ -47,7 +47,7 @@ impl<'a> Said<'a> {
             &[
                 Fill::Text(self.front),
                 Fill::Shown(self.name),
-                Fill::Text(self.behind),
+                Fill::Text(self.following),
             ],
         );
         if let Some(help) = self.help {
@@ -107,7 +107,7 @@ const OUTSIDE: &str = "variables and vectors can't be declared outside routines"
 const INSTEAD: &str =
     "LET declares routines alone there; STATIC $( N = 0 $) declares a cell for the whole run, which can hold the address of a vector, too";
 
-/// What is said of a name that may not stand behind a word: the word, the sentence and the help.
+/// What is said of a name that may not stand after a word: the word, the sentence and the help.
 const MISNAMED: [(Symbol, &str, &str); 3] = [
     (
         Symbol::Goto,
@@ -146,7 +146,7 @@ fn misplaced<'a>(tokens: &[Token<'_>], index: usize) -> Said<'a> {
 
 /// What is said of a fault with a name.
 fn said_of_name(fault: &ScopeFault) -> Option<Said<'_>> {
-    let (front, name, behind, help) = match fault {
+    let (front, name, following, help) = match fault {
         ScopeFault::Undeclared(name) => ("no declaration gives ", name, " a meaning here", None),
         ScopeFault::DeclaredTwice(name) => (
             "",
@@ -168,7 +168,7 @@ fn said_of_name(fault: &ScopeFault) -> Option<Said<'_>> {
     Some(Said {
         front,
         name: name.as_slice(),
-        behind,
+        following,
         help,
     })
 }
@@ -267,7 +267,7 @@ fn add_second(draft: &mut Draft, read: Read<'_, '_>, second: Also) {
 const KNOWN: &str =
     "a name is known in the block, routine or FOR that declares it, from its declaration on";
 
-/// The same, of a routine that is declared behind its use.
+/// The same, of a routine that is declared after its use.
 const KNOWN_ROUTINE: &str =
     "a name is known from its declaration on; routines that call each other are one declaration, LET F() .. AND G() ..";
 
@@ -395,8 +395,8 @@ fn add_undeclared(draft: &mut Draft, read: Read<'_, '_>, place: usize, name: &[u
     add_like(draft, read, place, name);
 }
 
-/// Whether the token with this index stands behind VEC.
-fn stands_behind_vector(tokens: &[Token<'_>], index: usize) -> bool {
+/// Whether the token with this index stands after VEC.
+fn stands_after_vector(tokens: &[Token<'_>], index: usize) -> bool {
     match back(tokens, index, 1) {
         Some(token) => is_symbol(token, Symbol::Vector),
         None => false,
@@ -422,7 +422,7 @@ fn add_name(draft: &mut Draft, read: Read<'_, '_>, used: usize, declared: Declar
 
 /// Adds why an expression is no constant, where that is seen, and what to do.
 fn add_reason(draft: &mut Draft, read: Read<'_, '_>, at: TokenSpan) {
-    if stands_behind_vector(read.tokens, at.first) {
+    if stands_after_vector(read.tokens, at.first) {
         draft.help(help_for_size(read.tokens, at.first), &[]);
     }
     match reason_of(draft, read.tokens, at.first, at.last) {
@@ -432,7 +432,7 @@ fn add_reason(draft: &mut Draft, read: Read<'_, '_>, at: TokenSpan) {
     }
 }
 
-/// The name of the last routine whose heading begins in front of a place.
+/// The name of the last routine whose heading begins before a place.
 fn last_routine<'s>(tokens: &[Token<'s>], place: usize) -> Option<&'s [u8]> {
     let mut name = None;
     for index in 0..place {
@@ -443,7 +443,7 @@ fn last_routine<'s>(tokens: &[Token<'s>], place: usize) -> Option<&'s [u8]> {
     name
 }
 
-/// Whether an expression is the name of the last routine whose heading begins in front of it.
+/// Whether an expression is the name of the last routine whose heading begins before it.
 fn is_result(tokens: &[Token<'_>], at: TokenSpan) -> bool {
     let name = name_of(tokens.get(at.first));
     match (last_routine(tokens, at.first), name) {
@@ -452,7 +452,7 @@ fn is_result(tokens: &[Token<'_>], at: TokenSpan) -> bool {
     }
 }
 
-/// Whether an expression is a name with brackets behind it.
+/// Whether an expression is a name with brackets after it.
 fn is_call(tokens: &[Token<'_>], at: TokenSpan) -> bool {
     name_of(tokens.get(at.first)).is_some()
         && is_at(tokens, at.first.saturating_add(1), Symbol::OpenBracket)
@@ -461,9 +461,9 @@ fn is_call(tokens: &[Token<'_>], at: TokenSpan) -> bool {
 
 /// What may have been meant by an expression that has no cell.
 fn help_for_cell(tokens: &[Token<'_>], at: TokenSpan) -> Option<&'static str> {
-    let behind = at.last.saturating_add(1);
-    let is_assigned = is_at(tokens, behind, Symbol::Assign);
-    if is_assigned && is_behind_star(tokens, behind) {
+    let following = at.last.saturating_add(1);
+    let is_assigned = is_at(tokens, following, Symbol::Assign);
+    if is_assigned && is_after_star(tokens, following) {
         Some(POINTER)
     } else if is_call(tokens, at) {
         Some("an element of a vector is written V!0, as in V!0 := 1; brackets call a routine")

@@ -15,16 +15,16 @@ const OPENING: [Symbol; 2] = [Symbol::OpenBracket, Symbol::OpenSection];
 /// What closes.
 const CLOSING: [Symbol; 2] = [Symbol::CloseBracket, Symbol::CloseSection];
 
-/// What a list of names and one of values stand behind, and what shows that there are none.
+/// What a list of names and one of values stand after, and what shows that there are none.
 const SIGNS: [Symbol; 4] = [Symbol::Let, Symbol::And, Symbol::Assign, Symbol::Semicolon];
 
-/// What shows that a comma stands in front of a further definition or assignment, and not of a value.
+/// What shows that a comma stands before a further definition or assignment, and not of a value.
 const BEGINNING: [Symbol; 2] = [Symbol::Assign, Symbol::Equal];
 
-/// What stands in front of a command.
+/// What stands before a command.
 const FRONTS: [Symbol; 4] = [Symbol::Semicolon, Symbol::Colon, Symbol::Do, Symbol::Else];
 
-/// How many brackets are closed behind a token that are opened in front of it, given how many are behind the next one; none where the
+/// How many brackets are closed after a token that are opened before it, given how many are after the next one; none where the
 /// token opens one that isn't closed.
 pub fn closed_in_front(closed: usize, token: &Token<'_>) -> Option<usize> {
     if is_one_of(token, &OPENING) {
@@ -36,8 +36,8 @@ pub fn closed_in_front(closed: usize, token: &Token<'_>) -> Option<usize> {
     }
 }
 
-/// The last LET, AND or `:=` in front of a place that stands in no bracket closed there; none where a bracket that is open, or `;`,
-/// stands behind it.
+/// The last LET, AND or `:=` before a place that stands in no bracket closed there; none where a bracket that is open, or `;`,
+/// stands after it.
 fn sign_before(tokens: &[Token<'_>], index: usize) -> Option<usize> {
     let mut closed: usize = 0;
     for count in 1..index.saturating_add(1) {
@@ -70,7 +70,7 @@ fn commas(tokens: &[Token<'_>]) -> usize {
     count
 }
 
-/// The place of the `=` behind the names of a definition; none where there is none in front of BE.
+/// The place of the `=` after the names of a definition; none where there is none before BE.
 fn equal(tokens: &[Token<'_>]) -> Option<usize> {
     let place = tokens.iter().position(|token| is_symbol(token, Symbol::Equal)
         || is_symbol(token, Symbol::Be))?;
@@ -83,7 +83,7 @@ fn equal(tokens: &[Token<'_>]) -> Option<usize> {
 
 /// Where the values end of which the token at this place is one's end: there, or where it is a comma, at the end of its line.
 fn end_of_values(tokens: &[Token<'_>], index: usize) -> usize {
-    let behind = index.saturating_add(1);
+    let following = index.saturating_add(1);
     let rest = tokens.get(index..).unwrap_or(&[]);
     match rest.split_first() {
         Some((first, rest)) if is_symbol(first, Symbol::Comma) => {
@@ -92,7 +92,7 @@ fn end_of_values(tokens: &[Token<'_>], index: usize) -> usize {
                     || is_symbol(token, Symbol::Semicolon)
                     || is_symbol(token, Symbol::CloseSection)
             });
-            behind.saturating_add(end.unwrap_or(rest.len()))
+            following.saturating_add(end.unwrap_or(rest.len()))
         }
         _ => index,
     }
@@ -134,15 +134,15 @@ fn entries(tokens: &[Token<'_>], begin: usize, end: usize) -> usize {
     commas(tokens.get(begin..end).unwrap_or(&[])).saturating_add(1)
 }
 
-/// Where the left side of the sign at this place begins and ends: the places in front of `:=`, or the names behind LET or AND, with
-/// their `=` in front of the token with this index.
+/// Where the left side of the sign at this place begins and ends: the places before `:=`, or the names after LET or AND, with
+/// their `=` before the token with this index.
 fn left_of(tokens: &[Token<'_>], sign: usize, index: usize) -> Option<(usize, usize)> {
     if is_at(tokens, sign, Symbol::Assign) {
         return Some((begin_of_command(tokens.get(..sign).unwrap_or(&[])), sign));
     }
-    let behind = sign.saturating_add(1);
-    let names = equal(tokens.get(behind..index).unwrap_or(&[]))?;
-    Some((behind, behind.saturating_add(names)))
+    let following = sign.saturating_add(1);
+    let names = equal(tokens.get(following..index).unwrap_or(&[]))?;
+    Some((following, following.saturating_add(names)))
 }
 
 /// Whether a further definition or assignment stands among the tokens from one place up to another.
@@ -155,18 +155,18 @@ fn goes_on(tokens: &[Token<'_>], begin: usize, end: usize) -> bool {
 fn sides_of(tokens: &[Token<'_>], sign: usize, index: usize) -> Option<Sides> {
     let (begin, end) = left_of(tokens, sign, index)?;
     let values = end.saturating_add(1);
-    let behind = end_of_values(tokens, index);
-    if values >= behind || goes_on(tokens, index, behind) {
+    let following = end_of_values(tokens, index);
+    if values >= following || goes_on(tokens, index, following) {
         return None;
     }
     Some(Sides {
         left: entries(tokens, begin, end),
-        right: entries(tokens, values, behind),
+        right: entries(tokens, values, following),
         is_assignment: is_at(tokens, sign, Symbol::Assign),
     })
 }
 
-/// The sides of the sign in front of a place, where the names, or the places that are assigned to, are not as many as the values there.
+/// The sides of the sign before a place, where the names, or the places that are assigned to, are not as many as the values there.
 fn wrong_sides(tokens: &[Token<'_>], index: usize) -> Option<Sides> {
     let sign = sign_before(tokens, index)?;
     let sides = sides_of(tokens, sign, index)?;
@@ -178,7 +178,7 @@ fn wrong_sides(tokens: &[Token<'_>], index: usize) -> Option<Sides> {
     is_wrong.then_some(sides)
 }
 
-/// Says so where the names, or the places that are assigned to, are not as many as the values in front of this place; whether that is so.
+/// Says so where the names, or the places that are assigned to, are not as many as the values before this place; whether that is so.
 pub fn says_sides(draft: &mut Draft, tokens: &[Token<'_>], index: usize) -> bool {
     let Some(sides) = wrong_sides(tokens, index) else {
         return false;

@@ -3,13 +3,13 @@ ghost use Rattle.bcpl_messages.specs.Spans.{IsSpanOf};
 
 use crate::brackets::{help_for_round, open_at, say_blank, says_tag, tag_at};
 use crate::draft::{Draft, Fill};
+use crate::expected::{could_be, could_be_name, say_wanted};
 use crate::hidden::hidden_between;
 use crate::likeness::reserved_word;
 use crate::neighbours::{help_for_name, help_for_neighbours, help_for_token};
 use crate::read::Read;
 use crate::sides::{is_one_of, says_sides};
-use crate::trial::{Change, reached};
-use crate::wanted::{could_be, could_be_name, say_wanted};
+use crate::trial_parse::{Change, reached};
 use crate::words::{back, is_at, is_symbol, symbol_at};
 use bc_lex::{Source, lex};
 use bc_lex_tokens::{Symbol, Token, TokenKind};
@@ -25,7 +25,7 @@ struct Remedy {
     help: &'static str,
 }
 
-/// The changes that are tried at the token that is refused, and at the one in front of it.
+/// The changes that are tried at the token that is refused, and at the one before it.
 const REMEDIES: [Remedy; 4] = [
     Remedy {
         found: Symbol::Equal,
@@ -49,8 +49,8 @@ const REMEDIES: [Remedy; 4] = [
     },
 ];
 
-/// The place behind the last token of a main; its end where the last one stands in another file.
-fn behind_last(tokens: &[Token<'_>], sources: &[Source<'_>], main: usize) -> Span {
+/// The place after the last token of a main; its end where the last one stands in another file.
+fn after_last(tokens: &[Token<'_>], sources: &[Source<'_>], main: usize) -> Span {
     let length = sources.get(main).map_or(0, |source| source.text.len());
     let end = match tokens.last() {
         Some(token) if token.file == main => token.end,
@@ -73,7 +73,7 @@ pub fn span_of(tokens: &[Token<'_>], sources: &[Source<'_>], main: usize, index:
             start: token.start,
             end: token.end,
         },
-        None => behind_last(tokens, sources, main),
+        None => after_last(tokens, sources, main),
     }
 }
 
@@ -89,10 +89,10 @@ fn is_remedy(
         return false;
     }
     let kind = TokenKind::Symbol(remedy.meant);
-    reached(draft, tokens, at, Change::Replace(kind)).is_behind(refused)
+    reached(draft, tokens, at, Change::Replace(kind)).is_after(refused)
 }
 
-/// In how many tokens, the one that is refused and those in front of it, a remedy is looked for.
+/// In how many tokens, the one that is refused and those before it, a remedy is looked for.
 const LOOK_BACK: usize = 12;
 
 /// The help of a remedy that gets further, if there is one.
@@ -107,7 +107,7 @@ fn remedied(draft: &mut Draft, tokens: &[Token<'_>], index: usize) -> Option<&'s
     None
 }
 
-/// What must stand at a place, and in front of it, for a guess.
+/// What must stand at a place, and before it, for a guess.
 #[derive(Clone, Copy)]
 enum Site {
     /// Anything.
@@ -115,28 +115,28 @@ enum Site {
     /// This symbol.
     At(Symbol),
     /// A name in front.
-    BehindName,
+    AfterName,
     /// Something on the line of what stands in front.
     OnLine,
     /// The same, and a name in front.
-    OnLineBehindName,
+    OnLineAfterName,
     /// A name that begins its line, and a name in front.
     BetweenNames,
     /// DEFAULT in front, or CASE and a constant of one token.
-    BehindCase,
+    AfterCase,
 }
 
 /// What is tried with the parser.
 #[derive(Clone, Copy)]
 enum Trial {
-    /// This symbol could stand in front of the place.
+    /// This symbol could stand before the place.
     Stands(Symbol),
     /// A declaration could, and no command.
     StandsOutside,
     /// With this symbol in front more is read than the token at the place.
-    Behind(Symbol),
+    After(Symbol),
     /// So with a pair of brackets.
-    BehindBrackets,
+    AfterBrackets,
     /// With a pair of brackets in front the token at the place is read.
     AtBrackets,
     /// So with brackets around the token.
@@ -159,11 +159,11 @@ const FIRST_GUESSES: [Guess; 4] = [
     },
     Guess {
         site: Site::OnLine,
-        trial: Trial::Behind(Symbol::Semicolon),
+        trial: Trial::After(Symbol::Semicolon),
         help: "commands, and declarations, stand apart by ; or a line break",
     },
     Guess {
-        site: Site::OnLineBehindName,
+        site: Site::OnLineAfterName,
         trial: Trial::Enclosed,
         help: "what a routine is called with stands in brackets, as in WRITEN(X)",
     },
@@ -174,7 +174,7 @@ const FIRST_GUESSES: [Guess; 4] = [
     },
 ];
 
-/// Those that are tried behind them.
+/// Those that are tried after them.
 const NEXT_GUESSES: [Guess; 5] = [
     Guess {
         site: Site::Any,
@@ -187,8 +187,8 @@ const NEXT_GUESSES: [Guess; 5] = [
         help: "each value has its own: CASE 1: CASE 2: .. for two, and N:K; M:L in GLOBAL",
     },
     Guess {
-        site: Site::BehindName,
-        trial: Trial::BehindBrackets,
+        site: Site::AfterName,
+        trial: Trial::AfterBrackets,
         help: "a routine is declared and called with brackets, as in NEWLINE()",
     },
     Guess {
@@ -207,7 +207,7 @@ const NEXT_GUESSES: [Guess; 5] = [
 const LAST_GUESSES: [Guess; 5] = [
     Guess {
         site: Site::OnLine,
-        trial: Trial::Behind(Symbol::Comma),
+        trial: Trial::After(Symbol::Comma),
         help: "arguments, names and values stand apart by commas, as in F(A, B)",
     },
     Guess {
@@ -221,8 +221,8 @@ const LAST_GUESSES: [Guess; 5] = [
         help: "a routine is declared by LET F(X) BE .., and one that gives a value by LET F(X) = E",
     },
     Guess {
-        site: Site::BehindCase,
-        trial: Trial::Behind(Symbol::Colon),
+        site: Site::AfterCase,
+        trial: Trial::After(Symbol::Colon),
         help: "a colon stands behind it, as in CASE 1: WRITES(\"A\")",
     },
     Guess {
@@ -232,25 +232,25 @@ const LAST_GUESSES: [Guess; 5] = [
     },
 ];
 
-/// Whether a name stands in front of a place.
-fn is_behind_name(tokens: &[Token<'_>], index: usize) -> bool {
+/// Whether a name stands before a place.
+fn is_after_name(tokens: &[Token<'_>], index: usize) -> bool {
     match back(tokens, index, 1) {
         Some(token) => matches!(token.kind, TokenKind::Name(_)),
         None => false,
     }
 }
 
-/// Whether a name that begins its line stands at a place, and a name in front of it.
+/// Whether a name that begins its line stands at a place, and a name before it.
 fn is_between_names(tokens: &[Token<'_>], index: usize) -> bool {
     let begins_line = match tokens.get(index) {
         Some(token) => token.line_before && matches!(token.kind, TokenKind::Name(_)),
         None => false,
     };
-    begins_line && is_behind_name(tokens, index)
+    begins_line && is_after_name(tokens, index)
 }
 
-/// Whether DEFAULT stands in front of a place, or CASE and one token.
-fn is_behind_case(tokens: &[Token<'_>], index: usize) -> bool {
+/// Whether DEFAULT stands before a place, or CASE and one token.
+fn is_after_case(tokens: &[Token<'_>], index: usize) -> bool {
     let is_default = match back(tokens, index, 1) {
         Some(token) => is_symbol(token, Symbol::Default),
         None => false,
@@ -262,7 +262,7 @@ fn is_behind_case(tokens: &[Token<'_>], index: usize) -> bool {
         }
 }
 
-/// Whether a token stands at a place, and another one in front of it on its line.
+/// Whether a token stands at a place, and another one before it on its line.
 fn is_on_line(tokens: &[Token<'_>], index: usize) -> bool {
     match tokens.get(index) {
         Some(token) => index > 0 && !token.line_before,
@@ -275,11 +275,11 @@ fn is_site(tokens: &[Token<'_>], index: usize, site: Site) -> bool {
     match site {
         Site::Any => true,
         Site::At(symbol) => is_at(tokens, index, symbol),
-        Site::BehindName => is_behind_name(tokens, index),
+        Site::AfterName => is_after_name(tokens, index),
         Site::OnLine => is_on_line(tokens, index),
-        Site::OnLineBehindName => is_on_line(tokens, index) && is_behind_name(tokens, index),
+        Site::OnLineAfterName => is_on_line(tokens, index) && is_after_name(tokens, index),
         Site::BetweenNames => is_between_names(tokens, index),
-        Site::BehindCase => is_behind_case(tokens, index),
+        Site::AfterCase => is_after_case(tokens, index),
     }
 }
 
@@ -290,7 +290,7 @@ fn is_outside(draft: &mut Draft, tokens: &[Token<'_>], index: usize) -> bool {
 
 /// Whether more is read than the token at a place with a change there.
 fn gets_further(draft: &mut Draft, tokens: &[Token<'_>], index: usize, change: Change) -> bool {
-    reached(draft, tokens, index, change).is_behind(index)
+    reached(draft, tokens, index, change).is_after(index)
 }
 
 /// Whether the token at a place is read with a pair of brackets in front.
@@ -304,8 +304,8 @@ fn is_taken(draft: &mut Draft, tokens: &[Token<'_>], index: usize, trial: Trial)
         Trial::Stands(symbol) => return could_be(draft, tokens, index, symbol),
         Trial::StandsOutside => return is_outside(draft, tokens, index),
         Trial::AtBrackets => return is_read_with_brackets(draft, tokens, index),
-        Trial::Behind(symbol) => Change::Insert(TokenKind::Symbol(symbol)),
-        Trial::BehindBrackets => Change::InsertBrackets,
+        Trial::After(symbol) => Change::Insert(TokenKind::Symbol(symbol)),
+        Trial::AfterBrackets => Change::InsertBrackets,
         Trial::Enclosed => Change::Enclose,
     };
     gets_further(draft, tokens, index, change)
@@ -331,7 +331,7 @@ fn last_guess(draft: &mut Draft, tokens: &[Token<'_>], index: usize) -> Option<&
     first_right(draft, tokens, index, &LAST_GUESSES)
 }
 
-/// What the guesses behind the first ones say of a place.
+/// What the guesses after the first ones say of a place.
 fn next_guess(draft: &mut Draft, tokens: &[Token<'_>], index: usize) -> Option<&'static str> {
     match first_right(draft, tokens, index, &NEXT_GUESSES) {
         Some(help) => Some(help),
@@ -347,10 +347,10 @@ fn help_for_place(draft: &mut Draft, tokens: &[Token<'_>], index: usize) -> Opti
     }
 }
 
-/// The words that a list of names stands behind.
+/// The words that a list of names stands after.
 const LISTS: [Symbol; 3] = [Symbol::Manifest, Symbol::Static, Symbol::Global];
 
-/// The word of the list of names that is open in front of a place: MANIFEST, STATIC or GLOBAL, if there is one.
+/// The word of the list of names that is open before a place: MANIFEST, STATIC or GLOBAL, if there is one.
 pub fn list_word(draft: &mut Draft, tokens: &[Token<'_>], index: usize) -> Option<Symbol> {
     let bracket = *open_at(draft, tokens, index).last()?;
     let token = back(tokens, bracket, 1)?;
@@ -369,7 +369,7 @@ fn help_for_list(draft: &mut Draft, tokens: &[Token<'_>], index: usize) -> Optio
         Some(
             "such a name has a constant; a routine declares the vector, by LET V = VEC 10, and can keep its address in a static or a global",
         )
-    } else if !is_behind_name(tokens, index) {
+    } else if !is_after_name(tokens, index) {
         None
     } else if word.is(Symbol::Global) {
         Some("each name has its number, as in GLOBAL $( N:100 $)")
@@ -423,7 +423,7 @@ fn says_word(draft: &mut Draft, token: Option<&Token<'_>>, is_first: bool) -> bo
     }
 }
 
-/// Whether a reserved word stands at a place, behind something on its line.
+/// Whether a reserved word stands at a place, after something on its line.
 fn is_word_on_line(tokens: &[Token<'_>], index: usize) -> bool {
     let begins_word = match tokens.get(index) {
         Some(token) => token
@@ -523,8 +523,8 @@ const HEADS: [Symbol; 5] = [
     Symbol::Test,
 ];
 
-/// Whether a condition stands in front of a place on the line of the token before it.
-fn is_behind_condition(tokens: &[Token<'_>], index: usize) -> bool {
+/// Whether a condition stands before a place on the line of the token before it.
+fn is_after_condition(tokens: &[Token<'_>], index: usize) -> bool {
     for count in 1..LOOK_BACK {
         let Some(token) = back(tokens, index, count) else {
             return false;
@@ -539,7 +539,7 @@ fn is_behind_condition(tokens: &[Token<'_>], index: usize) -> bool {
     false
 }
 
-/// Whether a comment that begins with `||` stands behind a token, the last one of its line.
+/// Whether a comment that begins with `||` stands after a token, the last one of its line.
 fn is_before_bars(read: Read<'_, '_>, token: &Token<'_>) -> bool {
     let text = read.source(token.file);
     for byte in text.get(token.end..).unwrap_or(b"") {
@@ -551,12 +551,12 @@ fn is_before_bars(read: Read<'_, '_>, token: &Token<'_>) -> bool {
 }
 
 /// Whether what is refused begins a line, and on the line before it a condition ends with a comment that begins with `||`.
-fn is_behind_bars(read: Read<'_, '_>, index: usize) -> bool {
+fn is_after_bars(read: Read<'_, '_>, index: usize) -> bool {
     let is_commented = match back(read.tokens, index, 1) {
         Some(token) => is_before_bars(read, token),
         None => false,
     };
-    is_commented && is_behind_condition(read.tokens, index)
+    is_commented && is_after_condition(read.tokens, index)
 }
 
 /// Tells of the token that can't stand where it stands.
@@ -567,7 +567,7 @@ fn tell_expected(draft: &mut Draft, read: Read<'_, '_>, index: usize) {
         None => draft.say("the file ends too early", &[]),
     }
     say_wanted(draft, read.tokens, index);
-    if is_behind_bars(read, index) {
+    if is_after_bars(read, index) {
         draft.help(
             "|| begins a comment, up to the end of its line; or is written |",
             &[],
@@ -592,7 +592,7 @@ fn say_unclosed(draft: &mut Draft, bracket: Option<&Token<'_>>, count: usize) {
     draft.say(sentence, &[Fill::Shown(text), Fill::Number(others as u64)]);
 }
 
-/// Whether a token begins its line, with nothing in front of it.
+/// Whether a token begins its line, with nothing before it.
 fn is_at_margin(read: Read<'_, '_>, token: &Token<'_>) -> bool {
     match read.sources.get(token.file) {
         Some(source) => match token.start.checked_sub(1) {
@@ -607,11 +607,11 @@ fn is_at_margin(read: Read<'_, '_>, token: &Token<'_>) -> bool {
 pub fn is_heading(tokens: &[Token<'_>], index: usize) -> bool {
     let bracket = index.saturating_add(2);
     (is_at(tokens, index, Symbol::Let) || is_at(tokens, index, Symbol::And))
-        && is_behind_name(tokens, bracket)
+        && is_after_name(tokens, bracket)
         && is_at(tokens, bracket, Symbol::OpenBracket)
 }
 
-/// The first routine behind a place whose heading begins at the margin.
+/// The first routine after a place whose heading begins at the margin.
 fn routine_at_margin(read: Read<'_, '_>, place: usize) -> Option<usize> {
     for (index, token) in read.tokens.iter().enumerate() {
         if index > place && is_heading(read.tokens, index) && is_at_margin(read, token) {
@@ -655,7 +655,7 @@ fn tell_unclosed(draft: &mut Draft, read: Read<'_, '_>) {
 }
 
 /// Whether the tag of the `$)` at a place is likely none, but a word: a reserved one, or one with what would go on with it as a name.
-fn is_word_behind(tokens: &[Token<'_>], index: usize, name: &[u8]) -> bool {
+fn is_word_after(tokens: &[Token<'_>], index: usize, name: &[u8]) -> bool {
     let next = index.saturating_add(1);
     Symbol::spelled(name).is_some()
         || is_at(tokens, next, Symbol::OpenBracket)
@@ -671,7 +671,7 @@ fn tell_tag(draft: &mut Draft, read: Read<'_, '_>, index: usize, innermost: usiz
         "the innermost that is open here",
         &[],
     );
-    if is_word_behind(read.tokens, index, name) {
+    if is_word_after(read.tokens, index, name) {
         say_blank(draft, read.tokens, index);
     }
 }

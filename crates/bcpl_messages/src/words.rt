@@ -49,7 +49,7 @@ pub fn is_at(tokens: &[Token<'_>], place: usize, symbol: Symbol) -> bool {
     }
 }
 
-/// The token in front of a place, so many tokens back.
+/// The token before a place, so many tokens back.
 pub fn back<'t, 's>(tokens: &'t [Token<'s>], index: usize, count: usize) -> Option<&'t Token<'s>> {
     match index.checked_sub(count) {
         Some(place) => tokens.get(place),

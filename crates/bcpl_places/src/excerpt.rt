@@ -7,7 +7,7 @@ use std::fmt;
 /// The most columns of a line that are shown.
 const MOST: usize = 88;
 
-/// How many columns in front of the place are shown of a line that is too long.
+/// How many columns before the place are shown of a line that is too long.
 const IN_FRONT: usize = 40;
 
 /// A line of a source with a mark below a stretch of it, as two lines of text. A line that is too long is cut round the
@@ -17,11 +17,11 @@ pub struct Excerpt {
     number: usize,
     /// What is shown of the line.
     shown: Vec<Sign>,
-    /// Whether signs in front of these are left out.
+    /// Whether signs before these are left out.
     is_cut_before: bool,
-    /// Whether signs behind these are left out.
-    is_cut_behind: bool,
-    /// How many columns of what is shown stand in front of the mark.
+    /// Whether signs after these are left out.
+    is_cut_after: bool,
+    /// How many columns of what is shown stand before the mark.
     before: usize,
     /// How many columns the mark takes.
     marked: usize,
@@ -36,7 +36,7 @@ fn width_of(signs: &[Sign]) -> usize {
     width
 }
 
-/// How many of these signs stand in front of this offset.
+/// How many of these signs stand before this offset.
 fn count_before(signs: &[Sign], at: usize) -> usize {
     signs.iter().filter(|sign| sign.at < at).count()
 }
@@ -55,7 +55,7 @@ impl Excerpt {
         let line_start = line.start.min(line_end);
         let signs = signs_of(alloc, &text[line_start..line_end])?;
         let first = count_before(signs.as_slice(), start.saturating_sub(line_start));
-        let behind = count_before(signs.as_slice(), end.saturating_sub(line_start)).max(first);
+        let following = count_before(signs.as_slice(), end.saturating_sub(line_start)).max(first);
         let is_long = width_of(signs.as_slice()) > MOST;
         let from = if is_long {
             first.saturating_sub(IN_FRONT)
@@ -69,14 +69,14 @@ impl Excerpt {
         };
         let from = from.min(to);
         let first = first.min(to).max(from);
-        let behind = behind.min(to).max(first);
+        let following = following.min(to).max(first);
         Ok(Excerpt {
             number: line.number,
             shown: Vec::from_slice(alloc, &signs.as_slice()[from..to])?,
             is_cut_before: from > 0,
-            is_cut_behind: to < signs.len(),
+            is_cut_after: to < signs.len(),
             before: width_of(&signs.as_slice()[from..first]),
-            marked: width_of(&signs.as_slice()[first..behind]).max(1),
+            marked: width_of(&signs.as_slice()[first..following]).max(1),
         })
     }
 }
@@ -108,7 +108,7 @@ impl fmt::Display for Excerpt {
         for sign in &self.shown {
             f.write_char(sign.shown)?;
         }
-        if self.is_cut_behind {
+        if self.is_cut_after {
             f.write_char('…')?;
         }
         f.write_char('\n')?;

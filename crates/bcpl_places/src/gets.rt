@@ -5,12 +5,12 @@ use bc_lex::Source;
 use bc_word::Memory;
 use std::alloc::Global;
 
-/// A GET of a source, and the name behind it.
+/// A GET of a source, and the name after it.
 #[derive(Clone, Copy)]
 pub struct Get<'s> {
     /// The offset of the word GET.
     pub start: usize,
-    /// The offset behind the string.
+    /// The offset after the string.
     pub end: usize,
     /// What stands between the signs of the string.
     pub name: &'s [u8],
@@ -21,8 +21,8 @@ fn is_of_name(byte: u8) -> bool {
     byte.is_ascii_alphanumeric() || byte == b'.'
 }
 
-/// The offset behind what opens at `at` and goes on up to `close`; where that doesn't stand, the text's end.
-fn behind(text: &[u8], at: usize, close: &[u8]) -> usize {
+/// The offset after what opens at `at` and goes on up to `close`; where that doesn't stand, the text's end.
+fn following(text: &[u8], at: usize, close: &[u8]) -> usize {
     for from in at..text.len() {
         if text[from..].starts_with(close) {
             return from + close.len();
@@ -31,9 +31,9 @@ fn behind(text: &[u8], at: usize, close: &[u8]) -> usize {
     text.len()
 }
 
-/// The offset behind the string or character constant whose first sign stands at `at`: `*` takes the byte behind it along, and a
+/// The offset after the string or character constant whose first sign stands at `at`: `*` takes the byte after it along, and a
 /// line feed ends it.
-fn behind_quoted(text: &[u8], at: usize, sign: u8) -> usize {
+fn after_quoted(text: &[u8], at: usize, sign: u8) -> usize {
     let mut is_escaped = false;
     for offset in at.saturating_add(1)..text.len() {
         let byte = text[offset];
@@ -51,8 +51,8 @@ fn behind_quoted(text: &[u8], at: usize, sign: u8) -> usize {
     text.len()
 }
 
-/// The offset behind the name that begins at `at`.
-fn behind_name(text: &[u8], at: usize) -> usize {
+/// The offset after the name that begins at `at`.
+fn after_name(text: &[u8], at: usize) -> usize {
     for offset in at..text.len() {
         if !is_of_name(text[offset]) {
             return offset;
@@ -61,16 +61,16 @@ fn behind_name(text: &[u8], at: usize) -> usize {
     text.len()
 }
 
-/// The offset behind a comment, blank or line break at `at`; `at` where none begins there.
-fn behind_gap(text: &[u8], at: usize) -> usize {
+/// The offset after a comment, blank or line break at `at`; `at` where none begins there.
+fn after_gap(text: &[u8], at: usize) -> usize {
     if at >= text.len() {
         return at;
     }
     let rest = &text[at..];
     if rest.starts_with(b"//") || rest.starts_with(b"||") {
-        behind(text, at, b"\n")
+        following(text, at, b"\n")
     } else if rest.starts_with(b"/*") {
-        behind(text, at.saturating_add(2), b"*/")
+        following(text, at.saturating_add(2), b"*/")
     } else if rest[0].is_ascii_whitespace() {
         at + 1
     } else {
@@ -78,11 +78,11 @@ fn behind_gap(text: &[u8], at: usize) -> usize {
     }
 }
 
-/// The offset of what stands behind all gaps from `at` on.
-fn behind_gaps(text: &[u8], at: usize) -> usize {
+/// The offset of what stands after all gaps from `at` on.
+fn after_gaps(text: &[u8], at: usize) -> usize {
     let mut at = at;
     for _ in 0..text.len() {
-        let next = behind_gap(text, at);
+        let next = after_gap(text, at);
         if next <= at {
             break;
         }
@@ -91,13 +91,13 @@ fn behind_gaps(text: &[u8], at: usize) -> usize {
     at
 }
 
-/// The GET that begins at `at` with the word, if a string stands behind the word, which ends at `end`.
+/// The GET that begins at `at` with the word, if a string stands after the word, which ends at `end`.
 fn get_at(text: &[u8], at: usize, end: usize) -> Option<Get<'_>> {
-    let open = behind_gaps(text, end);
+    let open = after_gaps(text, end);
     if open >= text.len() || text[open] != b'"' {
         return None;
     }
-    let close = behind_quoted(text, open, b'"');
+    let close = after_quoted(text, open, b'"');
     if close < open + 2 || close > text.len() || text[close - 1] != b'"' {
         return None;
     }
@@ -116,14 +116,14 @@ pub fn gets_of(alloc: Global, text: &[u8]) -> Result<Vec<Get<'_>>, Memory> {
         if at >= text.len() {
             break;
         }
-        let gap = behind_gap(text, at);
+        let gap = after_gap(text, at);
         let byte = text[at];
         let next = if gap > at {
             gap
         } else if byte == b'"' || byte == b'\'' {
-            behind_quoted(text, at, byte)
+            after_quoted(text, at, byte)
         } else if is_of_name(byte) {
-            let end = behind_name(text, at);
+            let end = after_name(text, at);
             if end <= text.len() && at <= end && &text[at..end] == b"GET".as_slice() {
                 if let Some(get) = get_at(text, at, end) {
                     gets.push(get)?;

@@ -19,6 +19,6 @@ pub struct Span {
     pub file: usize,
     /// The offset of its first byte.
     pub start: usize,
-    /// The offset behind its last byte.
+    /// The offset after its last byte.
     pub end: usize,
 }

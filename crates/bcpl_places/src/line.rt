@@ -1,14 +1,14 @@
 ghost use Rattle.std.specs.Prelude.{◌≡◌, ◌+◌, ◌≤◌, length, take};
 ghost use Rattle.bcpl_places.specs.Lines.{breaks};
 
-/// A line of a text, without the line feed that ends it and a carriage return in front of that.
+/// A line of a text, without the line feed that ends it and a carriage return before that.
 #[derive(Clone, Copy)]
 pub struct Line {
     /// Its number, counted from 1.
     pub number: usize,
     /// The offset of its first byte.
     pub start: usize,
-    /// The offset behind its last byte.
+    /// The offset after its last byte.
     pub end: usize,
 }
 
@@ -20,7 +20,7 @@ fn count_breaks(bytes: &[u8]) -> usize
     bytes.iter().filter(|byte| **byte == b'\n').count()
 }
 
-/// The offset behind the last line feed of these bytes; 0 where they have none.
+/// The offset after the last line feed of these bytes; 0 where they have none.
 fn line_start(bytes: &[u8]) -> usize
     ensures { result ≤ length bytes.now }
 {
@@ -30,7 +30,7 @@ fn line_start(bytes: &[u8]) -> usize
     }
 }
 
-/// The number of bytes in front of the first line feed, and of a carriage return in front of that.
+/// The number of bytes before the first line feed, and of a carriage return before that.
 fn rest_of_line(bytes: &[u8]) -> usize
     ensures { result ≤ length bytes.now }
 {

@@ -198,7 +198,7 @@ fn outside(
     }
 }
 
-/// Adds what is said of an entry that stands in front of the one before it.
+/// Adds what is said of an entry that stands before the one before it.
 fn disordered(report: &mut Report, at: At<'_>) -> Result<(), Memory> {
     if let Some(placed) = at.head() {
         let sentence = "by segment and item this entry stands in front of the one before it";

@@ -7,7 +7,7 @@ use bc_rules_defs::Table;
 use bc_word::Memory;
 use std::alloc::Global;
 
-/// The lines of a text, without their line feeds; a rest behind the last line feed is one, too. Memory is answered where a growth was
+/// The lines of a text, without their line feeds; a rest after the last line feed is one, too. Memory is answered where a growth was
 /// refused.
 pub fn lines_of(alloc: Global, bytes: &[u8]) -> Result<Vec<Stretch>, Memory> {
     let mut lines = Vec::new(alloc);
@@ -50,7 +50,7 @@ impl<'a> Lined<'a> {
         }
     }
 
-    /// The bytes of the line in front of that with this index; none where there is none.
+    /// The bytes of the line before that with this index; none where there is none.
     pub fn line_before(&self, index: usize) -> &'a [u8] {
         match index.checked_sub(1) {
             Some(before) => self.line(before),
@@ -85,7 +85,7 @@ impl<'a> Lined<'a> {
         }
     }
 
-    /// The bytes of a line in front of the field with this index.
+    /// The bytes of a line before the field with this index.
     pub fn front(&self, index: usize, field: usize) -> &'a [u8] {
         let start = self.stretch(index).start;
         let end = self.field(index, field).stretch.start;
@@ -126,7 +126,7 @@ pub struct Entry<'a> {
 }
 
 impl<'a> Entry<'a> {
-    /// The index of the line of the node with this index, or of the root line behind the last one.
+    /// The index of the line of the node with this index, or of the root line after the last one.
     pub fn line(&self, node: usize) -> usize {
         self.index.saturating_add(1).saturating_add(node)
     }

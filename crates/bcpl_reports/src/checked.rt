@@ -13,7 +13,7 @@ use std::alloc::Global;
 /// What to do about a line that is not of its form.
 const FORMS: &str = "docs/certificate.md has the form of each line";
 
-/// What may stand at a line behind another one, and what is wrong with it, where these are always the same words.
+/// What may stand at a line after another one, and what is wrong with it, where these are always the same words.
 fn fixed_sentence(before: &[u8], line: &[u8]) -> Option<&'static str> {
     match before.first() {
         Some(b'B' | b'C') if end_line(line).is_some() => {

@@ -32,7 +32,7 @@ fn trees_of(
     Ok(())
 }
 
-/// What the checker says of a node behind these.
+/// What the checker says of a node after these.
 fn judged(
     trees: &mut Stack,
     alloc: Global,
@@ -44,7 +44,7 @@ fn judged(
     trees.node(alloc, table, last, NOWHERE)
 }
 
-/// Whether the checker takes a node behind these.
+/// Whether the checker takes a node after these.
 pub fn takes(
     trees: &mut Stack,
     alloc: Global,

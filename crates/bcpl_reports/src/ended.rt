@@ -18,24 +18,24 @@ pub struct Stop {
     pub end: End,
     /// The address of the next instruction.
     pub address: u16,
-    /// The word at that address, and the one behind it.
+    /// The word at that address, and the one after it.
     pub words: (u16, u16),
     /// How many instructions it was given.
     pub steps: u64,
 }
 
-/// What stands at an address: the segment, the item, and how far the nearest label and routine are in front of it.
+/// What stands at an address: the segment, the item, and how far the nearest label and routine are before it.
 #[derive(Clone, Copy)]
 struct Spot {
     segment: usize,
     item: usize,
-    /// A label, and how many words it is in front of the address.
+    /// A label, and how many words it is before the address.
     label: Option<(u16, usize)>,
-    /// The number of a global, and how many words its routine begins in front of the address.
+    /// The number of a global, and how many words its routine begins before the address.
     routine: Option<(u16, usize)>,
 }
 
-/// The nearer one of two that stand in front of an address.
+/// The nearer one of two that stand before an address.
 fn nearer(best: Option<(u16, usize)>, number: u16, distance: usize) -> Option<(u16, usize)> {
     match best {
         Some((_, least)) if least <= distance => best,
@@ -67,7 +67,7 @@ fn routine_of(item: &Item, items: &[Item], addresses: &[usize]) -> Option<(u16, 
 }
 
 impl Spot {
-    /// Takes along an item that stands at an address which is not behind that of the spot, but so many words in front of it.
+    /// Takes along an item that stands at an address which is not after that of the spot, but so many words before it.
     fn pass(&mut self, index: usize, item: &Item, distance: usize) {
         match item {
             Item::Label(label) => self.label = nearer(self.label, label.get(), distance),
@@ -107,8 +107,8 @@ fn spot_of(
     items: &[Item],
     address: usize,
 ) -> Result<Option<Spot>, Memory> {
-    let (addresses, behind) = addresses(alloc, start, items)?;
-    if start <= address && address < behind {
+    let (addresses, following) = addresses(alloc, start, items)?;
+    if start <= address && address < following {
         Ok(Some(spot_in(number, items, addresses.as_slice(), address)))
     } else {
         Ok(None)
@@ -162,7 +162,7 @@ fn add_address(report: &mut Report, address: u16, sentence: &str) -> Result<(), 
     )
 }
 
-/// Adds what is said of the end of a run in front of its address.
+/// Adds what is said of the end of a run before its address.
 fn add_end(report: &mut Report, stop: &Stop) -> Result<(), Memory> {
     match stop.end {
         End::ZeroDivide => report.text("a division or a remainder by 0, at "),
@@ -223,7 +223,7 @@ fn unit(words: usize) -> Fill<'static> {
     Fill::Text(if words == 1 { "word" } else { "words" })
 }
 
-/// Adds which routine stands in front of a spot.
+/// Adds which routine stands before a spot.
 fn add_routine(report: &mut Report, global: u16, distance: usize) -> Result<(), Memory> {
     let (comma, name) = match library_name(global) {
         Some(name) => (", ", name),
@@ -241,7 +241,7 @@ fn add_routine(report: &mut Report, global: u16, distance: usize) -> Result<(), 
     )
 }
 
-/// Adds which label stands in front of a spot.
+/// Adds which label stands before a spot.
 fn add_label(report: &mut Report, label: u16, distance: usize) -> Result<(), Memory> {
     report.line(
         "  the nearest label in front of it is {}, {} {} before",
@@ -253,7 +253,7 @@ fn add_label(report: &mut Report, label: u16, distance: usize) -> Result<(), Mem
     )
 }
 
-/// Adds which routine and label stand in front of a spot.
+/// Adds which routine and label stand before a spot.
 fn add_nearest(report: &mut Report, spot: Spot) -> Result<(), Memory> {
     if let Some((global, distance)) = spot.routine {
         add_routine(report, global, distance)?;
@@ -290,7 +290,7 @@ fn add_ended(
     }
 }
 
-/// Adds what stands in front of the spot at which a run ended, and what to do.
+/// Adds what stands before the spot at which a run ended, and what to do.
 fn add_advice(report: &mut Report, stop: &Stop, spot: Option<Spot>) -> Result<(), Memory> {
     if let Some(spot) = spot {
         add_nearest(report, spot)?;
@@ -331,7 +331,7 @@ fn add_stop(
 }
 
 /// The lines on a run that ended otherwise than by finishing: the item at which it ended, in its text, and the routine; or, where no
-/// segment sets global 1, that there is no START. The segments are those of the texts behind the primitives, and the image is theirs.
+/// segment sets global 1, that there is no START. The segments are those of the texts after the primitives, and the image is theirs.
 /// Memory is answered where a growth was refused.
 pub fn ended_lines(
     alloc: Global,

@@ -2,7 +2,7 @@ use crate::placed::{Stretch, is_byte};
 use crate::report::Fill;
 use bc_rules_defs::Piece;
 
-/// The stretch of the field with this index of a line, fields being separated by a blank; where there is none, behind the line.
+/// The stretch of the field with this index of a line, fields being separated by a blank; where there is none, after the line.
 pub fn field_of(bytes: &[u8], line: Stretch, index: usize) -> Stretch {
     let mut left = index;
     let mut start = line.start;

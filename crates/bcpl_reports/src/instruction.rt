@@ -1,7 +1,7 @@
 use crate::report::Fill;
 use bcpl_segments::FUNCTIONS;
 
-/// The letters behind them, in the order of the next three bits.
+/// The letters after them, in the order of the next three bits.
 const MODES: [&str; 8] = ["", "G", "P", "PG", "I", "IG", "IP", "IPG"];
 
 /// The letters with this number, which is below 8.
@@ -12,7 +12,7 @@ fn letters(table: &[&'static str], number: u16) -> Fill<'static> {
     }
 }
 
-/// What a word is as an instruction, and the word behind it where it is one of two words: as `LIP3`, in three parts.
+/// What a word is as an instruction, and the word after it where it is one of two words: as `LIP3`, in three parts.
 pub fn instruction(word: u16, following: u16) -> [Fill<'static>; 3] {
     let code = word / 512;
     let number = if code % 2 == 1 { following } else { word % 512 };

@@ -104,7 +104,7 @@ fn take(
     Ok(Some(least))
 }
 
-/// The least words of the derivations of the last of these nodes, by the numbers of those in front of it; none where they are no trees.
+/// The least words of the derivations of the last of these nodes, by the numbers of those before it; none where they are no trees.
 /// Memory is answered where a growth was refused.
 pub fn least_of(
     alloc: Global,

@@ -287,7 +287,7 @@ fn add_fault(
 }
 
 /// The lines on segments that can't be linked: the item in its text, and what it collides with. The segments are those of the texts
-/// behind the primitives. None where nothing more is known. Memory is answered where a growth was refused.
+/// after the primitives. None where nothing more is known. Memory is answered where a growth was refused.
 pub fn link_lines(
     alloc: Global,
     texts: &[Text<'_>],

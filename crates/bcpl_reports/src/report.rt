@@ -41,7 +41,7 @@ fn printed(alloc: Global, item: Item) -> Result<Vec<u8>, Memory> {
     Ok(printed)
 }
 
-/// The bytes in front of the first line feed.
+/// The bytes before the first line feed.
 fn first_line(bytes: &[u8]) -> &[u8] {
     for (at, byte) in bytes.iter().enumerate() {
         if *byte == b'\n' {

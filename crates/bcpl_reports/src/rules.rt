@@ -14,7 +14,7 @@ const NAMES: [&str; 29] = [
     "J9",
 ];
 
-/// What may stand in front of a rule of values at its node.
+/// What may stand before a rule of values at its node.
 const FRONTS: [&str; 4] = ["", "V0.", "J6.", "J6.V0."];
 
 /// The most rules that are told.
@@ -27,7 +27,7 @@ const MOST_NODES: usize = 400;
 #[derive(Clone, Copy)]
 struct Name {
     front: &'static str,
-    behind: Fill<'static>,
+    following: Fill<'static>,
 }
 
 /// The node line that begins so and has these rules; none where they make none.
@@ -43,13 +43,13 @@ fn with_rules(
     Ok(node_line(line.as_slice()))
 }
 
-/// The nodes of an entry behind which rules are tried.
+/// The nodes of an entry after which rules are tried.
 #[derive(Clone, Copy)]
 struct Trial<'a> {
     alloc: Global,
     table: Table,
     nodes: &'a [NodeLine],
-    /// The bytes of the next node's line in front of its rules.
+    /// The bytes of the next node's line before its rules.
     front: &'a [u8],
 }
 
@@ -73,13 +73,13 @@ impl<'a> Trial<'a> {
         if self.takes(trees, before, name)? {
             right.push(Name {
                 front: before,
-                behind: Fill::Text(name),
+                following: Fill::Text(name),
             })?;
         }
         Ok(())
     }
 
-    /// Adds the rules with this in front of them that the checker takes, up to so many as are told.
+    /// Adds the rules with this before them that the checker takes, up to so many as are told.
     fn add_taken(
         &self,
         trees: &mut Stack,
@@ -140,7 +140,7 @@ fn roots_like(root: RootLine) -> [RootLine; 3] {
     }
 }
 
-/// What stands in front of the level in the root line of an assignment.
+/// What stands before the level in the root line of an assignment.
 fn assignment(rule: Rule) -> &'static str {
     match rule {
         Rule::A1 => "R A1 ",
@@ -151,13 +151,13 @@ fn assignment(rule: Rule) -> &'static str {
 
 /// A root line as a certificate has it.
 fn root_name(root: RootLine) -> Name {
-    let (front, behind) = match root {
+    let (front, following) = match root {
         RootLine::Value => ("R V", Fill::Text("")),
         RootLine::Test(false) => ("R F", Fill::Text("")),
         RootLine::Test(true) => ("R T", Fill::Text("")),
         RootLine::Assign(rule, level) => (assignment(rule), Fill::Number(u128::from(level))),
     };
-    Name { front, behind }
+    Name { front, following }
 }
 
 /// What is wrong with a root line that its trees show no rules for.
@@ -176,7 +176,7 @@ fn root_sentence(root: RootLine) -> &'static str {
     }
 }
 
-/// Whether the checker takes this root line behind the nodes of an entry.
+/// Whether the checker takes this root line after the nodes of an entry.
 fn takes_root(
     trees: &mut Stack,
     alloc: Global,
@@ -187,7 +187,7 @@ fn takes_root(
     Ok(rooted.is_some())
 }
 
-/// The root lines that the checker would take behind the nodes of an entry, in the place of this one.
+/// The root lines that the checker would take after the nodes of an entry, instead of this one.
 fn right_roots(
     trees: &mut Stack,
     alloc: Global,
@@ -204,7 +204,7 @@ fn right_roots(
     Ok(right)
 }
 
-/// What stands in front of the one with this index of so many.
+/// What stands before the one with this index of so many.
 fn between(index: usize, count: usize) -> &'static str {
     if index == 0 {
         ""
@@ -225,7 +225,7 @@ fn add_right(report: &mut Report, right: &[Name]) -> Result<(), Memory> {
     )?;
     for (index, name) in right.iter().enumerate() {
         let between = Fill::Text(between(index, count));
-        report.say("{}{}{}", &[between, Fill::Text(name.front), name.behind])?;
+        report.say("{}{}{}", &[between, Fill::Text(name.front), name.following])?;
     }
     report.text("\n")
 }

@@ -10,19 +10,19 @@ pub fn next_where(bytes: &[u8], at: usize, is_digit: bool) -> usize {
     bytes.len()
 }
 
-/// The offset behind the item that begins at `at`: its letters, its number, and where it is a global's the label.
-fn behind_item(bytes: &[u8], at: usize) -> usize {
+/// The offset after the item that begins at `at`: its letters, its number, and where it is a global's the label.
+fn after_item(bytes: &[u8], at: usize) -> usize {
     let number = next_where(bytes, at, true);
-    let behind = next_where(bytes, number, false);
-    if is_byte(bytes, at, b'G') && is_byte(bytes, behind, b'L') {
-        next_where(bytes, next_where(bytes, behind, true), false)
+    let following = next_where(bytes, number, false);
+    if is_byte(bytes, at, b'G') && is_byte(bytes, following, b'L') {
+        next_where(bytes, next_where(bytes, following, true), false)
     } else {
-        behind
+        following
     }
 }
 
-/// The offset behind the comment that begins at `at`.
-fn behind_comment(bytes: &[u8], at: usize) -> usize {
+/// The offset after the comment that begins at `at`.
+fn after_comment(bytes: &[u8], at: usize) -> usize {
     for offset in at..bytes.len() {
         if bytes[offset] == b'\n' {
             return offset;
@@ -60,21 +60,21 @@ struct Walk<'a> {
 }
 
 impl<'a> Walk<'a> {
-    /// What comes next and its stretch, behind which the walk goes on; none at the text's end.
+    /// What comes next and its stretch, after which the walk goes on; none at the text's end.
     fn next(&mut self) -> Option<(Begun, Stretch)> {
         let at = self.at;
         let begun = begins(*self.bytes.get(at)?);
-        let behind = match begun {
-            Begun::Item => behind_item(self.bytes, at),
-            Begun::Comment => behind_comment(self.bytes, at),
+        let following = match begun {
+            Begun::Item => after_item(self.bytes, at),
+            Begun::Comment => after_comment(self.bytes, at),
             Begun::End | Begun::Blank => at,
         };
-        self.at = behind.max(at.saturating_add(1));
+        self.at = following.max(at.saturating_add(1));
         Some((
             begun,
             Stretch {
                 start: at,
-                end: behind,
+                end: following,
             },
         ))
     }

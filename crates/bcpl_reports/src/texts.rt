@@ -25,7 +25,7 @@ fn within(at: u64, length: usize) -> usize {
     }
 }
 
-/// The letters that stand in front of `at`.
+/// The letters that stand before `at`.
 fn letters_before(bytes: &[u8], at: usize) -> &[u8] {
     let at = at.min(bytes.len());
     let front = &bytes[..at];
@@ -36,7 +36,7 @@ fn letters_before(bytes: &[u8], at: usize) -> &[u8] {
     &bytes[start.min(at)..at]
 }
 
-/// Whether a number with a sign may stand behind these letters.
+/// Whether a number with a sign may stand after these letters.
 fn may_be_negative(letters: &[u8]) -> bool {
     match letters {
         [] | [b'C'] | [b'G'] => false,
@@ -48,7 +48,7 @@ fn may_be_negative(letters: &[u8]) -> bool {
     }
 }
 
-/// What is said of a number that is out of its range, behind these letters.
+/// What is said of a number that is out of its range, after these letters.
 fn range(letters: &[u8], is_negative: bool) -> &'static str {
     match letters {
         [b'C'] => "this number is too large: that of a byte goes up to 255",
@@ -109,7 +109,7 @@ fn is_digit(bytes: &[u8], at: usize) -> bool {
     }
 }
 
-/// Adds what is said of a number that is missing behind these letters.
+/// Adds what is said of a number that is missing after these letters.
 fn no_number(report: &mut Report, text: Text<'_>, at: usize, letters: &[u8]) -> Result<(), Memory> {
     let sentence = if letters.is_empty() {
         "a number is wanted here{}, and {} stands here"

@@ -10,7 +10,7 @@ use std::alloc::Global;
 /// How many columns of a name or a string are shown.
 const SHOWN: usize = 50;
 
-/// What stands in front of each frame's names.
+/// What stands before each frame's names.
 const KEPT: &str =
     "Offset 0 of each frame keeps the caller's frame, offset 1 where the caller goes on.\n\
     The level beside a name is the first offset behind its cells, at which what comes next begins.\n\n";

@@ -5,7 +5,7 @@ use bc_parse_tree::{
     Block, Command, Constant, Declaration, Definition, Exp, Item, Label, Section, Storage,
 };
 use bc_scope_names::{
-    Meant, Numbers, Prior, Scope, behind_entry, declare_entry, declare_let, declare_parameters,
+    Meant, Numbers, Prior, Scope, after_entry, declare_entry, declare_let, declare_parameters,
     declare_pending, priors_of_let,
 };
 use bc_word::Memory;
@@ -19,7 +19,7 @@ const OUTSIDE: usize = usize::MAX;
 pub enum Cells {
     Parameter,
     Variable,
-    /// The cells of a vector up to this number, behind the variable's own.
+    /// The cells of a vector up to this number, after the variable's own.
     Vector(u16),
     /// The variable of a FOR, and its limit.
     Counter,
@@ -147,7 +147,7 @@ impl<'p, 's> Walk<'p, 's> {
         }
     }
 
-    /// A name that stands for its value.
+    /// A name that means its value.
     fn name(&mut self, name: &'s [u8]) {
         self.leaf();
         if let Meant::Global(number) = self.scope.meant_by(name) {
@@ -159,7 +159,7 @@ impl<'p, 's> Walk<'p, 's> {
     fn datum(&mut self) {
         self.keep_datum();
         self.leaf();
-        self.go_on(self.at.behind_place());
+        self.go_on(self.at.after_place());
     }
 
     /// A variable of a frame at the next leaf.
@@ -181,7 +181,7 @@ impl<'p, 's> Walk<'p, 's> {
     fn valof(&mut self) -> u64 {
         self.leaf();
         let level = self.level_of(self.at.valof);
-        self.go_on(self.at.behind_valof());
+        self.go_on(self.at.after_valof());
         level
     }
 
@@ -233,7 +233,7 @@ impl<'p, 's> Walk<'p, 's> {
         self.scope.leave(outside);
     }
 
-    /// Declarations from this next free offset on; given is the one behind them.
+    /// Declarations from this next free offset on; given is the one after them.
     #[cycle(scoping)]
     fn declarations(&mut self, frame: usize, list: &[Declaration<'s>], level: u64) -> u64 {
         let mut level = level;
@@ -256,7 +256,7 @@ impl<'p, 's> Walk<'p, 's> {
             let declared = declare_entry(&mut self.scope, storage, self.at, tree);
             self.keep(declared);
             self.constant(storage, tree.name);
-            self.go_on(behind_entry(storage, self.at));
+            self.go_on(after_entry(storage, self.at));
             self.expression(OUTSIDE, &tree.value);
         }
     }
@@ -295,14 +295,14 @@ impl<'p, 's> Walk<'p, 's> {
         }
     }
 
-    /// The definitions of a LET at this next free offset; given is the one behind them.
+    /// The definitions of a LET at this next free offset; given is the one after them.
     #[cycle(scoping)]
     fn definitions(&mut self, frame: usize, list: &[Definition<'s>], level: u64) -> u64 {
         let Ok(priors) = priors_of_let(&mut self.scope, list) else {
             self.is_refused = true;
             return level;
         };
-        let Ok(behind) = declare_let(&mut self.scope, &priors, self.at, level, list) else {
+        let Ok(following) = declare_let(&mut self.scope, &priors, self.at, level, list) else {
             self.is_refused = true;
             return level;
         };
@@ -311,7 +311,7 @@ impl<'p, 's> Walk<'p, 's> {
             self.definition(frame, tree, priors.at(i));
             i = i.saturating_add(1);
         }
-        behind
+        following
     }
 
     #[cycle(scoping)]
@@ -377,7 +377,7 @@ impl<'p, 's> Walk<'p, 's> {
             self.use_global(number);
         }
         self.leaf();
-        self.go_on(self.at.behind_place());
+        self.go_on(self.at.after_place());
     }
 
     /// The name and the parameters of a routine; given is its frame.

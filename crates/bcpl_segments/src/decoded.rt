@@ -4,7 +4,7 @@ use std::alloc::Global;
 /// The letters of the functions, in the order of a word's three upper bits.
 pub const FUNCTIONS: [&str; 8] = ["L", "S", "A", "J", "T", "F", "K", "X"];
 
-/// What a word is as an instruction, with the word behind it, which is its number in the long form: as `LIP3`. Memory is answered where
+/// What a word is as an instruction, with the word after it, which is its number in the long form: as `LIP3`. Memory is answered where
 /// a growth was refused.
 pub fn instruction(alloc: Global, word: Word, following: Word) -> Result<String, Memory> {
     let code = word.get() / 512;

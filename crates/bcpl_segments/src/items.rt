@@ -16,7 +16,7 @@ fn words_alone(item: &Item) -> usize {
 }
 
 /// The address of each item, where they stand from `start` on: that of its first word, or of the next word where it takes none; and
-/// the address behind them. Memory is answered where a growth was refused.
+/// the address after them. Memory is answered where a growth was refused.
 pub fn addresses(
     alloc: Global,
     start: usize,

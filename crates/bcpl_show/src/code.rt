@@ -47,7 +47,7 @@ pub struct Program<'p, 's> {
     /// The items of its segment, and its entries.
     pub items: &'p [Item],
     pub entries: &'p [Entry],
-    /// How many words stand in front of its segment: the first cells, the primitives, and BLIB's segment.
+    /// How many words stand before its segment: the first cells, the primitives, and BLIB's segment.
     pub first: [u64; 3],
 }
 
@@ -179,8 +179,8 @@ impl<'p, 's> Listing<'p, 's> {
     /// Whether an item that takes so many columns begins a further line, as labels do, and what would pass the limit.
     fn is_further(&self, item: &Item, columns: usize, limit: usize) -> bool {
         let column = self.page.column();
-        let behind = column.saturating_add(columns).saturating_add(1);
-        column > 0 && (matches!(item, Item::Label(_)) || behind > limit)
+        let following = column.saturating_add(columns).saturating_add(1);
+        column > 0 && (matches!(item, Item::Label(_)) || following > limit)
     }
 
     /// Adds an item to its line.
@@ -220,7 +220,7 @@ impl<'p, 's> Listing<'p, 's> {
         self.page.end_line();
     }
 
-    /// Adds items in lines up to this column, and behind the first line what is said of them.
+    /// Adds items in lines up to this column, and after the first line what is said of them.
     fn put_items(&mut self, items: &[Item], said: &str, limit: usize) {
         let mut left = said;
         for item in items {
@@ -234,29 +234,29 @@ impl<'p, 's> Listing<'p, 's> {
         self.end_line(left);
     }
 
-    /// Adds items in lines, and what is said of them: behind the first line, or in front where that is long.
+    /// Adds items in lines, and what is said of them: after the first line, or in front where that is long.
     fn add_items(&mut self, items: &[Item], said: &str) {
-        let is_behind = SAID.saturating_add(said.len()).saturating_add(2) <= WIDTH;
-        if is_behind {
+        let is_after = SAID.saturating_add(said.len()).saturating_add(2) <= WIDTH;
+        if is_after {
             return self.put_items(items, said, SAID - 1);
         }
         self.say_before(said);
         self.put_items(items, "", WIDTH);
     }
 
-    /// The items of an owner from this one on: the index behind the last that stands beside it.
+    /// The items of an owner from this one on: the index after the last that stands beside it.
     fn end_of_run(&self, from: usize) -> usize {
-        let behind = from.saturating_add(1);
+        let following = from.saturating_add(1);
         let Some(owner) = self.marks.owners.get(from).copied() else {
-            return behind;
+            return following;
         };
-        for end in behind..self.marks.owners.len() {
+        for end in following..self.marks.owners.len() {
             match self.marks.owners.get(end).copied() {
                 Some(other) if other == owner => {}
                 _ => return end,
             }
         }
-        self.marks.owners.len().max(behind)
+        self.marks.owners.len().max(following)
     }
 
     /// Whether items of this root were told before; from now on they were.
@@ -422,7 +422,7 @@ impl<'p, 's> Listing<'p, 's> {
         self.page.end_begun();
     }
 
-    /// The items from this one on that have one owner; gives the index behind them.
+    /// The items from this one on that have one owner; gives the index after them.
     fn add_run(&mut self, from: usize) -> usize {
         let end = self.end_of_run(from);
         let all = self.program.items;
@@ -576,7 +576,7 @@ fn listed_by_steps(
     listed_by_marks(alloc, program, outline, &marks)
 }
 
-/// The code of a file's section, each source line as a comment in front of its roots and of what is its commands' own, with
+/// The code of a file's section, each source line as a comment before its roots and of what is its commands' own, with
 /// labels, data, and the sizes at the end. Without its comments it is the text of the segment. Memory is answered where a
 /// growth was refused.
 pub fn code_listing(alloc: Global, program: Program<'_, '_>) -> Result<Vec<u8>, Memory> {

@@ -62,7 +62,7 @@ impl Lines {
         }
     }
 
-    /// How many lines the text has; what is empty behind the last line feed is none.
+    /// How many lines the text has; what is empty after the last line feed is none.
     pub fn count(&self, text: &[u8]) -> usize {
         let count = self.starts.len();
         match text.last() {
@@ -79,7 +79,7 @@ impl Lines {
         }
     }
 
-    /// The line of the text with this number, without the line feed that ends it and a carriage return in front of that.
+    /// The line of the text with this number, without the line feed that ends it and a carriage return before that.
     pub fn line<'t>(&self, text: &'t [u8], number: usize) -> &'t [u8] {
         let from = self.start(text, number).min(text.len());
         let to = self.start(text, number.saturating_add(1)).min(text.len());

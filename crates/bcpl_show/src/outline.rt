@@ -39,8 +39,8 @@ pub enum Purpose {
     /// The way back of a loop, and where BREAK goes.
     Back,
     /// Where BREAK goes.
-    Behind,
-    /// Where control goes on behind a choice.
+    After,
+    /// Where control goes on after a choice.
     Join,
     /// The jump past ELSE.
     Past,
@@ -471,7 +471,7 @@ impl Outline {
                 self.command(body, repeated);
                 self.own(body, 1, Purpose::Onward);
                 self.root_of(body, test);
-                self.own(body, 1, Purpose::Behind);
+                self.own(body, 1, Purpose::After);
             }
             _ => self.counted(body, command),
         }

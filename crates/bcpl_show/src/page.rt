@@ -10,7 +10,7 @@ pub enum Field<'a> {
     Text(&'a str),
     /// As many of these bytes as take so many columns, and a sign where there are more.
     Front(&'a [u8], usize),
-    /// A number, with blanks in front of it up to so many columns.
+    /// A number, with blanks before it up to so many columns.
     Number(u64, usize),
     /// Blanks up to this column.
     Column(usize),
@@ -64,7 +64,7 @@ impl Page {
         self.alloc
     }
 
-    /// The column behind the last one that is taken, counted from 0.
+    /// The column after the last one that is taken, counted from 0.
     pub fn column(&self) -> usize {
         self.column
     }
@@ -100,7 +100,7 @@ impl Page {
         self.add(text.as_bytes());
     }
 
-    /// Adds a number, with blanks in front of it up to so many columns.
+    /// Adds a number, with blanks before it up to so many columns.
     pub fn add_number(&mut self, number: u64, columns: usize) {
         let Ok(digits) = format!(in self.alloc; "{number}") else {
             return self.refuse();
@@ -126,7 +126,7 @@ impl Page {
         }
     }
 
-    /// Adds these, one behind the other.
+    /// Adds these, one after the other.
     pub fn add_all(&mut self, fields: &[Field<'_>]) {
         for field in fields {
             self.add_field(*field);
@@ -167,7 +167,7 @@ impl Page {
         self.fill_to(column);
     }
 
-    /// What stands in front of a word that takes so many columns: a blank, or in a further line this head.
+    /// What stands before a word that takes so many columns: a blank, or in a further line this head.
     fn before_word(&mut self, columns: usize, head: &str) {
         let taken = columns.saturating_add(1);
         if self.column.saturating_add(taken) > WIDTH {

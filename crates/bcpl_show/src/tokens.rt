@@ -6,7 +6,7 @@ use bc_parse_tree::Part;
 use bc_word::Memory;
 use std::alloc::Global;
 
-/// The column of a token's kind, that of its text, and that of what the text stands for.
+/// The column of a token's kind, that of its text, and that of what the text means.
 const KIND: usize = 12;
 
 const TEXT: usize = 24;
@@ -27,7 +27,7 @@ fn kind_word(token: &Token<'_>) -> &'static str {
     }
 }
 
-/// Adds what a token stands for, where its text doesn't say so itself.
+/// Adds what a token means, where its text doesn't say so itself.
 fn add_value(page: &mut Page, number: u64) {
     page.add_all(&[
         Field::Column(VALUE),
@@ -57,7 +57,7 @@ fn add_written(page: &mut Page, number: u16, text: &[u8]) {
     }
 }
 
-/// Adds what a token stands for.
+/// Adds what a token means.
 fn add_meaning(page: &mut Page, token: &Token<'_>) {
     match token.kind {
         TokenKind::Number(number) => add_written(page, number, token.text),
@@ -84,7 +84,7 @@ fn add_token(page: &mut Page, text: &[u8], lines: &Lines, token: &Token<'_>) {
     page.end_line();
 }
 
-/// The tokens in front of which a line break stands for a semicolon, by their indexes; none where brackets of sections
+/// The tokens before which a line break means a semicolon, by their indexes; none where brackets of sections
 /// don't fit.
 fn broken(alloc: Global, tokens: &[Token<'_>]) -> Result<Vec<usize>, Memory> {
     let mut places = Vec::new(alloc);
@@ -98,7 +98,7 @@ fn broken(alloc: Global, tokens: &[Token<'_>]) -> Result<Vec<usize>, Memory> {
     Ok(places)
 }
 
-/// Tokens of other files that stand one behind the other.
+/// Tokens of other files that stand one after the other.
 #[derive(Clone, Copy)]
 struct Elsewhere<'a> {
     path: &'a str,
@@ -136,12 +136,12 @@ impl<'a> Elsewhere<'a> {
     }
 }
 
-/// Adds a line break that stands for a semicolon.
+/// Adds a line break that means a semicolon.
 fn add_break(page: &mut Page) {
     page.add_line(&[Field::Column(KIND), Field::Text("line break  ;")]);
 }
 
-/// The tokens of the source `main`, one a line, with their places, and a line for each line break that stands for a
+/// The tokens of the source `main`, one a line, with their places, and a line for each line break that means a
 /// semicolon. Of those that stand in other files it is told how many there are. Memory is answered where a growth was refused.
 pub fn token_listing(
     alloc: Global,

@@ -35,8 +35,8 @@ struct Layout<'p, 's> {
 struct Run {
     /// How often it stands there.
     count: usize,
-    /// The file that stands behind it, if there is one.
-    behind: Option<usize>,
+    /// The file that stands after it, if there is one.
+    following: Option<usize>,
 }
 
 /// The symbol that a token is, if it is one.
@@ -66,7 +66,7 @@ fn is_declaration(kind: Option<&TokenKind<'_>>) -> bool {
     }
 }
 
-/// Whether a token can end an operand, so that an operator behind it has two.
+/// Whether a token can end an operand, so that an operator after it has two.
 fn is_operand_end(kind: Option<&TokenKind<'_>>) -> bool {
     match symbol_of(kind) {
         Some(symbol) => matches!(
@@ -77,7 +77,7 @@ fn is_operand_end(kind: Option<&TokenKind<'_>>) -> bool {
     }
 }
 
-/// Whether a line may be folded behind a token: no line break there stands for a semicolon.
+/// Whether a line may be folded after a token: no line break there means a semicolon.
 fn is_foldable(kind: Option<&TokenKind<'_>>) -> bool {
     match symbol_of(kind) {
         Some(symbol) => !is_symbol_end(symbol),
@@ -85,8 +85,8 @@ fn is_foldable(kind: Option<&TokenKind<'_>>) -> bool {
     }
 }
 
-/// Whether no blank stands behind a token, which stands behind `earlier`: behind a bracket and an operator of one operand.
-fn is_close_behind(earlier: Option<&TokenKind<'_>>, kind: Option<&TokenKind<'_>>) -> bool {
+/// Whether no blank stands after a token, which stands after `earlier`: after a bracket and an operator of one operand.
+fn is_close_after(earlier: Option<&TokenKind<'_>>, kind: Option<&TokenKind<'_>>) -> bool {
     match symbol_of(kind) {
         Some(symbol) => match symbol {
             Symbol::OpenBracket | Symbol::AddressOf => true,
@@ -97,7 +97,7 @@ fn is_close_behind(earlier: Option<&TokenKind<'_>>, kind: Option<&TokenKind<'_>>
     }
 }
 
-/// Whether no blank stands in front of a token, which stands behind `last`.
+/// Whether no blank stands before a token, which stands after `last`.
 fn is_close_before(last: Option<&TokenKind<'_>>, kind: Option<&TokenKind<'_>>) -> bool {
     match symbol_of(kind) {
         Some(symbol) => match symbol {
@@ -128,12 +128,12 @@ fn before<'k, 's>(
     }
 }
 
-/// How many columns the tokens take at the least that stand right behind the token at this place.
+/// How many columns the tokens take at the least that stand right after the token at this place.
 fn glued(kinds: &[TokenKind<'_>], place: usize) -> usize {
     let mut count: usize = 0;
     for next in place.saturating_add(1)..kinds.len() {
         let last = before(kinds, next, 1);
-        if !is_close_behind(before(kinds, next, 2), last)
+        if !is_close_after(before(kinds, next, 2), last)
             && !is_close_before(last, at(kinds, next))
         {
             return count;
@@ -158,11 +158,11 @@ impl Layout<'_, '_> {
         }
     }
 
-    /// How often the tokens of this file stand here one behind the other, and the file that stands behind them, if there is one.
+    /// How often the tokens of this file stand here one after the other, and the file that stands after them, if there is one.
     fn run_ahead(&self, file: usize) -> Run {
         let mut run = Run {
             count: 0,
-            behind: None,
+            following: None,
         };
         let Some(first) = self.leaves.get(self.met) else {
             return run;
@@ -170,7 +170,7 @@ impl Layout<'_, '_> {
         for place in self.met..self.leaves.len() {
             match self.leaves.get(place) {
                 Some(leaf) if leaf.file != file => {
-                    run.behind = Some(leaf.file);
+                    run.following = Some(leaf.file);
                     return run;
                 }
                 Some(leaf) if leaf.start == first.start => run.count = run.count.saturating_add(1),
@@ -180,21 +180,21 @@ impl Layout<'_, '_> {
         run
     }
 
-    /// How many GETs stand for what is there of this file from here on: for one of the library one for each time that it was got, but
-    /// for the time that the library's file behind it got it; for others none.
+    /// How many GETs mean what is there of this file from here on: for one of the library one for each time that it was got, but
+    /// for the time that the library's file after it got it; for others none.
     fn gets_ahead(&mut self, file: usize) -> usize {
         if !self.files.is_of_library(file) {
             return 0;
         }
         let run = self.run_ahead(file);
-        let is_got_by_it = match run.behind {
+        let is_got_by_it = match run.following {
             Some(by) => self.is_got_by(file, by),
             None => false,
         };
         run.count.saturating_sub(usize::from(is_got_by_it))
     }
 
-    /// Tells the file of a declaration, where it is another than that of the one before: by GETs, each of which stands for all that the
+    /// Tells the file of a declaration, where it is another than that of the one before: by GETs, each of which means all that the
     /// library's file has, or by a comment, where it isn't the one that was told last.
     fn tell_file(&mut self) {
         let file = match self.leaves.get(self.met) {
@@ -262,7 +262,7 @@ impl Layout<'_, '_> {
         }
     }
 
-    /// Adds what stands in front of a token on its line, which takes so many columns.
+    /// Adds what stands before a token on its line, which takes so many columns.
     fn part(&mut self, kinds: &[TokenKind<'_>], place: usize, columns: usize) {
         if place == 0 || self.breaks {
             return self.begin_line(kinds, place);
@@ -274,13 +274,13 @@ impl Layout<'_, '_> {
         {
             return;
         }
-        let is_close = is_close_behind(before(kinds, place, 2), last);
+        let is_close = is_close_after(before(kinds, place, 2), last);
         if is_close && !is(last, Symbol::OpenBracket) {
             return;
         }
         let columns = columns.saturating_add(glued(kinds, place));
-        let behind = self.page.column().saturating_add(columns).saturating_add(1);
-        if behind > WIDTH && is_foldable(last) {
+        let following = self.page.column().saturating_add(columns).saturating_add(1);
+        if following > WIDTH && is_foldable(last) {
             let column = self.depth().saturating_mul(2).saturating_add(4);
             return self.page.go_on(column);
         }
@@ -302,7 +302,7 @@ impl Layout<'_, '_> {
         }
     }
 
-    /// What opens or ends behind a token that was added.
+    /// What opens or ends after a token that was added.
     fn open(&mut self, kinds: &[TokenKind<'_>], place: usize) {
         let kind = at(kinds, place);
         if is(kind, Symbol::OpenSection) {
@@ -323,7 +323,7 @@ impl Layout<'_, '_> {
         }
     }
 
-    /// Behind a declaration outside of all brackets stands an empty line.
+    /// After a declaration outside of all brackets stands an empty line.
     fn end_declaration(&mut self) {
         if !self.is_got && self.opened.is_empty() {
             self.page.end_line();
@@ -364,8 +364,8 @@ impl Layout<'_, '_> {
 }
 
 /// The tokens of the canonical spelling of the source `main`, laid out: a construct a line, what belongs to a bracket of a
-/// section two columns further in. A comment stands in front of declarations that stand in another file than those before
-/// them, and a GET in the place of those of a file of the library. Its tokens are these. Memory is answered where a growth
+/// section two columns further in. A comment stands before declarations that stand in another file than those before
+/// them, and a GET instead of those of a file of the library. Its tokens are these. Memory is answered where a growth
 /// was refused.
 pub fn tree_listing<'s>(
     alloc: Global,

@@ -18,7 +18,7 @@ Leaves (Cell at) old new = (n : ℕ) → n ≢ at → slice_index new.store n �
 Leaves (Links at) old new = (n : ℕ) → n ≢ at → n ≢ next at → slice_index new.store n ≡ slice_index old.store n
 Leaves (Byte byte) old new = (new.store ≡ old.store) × (new.streams ≡ after_write byte old.streams)
 
--- so it is from a machine's state to that behind the instruction at C, whatever the streams hold
+-- so it is from a machine's state to that after the instruction at C, whatever the streams hold
 abbrev pub IsChangeOf : Held → Change → Type 0
 IsChangeOf m change =
     (streams : Content) (t : State) (end : Option End) → effect t end ≡ step (held_state m streams) → Leaves change (held_state m streams) t

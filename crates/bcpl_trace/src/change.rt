@@ -26,7 +26,7 @@ pub enum Change {
     Nothing,
     /// The cell at this address.
     Cell(u16),
-    /// The cell at this address and the one behind it: the links of a frame.
+    /// The cell at this address and the one after it: the links of a frame.
     Links(u16),
     /// No cell, and this byte is written to the selected output.
     Byte(u8),

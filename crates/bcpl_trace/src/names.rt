@@ -33,7 +33,7 @@ fn label_at(image: &Image, address: u16) -> Option<Place> {
     None
 }
 
-/// The first global whose cell begins with this address, which is not in front of the segments.
+/// The first global whose cell begins with this address, which is not before the segments.
 fn global_at(image: &Image, address: u16) -> Option<u16> {
     if usize::from(address) < FIRST_SEGMENT {
         return None;

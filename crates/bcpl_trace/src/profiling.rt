@@ -32,7 +32,7 @@ fn at(counts: &[u64], address: u16) -> u64 {
     }
 }
 
-/// The routines of which instructions were carried out. One begins where something was called, and ends in front of the next one, or where
+/// The routines of which instructions were carried out. One begins where something was called, and ends before the next one, or where
 /// another part of the image begins.
 fn routines(alloc: Global, counts: &Counts, image: &Image) -> Result<Vec<Routine>, Memory> {
     let mut found = Vec::new(alloc);

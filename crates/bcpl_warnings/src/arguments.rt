@@ -28,8 +28,8 @@ fn parted(is_empty: bool, commas: usize, arrows: usize) -> usize {
     }
 }
 
-/// How many arguments stand behind the bracket with this index; none where it is not closed.
-pub fn arguments_behind(tokens: &[Token<'_>], open: usize) -> Option<usize> {
+/// How many arguments stand after the bracket with this index; none where it is not closed.
+pub fn arguments_after(tokens: &[Token<'_>], open: usize) -> Option<usize> {
     let mut depth: usize = 0;
     let mut commas: usize = 0;
     let mut arrows: usize = 0;
@@ -61,7 +61,7 @@ pub fn missing_arguments(
     }
     let name = name_at(tokens, index)?;
     let parameters = declarations.parameters(name)?;
-    let arguments = arguments_behind(tokens, index.saturating_add(1))?;
+    let arguments = arguments_after(tokens, index.saturating_add(1))?;
     if arguments < parameters && !declarations.uses(name).is_assigned {
         Some(Missing {
             arguments,

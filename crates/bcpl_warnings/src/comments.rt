@@ -4,7 +4,7 @@ use bc_lex::Source;
 use bc_lex_tokens::Token;
 use bcpl_places::Span;
 
-/// Whether these bytes begin with THEN or DO as a word behind a blank.
+/// Whether these bytes begin with THEN or DO as a word after a blank.
 fn begins_do(bytes: &[u8]) -> bool {
     bytes.starts_with(b" DO ")
         || bytes.starts_with(b" DO\n")
@@ -27,17 +27,17 @@ fn has_do(lines: &[u8]) -> bool {
     false
 }
 
-/// What stands behind a token in its file.
-fn text_behind<'s>(sources: &[Source<'s>], token: &Token<'_>) -> &'s [u8] {
+/// What stands after a token in its file.
+fn text_after<'s>(sources: &[Source<'s>], token: &Token<'_>) -> &'s [u8] {
     match sources.get(token.file) {
         Some(source) => &source.text[token.end.min(source.text.len())..],
         None => b"",
     }
 }
 
-/// Where `||` begins a comment with THEN or DO behind a token.
-fn comment_behind(sources: &[Source<'_>], token: &Token<'_>) -> Option<Span> {
-    let rest = text_behind(sources, token);
+/// Where `||` begins a comment with THEN or DO after a token.
+fn comment_after(sources: &[Source<'_>], token: &Token<'_>) -> Option<Span> {
+    let rest = text_after(sources, token);
     let comment = rest.trim_ascii_start();
     if !comment.starts_with(b"||") || !has_do(comment) {
         return None;
@@ -57,7 +57,7 @@ pub fn swallowed_do(sources: &[Source<'_>], tokens: &[Token<'_>], index: usize) 
     if !is_separated(tokens, index) {
         return None;
     }
-    let comment = comment_behind(sources, tokens.get(index.saturating_sub(1))?)?;
+    let comment = comment_after(sources, tokens.get(index.saturating_sub(1))?)?;
     if is_conditional(tokens, index) {
         Some(comment)
     } else {

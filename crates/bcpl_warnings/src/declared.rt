@@ -1,5 +1,5 @@
 use crate::routines::is_defined;
-use crate::tokens::{begins_command, is_at, is_behind, name_at, symbol_at};
+use crate::tokens::{begins_command, is_after, is_at, name_at, symbol_at};
 use crate::uses::Uses;
 use bc_lex_tokens::{Symbol, Token, TokenKind};
 use bc_word::Memory;
@@ -26,7 +26,7 @@ pub struct Declared<'s> {
     /// The index of the token.
     pub at: usize,
     pub meaning: Meaning,
-    /// The index among all declarations of the last one of this name in front of it.
+    /// The index among all declarations of the last one of this name before it.
     before: Option<usize>,
 }
 
@@ -92,8 +92,8 @@ pub struct Declarations<'s> {
     numbers: IndexMap<Numbered, &'s [u8]>,
 }
 
-/// How many parameters stand behind the bracket with this index.
-fn parameters_behind(tokens: &[Token<'_>], open: usize) -> usize {
+/// How many parameters stand after the bracket with this index.
+fn parameters_after(tokens: &[Token<'_>], open: usize) -> usize {
     let mut count: usize = 0;
     for index in open..tokens.len() {
         if is_at(tokens, index, Symbol::CloseBracket) {
@@ -106,19 +106,19 @@ fn parameters_behind(tokens: &[Token<'_>], open: usize) -> usize {
     count
 }
 
-/// What a walk over all tokens knows of those in front of it, as far as declarations go by it.
+/// What a walk over all tokens knows of those before it, as far as declarations go by it.
 #[derive(Clone, Copy, Default)]
 struct Around {
-    /// The word in front of the bracket that opened a section last, unless one was closed since.
+    /// The word before the bracket that opened a section last, unless one was closed since.
     list: Option<Symbol>,
     /// The index of the last name.
     name: Option<usize>,
-    /// The index in front of the names, parted by commas, of which that one is the last.
+    /// The index before the names, parted by commas, of which that one is the last.
     before: Option<usize>,
 }
 
 impl Around {
-    /// The index in front of the names, parted by commas, of which the one with this index is the last.
+    /// The index before the names, parted by commas, of which the one with this index is the last.
     fn before_names(self, tokens: &[Token<'_>], index: usize) -> Option<usize> {
         let before = index.checked_sub(1)?;
         if !is_at(tokens, before, Symbol::Comma) {
@@ -130,8 +130,8 @@ impl Around {
         }
     }
 
-    /// What is known behind the token with this index.
-    fn behind(self, tokens: &[Token<'_>], index: usize) -> Around {
+    /// What is known after the token with this index.
+    fn following(self, tokens: &[Token<'_>], index: usize) -> Around {
         if name_at(tokens, index).is_some() {
             return Around {
                 name: Some(index),
@@ -179,7 +179,7 @@ impl Around {
     fn meaning(self, tokens: &[Token<'_>], index: usize) -> Option<Meaning> {
         let next = index.saturating_add(1);
         if is_defined(tokens, index) && is_at(tokens, next, Symbol::OpenBracket) {
-            return Some(Meaning::Routine(parameters_behind(tokens, next)));
+            return Some(Meaning::Routine(parameters_after(tokens, next)));
         }
         if let Some(meaning) = self.listed(tokens, index) {
             return Some(meaning);
@@ -188,7 +188,7 @@ impl Around {
         if is_label && begins_command(tokens, index) {
             Some(Meaning::Label)
         } else if is_label
-            || is_behind(tokens, index, Symbol::For)
+            || is_after(tokens, index, Symbol::For)
             || self.is_in_definition(tokens, index)
         {
             Some(Meaning::Other)
@@ -209,10 +209,10 @@ fn number_at(tokens: &[Token<'_>], index: usize) -> Option<u16> {
 /// The number of a global whose name is the token with this index, where it stands there as a number, alone.
 fn global_number(tokens: &[Token<'_>], index: usize) -> Option<u16> {
     let number = number_at(tokens, index.saturating_add(2))?;
-    let behind = index.saturating_add(3);
-    let is_alone = is_at(tokens, behind, Symbol::Semicolon)
-        || is_at(tokens, behind, Symbol::CloseSection)
-        || name_at(tokens, behind).is_some();
+    let following = index.saturating_add(3);
+    let is_alone = is_at(tokens, following, Symbol::Semicolon)
+        || is_at(tokens, following, Symbol::CloseSection)
+        || name_at(tokens, following).is_some();
     if is_alone { Some(number) } else { None }
 }
 
@@ -229,12 +229,12 @@ impl<'s> Declarations<'s> {
             if let Some(name) = name_at(tokens, index) {
                 declarations.add_name(tokens, around, name, index)?;
             }
-            around = around.behind(tokens, index);
+            around = around.following(tokens, index);
         }
         Ok(declarations)
     }
 
-    /// Adds the name that the token with this index is, behind what is known of those in front of it.
+    /// Adds the name that the token with this index is, after what is known of those before it.
     fn add_name(
         &mut self,
         tokens: &[Token<'s>],
@@ -344,7 +344,7 @@ impl<'s> Declarations<'s> {
         self.numbers.get(&Numbered { file, number }).copied()
     }
 
-    /// The token of the last declaration of this name in front of the token with this index.
+    /// The token of the last declaration of this name before the token with this index.
     pub fn last_before(&self, name: &[u8], index: usize) -> Option<usize> {
         let mut last = self.known(name).last;
         for _ in 0..self.all.len() {

@@ -1,4 +1,4 @@
-use crate::arguments::{arguments_behind, is_called};
+use crate::arguments::{arguments_after, is_called};
 use crate::declared::Declarations;
 use crate::tokens::{is_at, name_at};
 use bc_lex_tokens::{Symbol, Token, TokenKind};
@@ -6,7 +6,7 @@ use bc_lex_tokens::{Symbol, Token, TokenKind};
 /// The letters of formats that the routine of LIBHDR knows.
 const BASIC: &[u8] = b"NSC";
 
-/// Those that the one of EXTHDR knows, in either case; behind the last ones stands a width.
+/// Those that the one of EXTHDR knows, in either case; after the last ones stands a width.
 const FURTHER: &[u8] = b"NSCIUOXT";
 
 const WITH_WIDTH: &[u8] = b"IUOXT";
@@ -18,15 +18,15 @@ const FURTHER_NUMBER: u16 = 30;
 #[derive(Clone, Copy)]
 enum Reading {
     Plain,
-    /// Behind the sign of an escape of a string.
+    /// After the sign of an escape of a string.
     Escape,
-    /// Behind a `%`.
+    /// After a `%`.
     Percent,
-    /// Behind a letter that a width goes with.
+    /// After a letter that a width goes with.
     Width,
 }
 
-/// The first letter of a format that stands behind `%` and is not known, in front of a `%P` of the further library, behind which stand texts
+/// The first letter of a format that stands after `%` and is not known, before a `%P` of the further library, after which stand texts
 /// between signs of any kind. The format is as it is spelled, with the signs around it.
 fn unknown_letter(format: &[u8], is_further: bool) -> Option<u8> {
     let mut reading = Reading::Plain;
@@ -81,7 +81,7 @@ fn format_at<'s>(
     Some((format, number == Some(FURTHER_NUMBER)))
 }
 
-/// The letter behind `%` that WRITEF doesn't know in the format that it is called with by the token in front of the one with this index,
+/// The letter after `%` that WRITEF doesn't know in the format that it is called with by the token before the one with this index,
 /// and whether it is the further library's WRITEF. The first `library` sources are the library's.
 pub fn unknown_format(
     tokens: &[Token<'_>],
@@ -94,7 +94,7 @@ pub fn unknown_format(
 }
 
 /// How many arguments a format takes whose letters are all known; none where a sign of the further library goes over an argument or back to
-/// one, or has texts of its own behind it.
+/// one, or has texts of its own after it.
 fn taken_by(format: &[u8], is_further: bool) -> Option<usize> {
     let mut reading = Reading::Plain;
     let mut count: usize = 0;
@@ -114,14 +114,14 @@ fn taken_by(format: &[u8], is_further: bool) -> Option<usize> {
     Some(count)
 }
 
-/// A format behind which fewer arguments stand than it takes.
+/// A format after which fewer arguments stand than it takes.
 #[derive(Clone, Copy)]
 pub struct Lacking {
     pub taken: usize,
     pub given: usize,
 }
 
-/// How many arguments the format that is the token with this index takes, and how many stand behind it, where these are fewer. Its letters
+/// How many arguments the format that is the token with this index takes, and how many stand after it, where these are fewer. Its letters
 /// are known. The first `library` sources are the library's.
 pub fn lacking_arguments(
     tokens: &[Token<'_>],
@@ -134,7 +134,7 @@ pub fn lacking_arguments(
     if !is_at(tokens, next, Symbol::Comma) && !is_at(tokens, next, Symbol::CloseBracket) {
         return None;
     }
-    let given = arguments_behind(tokens, index.checked_sub(1)?)?.saturating_sub(1);
+    let given = arguments_after(tokens, index.checked_sub(1)?)?.saturating_sub(1);
     let taken = taken_by(format, is_further)?;
     if given < taken {
         Some(Lacking { taken, given })

@@ -1,5 +1,5 @@
 use crate::declared::Declarations;
-use crate::tokens::{is_at, is_behind, name_at};
+use crate::tokens::{is_after, is_at, name_at};
 use bc_lex_tokens::{Symbol, Token};
 use bc_library::library_name;
 
@@ -36,7 +36,7 @@ pub fn number_twice<'s>(
     }
 }
 
-/// The words and signs behind which a command, or what is assigned to the first of several, has ended.
+/// The words and signs after which a command, or what is assigned to the first of several, has ended.
 const ENDS: [Symbol; 7] = [
     Symbol::Semicolon,
     Symbol::CloseSection,
@@ -50,17 +50,17 @@ const ENDS: [Symbol; 7] = [
 /// Whether a name alone stands at this index as the last of its command: a routine that is meant to stand in another one's place, or the
 /// variable that keeps one.
 fn is_name_alone(tokens: &[Token<'_>], index: usize) -> bool {
-    let behind = index.saturating_add(1);
-    let is_last = match tokens.get(behind) {
+    let following = index.saturating_add(1);
+    let is_last = match tokens.get(following) {
         Some(token) => token.line_before,
         None => true,
     };
     name_at(tokens, index).is_some()
-        && (is_last || ENDS.iter().any(|end| is_at(tokens, behind, *end)))
+        && (is_last || ENDS.iter().any(|end| is_at(tokens, following, *end)))
 }
 
 /// Where the token with this index assigns to a routine of the library, whose sources are the first `library` ones, something else than
-/// what a name stands for.
+/// what a name means.
 pub fn is_library_assigned(
     tokens: &[Token<'_>],
     declarations: &Declarations<'_>,
@@ -70,7 +70,7 @@ pub fn is_library_assigned(
     let Some(name) = name_at(tokens, index) else {
         return false;
     };
-    let is_element = is_behind(tokens, index, Symbol::Indirection);
+    let is_element = is_after(tokens, index, Symbol::Indirection);
     if !is_at(tokens, index.saturating_add(1), Symbol::Assign) || is_element {
         return false;
     }

@@ -37,15 +37,15 @@ pub fn has_no_result(tokens: &[Token<'_>], index: usize) -> bool {
     let Some(end) = section_end(tokens, open) else {
         return false
     };
-    // behind a VALOF within
-    let mut behind = open;
+    // after a VALOF within
+    let mut following = open;
     for at in open..end {
-        if at >= behind {
+        if at >= following {
             if stays_away(tokens, at) {
                 return false;
             }
             if is_at(tokens, at, Symbol::ValueOf) {
-                behind = match section_end(tokens, at.saturating_add(1)) {
+                following = match section_end(tokens, at.saturating_add(1)) {
                     Some(within) => within,
                     None => return false,
                 };

@@ -1,4 +1,4 @@
-use crate::tokens::{is_at, is_behind, name_at};
+use crate::tokens::{is_after, is_at, name_at};
 use bc_lex_tokens::{Symbol, Token};
 use bc_word::Memory;
 use indexmap::IndexSet;
@@ -43,16 +43,16 @@ fn closing(tokens: &[Token<'_>], open: usize) -> Option<usize> {
     None
 }
 
-/// Whether the token with this index stands behind a word that begins a definition.
+/// Whether the token with this index stands after a word that begins a definition.
 pub fn is_defined(tokens: &[Token<'_>], index: usize) -> bool {
-    is_behind(tokens, index, Symbol::Let) || is_behind(tokens, index, Symbol::And)
+    is_after(tokens, index, Symbol::Let) || is_after(tokens, index, Symbol::And)
 }
 
 /// Whether the name with this index is declared as something other than a routine.
 fn is_variable(tokens: &[Token<'_>], index: usize) -> bool {
     let is_begun = is_defined(tokens, index)
-        || is_behind(tokens, index, Symbol::Comma)
-        || is_behind(tokens, index, Symbol::For);
+        || is_after(tokens, index, Symbol::Comma)
+        || is_after(tokens, index, Symbol::For);
     let next = index.saturating_add(1);
     is_begun && (is_at(tokens, next, Symbol::Equal) || is_at(tokens, next, Symbol::Comma))
 }

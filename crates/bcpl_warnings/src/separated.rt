@@ -1,4 +1,4 @@
-use crate::tokens::{can_end, is_at, is_behind, is_line_start, is_separated, name_at, symbol_at};
+use crate::tokens::{can_end, is_after, is_at, is_line_start, is_separated, name_at, symbol_at};
 use bc_lex::Source;
 use bc_lex_tokens::{Symbol, Token};
 use bcpl_places::line_at;
@@ -12,7 +12,7 @@ pub enum Looks {
     Together,
 }
 
-/// How many bytes of its line stand in front of the token with this index.
+/// How many bytes of its line stand before the token with this index.
 fn indented(sources: &[Source<'_>], tokens: &[Token<'_>], index: usize) -> usize {
     let Some(token) = tokens.get(index) else {
         return 0
@@ -37,8 +37,8 @@ fn line_start(tokens: &[Token<'_>], index: usize) -> usize {
     at
 }
 
-/// The index of the first token of the line on which the token with this index stands, behind a bracket that opens a section.
-fn first_behind_bracket(tokens: &[Token<'_>], index: usize) -> usize {
+/// The index of the first token of the line on which the token with this index stands, after a bracket that opens a section.
+fn first_after_bracket(tokens: &[Token<'_>], index: usize) -> usize {
     let start = line_start(tokens, index);
     if start < index && is_at(tokens, start, Symbol::OpenSection) {
         start + 1
@@ -58,7 +58,7 @@ pub fn misread(sources: &[Source<'_>], tokens: &[Token<'_>], index: usize) -> Op
     if !is_bracket && !is_sign && !is_minus {
         return None;
     }
-    let before = indented(sources, tokens, first_behind_bracket(tokens, index - 1));
+    let before = indented(sources, tokens, first_after_bracket(tokens, index - 1));
     let own = indented(sources, tokens, index);
     if is_minus {
         if own <= before {
@@ -73,19 +73,19 @@ pub fn misread(sources: &[Source<'_>], tokens: &[Token<'_>], index: usize) -> Op
     }
 }
 
-/// Whether the token with this index is a REPEAT that looks as if it repeated what stands behind it: it repeats the command of the line
+/// Whether the token with this index is a REPEAT that looks as if it repeated what stands after it: it repeats the command of the line
 /// before, which is no section.
 pub fn is_repeat_in_front(sources: &[Source<'_>], tokens: &[Token<'_>], index: usize) -> bool {
     let next = index.saturating_add(1);
     is_at(tokens, index, Symbol::Repeat)
         && is_line_start(tokens, index)
-        && !is_behind(tokens, index, Symbol::CloseSection)
+        && !is_after(tokens, index, Symbol::CloseSection)
         && is_line_start(tokens, next)
         && (is_at(tokens, next, Symbol::OpenSection)
             || indented(sources, tokens, next) > indented(sources, tokens, index))
 }
 
-/// Whether the token with this index ends the head of a loop or of a choice, behind which a command stands.
+/// Whether the token with this index ends the head of a loop or of a choice, after which a command stands.
 fn ends_head(tokens: &[Token<'_>], index: usize) -> bool {
     is_at(tokens, index, Symbol::Do) || is_at(tokens, index, Symbol::Else)
 }
@@ -120,7 +120,7 @@ pub fn seeming_head<'s>(
     if !is_separated(tokens, index) || name_at(tokens, body).is_none() || !ends_head(tokens, sign) {
         return None;
     }
-    let head = first_behind_bracket(tokens, sign);
+    let head = first_after_bracket(tokens, sign);
     let own = indented(sources, tokens, index);
     let is_below = own == indented(sources, tokens, body) && own > indented(sources, tokens, head);
     if is_below && begins_head(tokens, head) {

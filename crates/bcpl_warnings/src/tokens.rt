@@ -25,12 +25,12 @@ pub fn closes_at(tokens: &[Token<'_>], index: usize) -> bool {
     is_at(tokens, index, Symbol::CloseBracket) || is_at(tokens, index, Symbol::CloseSection)
 }
 
-/// Whether this symbol stands right in front of the token with this index.
-pub fn is_behind(tokens: &[Token<'_>], index: usize, symbol: Symbol) -> bool {
+/// Whether this symbol stands right before the token with this index.
+pub fn is_after(tokens: &[Token<'_>], index: usize, symbol: Symbol) -> bool {
     index > 0 && is_at(tokens, index - 1, symbol)
 }
 
-/// Whether a line break stands in front of the token with this index.
+/// Whether a line break stands before the token with this index.
 pub fn is_line_start(tokens: &[Token<'_>], index: usize) -> bool {
     match tokens.get(index) {
         Some(token) => token.line_before,
@@ -38,7 +38,7 @@ pub fn is_line_start(tokens: &[Token<'_>], index: usize) -> bool {
     }
 }
 
-/// Whether a command can end with the token with this index, so that a line break behind it may stand for a semicolon.
+/// Whether a command can end with the token with this index, so that a line break after it may mean a semicolon.
 pub fn can_end(tokens: &[Token<'_>], index: usize) -> bool {
     match symbol_at(tokens, index) {
         Some(symbol) => is_symbol_end(symbol),
@@ -54,7 +54,7 @@ pub fn can_begin(tokens: &[Token<'_>], index: usize) -> bool {
     }
 }
 
-/// Whether a line break in front of the token with this index stands for a semicolon.
+/// Whether a line break before the token with this index means a semicolon.
 pub fn is_separated(tokens: &[Token<'_>], index: usize) -> bool {
     index > 0
         && is_line_start(tokens, index)

@@ -53,9 +53,9 @@ fn begins_item(tokens: &[Token<'_>], index: usize) -> bool {
     }
 }
 
-/// The index behind the command that begins with the token with this index: that of a semicolon, of a bracket that closes a section, or
+/// The index after the command that begins with the token with this index: that of a semicolon, of a bracket that closes a section, or
 /// of the first token of the next line's command.
-fn behind(tokens: &[Token<'_>], index: usize) -> usize {
+fn following(tokens: &[Token<'_>], index: usize) -> usize {
     let mut depth: usize = 0;
     for at in index.saturating_add(1)..tokens.len() {
         let is_closed = closes_at(tokens, at);
@@ -73,7 +73,7 @@ fn behind(tokens: &[Token<'_>], index: usize) -> usize {
 }
 
 /// The index of the first token from this one on that is no semicolon.
-fn behind_semicolons(tokens: &[Token<'_>], index: usize) -> usize {
+fn after_semicolons(tokens: &[Token<'_>], index: usize) -> usize {
     let mut at = index;
     for _ in 0..tokens.len() {
         if !is_at(tokens, at, Symbol::Semicolon) {
@@ -110,15 +110,15 @@ fn is_entered(tokens: &[Token<'_>], index: usize) -> bool {
     }
 }
 
-/// Where the token with this index leaves its list of commands, and a command stands behind it that nothing comes to: the index of that
+/// Where the token with this index leaves its list of commands, and a command stands after it that nothing comes to: the index of that
 /// command's first token.
 pub fn unreached(tokens: &[Token<'_>], index: usize) -> Option<usize> {
     let symbol = symbol_at(tokens, index)?;
     if !leaves(symbol) || !begins_item(tokens, index) {
         return None;
     }
-    let end = behind(tokens, index);
-    let next = behind_semicolons(tokens, end);
+    let end = following(tokens, index);
+    let next = after_semicolons(tokens, end);
     let is_apart = next > end || is_line_start(tokens, next);
     if is_apart && !is_entered(tokens, next) {
         Some(next)

@@ -1,5 +1,5 @@
 use crate::arguments::is_called;
-use crate::tokens::{is_at, is_behind};
+use crate::tokens::{is_after, is_at};
 use bc_lex_tokens::{Symbol, Token};
 
 /// How a name is used in a main.
@@ -9,7 +9,7 @@ pub struct Uses {
     pub first_call: Option<usize>,
     /// Whether something is assigned to it, as the last one or the only one.
     pub is_assigned: bool,
-    /// Whether it stands in front of a comma, as what is assigned to along with others does.
+    /// Whether it stands before a comma, as what is assigned to along with others does.
     pub is_listed: bool,
     /// Whether its address is taken.
     pub is_addressed: bool,
@@ -29,8 +29,8 @@ impl Uses {
             first_call,
             is_assigned: self.is_assigned || is_at(tokens, next, Symbol::Assign),
             is_listed: self.is_listed || is_at(tokens, next, Symbol::Comma),
-            is_addressed: self.is_addressed || is_behind(tokens, index, Symbol::AddressOf),
-            is_target: self.is_target || is_behind(tokens, index, Symbol::Goto),
+            is_addressed: self.is_addressed || is_after(tokens, index, Symbol::AddressOf),
+            is_target: self.is_target || is_after(tokens, index, Symbol::Goto),
         }
     }
 }

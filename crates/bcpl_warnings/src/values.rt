@@ -2,7 +2,7 @@ use crate::routines::Routines;
 use crate::tokens::{is_at, is_line_start, name_at, symbol_at};
 use bc_lex_tokens::{Symbol, Token};
 
-/// Whether a value is wanted behind this symbol.
+/// Whether a value is wanted after this symbol.
 fn wants_value(symbol: Symbol) -> bool {
     matches!(
         symbol,

@@ -3,7 +3,7 @@ use crate::declared::Declarations;
 use crate::tokens::{is_at, name_at};
 use bc_lex_tokens::{Symbol, Token};
 
-/// Whether no section that is open at the first token is closed in front of the second.
+/// Whether no section that is open at the first token is closed before the second.
 fn is_open_still(tokens: &[Token<'_>], first: usize, second: usize) -> bool {
     let mut depth: usize = 0;
     for at in first..second {

@@ -232,7 +232,7 @@ fn warns_of_format(draft: &mut Draft, main: &Main<'_, '_, '_>, at: usize) -> boo
     true
 }
 
-/// Says so where the token with this index is a format behind which fewer arguments stand than it takes; whether it is.
+/// Says so where the token with this index is a format after which fewer arguments stand than it takes; whether it is.
 fn warns_of_lacking(draft: &mut Draft, main: &Main<'_, '_, '_>, at: usize) -> bool {
     let lacking = lacking_arguments(main.tokens, main.declarations, main.library, at);
     let Some(Lacking { taken, given }) = lacking else {
@@ -262,12 +262,12 @@ fn warns_of_lacking(draft: &mut Draft, main: &Main<'_, '_, '_>, at: usize) -> bo
     true
 }
 
-/// Says so where nothing comes to the command behind the token with this index; whether that is so.
+/// Says so where nothing comes to the command after the token with this index; whether that is so.
 fn warns_of_unreached(draft: &mut Draft, main: &Main<'_, '_, '_>, at: usize) -> bool {
-    let Some(behind) = unreached(main.tokens, at) else {
+    let Some(following) = unreached(main.tokens, at) else {
         return false;
     };
-    begin(draft, main.tokens, behind);
+    begin(draft, main.tokens, following);
     draft.say(
         "nothing comes to this command: {} in front of it goes elsewhere",
         &[Fill::Shown(main.text(at))],
@@ -293,7 +293,7 @@ fn warns_of_body(draft: &mut Draft, main: &Main<'_, '_, '_>, at: usize) -> bool 
     true
 }
 
-/// Says so where a comment takes the THEN or DO in front of the command at the token with this index; whether one does.
+/// Says so where a comment takes the THEN or DO before the command at the token with this index; whether one does.
 fn warns_of_comment(draft: &mut Draft, main: &Main<'_, '_, '_>, at: usize) -> bool {
     let Some(span) = swallowed_do(main.sources, main.tokens, at) else {
         return false;
@@ -384,7 +384,7 @@ struct Telling<'p, 's> {
     named: Named<'p, 's>,
     /// How many of the sources are the library's.
     library: usize,
-    /// Where something was said: the file, and the offsets of the first byte and behind the last one.
+    /// Where something was said: the file, and the offsets of the first byte and after the last one.
     told: IndexSet<(usize, usize, usize)>,
     lines: String,
 }

@@ -34,7 +34,7 @@ fn ends_operand(tokens: &[Token<'_>], index: usize) -> bool {
     }
 }
 
-/// Whether an operand begins with the token with this index that can't stand directly behind another one.
+/// Whether an operand begins with the token with this index that can't stand directly after another one.
 fn begins_operand(tokens: &[Token<'_>], index: usize) -> bool {
     match symbol_at(tokens, index) {
         Some(symbol) => matches!(
@@ -86,24 +86,24 @@ fn ends_expression(symbol: Symbol) -> bool {
     )
 }
 
-/// Whether an expression in which no bracket is open ends in front of the token with this index.
+/// Whether an expression in which no bracket is open ends before the token with this index.
 fn ends_before(tokens: &[Token<'_>], index: usize) -> bool {
     let Some(token) = tokens.get(index) else {
         return true;
     };
     let before = index.saturating_sub(1);
-    let is_behind_operand = ends_operand(tokens, before);
+    let is_after_operand = ends_operand(tokens, before);
     match symbol_at(tokens, index) {
         Some(Symbol::OpenSection) => !is_at(tokens, before, Symbol::ValueOf),
-        Some(Symbol::OpenBracket | Symbol::Indirection) => is_behind_operand && token.line_before,
+        Some(Symbol::OpenBracket | Symbol::Indirection) => is_after_operand && token.line_before,
         Some(symbol) if ends_expression(symbol) => true,
-        _ => is_behind_operand && begins_operand(tokens, index),
+        _ => is_after_operand && begins_operand(tokens, index),
     }
 }
 
 /// The first token of an expression whose first name, number or word is the one with this index: signs and brackets in front belong to
 /// it.
-fn behind_signs(tokens: &[Token<'_>], index: usize) -> usize {
+fn after_signs(tokens: &[Token<'_>], index: usize) -> usize {
     let mut first = index;
     for _ in 0..index {
         let before = first.saturating_sub(1);
@@ -158,7 +158,7 @@ impl Walk {
 
 /// The tokens of the expression, test or assignment whose first name, number or word is the token with this index.
 pub fn extent_from(tokens: &[Token<'_>], index: usize) -> Extent {
-    let first = behind_signs(tokens, index);
+    let first = after_signs(tokens, index);
     let mut walk = Walk {
         depth: 0,
         arrows: 0,
@@ -209,7 +209,7 @@ pub fn only_reading(tokens: &[Token<'_>], extent: Extent, name: &[u8]) -> Option
     found
 }
 
-/// Whether a name stands in an extent with an index behind it, or with the sign of indirection in front.
+/// Whether a name stands in an extent with an index after it, or with the sign of indirection in front.
 pub fn is_indexed(tokens: &[Token<'_>], extent: Extent, name: &[u8]) -> bool {
     for index in extent.first..=extent.last {
         let is_read = is_at(tokens, index.saturating_add(1), Symbol::Indirection)

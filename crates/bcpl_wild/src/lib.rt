@@ -9,7 +9,7 @@ mod owner;
 mod placed;
 mod sentence;
 
-pub use bc_interpret_quiet::Cause;
+pub use bc_interpret_pure::Cause;
 pub use bc_interpret_trace::Standing;
 pub use bcpl_messages::Message;
 pub use message::{Met, Program, Stand, placed_message, wild_message};

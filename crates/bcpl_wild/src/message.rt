@@ -5,7 +5,7 @@ use crate::extent::{Extent, only_reading};
 use crate::owner::{Kind, Owner, owner_of};
 use crate::placed::{ReadMain, labelled, read};
 use crate::sentence::{Known, ending, help, say};
-use bc_interpret_quiet::Cause;
+use bc_interpret_pure::Cause;
 use bc_interpret_trace::Standing;
 use bc_lex::Source;
 use bc_machine_defs::Image;
@@ -107,7 +107,7 @@ const NOWHERE: Spot = Spot {
 };
 
 impl<'s> Place<'s> {
-    /// The name of the variable that an address is, if it is one of this call, in front of which so many are newer.
+    /// The name of the variable that an address is, if it is one of this call, before which so many are newer.
     fn variable(&self, back: usize, owner: Option<&Owner>) -> Option<&'s [u8]> {
         match owner?.kind {
             Kind::Variable { back: of, leaf } if of == back => self.read.text(leaf),
@@ -152,7 +152,7 @@ fn spot_of(
     NOWHERE
 }
 
-/// A parameter for which a call handed nothing over: the call leads to the one so many in front of the newest one, and this is said of it.
+/// A parameter for which a call handed nothing over: the call leads to the one so many before the newest one, and this is said of it.
 #[derive(Drop)]
 struct NotHanded {
     back: usize,
@@ -440,8 +440,8 @@ fn said_of_others(draft: &mut Draft, left: usize) -> String {
     draft.filled(sentence, &[Fill::Number(left as u64)])
 }
 
-/// What is said behind a call of those that are left out: all of it behind the last call that is told.
-fn behind(others: &str, is_last: bool) -> &str {
+/// What is said after a call of those that are left out: all of it after the last call that is told.
+fn following(others: &str, is_last: bool) -> &str {
     if is_last { others } else { "" }
 }
 
@@ -495,7 +495,7 @@ fn tell_calls<'s>(
             draft,
             *leading,
             not_handed,
-            behind(others.as_str(), is_last),
+            following(others.as_str(), is_last),
         );
     }
 }

@@ -11,7 +11,7 @@ use bcpl_messages::{Draft, Fill};
 /// The address of the cell of global 0.
 pub const GLOBALS: u16 = 8;
 
-/// The address behind the cells of the globals, at which the primitives stand.
+/// The address after the cells of the globals, at which the primitives stand.
 const SEGMENTS: u16 = 520;
 
 /// Whose an address is.
@@ -27,13 +27,13 @@ pub struct Owner {
 pub enum Kind {
     /// A cell.
     Cell,
-    /// The cell of a variable, whose name has this leaf: that of the call so many calls in front of the newest one.
+    /// The cell of a variable, whose name has this leaf: that of the call so many calls before the newest one.
     Variable { back: usize, leaf: u64 },
-    /// No cell: the words say behind what it is.
-    Behind,
+    /// No cell: the words say after what it is.
+    After,
     /// The beginning of a routine's code.
     Code,
-    /// Code, behind its beginning.
+    /// Code, after its beginning.
     WithinCode,
 }
 
@@ -147,8 +147,8 @@ fn main_of<'s>(
     read(draft, program.sources, *main)
 }
 
-/// What stands so many words behind a label.
-fn behind_label(
+/// What stands so many words after a label.
+fn after_label(
     draft: &mut Draft,
     program: &Program<'_, '_>,
     label: LabelOf,
@@ -174,17 +174,17 @@ fn behind_label(
     })
 }
 
-/// A routine, static, table or string, by the newest label in front of an address.
+/// A routine, static, table or string, by the newest label before an address.
 fn of_segments(draft: &mut Draft, program: &Program<'_, '_>, address: u16) -> Option<Owner> {
     for back in 0..=address {
         if let Some(label) = labelled(program.image, address - back) {
-            return behind_label(draft, program, label, back);
+            return after_label(draft, program, label, back);
         }
     }
     None
 }
 
-/// A call whose frame begins at or in front of an address, so many words; so many calls are newer.
+/// A call whose frame begins at or before an address, so many words; so many calls are newer.
 #[derive(Clone, Copy)]
 struct Begun<'m> {
     standing: &'m Standing,
@@ -192,7 +192,7 @@ struct Begun<'m> {
     offset: usize,
 }
 
-/// The innermost call whose frame begins at or in front of an address.
+/// The innermost call whose frame begins at or before an address.
 fn begun_before(standings: &[Standing], address: u16) -> Option<Begun<'_>> {
     for (back, standing) in standings.iter().enumerate() {
         if let Some(offset) = usize::from(address).checked_sub(standing.frame) {
@@ -206,7 +206,7 @@ fn begun_before(standings: &[Standing], address: u16) -> Option<Begun<'_>> {
     None
 }
 
-/// A variable in the frame of the innermost call that begins at or in front of an address.
+/// A variable in the frame of the innermost call that begins at or before an address.
 fn of_frames(
     draft: &mut Draft,
     program: &Program<'_, '_>,
@@ -241,8 +241,8 @@ impl<'s> Frame<'_, 's> {
             return self.within(draft, site, offset);
         }
         match self.vector_before(offset) {
-            Some(site) => Some(self.behind_vector(draft, site, offset)),
-            None => Some(self.behind_all(draft, address)),
+            Some(site) => Some(self.after_vector(draft, site, offset)),
+            None => Some(self.after_all(draft, address)),
         }
     }
 
@@ -268,8 +268,8 @@ impl<'s> Frame<'_, 's> {
         })
     }
 
-    /// The vector that the cell at this offset stands behind.
-    fn behind_vector(&self, draft: &mut Draft, site: VariableSite, offset: u64) -> Owner {
+    /// The vector that the cell at this offset stands after.
+    fn after_vector(&self, draft: &mut Draft, site: VariableSite, offset: u64) -> Owner {
         let count = site.cells.saturating_sub(1);
         let sentence = if count == 1 {
             "{} cells behind the start of the vector {} of {}, which has {} cell"
@@ -288,12 +288,12 @@ impl<'s> Frame<'_, 's> {
                     Fill::Number(count),
                 ],
             ),
-            kind: Kind::Behind,
+            kind: Kind::After,
         }
     }
 
-    /// No variable: the address stands behind all of them.
-    fn behind_all(&self, draft: &mut Draft, address: u16) -> Owner {
+    /// No variable: the address stands after all of them.
+    fn after_all(&self, draft: &mut Draft, address: u16) -> Owner {
         Owner {
             text: draft.filled(
                 "at the address {}, behind all variables of {}",
@@ -302,7 +302,7 @@ impl<'s> Frame<'_, 's> {
                     Fill::Shown(self.routine()),
                 ],
             ),
-            kind: Kind::Behind,
+            kind: Kind::After,
         }
     }
 
@@ -314,7 +314,7 @@ impl<'s> Frame<'_, 's> {
         }
     }
 
-    /// Whether a variable is a vector of this routine that is there now and begins in front of this offset.
+    /// Whether a variable is a vector of this routine that is there now and begins before this offset.
     fn is_vector_before(&self, site: &VariableSite, offset: u64) -> bool {
         let is_there = match self.root {
             Some(root) => site.from <= root && root < site.to,
@@ -323,7 +323,7 @@ impl<'s> Frame<'_, 's> {
         is_there && site.routine == self.label && site.cells > 1 && site.offset < offset
     }
 
-    /// The vector that a cell behind it was likely meant to be of: the only one that is read with an index where the run stands; else the
+    /// The vector that a cell after it was likely meant to be of: the only one that is read with an index where the run stands; else the
     /// nearest one in front.
     fn vector_before(&self, offset: u64) -> Option<VariableSite> {
         let extent = self.read.extent_of_root(self.root?)?;

@@ -11,7 +11,7 @@ use bc_scope_places::{BodyOf, Sites, sites_of, token_at};
 use bcpl_messages::{Draft, is_at, span_of};
 use bcpl_places::Span;
 
-/// What stands at a label: the number of its segment behind that of the primitives, and the label.
+/// What stands at a label: the number of its segment after that of the primitives, and the label.
 #[derive(Clone, Copy)]
 pub struct LabelOf {
     pub segment: usize,
@@ -93,7 +93,7 @@ impl<'s> ReadMain<'s> {
             Some(number) => BodyOf::Valof(number as u64),
             None => BodyOf::Routine(label),
         };
-        self.sites.root(body, standing.behind)
+        self.sites.root(body, standing.following)
     }
 
     /// The tokens of the expression, test or assignment of this number.
@@ -131,7 +131,7 @@ impl<'s> ReadMain<'s> {
         parameter_at(tokens, name, token_at(tokens, leaf)?)
     }
 
-    /// Whether a label is a routine's: a bracket stands behind its name.
+    /// Whether a label is a routine's: a bracket stands after its name.
     pub fn is_routine(&self, label: u64) -> bool {
         let tokens = self.tokens.as_slice();
         let Some(index) = self

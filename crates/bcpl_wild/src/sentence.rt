@@ -2,7 +2,7 @@
 
 use crate::message::Met;
 use crate::owner::{GLOBALS, Kind, Owner};
-use bc_interpret_quiet::Cause;
+use bc_interpret_pure::Cause;
 use bcpl_messages::{Draft, Fill};
 
 /// What is known of a wild access beside its cause.
@@ -12,7 +12,7 @@ pub struct Known<'k> {
     pub owner: Option<&'k Owner>,
     /// Whether it is a parameter for which the call hands nothing over.
     pub is_not_handed: bool,
-    /// Whether the place that is told is that of the access itself, and not of all that is worked out with it.
+    /// Whether the place that is told is that of the access itself, and not of all that is computed with it.
     pub is_exact: bool,
 }
 
@@ -119,7 +119,7 @@ fn say_of_owner(draft: &mut Draft, known: Known<'_>, owner: &Owner, access: Acce
             "the code of {} is {} {}, and code {}",
             &[text, verb, place, forbidden],
         ),
-        Kind::Behind => draft.say("the cell that is {} {} is {}", &[verb, place, text]),
+        Kind::After => draft.say("the cell that is {} {} is {}", &[verb, place, text]),
         Kind::Cell | Kind::Variable { .. } => draft.say(
             "{} is {} {}, and there is no cell of the program there now",
             &[text, verb, place],

@@ -12,7 +12,7 @@ use Rattle.bc_gen_defs.specs.Emit.{Code, Roots, Exits, jump, execute, zero_item,
 use Rattle.bc_gen_laws.proofs.labels.Counts.{at, stands, stands_both}
 use Rattle.bc_gen_laws.proofs.labels.Fresh.{left_true, right_true, not_true, owed_labels, owed_cases, labels_fresh, cases_fresh, no_cases, defaulted_within}
 use Rattle.bc_gen_laws.proofs.labels.Speaking.{In, Speaks, both, nothing, item}
-use Rattle.bc_gen_laws.proofs.labels.Runs.{Run, none, behind, mark, empty, alike, close_one, close_two, close_three, close_list, same_owed, Sound, SoundRoots, Allowed, in_loop, in_a_list, in_a_switch, root_names, sides_name}
+use Rattle.bc_gen_laws.proofs.labels.Runs.{Run, none, following, mark, empty, alike, close_one, close_two, close_three, close_list, same_owed, Sound, SoundRoots, Allowed, in_loop, in_a_list, in_a_switch, root_names, sides_name}
 
 pub upto : (a b c : ℕ) → a ≤ b → b ≤ c → a ≤ c
 upto a b c h k = omega arith
@@ -20,12 +20,12 @@ upto a b c h k = omega arith
 pub less : (f k n : ℕ) → f + k ≤ n → f ≤ n
 less f k n h = omega arith
 
--- code behind code
+-- code after code
 pub joined : {Q : ℕ → Type 0} {c : ℕ → ℕ} {f : ℕ} (x y : Code Item) → Sound Q none f x → Sound Q c x.1 y → Sound Q c f (x.0 ++ y.0, y.1)
 joined {c = c} {f = f} x y h k =
     record {
       up = upto f x.1 y.1 h.up k.up;
-      run = same_owed c (x.0 ++ y.0) (behind x.0 y.0 h.run k.run) (λ i. omega arith);
+      run = same_owed c (x.0 ++ y.0) (following x.0 y.0 h.run k.run) (λ i. omega arith);
       speaks = λ n q l u. both x.0 y.0 (h.speaks n q l (upto x.1 y.1 n k.up u)) (k.speaks n q (upto 1 f x.1 l h.up) u);
     }
 
@@ -46,8 +46,8 @@ table_plain (case v is) first k = table_plain is (first + 1) k
 table_plain (default is) first k = table_plain is (first + 1) k
 table_plain (label l is) first k = table_plain is first k
 
-behind_table : (is : Items) (first : ℕ) (xs : List Item) (k : ℕ) → stands k (table_of (λ i. i) is first ++ xs) ≡ stands k xs
-behind_table is first xs k = by (stands k (table_of (λ i. i) is first)) (stands k xs) _ (stands_both k (table_of (λ i. i) is first) xs) (table_plain is first k) where
+after_table : (is : Items) (first : ℕ) (xs : List Item) (k : ℕ) → stands k (table_of (λ i. i) is first ++ xs) ≡ stands k xs
+after_table is first xs k = by (stands k (table_of (λ i. i) is first)) (stands k xs) _ (stands_both k (table_of (λ i. i) is first) xs) (table_plain is first k) where
   by : (a b c : ℕ) → c ≡ a + b → a ≡ 0 → c ≡ b
   by a b c h i = omega arith
 
@@ -103,7 +103,7 @@ module _ (A : Around) (roots : Roots Item) (r : SoundRoots A.places roots) where
         let x_up : t.1 ≤ x.1 = hx.up in
         record {
           up = omega arith;
-          run = close_one f _ (behind t.0 _ ht.run (behind x.0 _ hx.run (mark f [] (empty x.1)))) (λ k. omega arith);
+          run = close_one f _ (following t.0 _ ht.run (following x.0 _ hx.run (mark f [] (empty x.1)))) (λ k. omega arith);
           speaks = λ n a l m. both t.0 _ (ht.speaks n (a.places, root_names A n a.places e u he, (l, omega arith)) (omega arith) (omega arith))
               (both x.0 _ (hx.speaks n a (omega arith) m) (item (Label f) [] tt nothing));
         }
@@ -118,7 +118,7 @@ module _ (A : Around) (roots : Roots Item) (r : SoundRoots A.places roots) where
         let x_up : t.1 ≤ x.1 = hx.up in
         record {
           up = omega arith;
-          run = close_two f _ (mark f _ (behind t.0 _ ht.run (behind x.0 _ hx.run (alike (jump f ∷ Label (f + 1) ∷ []) _ (λ k. refl) (mark (f + 1) [] (empty x.1)))))) (λ k. omega arith);
+          run = close_two f _ (mark f _ (following t.0 _ ht.run (following x.0 _ hx.run (alike (jump f ∷ Label (f + 1) ∷ []) _ (λ k. refl) (mark (f + 1) [] (empty x.1)))))) (λ k. omega arith);
           speaks = λ n a l m.
               let begin : In n f = (l, omega arith) in
               let end : In n (f + 1) = (omega arith, omega arith) in
@@ -142,8 +142,8 @@ module _ (A : Around) (roots : Roots Item) (r : SoundRoots A.places roots) where
         let last = y.0 ++ Label (f + 1) ∷ [] in
         record {
           up = omega arith;
-          run = close_two f _ (behind t.0 _ ht.run (behind x.0 _ hx.run (alike (jump (f + 1) ∷ Label f ∷ last) (Label f ∷ last) (λ k. refl)
-              (mark f last (behind y.0 _ hy.run (mark (f + 1) [] (empty y.1))))))) (λ k. omega arith);
+          run = close_two f _ (following t.0 _ ht.run (following x.0 _ hx.run (alike (jump (f + 1) ∷ Label f ∷ last) (Label f ∷ last) (λ k. refl)
+              (mark f last (following y.0 _ hy.run (mark (f + 1) [] (empty y.1))))))) (λ k. omega arith);
           speaks = λ n a l m.
               let begin : In n f = (l, omega arith) in
               let end : In n (f + 1) = (omega arith, omega arith) in
@@ -158,7 +158,7 @@ module _ (A : Around) (roots : Roots Item) (r : SoundRoots A.places roots) where
         let x_up : f + 2 ≤ x.1 = hx.up in
         record {
           up = omega arith;
-          run = close_two f _ (mark f _ (behind x.0 _ hx.run (alike (jump f ∷ Label (f + 1) ∷ []) (Label (f + 1) ∷ []) (λ k. refl) (mark (f + 1) [] (empty x.1))))) (λ k. omega arith);
+          run = close_two f _ (mark f _ (following x.0 _ hx.run (alike (jump f ∷ Label (f + 1) ∷ []) (Label (f + 1) ∷ []) (λ k. refl) (mark (f + 1) [] (empty x.1))))) (λ k. omega arith);
           speaks = λ n a l m.
               let begin : In n f = (l, omega arith) in
               let end : In n (f + 1) = (omega arith, omega arith) in
@@ -175,7 +175,7 @@ module _ (A : Around) (roots : Roots Item) (r : SoundRoots A.places roots) where
         let t_up : x.1 ≤ t.1 = ht.up in
         record {
           up = omega arith;
-          run = close_three f _ (mark f _ (behind x.0 _ hx.run (mark (f + 2) _ (behind t.0 _ ht.run (mark (f + 1) [] (empty t.1)))))) (λ k. omega arith);
+          run = close_three f _ (mark f _ (following x.0 _ hx.run (mark (f + 2) _ (following t.0 _ ht.run (mark (f + 1) [] (empty t.1)))))) (λ k. omega arith);
           speaks = λ n a l m.
               let begin : In n f = (l, omega arith) in
               let end : In n (f + 1) = (omega arith, omega arith) in
@@ -208,7 +208,7 @@ module _ (A : Around) (roots : Roots Item) (r : SoundRoots A.places roots) where
         let w_up : x.1 ≤ w.1 = hw.up in
         record {
           up = omega arith;
-          run = close_three f _ (behind i.0 _ hi.run (behind j.0 _ hj.run (mark f _ (behind t.0 _ ht.run (behind x.0 _ hx.run (mark (f + 2) _ (behind w.0 _ hw.run
+          run = close_three f _ (following i.0 _ hi.run (following j.0 _ hj.run (mark f _ (following t.0 _ ht.run (following x.0 _ hx.run (mark (f + 2) _ (following w.0 _ hw.run
               (alike (jump f ∷ Label (f + 1) ∷ []) (Label (f + 1) ∷ []) (λ k. refl) (mark (f + 1) [] (empty w.1)))))))))) (λ k. omega arith);
           speaks = λ n a l m.
               let begin : In n f = (l, omega arith) in
@@ -243,10 +243,10 @@ module _ (A : Around) (roots : Roots Item) (r : SoundRoots A.places roots) where
         let last = x.0 ++ Label f ∷ [] in
         let table = table_of (λ i. i) is (f + 1) in
         let tail = execute 23 ∷ Data (cases_in is) ∷ DataLabel D ∷ (table ++ last) in
-        let all : Run (λ k. (ol k + oc k) + (at f k + 0)) v1 x.1 last = behind x.0 _ hx.run (mark f [] (empty x.1)) in
+        let all : Run (λ k. (ol k + oc k) + (at f k + 0)) v1 x.1 last = following x.0 _ hx.run (mark f [] (empty x.1)) in
         let cases : Run (λ k. oc k + at f k) v.1 x.1 last =
         close_list v.1 (labels_in is) ol (λ k. oc k + at f k) last all (labels_fresh is v.1 E.labels (labelled is v.1 E.labels) (right_true fe fl front) (λ l i. refl)) (λ k. omega arith) in
-        let whole = behind v.0 tail hv.run (alike tail last (λ k. behind_table is (f + 1) last k) cases) in
+        let whole = following v.0 tail hv.run (alike tail last (λ k. after_table is (f + 1) last k) cases) in
         record {
           up = omega arith;
           run = close_one f _ (close_list (f + 1) (entries_in is) oc (λ k. at f k) _ whole
@@ -293,7 +293,7 @@ module _ (A : Around) (roots : Roots Item) (r : SoundRoots A.places roots) where
         let none_here = no_cases is 0 (not_true (has_entries is) (right_true fd fe begin)) in
         record {
           up = omega arith;
-          run = close_list f (labels_in is) (λ k. owed_labels (labelled is f E.labels) is k) none _ (behind D.0 x.0 hd.run hx.run)
+          run = close_list f (labels_in is) (λ k. owed_labels (labelled is f E.labels) is k) none _ (following D.0 x.0 hd.run hx.run)
               (labels_fresh is f E.labels (labelled is f E.labels) (right_true (fd && fe) fl front) (λ l i. refl)) (λ k. let c = none_here k in omega arith);
           speaks = λ n a l q. both D.0 x.0 (hd.speaks n a.places (omega arith) (omega arith)) (hx.speaks n (in_a_list is f l (omega arith) a) (omega arith) q);
         }

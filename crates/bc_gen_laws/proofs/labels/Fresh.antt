@@ -81,7 +81,7 @@ labels_fresh (label l is) f outer label_of d h k =
     one_owed (at (label_of l) k) (at f k) (owed_labels label_of is k) (below k f) (below k (f + 1)) (below k (f + 1 + labels_in is)) (below k (f + (labels_in is + 1)))
     (ap (λ m. at m k) here) rest (next_below k f) (ap (below k) (omega arith))
 
--- an entry, and those behind it
+-- an entry, and those after it
 entry_fresh : (is : Items) (f k : ℕ) → owed_cases (f + 1) is k + below k (f + 1) ≡ below k (f + 1 + entries_in is) → at f k + owed_cases (f + 1) is k + below k f ≡ below k (f + (entries_in is + 1))
 entry_fresh is f k rest =
     one_owed (at f k) (at f k) (owed_cases (f + 1) is k) (below k f) (below k (f + 1)) (below k (f + 1 + entries_in is)) (below k (f + (entries_in is + 1)))

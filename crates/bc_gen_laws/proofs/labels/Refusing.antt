@@ -13,7 +13,7 @@ use Rattle.bc_gen_defs.specs.Bodies.{coding_of}
 use Rattle.bc_gen_defs.specs.Section.{section_items, routines_code}
 use Rattle.bc_link.specs.declared.link_error.LinkError.TheVariants.{LabelUnset, LabelTwice}
 use Rattle.bc_link.specs.Labels.{labels_of, use_of, uses_of}
-use Rattle.bc_link.specs.Refusals.{first_of, repeated_behind, first_unset, label_twice_from, label_unset_from, global_twice, too_large}
+use Rattle.bc_link.specs.Refusals.{first_of, repeated_after, first_unset, label_twice_from, label_unset_from, global_twice, too_large}
 use Rattle.bc_core.specs.WellFormed.{is_core}
 use Rattle.bc_gen_laws.specs.labels.Laws.{LabelsStand, LabelsStandOnce, LabelsAreThoseTaken, OnlyGlobalsAndSizeAreRefused}
 use Rattle.bc_gen_laws.proofs.labels.Counts.{at, below, count}
@@ -48,11 +48,11 @@ found x [] h = absurd (omega arith)
 found x (y ∷ ys) h = found_first x y (count x ys) (x == y) (list_any (λ z. x == z) ys) refl h (found x ys)
 
 -- what stands once at most is not repeated
-not_repeated : (before xs : List ℕ) → ((k : ℕ) → count k before + count k xs ≤ 1) → repeated_behind before xs ≡ None
+not_repeated : (before xs : List ℕ) → ((k : ℕ) → count k before + count k xs ≤ 1) → repeated_after before xs ≡ None
 not_repeated before [] h = refl
 not_repeated before (x ∷ xs) h =
     by (list_any (λ y. x == y) before) refl (not_repeated (before ++ x ∷ []) xs (λ k. let a = count_last k x before in let b = h k in omega arith)) where
-      by : (b : Bool) → list_any (λ y. x == y) before ≡ b → repeated_behind (before ++ x ∷ []) xs ≡ None → cond b (Some x) (repeated_behind (before ++ x ∷ []) xs) ≡ None
+      by : (b : Bool) → list_any (λ y. x == y) before ≡ b → repeated_after (before ++ x ∷ []) xs ≡ None → cond b (Some x) (repeated_after (before ++ x ∷ []) xs) ≡ None
       by true e i = let a = counted x before e in let b = h x in let c = at_same x x (same_number x) in absurd (omega arith)
       by false e i = i
 

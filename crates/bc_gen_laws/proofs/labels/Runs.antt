@@ -20,11 +20,11 @@ pub record Run (c : ℕ → ℕ) (f g : ℕ) (xs : List Item) : Type 0 where
 abbrev pub none : ℕ → ℕ
 none k = 0
 
-behind_both : (n x y b0 b1 b2 c d : ℕ) → n ≡ x + y → x + b0 ≡ b1 + c → y + b1 ≡ b2 + d → n + b0 ≡ b2 + (c + d)
-behind_both n x y b0 b1 b2 c d e h i = omega arith
+after_both : (n x y b0 b1 b2 c d : ℕ) → n ≡ x + y → x + b0 ≡ b1 + c → y + b1 ≡ b2 + d → n + b0 ≡ b2 + (c + d)
+after_both n x y b0 b1 b2 c d e h i = omega arith
 
-pub behind : {c d : ℕ → ℕ} {f g h : ℕ} (xs ys : List Item) → Run c f g xs → Run d g h ys → Run (λ k. c k + d k) f h (xs ++ ys)
-behind {c = c} {d = d} {f = f} {g = g} {h = h} xs ys a b = record { each = λ k. behind_both _ (stands k xs) (stands k ys) (below k f) (below k g) (below k h) (c k) (d k) (stands_both k xs ys) (a.each k) (b.each k) }
+pub following : {c d : ℕ → ℕ} {f g h : ℕ} (xs ys : List Item) → Run c f g xs → Run d g h ys → Run (λ k. c k + d k) f h (xs ++ ys)
+following {c = c} {d = d} {f = f} {g = g} {h = h} xs ys a b = record { each = λ k. after_both _ (stands k xs) (stands k ys) (below k f) (below k g) (below k h) (c k) (d k) (stands_both k xs ys) (a.each k) (b.each k) }
 
 marked : (a y b0 b1 d : ℕ) → y + b0 ≡ b1 + d → a + y + b0 ≡ b1 + (a + d)
 marked a y b0 b1 d h = omega arith

@@ -6,7 +6,7 @@ use Rattle.bc_text_items.specs.declared.item.Item.TheVariants.{Label, Data, Byte
 use Rattle.bc_core.specs.Tree.{Root, Value}
 use Rattle.bc_core.specs.Commands.{Block, Body, Gives, Does, Place, Valof, Core}
 use Rattle.bc_core.specs.Commands as commands
-use Rattle.bc_core.specs.Level.{level_behind_parameters}
+use Rattle.bc_core.specs.Level.{level_after_parameters}
 use Rattle.bc_core.specs.Layout.{frame_size}
 use Rattle.bc_core.specs.WellFormed.{Around, block_fits, jumps_in_routine, jumps_in_valof, body_fits, global_fits, place_fits, places_fit, valofs_fit, is_core}
 use Rattle.bc_rules_defs.specs.declared.rule.Table.{Table}
@@ -22,7 +22,7 @@ use Rattle.bc_gen_laws.proofs.labels.Derivations.{root_standing}
 use Rattle.bc_gen_laws.proofs.labels.Fresh.{left_true, right_true}
 use Rattle.bc_gen_laws.proofs.labels.Speaking.{In, Speaks, PiecesKnown, both, nothing, item}
 use Rattle.bc_gen_laws.proofs.labels.Names.{root_speaks}
-use Rattle.bc_gen_laws.proofs.labels.Runs.{none, behind, mark, empty, close_list, same_owed, Sound, SoundRoots, Allowed, root_names}
+use Rattle.bc_gen_laws.proofs.labels.Runs.{none, following, mark, empty, close_list, same_owed, Sound, SoundRoots, Allowed, root_names}
 use Rattle.bc_gen_laws.proofs.labels.Commands.{upto, less, joined, weaker, nothing_there, only, block_sound}
 
 -- bodies that jump to their end alone
@@ -56,7 +56,7 @@ module _ (places : ℕ) (levels : ℕ → ℕ) (bodies : BodiesCode Item) (b : S
       let h = fill_sound ps c.1 in
       record {
         up = upto f c.1 x.1 hc.up h.up;
-        run = same_owed _ (c.0 ++ x.0) (behind c.0 x.0 hc.run h.run) (λ k. omega arith);
+        run = same_owed _ (c.0 ++ x.0) (following c.0 x.0 hc.run h.run) (λ k. omega arith);
         speaks = λ n q l u. both c.0 x.0 (hc.speaks n (q.0, q.1.0) l (upto c.1 x.1 n h.up u)) (h.speaks n (q.0, q.1.1) (upto 1 f c.1 l hc.up) u);
       }
 
@@ -120,7 +120,7 @@ module _ (A : Around) (roots : Roots Item) (r : SoundRoots A.places roots) where
   routines_sound : (valofs : List Valof) (ps : List Place) → places_fit A valofs ps ≡ true → (j f : ℕ) → Sound (λ n. A.places < n) (λ k. routine_labels j ps k) f (emit_routines (λ i. i) roots j ps f)
   routines_sound valofs [] h j f = record { up = omega arith; run = same_owed _ [] (empty f) (λ k. refl); speaks = λ n q l u. nothing }
   routines_sound valofs (commands.Code p ∷ ps) h j f =
-      let s = level_behind_parameters p.parameters in
+      let s = level_after_parameters p.parameters in
       let fp = place_fits A valofs (commands.Code p) in
       let fs = places_fit A valofs ps in
       let front = global_fits p.global && nat_le (frame_size valofs p) 32768 in
@@ -166,7 +166,7 @@ data_next a c d e b0 b1 b2 b3 h i j l = omega arith
 no_place : (b c : ℕ) → b ≡ c → 0 + 0 + b ≡ c
 no_place b c h = omega arith
 
--- each place has its label, in front of its routine or of its data
+-- each place has its label, before its routine or of its data
 places_stand : (ps : List Place) (j k : ℕ) → routine_labels j ps k + stands k (data_items j ps) + below k (j + 1) ≡ below k (j + 1 + length ps)
 places_stand [] j k = no_place (below k (j + 1)) _ (ap (below k) (omega arith))
 places_stand (commands.Code r ∷ ps) j k =

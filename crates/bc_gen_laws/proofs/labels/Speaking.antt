@@ -23,7 +23,7 @@ abbrev pub AllKnown : ℕ → List Item → Type 0
 AllKnown n [] = Unit {0}
 AllKnown n (i ∷ is) = Known n (use_of i) × AllKnown n is
 
--- pieces that do, where a label of these stands behind each body
+-- pieces that do, where a label of these stands after each body
 abbrev pub PiecesKnown : ℕ → List Piece → Type 0
 PiecesKnown n [] = Unit {0}
 PiecesKnown n (pieces.Item i ∷ ps) = Known n (use_of i) × PiecesKnown n ps

@@ -6,7 +6,7 @@ use Rattle.bc_text_items.specs.declared.item.Item.{Item}
 use Rattle.bc_core.specs.Tree.{Frame, Root, Value, Test, Assign}
 use Rattle.bc_core.specs.Commands.{Variable, Initial, Vector, Command, Block, block, Items, no_item, command, case, default, label, Body, Gives, Does, Place, Valof}
 use Rattle.bc_core.specs.Commands as commands
-use Rattle.bc_core.specs.Level.{cells_of, cells_of_all, cells_declared, level_in_for, level_behind_parameters}
+use Rattle.bc_core.specs.Level.{cells_of, cells_of_all, cells_declared, level_in_for, level_after_parameters}
 use Rattle.bc_core.specs.Command.{step_of_for}
 use Rattle.bc_rules_defs.specs.declared.rule.Table.{Table}
 use Rattle.bc_rules_defs.specs.declared.piece.Piece.{Piece}
@@ -41,7 +41,7 @@ none = record { is = refl }
 both : {xs ys : List Marked} {rs qs : List Root} → Has xs rs → Has ys qs → Has (xs ++ ys) (rs ++ qs)
 both {xs = xs} {ys = ys} {rs = rs} h i = record { is = marked_append xs ys ∙ ap (λ l. l ++ marked ys) h.is ∙ ap (λ l. rs ++ l) i.is }
 
--- code without marks behind
+-- code without marks after
 last : {xs ys : List Marked} {rs : List Root} → Has xs rs → Has ys [] → Has (xs ++ ys) rs
 last {rs = rs} h i = let b = both h i in record { is = b.is ∙ append-nil rs }
 
@@ -164,7 +164,7 @@ own_level levels first v vs h n e = ap levels (eqb-true n first e) ∙ ap levels
 pub further_levels : (levels : ℕ → ℕ) (first : ℕ) (v : Valof) (vs : List Valof) → AreTheirLevels levels first (v ∷ vs) → AreTheirLevels levels (first + 1) vs
 further_levels levels first v vs h k = h (suc k) ∙ ap levels (let z : first + suc k ≡ first + 1 + k = omega arith in z)
 
--- the body with this number, or one behind it
+-- the body with this number, or one after it
 one_body : {T : Table} (choice : Choice T) (levels : ℕ → ℕ) (first : ℕ) (v : Valof) (vs : List Valof) → AreTheirLevels levels first (v ∷ vs)
     → BodiesHave levels (bodies_from Plain (marked_over (coding_of choice) levels) (first + 1) vs) (roots_of_bodies (in_code choice) (first + 1) vs)
     → (n l f : ℕ) (b : Bool) → (n == first) ≡ b
@@ -195,8 +195,8 @@ body_has roots of r (Does b) s f = last (block_has roots of r b s (body_exits 0)
 routines_have : (roots : Roots Marked) (of : Counted) → Counts roots of → (j : ℕ) (ps : List Place) (f : ℕ) → Has (emit_routines Plain roots j ps f).0 (roots_of_places of ps)
 routines_have roots of r j [] f = none
 routines_have roots of r j (commands.Code p ∷ ps) f =
-    let x = emit_body Plain roots p.body (level_behind_parameters p.parameters) f in
-    item _ (both (body_has roots of r p.body (level_behind_parameters p.parameters) f) (routines_have roots of r (j + 1) ps x.1))
+    let x = emit_body Plain roots p.body (level_after_parameters p.parameters) f in
+    item _ (both (body_has roots of r p.body (level_after_parameters p.parameters) f) (routines_have roots of r (j + 1) ps x.1))
 routines_have roots of r j (commands.Static w ∷ ps) f = routines_have roots of r (j + 1) ps f
 routines_have roots of r j (commands.Table ws ∷ ps) f = routines_have roots of r (j + 1) ps f
 routines_have roots of r j (commands.Text bytes ∷ ps) f = routines_have roots of r (j + 1) ps f

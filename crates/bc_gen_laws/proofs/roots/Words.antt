@@ -5,7 +5,7 @@ use Rattle.std.proofs.lemmas.List.Sums.{sum_by-cons, sum_by-append}
 use Rattle.bc_core.specs.Tree.{Frame, Root, Value, Test, Assign}
 use Rattle.bc_core.specs.Commands.{Variable, Initial, Vector, Command, Block, block, Items, no_item, command, case, default, label, Body, Gives, Does, Place, Valof}
 use Rattle.bc_core.specs.Commands as commands
-use Rattle.bc_core.specs.Level.{cells_of, cells_of_all, cells_declared, level_in_for, level_behind_parameters}
+use Rattle.bc_core.specs.Level.{cells_of, cells_of_all, cells_declared, level_in_for, level_after_parameters}
 use Rattle.bc_core.specs.Command.{step_of_for}
 use Rattle.bc_rules_defs.specs.declared.rule.Table.{Table}
 use Rattle.bc_rules_defs.specs.Code.{root_cost}
@@ -152,7 +152,7 @@ body_splits own words fixed of h (Does b) s = let i = block_splits own words fix
 places_split : (own words fixed : Words) (of : Counted) → Splits own words fixed of → (ps : List Place) → words_of_places words ps ≡ words_of_places fixed ps + sum_by own (roots_of_places of ps)
 places_split own words fixed of h [] = refl
 places_split own words fixed of h (commands.Code r ∷ ps) =
-    let s = level_behind_parameters r.parameters in
+    let s = level_after_parameters r.parameters in
     two own (roots_of_body of r.body s) (roots_of_places of ps) _ _ (body_splits own words fixed of h r.body s) (places_split own words fixed of h ps)
 places_split own words fixed of h (commands.Static w ∷ ps) = let i = places_split own words fixed of h ps in omega (arith, i)
 places_split own words fixed of h (commands.Table ws ∷ ps) = let i = places_split own words fixed of h ps in omega (arith, i)

@@ -9,7 +9,7 @@ use Rattle.bc_text_items.specs.Laws.{BeginsWithNoByte}
 use Rattle.bc_core.specs.Tree.{Value}
 use Rattle.bc_core.specs.Commands.{Body, Gives, Does, Place, Valof}
 use Rattle.bc_core.specs.Commands as commands
-use Rattle.bc_core.specs.Level.{level_behind_parameters}
+use Rattle.bc_core.specs.Level.{level_after_parameters}
 use Rattle.bc_rules_defs.specs.declared.rule.Table.{Table}
 use Rattle.bc_rules_defs.specs.Code.{root_cost, root_labels}
 use Rattle.bc_gen_defs.specs.Emit.{Code, Roots}
@@ -60,7 +60,7 @@ body_takes words roots r (Does b) s f = takes_both (block_takes words roots r b 
 -- the words of routines, and those of data
 abbrev words_of_code : Words → List Place → ℕ
 words_of_code words [] = 0
-words_of_code words (commands.Code r ∷ ps) = words_of_body words r.body (level_behind_parameters r.parameters) + words_of_code words ps
+words_of_code words (commands.Code r ∷ ps) = words_of_body words r.body (level_after_parameters r.parameters) + words_of_code words ps
 words_of_code words (commands.Static w ∷ ps) = words_of_code words ps
 words_of_code words (commands.Table ws ∷ ps) = words_of_code words ps
 words_of_code words (commands.Text bytes ∷ ps) = words_of_code words ps
@@ -82,8 +82,8 @@ all_words words (commands.Text bytes ∷ ps) = let h = all_words words ps in let
 routines_take : (words : Words) (roots : Roots Item) → RootsTake words roots → (j : ℕ) (ps : List Place) (f : ℕ) → Takes (emit_routines (λ i. i) roots j ps f).0 (words_of_code words ps)
 routines_take words roots r j [] f = takes_none
 routines_take words roots r j (commands.Code p ∷ ps) f =
-    let x = emit_body (λ i. i) roots p.body (level_behind_parameters p.parameters) f in
-    takes_label (j + 1) (takes_both (body_takes words roots r p.body (level_behind_parameters p.parameters) f) (routines_take words roots r (j + 1) ps x.1))
+    let x = emit_body (λ i. i) roots p.body (level_after_parameters p.parameters) f in
+    takes_label (j + 1) (takes_both (body_takes words roots r p.body (level_after_parameters p.parameters) f) (routines_take words roots r (j + 1) ps x.1))
 routines_take words roots r j (commands.Static w ∷ ps) f = routines_take words roots r (j + 1) ps f
 routines_take words roots r j (commands.Table ws ∷ ps) f = routines_take words roots r (j + 1) ps f
 routines_take words roots r j (commands.Text bytes ∷ ps) f = routines_take words roots r (j + 1) ps f

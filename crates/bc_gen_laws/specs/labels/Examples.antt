@@ -27,7 +27,7 @@ switch is = record {
 abbrev labels : Core → List ℕ
 labels core = labels_of (section_items no_code core)
 
--- the routine's label is 1, that behind the SWITCHON 2; then come those of CASE 3, DEFAULT and CASE 4
+-- the routine's label is 1, that after the SWITCHON 2; then come those of CASE 3, DEFAULT and CASE 4
 pub stand_once : labels (switch (case 3 (default (case 4 no_item)))) ≡ 1 ∷ 3 ∷ 4 ∷ 5 ∷ 2 ∷ []
 stand_once = refl
 

@@ -5,7 +5,7 @@ use Rattle.bc_word.specs.declared.operator.Op.TheVariants as operators
 use Rattle.bc_core.specs.Tree.{Exp, Frame, Load, Bin, Root, Value, Test, Assign}
 use Rattle.bc_core.specs.Commands.{Variable, Initial, Vector, Command, Block, block, Items, no_item, command, case, default, label, Body, Gives, Does, Place, Valof, Core}
 use Rattle.bc_core.specs.Commands as commands
-use Rattle.bc_core.specs.Level.{cells_of, cells_of_all, cells_declared, level_in_for, level_behind_parameters}
+use Rattle.bc_core.specs.Level.{cells_of, cells_of_all, cells_declared, level_in_for, level_after_parameters}
 use Rattle.bc_core.specs.Command.{step_of_for}
 use Rattle.bc_rules_defs.specs.declared.rule.Table.{Table}
 use Rattle.bc_rules_defs.specs.declared.piece.Piece.{Piece}
@@ -88,7 +88,7 @@ roots_of_body of (Does b) s = roots_of_block of b s
 
 abbrev pub roots_of_places : Counted → List Place → List Root
 roots_of_places of [] = []
-roots_of_places of (commands.Code r ∷ ps) = roots_of_body of r.body (level_behind_parameters r.parameters) ++ roots_of_places of ps
+roots_of_places of (commands.Code r ∷ ps) = roots_of_body of r.body (level_after_parameters r.parameters) ++ roots_of_places of ps
 roots_of_places of (commands.Static w ∷ ps) = roots_of_places of ps
 roots_of_places of (commands.Table ws ∷ ps) = roots_of_places of ps
 roots_of_places of (commands.Text bytes ∷ ps) = roots_of_places of ps

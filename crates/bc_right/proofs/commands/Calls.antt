@@ -17,7 +17,7 @@ use Rattle.bc_machine_defs.specs.Run.{runs, ended}
 use Rattle.bc_core.specs.Tree.{Value}
 use Rattle.bc_core.specs.Commands.{Routine, Body, Gives, Valof}
 use Rattle.bc_core.specs.Commands as commands
-use Rattle.bc_core.specs.Level.{level_behind_parameters}
+use Rattle.bc_core.specs.Level.{level_after_parameters}
 use Rattle.bc_core.specs.Layout.{Bodies, cells_of_valofs, cells_of_block, cells_of_body, frame_size}
 use Rattle.bc_core.proofs.Liveness.{filled_outside}
 use Rattle.bc_core.specs.Store.{Cell, Dead, Unset, Set, cell_at, closed}
@@ -44,7 +44,7 @@ use Rattle.bc_right.specs.steps.Items.{call_item}
 use Rattle.bc_right.specs.steps.Premises.{CallLands, BodiesCode, ValofsLand, RootsRight}
 use Rattle.bc_gen_defs.specs.Bodies.{body_exits, bodies_from, emit_body, level_of}
 use Rattle.bc_right.specs.commands.Calls.{RoutineStands, ProgramStands, LibraryLands, CallsLand}
-use Rattle.bc_right.proofs.steps.Steps.{later_then, parts, at_end, at_label, behind_item, behind_label, acts, went, at_place, jumped, lands_done, Onward, then_raw, does_onto, turn, lands_map}
+use Rattle.bc_right.proofs.steps.Steps.{later_then, parts, at_end, at_label, after_item, after_label, acts, went, at_place, jumped, lands_done, Onward, then_raw, does_onto, turn, lands_map}
 use Rattle.bc_right.proofs.steps.Cells.{filled_either, closed_holds, differ, set_either, set_is}
 use Rattle.bc_right.specs.commands.Levelled.{BlockLevelled, BodyLevelled, ValofsLevelled}
 use Rattle.bc_right.proofs.commands.Commands.{block_lands}
@@ -62,7 +62,7 @@ module _ (address levels : ℕ → ℕ) (S : Moment) (most : ℕ) (over : Bodies
   valof_lands : {K : Moment} {top p limit a c : ℕ} (l mid end : ℕ) (r : Run Exit) → Later S K → Stands address S mid (zero_item ∷ []) end → address l ≡ end → Does K most top p limit a c (exit_goal address S (body_exits l) mid limit) r → Does K most top p limit a c (value_goal end) (then_do r valof_value)
   valof_lands {K = K} {top = top} {p = p} {limit = limit} l mid end r old s e d = then_raw (exit_goal address S (body_exits l) mid limit) (value_goal end) r valof_value d (λ O x t. on O x t) where
     on : (O : Moment) (x : State) (t : ℕ) → Onward K most O x t top p limit (exit_goal address S (body_exits l) mid limit) (value_goal end) valof_value
-    on O x t Past a b c g m st r le h = lands_done limit (value_goal end) 0 (zeroed old [] s (at_place h r)) le (refl, at_end (behind_item s))
+    on O x t Past a b c g m st r le h = lands_done limit (value_goal end) 0 (zeroed old [] s (at_place h r)) le (refl, at_end (after_item s))
     on O x t (Resulted v) a b c g m st r le h = lands_done limit (value_goal end) v (jumped old h.1 r) le (h.0, e)
     on O x t Broke a b c g m st r le h = tt
     on O x t Looped a b c g m st r le h = tt
@@ -98,7 +98,7 @@ module _ (address levels : ℕ → ℕ) (S : Moment) (most : ℕ) (over : Bodies
         let x = emit_block (λ i. i) (over inner_code) v.body s (body_exits l) f in
         let q = parts (x.0 ++ zero_item ∷ []) (Label l ∷ []) st in
         let u = parts x.0 (zero_item ∷ []) q.front in
-        let over_end : q.middle ≡ end = at_end (behind_label q.back) in
+        let over_end : q.middle ≡ end = at_end (after_label q.back) in
         let there : address l ≡ end = at_label q.back ∙ over_end in
         valof_lands l u.middle end (perform_block (context place call inner) v.body p s) old (subst (λ z. Stands address S u.middle (zero_item ∷ []) z) over_end u.back) there
         (block_lands (context place call inner) address levels inner_cells S most (over inner_code) (roots_land inner inner_cells inner_code ih) K old v.body p s (body_exits l) f c u.middle u.front room
@@ -113,7 +113,7 @@ module _ (C : Context) (address levels : ℕ → ℕ) (V : Bodies) (S K : Moment
   does_lands : {top p limit a c : ℕ} (mid end : ℕ) (r : Run Exit) → Stands address S mid return_items end → Does K most top p limit a c (exit_goal address S (body_exits 0) mid limit) r → Does K most top p limit a c (return_goal address S) (then_do r routine_value)
   does_lands {top = top} {p = p} {limit = limit} mid end r s d = then_raw (exit_goal address S (body_exits 0) mid limit) (return_goal address S) r routine_value d (λ O x t. on O x t) where
     returned : (O : Moment) (x : State) (t a b c g last : ℕ) (m : List ℕ) (st : outcomes.State) → Stands address S c return_items last → Reached K most O x t top p a b c g m st → st.turns ≤ limit → Lands K most O x t top p limit (return_goal address S) (Done 0 st)
-    returned O x t a b c g last m st s1 r1 le = lands_done limit (return_goal address S) 0 (zeroed old (execute 4 ∷ []) s1 r1) le (refl, last, behind_item s1)
+    returned O x t a b c g last m st s1 r1 le = lands_done limit (return_goal address S) 0 (zeroed old (execute 4 ∷ []) s1 r1) le (refl, last, after_item s1)
 
     on : (O : Moment) (x : State) (t : ℕ) → Onward K most O x t top p limit (exit_goal address S (body_exits 0) mid limit) (return_goal address S) routine_value
     on O x t Past a b c g m st r1 le h = returned O x t a b mid g end m st s (at_place h r1) le
@@ -234,7 +234,7 @@ given_back f k cells0 cells m0 m links keeps h =
       spans = g.spans;
     }
 
--- `X4`: back behind the call, in the caller's frame
+-- `X4`: back after the call, in the caller's frame
 returns_at : {address : ℕ → ℕ} {S K : Moment} {most : ℕ} {O : Moment} {x : State} {t top f a b c g last p end : ℕ} {m : List ℕ} {st : outcomes.State} → Later S K → Stands address S c (execute 4 ∷ []) last → Reached K most O x t top f a b c g m st
     → f + 2 ≤ 65536 → slice_index m f ≡ p → slice_index m (f + 1) ≡ end → step (machine a b c f m st.streams) ≡ running (machine a b end p m st.streams)
 returns_at {f = f} {a = a} {b = b} {p = p} {end = end} {m = m} {st = st} old s r room ep ec =
@@ -346,8 +346,8 @@ module _ (S : Moment) (program : List Placed) (stands : ProgramStands S program)
       let right = own.right.from n C V bodies (λ l. refl) ih (valofs_land section.address levels S n own.over own.right section.address (λ l. refl) (calls program n) ih section.core.valofs 0
       (λ i. let index : 0 + i ≡ i = omega arith in ap levels index) own.valofs) in
       record {
-        from = (framed_lands S n v k (frame_size section.core.valofs r) (λ f. body_value C r.body f (level_behind_parameters k)) section.address
-            (λ K old p limit a fits. body_lands C section.address levels V S K old n (own.over bodies) right r.body p (level_behind_parameters k) own.first v own.end own.stands (omega (arith, fits)) own.levelled limit a)).from;
+        from = (framed_lands S n v k (frame_size section.core.valofs r) (λ f. body_value C r.body f (level_after_parameters k)) section.address
+            (λ K old p limit a fits. body_lands C section.address levels V S K old n (own.over bodies) right r.body p (level_after_parameters k) own.first v own.end own.stands (omega (arith, fits)) own.levelled limit a)).from;
       }
 
   pub calls_work : (n v : ℕ) → CallLands S n v (calls program n v)

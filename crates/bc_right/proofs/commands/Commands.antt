@@ -9,7 +9,7 @@ use Rattle.bc_core.specs.Level.{cells_of, cells_of_all, cells_declared, level_in
 use Rattle.bc_core.specs.Layout.{Bodies, cells_of_initials, cells_of_declarations, cells_of_command, cells_of_block, cells_of_items}
 use Rattle.bc_core.specs.Outcome.{Run, then_do, choose, repeated}
 use Rattle.bc_core.specs.Store.{Dead, cell_at}
-use Rattle.bc_core.specs.Loop.{back, leave, behind_body, end_relation, for_loop}
+use Rattle.bc_core.specs.Loop.{back, leave, after_body, end_relation, for_loop}
 use Rattle.bc_word.specs.Words.{holds}
 use Rattle.bc_text_items.specs.declared.item.Base.TheVariants as bases
 use Rattle.bc_text_items.specs.declared.item.Function.TheVariants as functions
@@ -33,7 +33,7 @@ use Rattle.bc_right.proofs.commands.Forms.{for_goal}
 use Rattle.bc_right.proofs.commands.ForTest.{Held}
 use Rattle.bc_right.specs.commands.Exits.{exit_goal}
 use Rattle.bc_right.specs.commands.Levelled.{VariableLevelled, VariablesLevelled, DeclarationsLevelled, CommandLevelled, BlockLevelled, ItemsLevelled}
-use Rattle.bc_right.proofs.steps.Steps.{later_then, later_refl, acts, plain, leads_more, bind_from, lands_from, parts, at_end, at_label, behind_item, behind_label, jump_first, at_place, jumped, lands_done, does_done, does_then, does_at, does_turn}
+use Rattle.bc_right.proofs.steps.Steps.{later_then, later_refl, acts, plain, leads_more, bind_from, lands_from, parts, at_end, at_label, after_item, after_label, jump_first, at_place, jumped, lands_done, does_done, does_then, does_at, does_turn}
 use Rattle.bc_right.proofs.commands.ForTest.{for_test_lands}
 use Rattle.bc_right.proofs.steps.Cells.{does_with_cells}
 use Rattle.bc_right.proofs.commands.Forms.{Entered, cased, starts_at, goes_to, ends_at, in_order, assign_lands, call_lands, resultis_lands, finish_lands, if_lands, test_lands, in_loop, repeat_lands, while_lands, repeat_while_lands, for_loop_lands, list_lands}
@@ -69,13 +69,13 @@ module _ (C : Context) (address levels : ℕ → ℕ) (V : Bodies) (S : Moment) 
       (does_then (end_goal q.middle) goal (initialise C vs p s (s + n)) (λ u. rest) (variables_land K old vs p s (s + n) f c q.middle q.front (omega (arith, room)) l.0 limit a)
       (λ u a1 b1 c1 g turns h. does_at goal rest h (declarations_land K old ds p (s + n) x.1 q.middle mid top1 limit goal r q.back (omega (arith, room)) l.1 (omega arith) d a1))))
 
-  -- a list is entered at this item, or behind it
+  -- a list is entered at this item, or after it
   entry_lands : (K : Moment) → (top p limit a c c1 : ℕ) (goal : Goal Exit) (items : Entry → Run Exit) (at : Entry) (here rest : Bool) → (here || rest) ≡ true
       → (here ≡ true → c1 ≡ c) → Does K most top p limit a c goal (items Beginning) → (rest ≡ true → Does K most top p limit a c1 goal (items at)) → Does K most top p limit a c1 goal (items (met here at))
   entry_lands K top p limit a c c1 goal items at true rest e same h k = does_at goal (items Beginning) (same refl) h
   entry_lands K top p limit a c c1 goal items at false rest e same h k = k e
 
-  -- a list is entered at this CASE, or at one behind it
+  -- a list is entered at this CASE, or at one after it
   case_lands : (K : Moment) → (top p limit a c l later : ℕ) (goal : Goal Exit) (items : Entry → Run Exit) (at : Entry) (here rest : Bool) → (here || rest) ≡ true
       → address l ≡ c → Does K most top p limit a c goal (items Beginning) → (rest ≡ true → Does K most top p limit a (address later) goal (items at)) → Does K most top p limit a (address (cond here l later)) goal (items (met here at))
   case_lands K top p limit a c l later goal items at true rest e same h k = does_at goal (items Beginning) same h
@@ -85,7 +85,7 @@ module _ (C : Context) (address levels : ℕ → ℕ) (V : Bodies) (S : Moment) 
   for_lands : (K : Moment) → Later S K → (p s c mid1 mid2 end limit a by : ℕ) (E : Exits) (start : Run (Unit {0})) (last variable : Run ℕ) (step : Run (Unit {0})) (body : Run Exit) → p + (s + 4) ≤ 65536
       → ((K1 : Moment) → Later S K1 → (limit a : ℕ) → Does K1 most (p + (s + 2)) p limit a c (end_goal mid1) start)
       → ((K1 : Moment) → Later S K1 → (limit a : ℕ) → StoresLast address S K1 most (p + (s + 2)) p limit a mid1 (s + 1) mid2 last)
-      → ((K1 : Moment) → Later S K1 → (n : ℕ) → Held S K1 (p + (s + 1)) n → (limit a : ℕ) → Does K1 most (p + (s + 2)) p limit a mid2 (exit_goal address S E end limit) (repeated (λ v. then_do variable (λ k. choose (holds (end_relation by) k n) leave (then_do body (behind_body (then_do step (λ w. back)))))) tt))
+      → ((K1 : Moment) → Later S K1 → (n : ℕ) → Held S K1 (p + (s + 1)) n → (limit a : ℕ) → Does K1 most (p + (s + 2)) p limit a mid2 (exit_goal address S E end limit) (repeated (λ v. then_do variable (λ k. choose (holds (end_relation by) k n) leave (then_do body (after_body (then_do step (λ w. back)))))) tt))
       → Does K most (p + s + 1) p limit a c (exit_goal address S E end limit) (for_loop by start last variable step body)
   for_lands K old p s c mid1 mid2 end limit a by E start last variable step body room hs hl hb = record {
     from = λ O x t b m st le here.
@@ -95,7 +95,7 @@ module _ (C : Context) (address levels : ℕ → ℕ) (V : Bodies) (S : Moment) 
         let K1 = moment top1 st.cells m in
         let up : Later O K1 = record { low = omega (arith, here.later.low); keeps = here.later.keeps } in
         let old1 = later_then old (later_then here.since up) in
-        let rest : ℕ → Run Exit = λ n. repeated (λ v. then_do variable (λ k. choose (holds (end_relation by) k n) leave (then_do body (behind_body (then_do step (λ w. back)))))) tt in
+        let rest : ℕ → Run Exit = λ n. repeated (λ v. then_do variable (λ k. choose (holds (end_relation by) k n) leave (then_do body (after_body (then_do step (λ w. back)))))) tt in
         bind_from K1 K K1 O most x t top1 top p limit (end_goal mid1) goal (start st) (λ u. then_do last rest)
         ((hs K1 old1 limit a).from K1 x t b m st le (record { few = here.few; are_words = here.are_words; leads = here.leads; holds = holds_up top top1 st.cells m (omega arith) here.holds; since = later_refl K1; later = later_refl K1 }))
         (λ u a1 b1 c1 g1 m1 st1 r1 le1 e1. let own = hl K1 old1 limit a1 in
@@ -109,7 +109,7 @@ module _ (C : Context) (address levels : ℕ → ℕ) (V : Bodies) (S : Moment) 
         let at_k : (s + 1 + p) % 65536 ≡ k = omega arith in
         let r3 = at_place w.1 r2 in
         let stored = acts old1 functions.Store false bases.P (s + 1) [] own.stores r3 ∙ ap (λ z. running (machine a2 b2 (own.middle + operation_size bases.P (s + 1)) p (slice_set m2 z a2) st2.streams)) at_k
-        ∙ ap (λ z. running (machine a2 b2 z p m3 st2.streams)) (at_end (behind_item own.stores)) in
+        ∙ ap (λ z. running (machine a2 b2 z p m3 st2.streams)) (at_end (after_item own.stores)) in
         let late : Later O K2 = record { low = omega (arith, here.later.low); keeps = keeps_then O.top O.cells st2.cells st2.cells O.store m2 m3 (later_then up r2.later).keeps (keeps_held O.top k a2 st2.cells m2 (omega (arith, here.later.low))) } in
         let old2 = later_then old (later_then here.since late) in
         let held : Held S K2 k n = record { dead = dead2; above = omega (arith, (later_then old here.since).low, here.later.low); within = omega arith; is = get_or-set_same m2 k a2 0 (omega (arith, r2.holds.whole)) ∙ w.0 } in
@@ -126,7 +126,7 @@ module _ (C : Context) (address levels : ℕ → ℕ) (V : Bodies) (S : Moment) 
         let x = emit_block (λ i. i) roots b s E t.1 in
         let q = parts t.0 (x.0 ++ Label f ∷ []) st in
         let u = parts x.0 (Label f ∷ []) q.back in
-        let over : u.middle ≡ end = at_end (behind_label u.back) in
+        let over : u.middle ≡ end = at_end (after_label u.back) in
         if_lands address S K old most E f q.middle end sense (truth C e p s) (perform_block C b p s) (R.tests K old (not sense) e p s f (f + 1) a c q.middle limit q.front (omega (arith, room)) l.0)
         (λ a1. ends_at address S K old most E u.middle end (perform_block C b p s) over (block_lands K old b p s E t.1 q.middle u.middle u.front (omega (arith, room)) l.1 limit a1)) (at_label u.back ∙ over)
     command_lands K old (commands.Test e b d) p s E f c end st room l limit a =
@@ -135,9 +135,9 @@ module _ (C : Context) (address levels : ℕ → ℕ) (V : Bodies) (S : Moment) 
         let y = emit_block (λ i. i) roots d s E x.1 in
         let q = parts t.0 (x.0 ++ (jump (f + 1) ∷ Label f ∷ (y.0 ++ Label (f + 1) ∷ []))) st in
         let u = parts x.0 (jump (f + 1) ∷ Label f ∷ (y.0 ++ Label (f + 1) ∷ [])) q.back in
-        let after = behind_item u.back in
-        let w = parts y.0 (Label (f + 1) ∷ []) (behind_label after) in
-        let over : w.middle ≡ end = at_end (behind_label w.back) in
+        let after = after_item u.back in
+        let w = parts y.0 (Label (f + 1) ∷ []) (after_label after) in
+        let over : w.middle ≡ end = at_end (after_label w.back) in
         let there : address (f + 1) ≡ end = at_label w.back ∙ over in
         let goal = exit_goal address S E end limit in
         test_lands address S K old most E f q.middle end (truth C e p s) (perform_block C b p s) (perform_block C d p s) (R.tests K old false e p s f (f + 2) a c q.middle limit q.front (omega (arith, room)) l.0)
@@ -148,10 +148,10 @@ module _ (C : Context) (address levels : ℕ → ℕ) (V : Bodies) (S : Moment) 
         let t = roots (Test s (not sense) e) (f + 1) (f + 2) in
         let x = emit_block (λ i. i) roots b s E1 t.1 in
         let here : c ≡ address f = sym (at_label st) in
-        let q = parts t.0 (x.0 ++ jump f ∷ Label (f + 1) ∷ []) (behind_label st) in
+        let q = parts t.0 (x.0 ++ jump f ∷ Label (f + 1) ∷ []) (after_label st) in
         let u = parts x.0 (jump f ∷ Label (f + 1) ∷ []) q.back in
-        let after = behind_item u.back in
-        let there : address (f + 1) ≡ end = at_label after ∙ at_end (behind_label after) in
+        let after = after_item u.back in
+        let there : address (f + 1) ≡ end = at_label after ∙ at_end (after_label after) in
         let goal = exit_goal address S E end limit in
         does_at goal (perform C (commands.While sense e b) p s) here
         (while_lands address S K old most E f (f + 1) q.middle u.middle end sense (truth C e p s) (perform_block C b p s)
@@ -161,9 +161,9 @@ module _ (C : Context) (address levels : ℕ → ℕ) (V : Bodies) (S : Moment) 
         let E1 = in_loop E (f + 1) f in
         let x = emit_block (λ i. i) roots b s E1 (f + 2) in
         let here : c ≡ address f = sym (at_label st) in
-        let u = parts x.0 (jump f ∷ Label (f + 1) ∷ []) (behind_label st) in
-        let after = behind_item u.back in
-        let there : address (f + 1) ≡ end = at_label after ∙ at_end (behind_label after) in
+        let u = parts x.0 (jump f ∷ Label (f + 1) ∷ []) (after_label st) in
+        let after = after_item u.back in
+        let there : address (f + 1) ≡ end = at_label after ∙ at_end (after_label after) in
         let goal = exit_goal address S E end limit in
         does_at goal (perform C (commands.Repeat b) p s) here
         (repeat_lands address S K old most E f (f + 1) u.middle end (perform_block C b p s)
@@ -173,9 +173,9 @@ module _ (C : Context) (address levels : ℕ → ℕ) (V : Bodies) (S : Moment) 
         let x = emit_block (λ i. i) roots b s E1 (f + 3) in
         let t = roots (Test s sense e) f x.1 in
         let here : c ≡ address f = sym (at_label st) in
-        let u = parts x.0 (Label (f + 2) ∷ (t.0 ++ Label (f + 1) ∷ [])) (behind_label st) in
-        let q = parts t.0 (Label (f + 1) ∷ []) (behind_label u.back) in
-        let over : q.middle ≡ end = at_end (behind_label q.back) in
+        let u = parts x.0 (Label (f + 2) ∷ (t.0 ++ Label (f + 1) ∷ [])) (after_label st) in
+        let q = parts t.0 (Label (f + 1) ∷ []) (after_label u.back) in
+        let over : q.middle ≡ end = at_end (after_label q.back) in
         let goal = exit_goal address S E end limit in
         does_at goal (perform C (commands.RepeatWhile b sense e) p s) here
         (repeat_while_lands address S K old most E f (f + 1) (f + 2) u.middle end sense (truth C e p s) (perform_block C b p s)
@@ -195,11 +195,11 @@ module _ (C : Context) (address levels : ℕ → ℕ) (V : Bodies) (S : Moment) 
         let q1 = parts i.0 (n.0 ++ tail1) st in
         let q2 = parts n.0 tail1 q1.back in
         let here = at_label q2.back in
-        let q3 = parts t.0 (x.0 ++ tail3) (behind_label q2.back) in
+        let q3 = parts t.0 (x.0 ++ tail3) (after_label q2.back) in
         let q4 = parts x.0 tail3 q3.back in
-        let q5 = parts u.0 tail4 (behind_label q4.back) in
-        let after = behind_item q5.back in
-        let over : address (f + 1) ≡ end = at_label after ∙ at_end (behind_label after) in
+        let q5 = parts u.0 tail4 (after_label q4.back) in
+        let after = after_item q5.back in
+        let over : address (f + 1) ≡ end = at_label after ∙ at_end (after_label after) in
         let body = perform_block C b p s1 in
         let variable = value C (Load (Frame s)) p s1 in
         let step = assign C (step_of_for by s) (Frame s) p s1 in
@@ -207,7 +207,7 @@ module _ (C : Context) (address levels : ℕ → ℕ) (V : Bodies) (S : Moment) 
         (for_lands K old p s c q1.middle q2.middle end limit a by E (assign C start (Frame s) p s1) (value C last p s1) variable step body (omega (arith, room))
         (λ K1 old1 limit1 a1. R.assigns K1 old1 start (Frame s) p s1 (f + 3) a1 c q1.middle limit1 q1.front (omega (arith, room)) l.0.0 tt)
         (λ K1 old1 limit1 a1. R.limits K1 old1 last p s i.1 a1 q1.middle q2.middle limit1 q2.front (omega (arith, room)) l.1.0)
-        (λ K1 old1 n1 held limit1 a1. subst (λ z. Does K1 most (p + s1) p limit1 a1 z (exit_goal address S E end limit1) (repeated (λ v. then_do variable (λ k. choose (holds (end_relation by) k n1) leave (then_do body (behind_body (then_do step (λ w. back)))))) tt)) here
+        (λ K1 old1 n1 held limit1 a1. subst (λ z. Does K1 most (p + s1) p limit1 a1 z (exit_goal address S E end limit1) (repeated (λ v. then_do variable (λ k. choose (holds (end_relation by) k n1) leave (then_do body (after_body (then_do step (λ w. back)))))) tt)) here
         (for_loop_lands address S K1 old1 most E f (f + 1) (f + 2) q3.middle q4.middle q5.middle end by n1 variable step body
         (λ limit2 a2. does_at (for_goal by n1 (address (f + 1)) q3.middle) variable here (for_test_lands C address levels V S most roots R K1 old1 by n1 p s (f + 1) n.1 a2 q2.middle q3.middle limit2 q3.front (omega (arith, room)) held))
         (λ limit2 a2. block_lands K1 old1 b p s1 E1 t.1 q3.middle q4.middle q4.front (omega (arith, room)) l.2 limit2 a2)
@@ -221,10 +221,10 @@ module _ (C : Context) (address levels : ℕ → ℕ) (V : Bodies) (S : Moment) 
         let rest = x.0 ++ Label f ∷ [] in
         let tail = execute 23 ∷ Data (cases_in is) ∷ DataLabel d ∷ (table_of (λ i. i) is (f + 1) ++ rest) in
         let q1 = parts v.0 tail st in
-        let q2 = parts (table_of (λ i. i) is (f + 1)) rest (behind_item (behind_item (behind_item q1.back))) in
+        let q2 = parts (table_of (λ i. i) is (f + 1)) rest (after_item (after_item (after_item q1.back))) in
         let q3 = parts x.0 (Label f ∷ []) q2.back in
         switch_lands address S K old most E is f v.1 (f + 1) q1.middle q2.middle q3.middle end end rest (value C e p s) (perform_items C is p s) (R.gives K old e p s (f + 1 + entries_in is) a c q1.middle limit q1.front (omega (arith, room)) l.0)
-        q1.back (at_label q3.back) (at_end (behind_label q3.back)) (λ none st1. passes_over C is p s st1 none)
+        q1.back (at_label q3.back) (at_end (after_label q3.back)) (λ none st1. passes_over C is p s st1 none)
         (λ at entered limit1 a1. items_land K old is p s E1 (f + 1) (v.1 + labels_in is) q2.middle q3.middle q3.front (omega (arith, room)) l.1 at entered limit1 a1)
     command_lands K old commands.Break p s E f c end st room l limit a = does_done (exit_goal address S E end limit) Broke (λ b2 n le. (end, st))
     command_lands K old commands.Loop p s E f c end st room l limit a = does_done (exit_goal address S E end limit) Looped (λ b2 n le. (end, st))
@@ -273,25 +273,25 @@ module _ (C : Context) (address levels : ℕ → ℕ) (V : Bodies) (S : Moment) 
         let x = emit (λ i. i) roots k s E f in
         let q = parts x.0 (emit_items (λ i. i) roots is s E first x.1).0 st in
         record { from = (items_land K old is p s E first x.1 q.middle end q.back (omega (arith, room)) lv.1 (AtLabel l) entered limit a).from }
-    items_land K old (case k is) p s E first f c end st room lv Beginning entered limit a = items_land K old is p s E (first + 1) f c end (behind_label st) room lv Beginning tt limit a
+    items_land K old (case k is) p s E first f c end st room lv Beginning entered limit a = items_land K old is p s E (first + 1) f c end (after_label st) room lv Beginning tt limit a
     items_land K old (case k is) p s E first f c end st room lv (AtCase v) entered limit a =
         case_lands K (p + s) p limit a c first (cased is (first + 1) v) (exit_goal address S E end limit) (perform_items C is p s) (AtCase v) (k == v) (has_case is v) entered (at_label st)
-        (items_land K old is p s E (first + 1) f c end (behind_label st) room lv Beginning tt limit a)
-        (λ e. items_land K old is p s E (first + 1) f c end (behind_label st) room lv (AtCase v) e limit a)
-    items_land K old (case k is) p s E first f c end st room lv AtDefault entered limit a = items_land K old is p s E (first + 1) f c end (behind_label st) room lv AtDefault entered limit a
-    items_land K old (case k is) p s E first f c end st room lv (AtLabel l) entered limit a = items_land K old is p s E (first + 1) f c end (behind_label st) room lv (AtLabel l) entered limit a
-    items_land K old (default is) p s E first f c end st room lv Beginning entered limit a = items_land K old is p s E (first + 1) f c end (behind_label st) room lv Beginning tt limit a
-    items_land K old (default is) p s E first f c end st room lv (AtCase v) entered limit a = items_land K old is p s E (first + 1) f c end (behind_label st) room lv (AtCase v) entered limit a
-    items_land K old (default is) p s E first f c end st room lv AtDefault entered limit a = does_at (exit_goal address S E end limit) (perform_items C is p s Beginning) (at_label st) (items_land K old is p s E (first + 1) f c end (behind_label st) room lv Beginning tt limit a)
-    items_land K old (default is) p s E first f c end st room lv (AtLabel l) entered limit a = items_land K old is p s E (first + 1) f c end (behind_label st) room lv (AtLabel l) entered limit a
-    items_land K old (label k is) p s E first f c end st room lv Beginning entered limit a = items_land K old is p s E first f c end (behind_label st) room lv Beginning tt limit a
-    items_land K old (label k is) p s E first f c end st room lv (AtCase v) entered limit a = items_land K old is p s E first f c end (behind_label st) room lv (AtCase v) entered limit a
-    items_land K old (label k is) p s E first f c end st room lv AtDefault entered limit a = items_land K old is p s E first f c end (behind_label st) room lv AtDefault entered limit a
+        (items_land K old is p s E (first + 1) f c end (after_label st) room lv Beginning tt limit a)
+        (λ e. items_land K old is p s E (first + 1) f c end (after_label st) room lv (AtCase v) e limit a)
+    items_land K old (case k is) p s E first f c end st room lv AtDefault entered limit a = items_land K old is p s E (first + 1) f c end (after_label st) room lv AtDefault entered limit a
+    items_land K old (case k is) p s E first f c end st room lv (AtLabel l) entered limit a = items_land K old is p s E (first + 1) f c end (after_label st) room lv (AtLabel l) entered limit a
+    items_land K old (default is) p s E first f c end st room lv Beginning entered limit a = items_land K old is p s E (first + 1) f c end (after_label st) room lv Beginning tt limit a
+    items_land K old (default is) p s E first f c end st room lv (AtCase v) entered limit a = items_land K old is p s E (first + 1) f c end (after_label st) room lv (AtCase v) entered limit a
+    items_land K old (default is) p s E first f c end st room lv AtDefault entered limit a = does_at (exit_goal address S E end limit) (perform_items C is p s Beginning) (at_label st) (items_land K old is p s E (first + 1) f c end (after_label st) room lv Beginning tt limit a)
+    items_land K old (default is) p s E first f c end st room lv (AtLabel l) entered limit a = items_land K old is p s E (first + 1) f c end (after_label st) room lv (AtLabel l) entered limit a
+    items_land K old (label k is) p s E first f c end st room lv Beginning entered limit a = items_land K old is p s E first f c end (after_label st) room lv Beginning tt limit a
+    items_land K old (label k is) p s E first f c end st room lv (AtCase v) entered limit a = items_land K old is p s E first f c end (after_label st) room lv (AtCase v) entered limit a
+    items_land K old (label k is) p s E first f c end st room lv AtDefault entered limit a = items_land K old is p s E first f c end (after_label st) room lv AtDefault entered limit a
     items_land K old (label k is) p s E first f c end st room lv (AtLabel l) entered limit a =
         entry_lands K (p + s) p limit a c (address (E.labels l)) (exit_goal address S E end limit) (perform_items C is p s) (AtLabel l) (k == l) (has_label is l) entered
         (λ e. ap (λ z. address (E.labels z)) (sym (eqb-true k l e)) ∙ at_label st)
-        (items_land K old is p s E first f c end (behind_label st) room lv Beginning tt limit a)
-        (λ e. items_land K old is p s E first f c end (behind_label st) room lv (AtLabel l) e limit a)
+        (items_land K old is p s E first f c end (after_label st) room lv Beginning tt limit a)
+        (λ e. items_land K old is p s E first f c end (after_label st) room lv (AtLabel l) e limit a)
 
   pub commands_land : (K : Moment) → Later S K → (k : Command) (p s : ℕ) (E : Exits) (f a c end limit : ℕ) → Stands address S c (emit (λ i. i) roots k s E f).0 end → p + cells_of_command V k s ≤ 65536 → CommandLevelled levels k s → Does K most (p + s) p limit a c (exit_goal address S E end limit) (perform C k p s)
   commands_land K old k p s E f a c end limit st room l = command_lands K old k p s E f c end st room l limit a

@@ -10,8 +10,8 @@ use Rattle.bc_core.specs.Commands.{Items, no_item, command, case, default, label
 use Rattle.bc_core.specs.Outcome as outcomes
 use Rattle.bc_core.specs.Outcome.{Done, Run, Finished, then_do, choose, ends, Round, Again, Leave, repeated}
 use Rattle.bc_core.specs.Exit.{Exit, Past, Broke, Looped, LeftCases, Returned, Resulted, Jumped, past, onward}
-use Rattle.bc_core.specs.Loop.{LoopRound, end_relation, back, leave, behind_body, agrees, while_loop, repeat_loop, repeat_while_loop}
-use Rattle.bc_core.specs.Lists.{Entry, Beginning, AtCase, AtDefault, AtLabel, has_case, has_label, behind_list, listed}
+use Rattle.bc_core.specs.Loop.{LoopRound, end_relation, back, leave, after_body, agrees, while_loop, repeat_loop, repeat_while_loop}
+use Rattle.bc_core.specs.Lists.{Entry, Beginning, AtCase, AtDefault, AtLabel, has_case, has_label, after_list, listed}
 use Rattle.bc_right.specs.steps.Leads.{machine}
 use Rattle.bc_right.proofs.steps.Steps.{step_stops, stops_from}
 use Rattle.bc_gen_defs.specs.Emit.{Exits, execute, labelled, defaulted}
@@ -113,7 +113,7 @@ module _ (address : ℕ → ℕ) (S K : Moment) (old : Later S K) (most : ℕ) w
   pub ends_at : {top p limit a c : ℕ} (E : Exits) (mid end : ℕ) (r : Run Exit) → mid ≡ end → Does K most top p limit a c (exit_goal address S E mid limit) r → Does K most top p limit a c (exit_goal address S E end limit) r
   ends_at {top = top} {p = p} {limit = limit} {a = a} {c = c} E mid end r e d = subst (λ z. Does K most top p limit a c (exit_goal address S E z limit) r) e d
 
-  -- a command, and those behind it
+  -- a command, and those after it
   pub in_order : {top p limit a c : ℕ} (E : Exits) (mid end : ℕ) (r rest : Run Exit) → Does K most top p limit a c (exit_goal address S E mid limit) r → ((a1 : ℕ) → Does K most top p limit a1 mid (exit_goal address S E end limit) rest) → Does K most top p limit a c (exit_goal address S E end limit) (then_do r (onward rest))
   in_order {top = top} {p = p} {limit = limit} E mid end r rest d k = then_raw (exit_goal address S E mid limit) (exit_goal address S E end limit) r (onward rest) d (λ O x t. on O x t) where
     on : (O : Moment) (x : State) (t : ℕ) → Onward K most O x t top p limit (exit_goal address S E mid limit) (exit_goal address S E end limit) (onward rest)
@@ -164,12 +164,12 @@ module _ (address : ℕ → ℕ) (S K : Moment) (old : Later S K) (most : ℕ) w
 
   body_lands : {top p limit a c : ℕ} (E : Exits) (l l2 l3 mid end : ℕ) (body : Run Exit) (rest : LoopRound) → Does K most top p limit a c (exit_goal address S (in_loop E l2 l3) mid limit) body → address l2 ≡ end
       → ((a1 : ℕ) → Does K most top p limit a1 mid (loop_goal E l end limit) rest) → ((a1 c1 : ℕ) → JumpAt address S c1 l3 → Does K most top p limit a1 c1 (loop_goal E l end limit) rest)
-      → Does K most top p limit a c (loop_goal E l end limit) (then_do body (behind_body rest))
-  body_lands {top = top} {p = p} {limit = limit} E l l2 l3 mid end body rest d e k j = then_raw (exit_goal address S (in_loop E l2 l3) mid limit) (loop_goal E l end limit) body (behind_body rest) d (λ O x t. on O x t) where
+      → Does K most top p limit a c (loop_goal E l end limit) (then_do body (after_body rest))
+  body_lands {top = top} {p = p} {limit = limit} E l l2 l3 mid end body rest d e k j = then_raw (exit_goal address S (in_loop E l2 l3) mid limit) (loop_goal E l end limit) body (after_body rest) d (λ O x t. on O x t) where
     goal : Goal (Round (Unit {0}) Exit)
     goal = loop_goal E l end limit
 
-    on : (O : Moment) (x : State) (t : ℕ) → Onward K most O x t top p limit (exit_goal address S (in_loop E l2 l3) mid limit) (loop_goal E l end limit) (behind_body rest)
+    on : (O : Moment) (x : State) (t : ℕ) → Onward K most O x t top p limit (exit_goal address S (in_loop E l2 l3) mid limit) (loop_goal E l end limit) (after_body rest)
     on O x t Past a b c g m st r le h = (k a).from O x t b m st le (plain (at_place h r))
     on O x t Looped a b c g m st r le h = (j a c h).from O x t b m st le (plain r)
     on O x t Broke a b c g m st r le h = lands_done limit goal (Leave Past) (jumped old h r) le e
@@ -194,7 +194,7 @@ module _ (address : ℕ → ℕ) (S K : Moment) (old : Later S K) (most : ℕ) w
       → Does K most top p limit a (address l) (exit_goal address S E end limit) (while_loop sense test body)
   while_lands E l l2 mid last end sense test body ht hb j e = loop_lands E l end _ (λ limit a.
       let goal = loop_goal E l end limit in
-      let more = then_do body (behind_body back) in
+      let more = then_do body (after_body back) in
       does_then (test_goal (not sense) (address l2) mid) goal test (λ t. choose (agrees sense t) more leave) (ht limit a)
       (λ t a1 b1 c1 g turns w. let sides = other_sense sense t (address l2) mid c1 g w in
       does_choose goal (agrees sense t) more leave (λ h. does_at goal more (sides.0 h) (body_lands E l l2 l last end body back (hb limit a1) e (λ a2. back_lands E l end j) (λ a2 c2 j2. back_lands E l end j2)))
@@ -220,7 +220,7 @@ module _ (address : ℕ → ℕ) (S K : Moment) (old : Later S K) (most : ℕ) w
   pub for_loop_lands : {top p limit a : ℕ} (E : Exits) (l l2 l3 mid last mid4 end by n : ℕ) (variable : Run ℕ) (step : Run (Unit {0})) (body : Run Exit) → ((limit a : ℕ) → Does K most top p limit a (address l) (for_goal by n (address l2) mid) variable)
       → ((limit a : ℕ) → Does K most top p limit a mid (exit_goal address S (in_loop E l2 l3) last limit) body) → ((limit a : ℕ) → Does K most top p limit a last (end_goal mid4) step)
       → address l3 ≡ last → JumpAt address S mid4 l → address l2 ≡ end
-      → Does K most top p limit a (address l) (exit_goal address S E end limit) (repeated (λ u. then_do variable (λ i. choose (holds (end_relation by) i n) leave (then_do body (behind_body (then_do step (λ u. back)))))) tt)
+      → Does K most top p limit a (address l) (exit_goal address S E end limit) (repeated (λ u. then_do variable (λ i. choose (holds (end_relation by) i n) leave (then_do body (after_body (then_do step (λ u. back)))))) tt)
   for_loop_lands {top = top} {p = p} E l l2 l3 mid last mid4 end by n variable step body ht hb hs e3 j e = loop_lands E l end _ (λ limit a.
       does_then (for_goal by n (address l2) mid) (loop_goal E l end limit) variable (λ i. choose (holds (end_relation by) i n) leave more) (ht limit a)
       (λ i a1 b1 c1 g turns w. on limit a1 c1 g (holds (end_relation by) i n) w)) where
@@ -228,7 +228,7 @@ module _ (address : ℕ → ℕ) (S K : Moment) (old : Later S K) (most : ℕ) w
         rest = then_do step (λ u. back)
 
         more : LoopRound
-        more = then_do body (behind_body rest)
+        more = then_do body (after_body rest)
 
         rest_lands : (limit a : ℕ) → Does K most top p limit a last (loop_goal E l end limit) rest
         rest_lands limit a = does_then (end_goal mid4) (loop_goal E l end limit) step (λ u. back) (hs limit a) (λ u a1 b1 c1 g turns h. does_at (loop_goal E l end limit) back h (back_lands E l end j))
@@ -241,9 +241,9 @@ module _ (address : ℕ → ℕ) (S K : Moment) (old : Later S K) (most : ℕ) w
         }
 
   -- lists
-  behind_items : {top p limit : ℕ} (E : Exits) (is : Items) (f first c end : ℕ) → (O : Moment) (x : State) (t : ℕ)
-      → Onward K most O x t top p limit (exit_goal address S (in_list E is f) end limit) (round_goal (starts_at address (in_list E is f) is first c) (λ at. Entered at is) limit (exit_goal address S E end limit)) (behind_list (has_label is))
-  behind_items {top = top} {p = p} {limit = limit} E is f first c end O x t = on where
+  after_items : {top p limit : ℕ} (E : Exits) (is : Items) (f first c end : ℕ) → (O : Moment) (x : State) (t : ℕ)
+      → Onward K most O x t top p limit (exit_goal address S (in_list E is f) end limit) (round_goal (starts_at address (in_list E is f) is first c) (λ at. Entered at is) limit (exit_goal address S E end limit)) (after_list (has_label is))
+  after_items {top = top} {p = p} {limit = limit} E is f first c end O x t = on where
     goal : Goal (Round Entry Exit)
     goal = round_goal (starts_at address (in_list E is f) is first c) (λ at. Entered at is) limit (exit_goal address S E end limit)
 
@@ -251,7 +251,7 @@ module _ (address : ℕ → ℕ) (S K : Moment) (old : Later S K) (most : ℕ) w
     to_label l true a b c1 g m st e r le h = lands_done limit goal (Again (AtLabel l)) r le (h.0, e, h.1)
     to_label l false a b c1 g m st e r le h = lands_done limit goal (Leave (Jumped l)) r le (h.0 ∙ ap address (labelled_outer is f E.labels l e), h.1)
 
-    on : Onward K most O x t top p limit (exit_goal address S (in_list E is f) end limit) (round_goal (starts_at address (in_list E is f) is first c) (λ at. Entered at is) limit (exit_goal address S E end limit)) (behind_list (has_label is))
+    on : Onward K most O x t top p limit (exit_goal address S (in_list E is f) end limit) (round_goal (starts_at address (in_list E is f) is first c) (λ at. Entered at is) limit (exit_goal address S E end limit)) (after_list (has_label is))
     on Past a b c1 g m st r le h = lands_done limit goal (Leave Past) r le h
     on Broke a b c1 g m st r le h = lands_done limit goal (Leave Broke) r le h
     on Looped a b c1 g m st r le h = lands_done limit goal (Leave Looped) r le h
@@ -264,6 +264,6 @@ module _ (address : ℕ → ℕ) (S K : Moment) (old : Later S K) (most : ℕ) w
       → ((at : Entry) → Entered at is → (limit a : ℕ) → Does K most top p limit a (starts_at address (in_list E is f) is first c at) (exit_goal address S (in_list E is f) end limit) (items at))
       → (at : Entry) → Entered at is → Does K most top p limit a (starts_at address (in_list E is f) is first c at) (exit_goal address S E end limit) (listed (has_label is) items at)
   list_lands E is f first c end items h at entered =
-      does_repeated (λ at1. then_do (items at1) (behind_list (has_label is))) (starts_at address (in_list E is f) is first c) (λ at1. Entered at1 is) (λ limit. exit_goal address S E end limit) (raise_exit E end)
-      (λ at1 in1 limit a. then_raw (exit_goal address S (in_list E is f) end limit) (round_goal (starts_at address (in_list E is f) is first c) (λ at. Entered at is) limit (exit_goal address S E end limit)) (items at1) (behind_list (has_label is)) (h at1 in1 limit a) (λ O x t. behind_items E is f first c end O x t))
+      does_repeated (λ at1. then_do (items at1) (after_list (has_label is))) (starts_at address (in_list E is f) is first c) (λ at1. Entered at1 is) (λ limit. exit_goal address S E end limit) (raise_exit E end)
+      (λ at1 in1 limit a. then_raw (exit_goal address S (in_list E is f) end limit) (round_goal (starts_at address (in_list E is f) is first c) (λ at. Entered at is) limit (exit_goal address S E end limit)) (items at1) (after_list (has_label is)) (h at1 in1 limit a) (λ O x t. after_items E is f first c end O x t))
       at entered

@@ -23,7 +23,7 @@ use Rattle.bc_gen_defs.specs.Emit.{execute}
 use Rattle.bc_right.specs.commands.Exits.{return_items}
 use Rattle.bc_right.specs.steps.Landing.{Moment, Later, Stands, Reached, Goal, Lands, Does}
 use Rattle.bc_right.specs.commands.Library.{argument_item, primitive_items, PrimitivesLand}
-use Rattle.bc_right.proofs.steps.Steps.{behind_item, acts, went, plain, lands_done, leads_more}
+use Rattle.bc_right.proofs.steps.Steps.{after_item, acts, went, plain, lands_done, leads_more}
 use Rattle.bc_right.proofs.commands.Calls.{zeroed, return_goal, framed_lands}
 
 -- an instruction that changes A and the streams
@@ -60,7 +60,7 @@ module _ (S K : Moment) (old : Later S K) (n : ℕ) where
       → Stands (λ l. 0) S (c + 1) return_items end → Does K n top p limit a c (return_goal (λ l. 0) S) (on_streams change 0)
   changes {limit = limit} {a = a} {end = end} change d s e tail = record {
     from = λ O x t b m st le here.
-        lands_done limit (return_goal (λ l. 0) S) 0 (zeroed old (execute 4 ∷ []) tail (streamed a (change st.streams) here (e O x t b m st here))) le (refl, end, behind_item tail);
+        lands_done limit (return_goal (λ l. 0) S) 0 (zeroed old (execute 4 ∷ []) tail (streamed a (change st.streams) here (e O x t b m st here))) le (refl, end, after_item tail);
   }
 
   -- a byte of a string is read as the machine reads it, and so are n of them
@@ -112,24 +112,24 @@ module _ (S K : Moment) (old : Later S K) (n : ℕ) where
 
   primitive_lands : (q : Primitive) (p limit a v end : ℕ) → p + 3 ≤ 65536 → Stands (λ l. 0) S v (primitive_items q) end → Does K n (p + 3) p limit a v (return_goal (λ l. 0) S) (primitive_work q p)
   primitive_lands (Select sides.Input) p limit a v end room s = argument_lands (return_goal (λ l. 0) S) (λ w. on_streams (select_stream sides.Input w) 0) (execute 24 ∷ return_items) room s
-      (λ w. changes (select_stream sides.Input w) 24 (behind_item s) (λ O x t b m st here. acts old functions.Execute false bases.Number 24 return_items (behind_item s) here) (behind_item (behind_item s)))
+      (λ w. changes (select_stream sides.Input w) 24 (after_item s) (λ O x t b m st here. acts old functions.Execute false bases.Number 24 return_items (after_item s) here) (after_item (after_item s)))
   primitive_lands (Select sides.Output) p limit a v end room s = argument_lands (return_goal (λ l. 0) S) (λ w. on_streams (select_stream sides.Output w) 0) (execute 25 ∷ return_items) room s
-      (λ w. changes (select_stream sides.Output w) 25 (behind_item s) (λ O x t b m st here. acts old functions.Execute false bases.Number 25 return_items (behind_item s) here) (behind_item (behind_item s)))
+      (λ w. changes (select_stream sides.Output w) 25 (after_item s) (λ O x t b m st here. acts old functions.Execute false bases.Number 25 return_items (after_item s) here) (after_item (after_item s)))
   primitive_lands ReadByte p limit a v end room s = record {
     from = λ O x t b m st le here.
         let w = byte_or_end (read_byte st.streams) in
-        lands_done limit (return_goal (λ l. 0) S) w (streamed w (after_read st.streams) here (acts old functions.Execute false bases.Number 26 (execute 4 ∷ []) s here)) le (refl, end, behind_item s);
+        lands_done limit (return_goal (λ l. 0) S) w (streamed w (after_read st.streams) here (acts old functions.Execute false bases.Number 26 (execute 4 ∷ []) s here)) le (refl, end, after_item s);
   }
   primitive_lands WriteByte p limit a v end room s = argument_lands (return_goal (λ l. 0) S) (λ w. on_streams (after_write (w % 256)) 0) (execute 27 ∷ return_items) room s
-      (λ w. changes (after_write (w % 256)) 27 (behind_item s) (λ O x t b m st here. acts old functions.Execute false bases.Number 27 return_items (behind_item s) here) (behind_item (behind_item s)))
+      (λ w. changes (after_write (w % 256)) 27 (after_item s) (λ O x t b m st here. acts old functions.Execute false bases.Number 27 return_items (after_item s) here) (after_item (after_item s)))
   primitive_lands (Find sides.Input) p limit a v end room s =
-      let tail = subst (λ z. Stands (λ l. 0) S z (execute 4 ∷ []) end) (add_two v) (behind_item (behind_item s)) in
-      finds sides.Input 28 room s (λ O x t b w m st here. acts old functions.Execute false bases.Number 28 (execute 4 ∷ []) (behind_item s) here ∙ ap (λ z. running (machine (find_stream sides.Input (string_at w m) st.streams) b z p m st.streams)) (add_two v)) tail
+      let tail = subst (λ z. Stands (λ l. 0) S z (execute 4 ∷ []) end) (add_two v) (after_item (after_item s)) in
+      finds sides.Input 28 room s (λ O x t b w m st here. acts old functions.Execute false bases.Number 28 (execute 4 ∷ []) (after_item s) here ∙ ap (λ z. running (machine (find_stream sides.Input (string_at w m) st.streams) b z p m st.streams)) (add_two v)) tail
   primitive_lands (Find sides.Output) p limit a v end room s =
-      let tail = subst (λ z. Stands (λ l. 0) S z (execute 4 ∷ []) end) (add_two v) (behind_item (behind_item s)) in
-      finds sides.Output 29 room s (λ O x t b w m st here. acts old functions.Execute false bases.Number 29 (execute 4 ∷ []) (behind_item s) here ∙ ap (λ z. running (machine (find_stream sides.Output (string_at w m) st.streams) b z p m st.streams)) (add_two v)) tail
-  primitive_lands (EndStream sides.Input) p limit a v end room s = changes (end_stream sides.Input) 33 s (λ O x t b m st here. acts old functions.Execute false bases.Number 33 return_items s here) (behind_item s)
-  primitive_lands (EndStream sides.Output) p limit a v end room s = changes (end_stream sides.Output) 34 s (λ O x t b m st here. acts old functions.Execute false bases.Number 34 return_items s here) (behind_item s)
+      let tail = subst (λ z. Stands (λ l. 0) S z (execute 4 ∷ []) end) (add_two v) (after_item (after_item s)) in
+      finds sides.Output 29 room s (λ O x t b w m st here. acts old functions.Execute false bases.Number 29 (execute 4 ∷ []) (after_item s) here ∙ ap (λ z. running (machine (find_stream sides.Output (string_at w m) st.streams) b z p m st.streams)) (add_two v)) tail
+  primitive_lands (EndStream sides.Input) p limit a v end room s = changes (end_stream sides.Input) 33 s (λ O x t b m st here. acts old functions.Execute false bases.Number 33 return_items s here) (after_item s)
+  primitive_lands (EndStream sides.Output) p limit a v end room s = changes (end_stream sides.Output) 34 s (λ O x t b m st here. acts old functions.Execute false bases.Number 34 return_items s here) (after_item s)
 
 pub primitives_land : PrimitivesLand
 primitives_land S program stands zero v q e = record { from = λ K old address O x t p s b c end limit vs m st at args room le here. let none : st.turns < 0 = here.few in absurd (omega arith) }

@@ -3,7 +3,7 @@ use Rattle.std.proofs.Common.{◌≡◌, ℕ, ◌+◌, ◌==◌, Bool, true, fal
 use Rattle.std.proofs.lemmas.Bool.{eqb-true}
 use Rattle.bc_core.specs.Commands as commands
 use Rattle.bc_core.specs.Commands.{Place, Routine}
-use Rattle.bc_core.specs.Level.{level_behind_parameters}
+use Rattle.bc_core.specs.Level.{level_after_parameters}
 use Rattle.bc_core.specs.Primitive.{Primitive, primitives, primitive_among}
 use Rattle.bc_core.specs.Map.{Placed}
 use Rattle.bc_core.specs.Meaning.{Callee, OfSection, OfLibrary, callee, callee_among, of_library, or_else}
@@ -12,7 +12,7 @@ use Rattle.bc_gen_defs.specs.Bodies.{bodies_from, emit_body, level_of}
 use Rattle.bc_right.specs.commands.Calls.{RoutineStands}
 use Rattle.bc_gen_defs.specs.Section.{emit_routines}
 use Rattle.bc_right.specs.commands.Section.{PlacesLevelled, SectionStands, AllStand, SectionsStand}
-use Rattle.bc_right.proofs.steps.Steps.{parts, at_label, behind_label}
+use Rattle.bc_right.proofs.steps.Steps.{parts, at_label, after_label}
 
 same_section : (s s1 : Placed) (r r1 : Routine) → OfSection s r ≡ OfSection s1 r1 → s ≡ s1
 same_section s s1 r r1 e = cc
@@ -43,8 +43,8 @@ module _ (S : Moment) (section : Placed) (own : SectionStands S section) (v : �
   found_among [] j f c end lv st s1 r1 e = absurd (no_callee (OfSection s1 r1) e)
   found_among (commands.Code r ∷ places) j f c end lv st s1 r1 e =
       let roots = own.over (bodies_from (λ i. i) own.over 0 section.core.valofs) in
-      let x = emit_body (λ i. i) roots r.body (level_behind_parameters r.parameters) f in
-      let q = parts x.0 (emit_routines (λ i. i) roots (j + 1) places x.1).0 (behind_label st) in
+      let x = emit_body (λ i. i) roots r.body (level_after_parameters r.parameters) f in
+      let q = parts x.0 (emit_routines (λ i. i) roots (j + 1) places x.1).0 (after_label st) in
       by_address (section.address (j + 1) == v) refl (λ found. record {
         over = own.over;
         first = f;

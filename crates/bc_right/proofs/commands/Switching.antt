@@ -15,7 +15,7 @@ use Rattle.bc_core.specs.Outcome.{Done, Run, followed, then_do, next_round, roun
 use Rattle.bc_core.specs.Value.{Context}
 use Rattle.bc_core.specs.Exit.{Exit, Past, Broke, Looped, LeftCases, Returned, Resulted, Jumped}
 use Rattle.bc_core.specs.Command.{perform_items}
-use Rattle.bc_core.specs.Lists.{Entry, AtCase, AtDefault, has_case, has_label, entry_of, behind_list, listed, behind_cases, switched}
+use Rattle.bc_core.specs.Lists.{Entry, AtCase, AtDefault, has_case, has_label, entry_of, after_list, listed, after_cases, switched}
 use Rattle.bc_right.specs.steps.Leads.{machine}
 use Rattle.bc_right.specs.steps.CodeAt.{HasItems, words}
 use Rattle.bc_right.proofs.steps.Items.{words_append, has_front}
@@ -71,7 +71,7 @@ module _ (address : ℕ → ℕ) (S K : Moment) (old : Later S K) (most : ℕ) w
   abbrev in_cases : Exits → ℕ → Exits
   in_cases E f = record E { cases = f }
 
-  -- `X23` in front of its table
+  -- `X23` before its table
   switches : {O : Moment} {x : State} {t top p a b c g end : ℕ} {m : List ℕ} {st : outcomes.State} (is : Items) (first d : ℕ) (rest : List Item) → Stands address S c (execute 23 ∷ Data (cases_in is) ∷ DataLabel d ∷ (table_of (λ i. i) is first ++ rest)) end → Reached K most O x t top p a b c g m st
       → Reached K most O x t top p a b (cond (has_case is a) (address (cased is first a)) (address d)) (g + 1) m st
   switches {p = p} {a = a} {b = b} {c = c} {m = m} {st = st} is first d rest s r =
@@ -90,10 +90,10 @@ module _ (address : ℕ → ℕ) (S K : Moment) (old : Later S K) (most : ℕ) w
       ∙ ap (λ z. case_of (cases_in is) (c + 1 + 1 + 1) a z m) h.2.2.0.0
       ∙ table_finds is first address m (c + 1 + 1 + 1) a (address d) table (omega (arith, fits, e))))
 
-  -- behind the list of a SWITCHON
-  behind_lands : {top p limit a c : ℕ} (E : Exits) (f last end : ℕ) (r : Run Exit) → last ≡ end → address f ≡ end → Does K most top p limit a c (exit_goal address S (in_cases E f) last limit) r → Does K most top p limit a c (exit_goal address S E end limit) (then_do r behind_cases)
-  behind_lands {top = top} {p = p} {limit = limit} E f last end r e there d = then_raw (exit_goal address S (in_cases E f) last limit) (exit_goal address S E end limit) r behind_cases d (λ O x t. on O x t) where
-    on : (O : Moment) (x : State) (t : ℕ) → Onward K most O x t top p limit (exit_goal address S (in_cases E f) last limit) (exit_goal address S E end limit) behind_cases
+  -- after the list of a SWITCHON
+  after_lands : {top p limit a c : ℕ} (E : Exits) (f last end : ℕ) (r : Run Exit) → last ≡ end → address f ≡ end → Does K most top p limit a c (exit_goal address S (in_cases E f) last limit) r → Does K most top p limit a c (exit_goal address S E end limit) (then_do r after_cases)
+  after_lands {top = top} {p = p} {limit = limit} E f last end r e there d = then_raw (exit_goal address S (in_cases E f) last limit) (exit_goal address S E end limit) r after_cases d (λ O x t. on O x t) where
+    on : (O : Moment) (x : State) (t : ℕ) → Onward K most O x t top p limit (exit_goal address S (in_cases E f) last limit) (exit_goal address S E end limit) after_cases
     on O x t Past a b c g m st r le h = lands_done limit (exit_goal address S E end limit) Past r le (h ∙ e)
     on O x t Broke a b c g m st r le h = lands_done limit (exit_goal address S E end limit) Broke r le h
     on O x t Looped a b c g m st r le h = lands_done limit (exit_goal address S E end limit) Looped r le h
@@ -108,7 +108,7 @@ module _ (address : ℕ → ℕ) (S K : Moment) (old : Later S K) (most : ℕ) w
       → ((at : Entry) → Entered at is → (limit a : ℕ) → Does K most top p limit a (starts_at address (in_list (in_cases E f) is inner) is first begin at) (exit_goal address S (in_list (in_cases E f) is inner) last limit) (items at))
       → Does K most top p limit a c (exit_goal address S E end limit) (switched value (has_case is) (has_label is) items)
   switch_lands {top = top} {p = p} {limit = limit} E is f inner first mid begin last end end1 rest value items hv table there over without hi =
-      then_raw (value_goal mid) (exit_goal address S E end limit) value (λ v. then_do (listed (has_label is) items (entry_of (has_case is) v)) behind_cases) hv
+      then_raw (value_goal mid) (exit_goal address S E end limit) value (λ v. then_do (listed (has_label is) items (entry_of (has_case is) v)) after_cases) hv
       (λ O x t v a b c g m st r le w. let at : c ≡ mid = w.1 in (entered v a b w.0 (has_case is v) refl).from O x t b m st le (plain (places v a w.0 (switches is first d rest table (at_place at r))))) where
         d : ℕ
         d = defaulted is first f
@@ -126,12 +126,12 @@ module _ (address : ℕ → ℕ) (S K : Moment) (old : Later S K) (most : ℕ) w
         by_default a false e = record {
           from = λ O x t b m st le here.
               let w = without e in
-              let again = λ (z : Entry). then_do (items z) (behind_list (has_label is)) in
-              let over_all : Done Past st ≡ listed (has_label is) items AtDefault st = sym (ap (λ z. followed (followed z (behind_list (has_label is))) (next_round (rounds st.turns again))) (w st)) in
+              let again = λ (z : Entry). then_do (items z) (after_list (has_label is)) in
+              let over_all : Done Past st ≡ listed (has_label is) items AtDefault st = sym (ap (λ z. followed (followed z (after_list (has_label is))) (next_round (rounds st.turns again))) (w st)) in
               subst (λ z. Lands K most O x t top p limit (exit_goal address S (in_cases E f) last limit) z) over_all
               (lands_done limit (exit_goal address S (in_cases E f) last limit) Past here le (ap address (defaulted_none is first f e) ∙ there));
         }
 
-        entered : (v a b : ℕ) → a ≡ v → (some : Bool) → has_case is v ≡ some → Does K most top p limit a (cond some (address (cased is first v)) (address d)) (exit_goal address S E end limit) (then_do (listed (has_label is) items (cond some (AtCase v) AtDefault)) behind_cases)
-        entered v a b e true h = behind_lands E f last end (listed (has_label is) items (AtCase v)) over (there ∙ over) (list_lands address S K old most (in_cases E f) is inner first begin last items hi (AtCase v) h)
-        entered v a b e false h = behind_lands E f last end (listed (has_label is) items AtDefault) over (there ∙ over) (by_default a (has_default is) refl)
+        entered : (v a b : ℕ) → a ≡ v → (some : Bool) → has_case is v ≡ some → Does K most top p limit a (cond some (address (cased is first v)) (address d)) (exit_goal address S E end limit) (then_do (listed (has_label is) items (cond some (AtCase v) AtDefault)) after_cases)
+        entered v a b e true h = after_lands E f last end (listed (has_label is) items (AtCase v)) over (there ∙ over) (list_lands address S K old most (in_cases E f) is inner first begin last items hi (AtCase v) h)
+        entered v a b e false h = after_lands E f last end (listed (has_label is) items AtDefault) over (there ∙ over) (by_default a (has_default is) refl)

@@ -26,7 +26,7 @@ use Rattle.bc_right.specs.steps.Goals.{value_goal}
 use Rattle.bc_right.specs.steps.Items.{call_item}
 use Rattle.bc_right.specs.commands.Calls.{ProgramStands, LibraryLands}
 use Rattle.bc_right.specs.commands.Whole.{boot_items, RunsAreSame, MeaningIsRun}
-use Rattle.bc_right.proofs.steps.Steps.{later_refl, behind_item, first_item, acts, went, plain, at_place}
+use Rattle.bc_right.proofs.steps.Steps.{later_refl, after_item, first_item, acts, went, plain, at_place}
 use Rattle.bc_right.proofs.commands.Calls.{calls_work}
 
 module _ (S : Moment) (program : List Placed) (address : ℕ → ℕ) (stack_base end : ℕ) (boot : Stands address S 0 boot_items end) (stands : ProgramStands S program) (library : LibraryLands S program)
@@ -62,7 +62,7 @@ module _ (S : Moment) (program : List Placed) (address : ℕ → ℕ) (stack_bas
       let y = machine l.0 l.1 2 stack_base l.4 st1.streams in
       let here = at_place l.7.1 l.5 in
       let h = here.leads.by 1 in
-      let s = stops_from x y h.0 1 machine_ends.Finished st1.streams h.2 (step_stops y y machine_ends.Finished (acts (later_refl S) functions.Execute false bases.Number 22 [] (behind_item (behind_item boot)) here)) in
+      let s = stops_from x y h.0 1 machine_ends.Finished st1.streams h.2 (step_stops y y machine_ends.Finished (acts (later_refl S) functions.Execute false bases.Number 22 [] (after_item (after_item boot)) here)) in
       (h.0, (s.end_is, ap output_of s.streams_are))
   finished (Ended e streams1) l = (l.0, (l.1.end_is, ap output_of l.1.streams_are))
   finished (Going streams1) l = (l.0, l.1, (l.2.end_is, ap output_of l.2.streams_are))
@@ -75,7 +75,7 @@ module _ (S : Moment) (program : List Placed) (address : ℕ → ℕ) (stack_bas
       let after = plain (went first loaded) in
       let same : n ≤ n = omega arith in
       finished (calls program (suc n) w [] top st)
-      ((calls_work S program stands library (suc n) w).from S (later_refl S) address O x n stack_base 2 0 1 2 n [] S.store st (first_item (behind_item boot)) tt (omega (arith, room)) same after)
+      ((calls_work S program stands library (suc n) w).from S (later_refl S) address O x n stack_base 2 0 1 2 n [] S.store st (first_item (after_item boot)) tt (omega (arith, room)) same after)
 
   by_cell : (cell : Cell) → cell_at S.cells 9 ≡ cell → Same (result_of (followed (content_of_cell cell st) (λ begin. calls program (suc n) begin [] top))) n x
   unfolding x st top O

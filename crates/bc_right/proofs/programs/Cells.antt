@@ -10,7 +10,7 @@ use Rattle.bc_core.specs.Store.{Cell, Dead, Set, cell_at}
 use Rattle.bc_core.specs.Start.{or_else, setting, global_cell, word_of, data_word, data_cell, start_cell, cells_from, start_cells}
 use Rattle.bc_right.specs.steps.CodeAt.{HasWords}
 use Rattle.bc_right.proofs.programs.Globals.{or_zero}
-use Rattle.bc_right.proofs.programs.Standing.{word_at, DataBehind, DataAt}
+use Rattle.bc_right.proofs.programs.Standing.{word_at, DataAfter, DataAt}
 
 -- a list that nothing unfolds
 pub first_cells : List Standing → List Cell
@@ -64,35 +64,35 @@ clear_both a (x ∷ xs) ys h k = (h.0, clear_both a xs ys h.1 k)
 pub in_bounds : (store : List ℕ) (low high : ℕ) (ss : List Standing) → DataAt store low high ss → low ≤ high
 in_bounds store low high [] h = h
 in_bounds store low high (s ∷ ss) h = by s.address s.holding (λ z k. in_bounds store z high ss k) h where
-  by : (from : ℕ) (k : Holding) → ((z : ℕ) → DataAt store z high ss → z ≤ high) → DataBehind store k from low (λ z. DataAt store z high ss) → low ≤ high
+  by : (from : ℕ) (k : Holding) → ((z : ℕ) → DataAt store z high ss → z ≤ high) → DataAfter store k from low (λ z. DataAt store z high ss) → low ≤ high
   by from (ARoutine g) ih d = ih low d
   by from (Words ws) ih d = let k = ih (from + length ws) d.2 in omega (arith, d.1)
 
 pub clear_below : (store : List ℕ) (low high a : ℕ) (ss : List Standing) → DataAt store low high ss → a < low → Clear a ss
 clear_below store low high a [] h lt = tt
 clear_below store low high a (s ∷ ss) h lt = by s.address s.holding (λ z k l. clear_below store z high a ss k l) h where
-  by : (from : ℕ) (k : Holding) → ((z : ℕ) → DataAt store z high ss → a < z → Clear a ss) → DataBehind store k from low (λ z. DataAt store z high ss) → ClearOf a from k × Clear a ss
+  by : (from : ℕ) (k : Holding) → ((z : ℕ) → DataAt store z high ss → a < z → Clear a ss) → DataAfter store k from low (λ z. DataAt store z high ss) → ClearOf a from k × Clear a ss
   by from (ARoutine g) ih d = (tt, ih low d lt)
   by from (Words ws) ih d = (inl (omega (arith, d.1)), ih (from + length ws) d.2 (omega (arith, d.1)))
 
 pub clear_above : (store : List ℕ) (low high a : ℕ) (ss : List Standing) → DataAt store low high ss → high ≤ a → Clear a ss
 clear_above store low high a [] h le = tt
 clear_above store low high a (s ∷ ss) h le = by s.address s.holding (λ z k. clear_above store z high a ss k le) h where
-  by : (from : ℕ) (k : Holding) → ((z : ℕ) → DataAt store z high ss → Clear a ss) → DataBehind store k from low (λ z. DataAt store z high ss) → ClearOf a from k × Clear a ss
+  by : (from : ℕ) (k : Holding) → ((z : ℕ) → DataAt store z high ss → Clear a ss) → DataAfter store k from low (λ z. DataAt store z high ss) → ClearOf a from k × Clear a ss
   by from (ARoutine g) ih d = (tt, ih low d)
   by from (Words ws) ih d = (let k = in_bounds store (from + length ws) high ss d.2 in inr (omega arith), ih (from + length ws) d.2)
 
 pub data_wider : (store : List ℕ) (low high low1 high1 : ℕ) (ss : List Standing) → low1 ≤ low → high ≤ high1 → DataAt store low high ss → DataAt store low1 high1 ss
 data_wider store low high low1 high1 [] lo hi h = omega arith
 data_wider store low high low1 high1 (s ∷ ss) lo hi h = by s.address s.holding (λ z z1 le k. data_wider store z high z1 high1 ss le hi k) h where
-  by : (from : ℕ) (k : Holding) → ((z z1 : ℕ) → z1 ≤ z → DataAt store z high ss → DataAt store z1 high1 ss) → DataBehind store k from low (λ z. DataAt store z high ss) → DataBehind store k from low1 (λ z. DataAt store z high1 ss)
+  by : (from : ℕ) (k : Holding) → ((z z1 : ℕ) → z1 ≤ z → DataAt store z high ss → DataAt store z1 high1 ss) → DataAfter store k from low (λ z. DataAt store z high ss) → DataAfter store k from low1 (λ z. DataAt store z high1 ss)
   by from (ARoutine g) ih d = ih low low1 lo d
   by from (Words ws) ih d = (d.0, omega (arith, d.1), ih (from + length ws) (from + length ws) (omega arith) d.2)
 
 pub data_both : (store : List ℕ) (low middle high : ℕ) (xs ys : List Standing) → DataAt store low middle xs → DataAt store middle high ys → DataAt store low high (xs ++ ys)
 data_both store low middle high [] ys h k = data_wider store middle high low high ys h (omega arith) k
 data_both store low middle high (x ∷ xs) ys h k = by x.address x.holding (λ z l. data_both store z middle high xs ys l k) h where
-  by : (from : ℕ) (q : Holding) → ((z : ℕ) → DataAt store z middle xs → DataAt store z high (xs ++ ys)) → DataBehind store q from low (λ z. DataAt store z middle xs) → DataBehind store q from low (λ z. DataAt store z high (xs ++ ys))
+  by : (from : ℕ) (q : Holding) → ((z : ℕ) → DataAt store z middle xs → DataAt store z high (xs ++ ys)) → DataAfter store q from low (λ z. DataAt store z middle xs) → DataAfter store q from low (λ z. DataAt store z high (xs ++ ys))
   by from (ARoutine g) ih d = ih low d
   by from (Words ws) ih d = (d.0, d.1, ih (from + length ws) d.2)
 
@@ -130,7 +130,7 @@ data_is store low high a w (s ∷ ss) h e = by s.address s.holding (λ z k g. da
   by_word from ws d ih None f g = ih g
   by_word from ws d ih (Some v) f g = word_is store a w from ws d (f ∙ g)
 
-  by : (from : ℕ) (k : Holding) → ((z : ℕ) → DataAt store z high ss → data_word ss a ≡ Some w → slice_index store a ≡ w) → DataBehind store k from low (λ z. DataAt store z high ss) → or_else (word_of k from a) (data_word ss a) ≡ Some w → slice_index store a ≡ w
+  by : (from : ℕ) (k : Holding) → ((z : ℕ) → DataAt store z high ss → data_word ss a ≡ Some w → slice_index store a ≡ w) → DataAfter store k from low (λ z. DataAt store z high ss) → or_else (word_of k from a) (data_word ss a) ≡ Some w → slice_index store a ≡ w
   by from (ARoutine g) ih d f = ih low d f
   by from (Words ws) ih d f = by_word from ws d.0 (λ g. ih (from + length ws) d.2 g) (word_of (Words ws) from a) refl f
 

@@ -11,7 +11,7 @@ use Rattle.bc_text_items.specs.Sizes.{size}
 use Rattle.bc_text_items.specs.Assembled.{label_places}
 use Rattle.bc_machine_defs.specs.Places.{address_in}
 use Rattle.bc_link.specs.Labels.{label_address, labels_of}
-use Rattle.bc_link.specs.Refusals.{first_of, repeated_behind, first_repeated}
+use Rattle.bc_link.specs.Refusals.{first_of, repeated_after, first_repeated}
 use Rattle.bc_right.proofs.programs.Standing.{LabelsAt}
 
 abbrev pub Absent : ℕ → List ℕ → Type 0
@@ -50,24 +50,24 @@ in_last x (y ∷ ys) = inr (in_last x ys)
 never : {X : Type 0} (x : X) → Some x ≡ None → ⊥
 never x e = cc
 
-none_behind : (x : ℕ) (before xs : List ℕ) (seen : Bool) → list_any (λ y. x == y) before ≡ seen → cond seen (Some x) (repeated_behind (before ++ x ∷ []) xs) ≡ None → (list_any (λ y. x == y) before ≡ false) × (repeated_behind (before ++ x ∷ []) xs ≡ None)
-none_behind x before xs true e h = absurd (never x h)
-none_behind x before xs false e h = (e, h)
+none_after : (x : ℕ) (before xs : List ℕ) (seen : Bool) → list_any (λ y. x == y) before ≡ seen → cond seen (Some x) (repeated_after (before ++ x ∷ []) xs) ≡ None → (list_any (λ y. x == y) before ≡ false) × (repeated_after (before ++ x ∷ []) xs ≡ None)
+none_after x before xs true e h = absurd (never x h)
+none_after x before xs false e h = (e, h)
 
-absent_behind : (before xs : List ℕ) (z : ℕ) → In z before → repeated_behind before xs ≡ None → Absent z xs
-absent_behind before [] z h e = tt
-absent_behind before (x ∷ xs) z h e =
-    let k = none_behind x before xs (list_any (λ y. x == y) before) refl e in
-    ((λ same. let seen : true ≡ false = sym (in_any x before (subst (λ w. In w before) same h)) ∙ k.0 in cc), absent_behind (before ++ x ∷ []) xs z (in_front z before (x ∷ []) h) k.1)
+absent_after : (before xs : List ℕ) (z : ℕ) → In z before → repeated_after before xs ≡ None → Absent z xs
+absent_after before [] z h e = tt
+absent_after before (x ∷ xs) z h e =
+    let k = none_after x before xs (list_any (λ y. x == y) before) refl e in
+    ((λ same. let seen : true ≡ false = sym (in_any x before (subst (λ w. In w before) same h)) ∙ k.0 in cc), absent_after (before ++ x ∷ []) xs z (in_front z before (x ∷ []) h) k.1)
 
-distinct_behind : (before xs : List ℕ) → repeated_behind before xs ≡ None → Distinct xs
-distinct_behind before [] e = tt
-distinct_behind before (x ∷ xs) e =
-    let k = none_behind x before xs (list_any (λ y. x == y) before) refl e in
-    (absent_behind (before ++ x ∷ []) xs x (in_last x before) k.1, distinct_behind (before ++ x ∷ []) xs k.1)
+distinct_after : (before xs : List ℕ) → repeated_after before xs ≡ None → Distinct xs
+distinct_after before [] e = tt
+distinct_after before (x ∷ xs) e =
+    let k = none_after x before xs (list_any (λ y. x == y) before) refl e in
+    (absent_after (before ++ x ∷ []) xs x (in_last x before) k.1, distinct_after (before ++ x ∷ []) xs k.1)
 
 pub are_distinct : (xs : List ℕ) → first_repeated xs ≡ None → Distinct xs
-are_distinct xs e = distinct_behind [] xs e
+are_distinct xs e = distinct_after [] xs e
 
 pub neither : {X : Type 0} (a b : Option X) → first_of a b ≡ None → (a ≡ None) × (b ≡ None)
 neither None b e = (refl, e)

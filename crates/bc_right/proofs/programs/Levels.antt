@@ -6,7 +6,7 @@ use Rattle.bc_core.specs.Tree.{Exp, Num, Frame, Glob, Place, Load, Neg, Not, Bin
 use Rattle.bc_core.specs.Tree as tree
 use Rattle.bc_core.specs.Commands.{Variable, Initial, Vector, Command, Block, block, Items, no_item, command, case, default, label, Body, Gives, Does, Valof, Core}
 use Rattle.bc_core.specs.Commands as commands
-use Rattle.bc_core.specs.Level.{side_level, cells_of_all, cells_declared, level_in_for, level_behind_parameters}
+use Rattle.bc_core.specs.Level.{side_level, cells_of_all, cells_declared, level_in_for, level_after_parameters}
 use Rattle.bc_core.specs.WellFormed.{nodes, entries_differ, most_nodes, Around, stands_at, exp_fits, args_fit, root_fits, assignment_fits, variables_fit, declarations_fit, Jumps, in_a_loop, in_list, jumps_in_routine, jumps_in_valof, has_entries, are_distinct, labels_of, command_fits, block_fits, items_fit, body_fits, place_fits, places_fit, valofs_fit, is_core, global_fits}
 use Rattle.bc_core.specs.Layout.{frame_size}
 use Rattle.bc_gen_defs.specs.Bodies.{level_of}
@@ -124,8 +124,8 @@ module _ (levels : ℕ → ℕ) (A : Around) (agrees : Agrees levels A) where
       let k = both_true (place_fits A valofs (commands.Code r)) (places_fit A valofs ps) h in
       let g = global_fits r.global in
       let f = nat_le (frame_size valofs r) 32768 in
-      let l = both_true (g && f) (body_fits A r.body (level_behind_parameters r.parameters)) k.0 in
-      (body_levelled r.body (level_behind_parameters r.parameters) l.1, places_levelled valofs ps k.1)
+      let l = both_true (g && f) (body_fits A r.body (level_after_parameters r.parameters)) k.0 in
+      (body_levelled r.body (level_after_parameters r.parameters) l.1, places_levelled valofs ps k.1)
   places_levelled valofs (commands.Static w ∷ ps) h = places_levelled valofs ps (both_true true (places_fit A valofs ps) h).1
   places_levelled valofs (commands.Table ws ∷ ps) h = places_levelled valofs ps (both_true true (places_fit A valofs ps) h).1
   places_levelled valofs (commands.Text bytes ∷ ps) h = places_levelled valofs ps (both_true (nat_le (length bytes) 255) (places_fit A valofs ps) h).1

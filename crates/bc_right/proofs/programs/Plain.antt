@@ -6,7 +6,7 @@ use Rattle.bc_core.specs.Tree.{Frame, Root, Value, Test, Assign}
 use Rattle.bc_core.specs.Commands.{Variable, Initial, Vector, Command, Block, block, Items, no_item, command, case, default, label, Body, Gives, Does, Valof, Place}
 use Rattle.bc_core.specs.Commands as commands
 use Rattle.bc_core.specs.Command.{step_of_for}
-use Rattle.bc_core.specs.Level.{cells_of, cells_of_all, cells_declared, level_in_for, level_behind_parameters}
+use Rattle.bc_core.specs.Level.{cells_of, cells_of_all, cells_declared, level_in_for, level_after_parameters}
 use Rattle.bc_rules_defs.specs.declared.rule.Table.{Table}
 use Rattle.bc_rules_defs.specs.declared.piece.Piece.{Piece}
 use Rattle.bc_rules_defs.specs.declared.piece.Piece.TheVariants as pieces
@@ -171,8 +171,8 @@ module _ (roots : Roots) (plain : PlainRoots roots) where
   routines_plain : (j : ℕ) (places : List Place) (f : ℕ) → Plain (emit_routines (λ i. i) roots j places f).0
   routines_plain j [] f = tt
   routines_plain j (commands.Code r ∷ places) f =
-      let x = emit_body (λ i. i) roots r.body (level_behind_parameters r.parameters) f in
-      plain_both x.0 (emit_routines (λ i. i) roots (j + 1) places x.1).0 (body_plain r.body (level_behind_parameters r.parameters) f) (routines_plain (j + 1) places x.1)
+      let x = emit_body (λ i. i) roots r.body (level_after_parameters r.parameters) f in
+      plain_both x.0 (emit_routines (λ i. i) roots (j + 1) places x.1).0 (body_plain r.body (level_after_parameters r.parameters) f) (routines_plain (j + 1) places x.1)
   routines_plain j (commands.Static w ∷ places) f = routines_plain (j + 1) places f
   routines_plain j (commands.Table ws ∷ places) f = routines_plain (j + 1) places f
   routines_plain j (commands.Text bytes ∷ places) f = routines_plain (j + 1) places f

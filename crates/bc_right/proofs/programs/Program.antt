@@ -45,7 +45,7 @@ use Rattle.bc_right.specs.steps.Agreement.{Holds}
 use Rattle.bc_right.proofs.commands.Whole.{meaning_is_run}
 use Rattle.bc_right.proofs.programs.Levels.{section_levelled}
 use Rattle.bc_right.proofs.programs.Plain.{Plain, section_plain}
-use Rattle.bc_right.proofs.programs.Standing.{words_front, words_back, words_behind, word_at, LabelsAt, labels_front, labels_back, items_stand, plain_size, DataAt, no_byte_in_data, no_byte_in_settings, data_stand}
+use Rattle.bc_right.proofs.programs.Standing.{words_front, words_back, words_after, word_at, LabelsAt, labels_front, labels_back, items_stand, plain_size, DataAt, no_byte_in_data, no_byte_in_settings, data_stand}
 use Rattle.bc_right.proofs.programs.Distinct.{Distinct, neither, none_of, are_distinct, labels_at}
 use Rattle.bc_right.proofs.programs.Globals.{Pairs, length_written, pairs_of, pairs_from, found, or_zero, section_settings, setting_among, found_both, found_exchanged, numbers_both, numbers, written_found, globals_written, all_numbers}
 use Rattle.bc_right.proofs.programs.Cells.{first_cells, first_cells-are, cells_length, Clear, clear_both, clear_below, clear_above, data_wider, data_both, cell_dead, cells_agree}
@@ -63,7 +63,7 @@ module _ (T : Table) (choice : Choice T) (store : List ℕ) where
   plain : (core : Core) → Plain (routines core)
   plain core = section_plain choice (level_of core.valofs) core.valofs core.places (length core.places + 1)
 
-  -- a section's routines, and behind them its data
+  -- a section's routines, and after them its data
   pub record OneStands (address : ℕ → ℕ) (core : Core) (c end : ℕ) : Type 0 where
     pub code : HasItems address store c (routines core)
     pub data_at : DataAt store (c + words (routines core)) end (standing_from address 1 core.places)
@@ -106,8 +106,8 @@ module _ (T : Table) (choice : Choice T) (store : List ℕ) where
   abbrev pub first_part : Core → ℕ → List ℕ
   first_part core c = assembled (label_address (label_places c (section core))) (section core)
 
-  pub behind_first : (core : Core) (cores : List Core) (c : ℕ) → HasWords store c (words_from c (section core ∷ sections cores)) → HasWords store (c + size_of_all (section core)) (words_from (c + size_of_all (section core)) (sections cores))
-  behind_first core cores c h =
+  pub after_first : (core : Core) (cores : List Core) (c : ℕ) → HasWords store c (words_from c (section core ∷ sections cores)) → HasWords store (c + size_of_all (section core)) (words_from (c + size_of_all (section core)) (sections cores))
+  after_first core cores c h =
       let rest = words_from (c + size_of_all (section core)) (sections cores) in
       let len : c + length (first_part core c) ≡ c + size_of_all (section core) = ap (λ z. c + z) (length-assembled (label_address (label_places c (section core))) (section core)) in
       subst (λ z. HasWords store z rest) len (words_back store c (first_part core c) rest h)
@@ -122,7 +122,7 @@ module _ (T : Table) (choice : Choice T) (store : List ℕ) where
       let one = one_stands core c (words_front store c (first_part core c) (words_from end (sections cores)) h) e.0 in
       data_both store c end top (standing_from address 1 core.places) (standing (placed cores (addresses_from end (sections cores))))
       (data_wider store (c + words (routines core)) end c end (standing_from address 1 core.places) (omega arith) (omega arith) one.data_at)
-      (data_wider store end (end + size_of_segments (sections cores)) end top (standing (placed cores (addresses_from end (sections cores)))) (omega arith) (omega arith) (data_of cores end (behind_first core cores c h) e.1))
+      (data_wider store end (end + size_of_segments (sections cores)) end top (standing (placed cores (addresses_from end (sections cores)))) (omega arith) (omega arith) (data_of cores end (after_first core cores c h) e.1))
 
   abbrev AllFit : List Core → Type 0
   AllFit [] = Unit {0}
@@ -144,8 +144,8 @@ module _ (T : Table) (choice : Choice T) (store : List ℕ) where
         let here = standing_from address 1 core.places in
         let rest = standing (placed cores (addresses_from end (sections cores))) in
         let one = one_stands core c (words_front store c (first_part core c) (words_from end (sections cores)) h) e.0 in
-        let behind = behind_first core cores c h in
-        let later = data_of cores end behind e.1 in
+        let following = after_first core cores c h in
+        let later = data_of cores end following e.1 in
         let levelled = section_levelled core fit.0 in (
           record {
             over = over (coding_of choice) levels;
@@ -167,7 +167,7 @@ module _ (T : Table) (choice : Choice T) (store : List ℕ) where
               ends = refl;
             };
           },
-          all_stand cores end (before ++ here) behind e.1 fit.1 (λ a le. clear_both a before here (clear a (omega arith)) (clear_above store (c + words (routines core)) end a here one.data_at le))
+          all_stand cores end (before ++ here) following e.1 fit.1 (λ a le. clear_both a before here (clear a (omega arith)) (clear_above store (c + words (routines core)) end a here one.data_at le))
               (append_assoc before here rest ∙ is) (omega arith) (omega (arith, high)),
         )
 
@@ -319,7 +319,7 @@ module _ (T : Table) (choice : Choice T) (cores : List Core) (accepted : refusal
 
   global_words : HasWords linked_store 8 (globals_of segments)
   unfolding low_words
-  global_words = subst (λ z. HasWords z 8 (globals_of segments)) (sym store_low) (words_behind low_words (globals_of segments) (words_from 520 segments ++ zeros))
+  global_words = subst (λ z. HasWords z 8 (globals_of segments)) (sym store_low) (words_after low_words (globals_of segments) (words_from 520 segments ++ zeros))
 
   length_low : length (low_words ++ globals_of segments) ≡ 520
   unfolding low_words
@@ -328,7 +328,7 @@ module _ (T : Table) (choice : Choice T) (cores : List Core) (accepted : refusal
   segment_words : HasWords linked_store 520 (words_from 520 segments)
   segment_words =
       subst (λ z. HasWords z 520 (words_from 520 segments)) (sym store_parts)
-      (subst (λ z. HasWords ((low_words ++ globals_of segments) ++ (words_from 520 segments ++ zeros)) z (words_from 520 segments)) length_low (words_behind (low_words ++ globals_of segments) (words_from 520 segments) zeros))
+      (subst (λ z. HasWords ((low_words ++ globals_of segments) ++ (words_from 520 segments ++ zeros)) z (words_from 520 segments)) length_low (words_after (low_words ++ globals_of segments) (words_from 520 segments) zeros))
 
   library_words : HasWords linked_store 520 (assembled library_address library_items)
   library_words = words_front linked_store 520 (assembled library_address library_items) (words_from 546 own_sections) segment_words

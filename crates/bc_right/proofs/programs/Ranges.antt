@@ -1,11 +1,11 @@
--- The linker's addresses are a map: routines lie in order, and behind them data, section behind section.
+-- The linker's addresses are a map: routines lie in order, and after them data, section after section.
 use Rattle.std.proofs.Common.{◌≡◌, inl, inr, ℕ, zero, suc, ◌+◌, ◌≤◌, List, [], ◌∷◌, ◌++◌, length, refl, ap, subst, arith}
 use Rattle.std.specs.Prelude.{map, All}
 use Rattle.bc_text_items.specs.Sizes.{size_of_all}
 use Rattle.bc_text_items.specs.Assembled.{label_places}
 use Rattle.bc_core.specs.Commands as commands
 use Rattle.bc_core.specs.Commands.{Place, Core, Body, Gives, Does}
-use Rattle.bc_core.specs.Level.{level_behind_parameters}
+use Rattle.bc_core.specs.Level.{level_after_parameters}
 use Rattle.bc_core.specs.Tree.{Value}
 use Rattle.bc_core.specs.Map.{Holding, ARoutine, Words, Standing, standing_from, standing, placed, Range, range, range_of, Apart, AllApart, Inside}
 use Rattle.bc_rules_defs.specs.declared.rule.Table.{Table}
@@ -19,18 +19,18 @@ use Rattle.bc_right.specs.steps.CodeAt.{HasWords, HasItems, words}
 use Rattle.bc_right.specs.steps.Premises.{Roots}
 use Rattle.bc_right.proofs.steps.Items.{words_append, has_back}
 use Rattle.bc_right.specs.programs.Linked.{segments_of, addresses_from, LinkedMapIsMap}
-use Rattle.bc_right.proofs.programs.Standing.{words_front, DataBehind, DataAt}
+use Rattle.bc_right.proofs.programs.Standing.{words_front, DataAfter, DataAt}
 use Rattle.bc_right.proofs.programs.Cells.{in_bounds}
-use Rattle.bc_right.proofs.programs.Program.{section, routines, sections, first_part, one_stands, NoneTwice, behind_first, section_words, sections_once}
+use Rattle.bc_right.proofs.programs.Program.{section, routines, sections, first_part, one_stands, NoneTwice, after_first, section_words, sections_once}
 
 -- routines lie in order between two bounds
-abbrev RoutineBehind : Holding → (a low : ℕ) → (ℕ → Type 0) → Type 0
-RoutineBehind (ARoutine g) a low rest = (low ≤ a) × rest (a + 1)
-RoutineBehind (Words ws) a low rest = rest low
+abbrev RoutineAfter : Holding → (a low : ℕ) → (ℕ → Type 0) → Type 0
+RoutineAfter (ARoutine g) a low rest = (low ≤ a) × rest (a + 1)
+RoutineAfter (Words ws) a low rest = rest low
 
 abbrev RoutinesAt : (low high : ℕ) → List Standing → Type 0
 RoutinesAt low high [] = low ≤ high
-RoutinesAt low high (s ∷ ss) = RoutineBehind s.holding s.address low (λ z. RoutinesAt z high ss)
+RoutinesAt low high (s ∷ ss) = RoutineAfter s.holding s.address low (λ z. RoutinesAt z high ss)
 
 -- a routine has a word
 body_words : (roots : Roots) (b : Body) (s f : ℕ) → 1 ≤ words (emit_body (λ i. i) roots b s f).0
@@ -40,10 +40,10 @@ body_words roots (Does b) s f = let x = emit_block (λ i. i) roots b s (body_exi
 routines_at : (roots : Roots) (address : ℕ → ℕ) (store : List ℕ) (low j : ℕ) (ps : List Place) (f c : ℕ) → low ≤ c → HasItems address store c (emit_routines (λ i. i) roots j ps f).0 → RoutinesAt low (c + words (emit_routines (λ i. i) roots j ps f).0) (standing_from address (j + 1) ps)
 routines_at roots address store low j [] f c le h = omega arith
 routines_at roots address store low j (commands.Code r ∷ ps) f c le h =
-    let x = emit_body (λ i. i) roots r.body (level_behind_parameters r.parameters) f in
+    let x = emit_body (λ i. i) roots r.body (level_after_parameters r.parameters) f in
     let y = emit_routines (λ i. i) roots (j + 1) ps x.1 in
     let e = words_append x.0 y.0 in
-    let more = body_words roots r.body (level_behind_parameters r.parameters) f in
+    let more = body_words roots r.body (level_after_parameters r.parameters) f in
     let end : c + 0 + words x.0 + words y.0 ≡ c + (0 + words (x.0 ++ y.0)) = omega arith in (
       omega (arith, h.1),
       subst (λ z. RoutinesAt (address (j + 1) + 1) z (standing_from address (j + 1 + 1) ps)) end
@@ -89,7 +89,7 @@ each_both low middle high (x ∷ xs) ys w h v k = (apart_both (range_of x) xs ys
 routine_bounds : (low high : ℕ) (ss : List Standing) → RoutinesAt low high ss → low ≤ high
 routine_bounds low high [] h = h
 routine_bounds low high (s ∷ ss) h = by s.address s.holding (λ z k. routine_bounds z high ss k) h where
-  by : (from : ℕ) (k : Holding) → ((z : ℕ) → RoutinesAt z high ss → z ≤ high) → RoutineBehind k from low (λ z. RoutinesAt z high ss) → low ≤ high
+  by : (from : ℕ) (k : Holding) → ((z : ℕ) → RoutinesAt z high ss → z ≤ high) → RoutineAfter k from low (λ z. RoutinesAt z high ss) → low ≤ high
   by from (ARoutine g) ih d = let k = ih (from + 1) d.1 in omega (arith, d.0)
   by from (Words ws) ih d = ih low d
 
@@ -97,7 +97,7 @@ routine_bounds low high (s ∷ ss) h = by s.address s.holding (λ z k. routine_b
 section_within : (store : List ℕ) (rl rh dl dh : ℕ) (ss : List Standing) → rh ≤ dl → RoutinesAt rl rh ss → DataAt store dl dh ss → Within rl dh ss
 section_within store rl rh dl dh [] le r d = tt
 section_within store rl rh dl dh (s ∷ ss) le r d = by s.address s.holding (λ a b k l q. section_within store a rh b dh ss q k l) r d where
-  by : (from : ℕ) (k : Holding) → ((a b : ℕ) → RoutinesAt a rh ss → DataAt store b dh ss → rh ≤ b → Within a dh ss) → RoutineBehind k from rl (λ z. RoutinesAt z rh ss) → DataBehind store k from dl (λ z. DataAt store z dh ss)
+  by : (from : ℕ) (k : Holding) → ((a b : ℕ) → RoutinesAt a rh ss → DataAt store b dh ss → rh ≤ b → Within a dh ss) → RoutineAfter k from rl (λ z. RoutinesAt z rh ss) → DataAfter store k from dl (λ z. DataAt store z dh ss)
       → (let t : Standing = record { address = from; holding = k } in Within rl dh (t ∷ ss))
   by from (ARoutine g) ih p q =
       let k = routine_bounds (from + 1) rh ss p.1 in
@@ -108,11 +108,11 @@ section_within store rl rh dl dh (s ∷ ss) le r d = by s.address s.holding (λ 
       let l = in_bounds store (from + length ws) dh ss q.2 in
       (omega (arith, q.1), omega arith, ih rl (from + length ws) p q.2 (omega (arith, q.1)))
 
--- a routine in front of all others, and words in front of all others
+-- a routine before all others, and words before all others
 routine_apart : (store : List ℕ) (r : Range) (rl rh dl dh : ℕ) (ss : List Standing) → r.from + r.size ≤ rl → rh ≤ dl → RoutinesAt rl rh ss → DataAt store dl dh ss → ApartFrom r ss
 routine_apart store r rl rh dl dh [] lt le p q = tt
 routine_apart store r rl rh dl dh (s ∷ ss) lt le p q = by s.address s.holding (λ a b l m k n. routine_apart store r a rh b dh ss l m k n) p q where
-  by : (from : ℕ) (k : Holding) → ((a b : ℕ) → r.from + r.size ≤ a → rh ≤ b → RoutinesAt a rh ss → DataAt store b dh ss → ApartFrom r ss) → RoutineBehind k from rl (λ z. RoutinesAt z rh ss) → DataBehind store k from dl (λ z. DataAt store z dh ss)
+  by : (from : ℕ) (k : Holding) → ((a b : ℕ) → r.from + r.size ≤ a → rh ≤ b → RoutinesAt a rh ss → DataAt store b dh ss → ApartFrom r ss) → RoutineAfter k from rl (λ z. RoutinesAt z rh ss) → DataAfter store k from dl (λ z. DataAt store z dh ss)
       → (let t : Standing = record { address = from; holding = k } in ApartFrom r (t ∷ ss))
   by from (ARoutine g) ih p q = (inl (omega (arith, p.0)), ih (from + 1) dl (omega (arith, p.0)) le p.1 q)
   by from (Words ws) ih p q =
@@ -122,7 +122,7 @@ routine_apart store r rl rh dl dh (s ∷ ss) lt le p q = by s.address s.holding 
 words_apart : (store : List ℕ) (r : Range) (rl rh dl dh : ℕ) (ss : List Standing) → rh ≤ r.from → r.from + r.size ≤ dl → RoutinesAt rl rh ss → DataAt store dl dh ss → ApartFrom r ss
 words_apart store r rl rh dl dh [] lt le p q = tt
 words_apart store r rl rh dl dh (s ∷ ss) lt le p q = by s.address s.holding (λ a b m k n. words_apart store r a rh b dh ss lt m k n) p q where
-  by : (from : ℕ) (k : Holding) → ((a b : ℕ) → r.from + r.size ≤ b → RoutinesAt a rh ss → DataAt store b dh ss → ApartFrom r ss) → RoutineBehind k from rl (λ z. RoutinesAt z rh ss) → DataBehind store k from dl (λ z. DataAt store z dh ss)
+  by : (from : ℕ) (k : Holding) → ((a b : ℕ) → r.from + r.size ≤ b → RoutinesAt a rh ss → DataAt store b dh ss → ApartFrom r ss) → RoutineAfter k from rl (λ z. RoutinesAt z rh ss) → DataAfter store k from dl (λ z. DataAt store z dh ss)
       → (let t : Standing = record { address = from; holding = k } in ApartFrom r (t ∷ ss))
   by from (ARoutine g) ih p q = let k = routine_bounds (from + 1) rh ss p.1 in (inr (omega arith), ih (from + 1) dl le p.1 q)
   by from (Words ws) ih p q = (inl (omega (arith, q.1)), ih rl (from + length ws) (omega (arith, q.1)) p q.2)
@@ -130,7 +130,7 @@ words_apart store r rl rh dl dh (s ∷ ss) lt le p q = by s.address s.holding (�
 section_apart : (store : List ℕ) (rl rh dl dh : ℕ) (ss : List Standing) → rh ≤ dl → RoutinesAt rl rh ss → DataAt store dl dh ss → EachApart ss
 section_apart store rl rh dl dh [] le p q = tt
 section_apart store rl rh dl dh (s ∷ ss) le p q = by s.address s.holding (λ a b l k n. section_apart store a rh b dh ss l k n) p q where
-  by : (from : ℕ) (k : Holding) → ((a b : ℕ) → rh ≤ b → RoutinesAt a rh ss → DataAt store b dh ss → EachApart ss) → RoutineBehind k from rl (λ z. RoutinesAt z rh ss) → DataBehind store k from dl (λ z. DataAt store z dh ss)
+  by : (from : ℕ) (k : Holding) → ((a b : ℕ) → rh ≤ b → RoutinesAt a rh ss → DataAt store b dh ss → EachApart ss) → RoutineAfter k from rl (λ z. RoutinesAt z rh ss) → DataAfter store k from dl (λ z. DataAt store z dh ss)
       → (let t : Standing = record { address = from; holding = k } in EachApart (t ∷ ss))
   by from (ARoutine g) ih p q = (routine_apart store (range from 1) (from + 1) rh dl dh ss (omega arith) le p.1 q, ih (from + 1) dl le p.1 q)
   by from (Words ws) ih p q = (words_apart store (range from (length ws)) rl rh (from + length ws) dh ss (omega (arith, q.1)) (omega arith) p q.2, ih rl (from + length ws) (omega (arith, q.1)) p q.2)
@@ -155,7 +155,7 @@ module _ (T : Table) (choice : Choice T) (store : List ℕ) where
       let roots = over (coding_of choice) levels (bodies_from (λ i. i) (over (coding_of choice) levels) 0 core.valofs) in
       let ordered = routines_at roots address store c 0 core.places (length core.places + 1) c (omega arith) one.code in
       let own = section_within store c middle middle end here (omega arith) ordered one.data_at in
-      let later = all_lie cores end (behind_first T choice store core cores c h) e.1 in
+      let later = all_lie cores end (after_first T choice store core cores c h) e.1 in
       record {
         within = within_both c top here rest (within_wider c end c top here (omega arith) (omega arith) own) (within_wider end (end + size_of_segments (sections T choice store cores)) c top rest (omega arith) (omega arith) later.within);
         apart = each_both c end (end + size_of_segments (sections T choice store cores)) here rest own (section_apart store c middle middle end here (omega arith) ordered one.data_at) later.within later.apart;

@@ -34,14 +34,14 @@ first_word : (front : List ℕ) (x : ℕ) (rest : List ℕ) → slice_index (fro
 first_word [] x rest = refl
 first_word (f ∷ fs) x rest = first_word fs x rest
 
--- what stands behind other words
-pub words_behind : (front xs rest : List ℕ) → HasWords (front ++ (xs ++ rest)) (length front) xs
-words_behind front [] rest = tt
-words_behind front (x ∷ xs) rest =
+-- what stands after other words
+pub words_after : (front xs rest : List ℕ) → HasWords (front ++ (xs ++ rest)) (length front) xs
+words_after front [] rest = tt
+words_after front (x ∷ xs) rest =
     let all : (front ++ x ∷ []) ++ (xs ++ rest) ≡ front ++ (x ∷ (xs ++ rest)) = append_assoc front (x ∷ []) (xs ++ rest) in
     let len : length (front ++ x ∷ []) ≡ length front + 1 = length-append front (x ∷ []) in (
       first_word front x (xs ++ rest),
-      subst (λ z. HasWords (front ++ (x ∷ (xs ++ rest))) z xs) len (subst (λ z. HasWords z (length (front ++ x ∷ [])) xs) all (words_behind (front ++ x ∷ []) xs rest)),
+      subst (λ z. HasWords (front ++ (x ∷ (xs ++ rest))) z xs) len (subst (λ z. HasWords z (length (front ++ x ∷ [])) xs) all (words_after (front ++ x ∷ []) xs rest)),
     )
 
 -- each label's address is its place
@@ -81,13 +81,13 @@ plain_size (Operation f i b n ∷ is) h = ap (λ z. size (Operation f i b n) + z
 plain_size (Global g m ∷ is) h = absurd h
 
 -- data: the words of the places that have some stand at their addresses, in order between two bounds
-abbrev pub DataBehind : List ℕ → Holding → (a low : ℕ) → (ℕ → Type 0) → Type 0
-DataBehind store (ARoutine g) a low rest = rest low
-DataBehind store (Words ws) a low rest = HasWords store a ws × (low ≤ a) × rest (a + length ws)
+abbrev pub DataAfter : List ℕ → Holding → (a low : ℕ) → (ℕ → Type 0) → Type 0
+DataAfter store (ARoutine g) a low rest = rest low
+DataAfter store (Words ws) a low rest = HasWords store a ws × (low ≤ a) × rest (a + length ws)
 
 abbrev pub DataAt : List ℕ → (low high : ℕ) → List Standing → Type 0
 DataAt store low high [] = low ≤ high
-DataAt store low high (s ∷ ss) = DataBehind store s.holding s.address low (λ z. DataAt store z high ss)
+DataAt store low high (s ∷ ss) = DataAfter store s.holding s.address low (λ z. DataAt store z high ss)
 
 table_words : (address : ℕ → ℕ) (ws : List ℕ) (rest : List Item) → assembled address (map Data ws ++ rest) ≡ ws ++ assembled address rest
 table_words address [] rest = refl

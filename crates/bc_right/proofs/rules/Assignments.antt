@@ -32,7 +32,7 @@ use Rattle.bc_right.specs.steps.Goals.{end_goal}
 use Rattle.bc_right.specs.steps.Premises.{StoresLast}
 use Rattle.bc_right.proofs.steps.Cells.{differ, set_is}
 use Rattle.bc_right.proofs.steps.Exchange.{sides_exchange}
-use Rattle.bc_right.proofs.steps.Steps.{at_end, behind_item, acts, leads_more, at_place, lands_done, then_raw}
+use Rattle.bc_right.proofs.steps.Steps.{at_end, after_item, acts, leads_more, at_place, lands_done, then_raw}
 use Rattle.bc_right.proofs.rules.Filling.{filled, next, filled_parts}
 use Rattle.bc_right.proofs.rules.Stretches.{gets_goal, as_value, does_lower, both_raw, does_unless_wild, operand_then, stands_on}
 use Rattle.bc_right.proofs.rules.Values.{Gives}
@@ -121,7 +121,7 @@ module _ (C : Context) (address levels : ℕ → ℕ) (V : Bodies) (S1 : Moment)
       let r1 = at_place goes.1 r in
       writes at w end limit goes.0
       (acts old functions.Store (not o.direct) o.base o.n [] on r1 ∙ ap (λ z. running (machine a1 b1 (u.middle + operation_size o.base o.n) p (slice_set m1 z a1) st1.streams)) e
-      ∙ ap (λ z. running (machine a1 b1 z p (slice_set m1 at a1) st1.streams)) (at_end (behind_item on))) r1 le)))
+      ∙ ap (λ z. running (machine a1 b1 z p (slice_set m1 at a1) st1.streams)) (at_end (after_item on))) r1 le)))
 
   pub a2_assigns : {v a : Exp} {xs ys : List Piece} (s : ℕ) → operand_of a ≡ None → IsTrue (are_free v a) → Gives C address levels V S1 most bodies Any a (s + 1) xs → Gives C address levels V S1 most bodies Any v (s + 1) ys
       → (K : Moment) → Later S1 K → (p ac c end limit g : ℕ) → Stands address S1 c (filled levels bodies (xs ++ SP s ∷ ys ++ SIP s ∷ []) g) end → p + cells_of_assignment V v a s ≤ 65536
@@ -143,7 +143,7 @@ module _ (C : Context) (address levels : ℕ → ℕ) (V : Bodies) (S1 : Moment)
       (λ O x t at w b2 g2 m2 st2 r2 le2 is.
       writes at w end limit refl
       (acts old functions.Store true bases.P s [] u.third r2 ∙ ap (λ z. running (machine w b2 (u.second_end + operation_size bases.P s) p (slice_set m2 z w) st2.streams)) (at_held C address levels V S1 most bodies m2 p s at fits is)
-      ∙ ap (λ z. running (machine w b2 z p (slice_set m2 at w) st2.streams)) (at_end (behind_item u.third))) r2 le2))))
+      ∙ ap (λ z. running (machine w b2 z p (slice_set m2 at w) st2.streams)) (at_end (after_item u.third))) r2 le2))))
 
   pub a3_assigns : {v a : Exp} {xs ys : List Piece} (s : ℕ) → operand_of a ≡ None → Gives C address levels V S1 most bodies Any v (s + 1) xs → Gives C address levels V S1 most bodies Any a (s + 1) ys
       → (K : Moment) → Later S1 K → (p ac c end limit g : ℕ) → Stands address S1 c (filled levels bodies (xs ++ SP s ∷ ys ++ SP (s + 1) ∷ LIP s ∷ SIP (s + 1) ∷ []) g) end → p + cells_of_assignment V v a s ≤ 65536
@@ -165,12 +165,12 @@ module _ (C : Context) (address levels : ℕ → ℕ) (V : Bodies) (S1 : Moment)
       (λ O x t w at b2 g2 m2 st2 r2 le2 is.
       let r3 = both_held C address levels V S1 most bodies s (store_item (s + 1) ∷ []) old fits1 u.third is r2 in
       let m3 = slice_set m2 (p + (s + 1)) at in
-      let s3 = behind_item (behind_item u.third) in
+      let s3 = after_item (after_item u.third) in
       let c3 = u.second_end + operation_size bases.P (s + 1) + operation_size bases.P s in
       writes at w end limit refl
       (acts old functions.Store true bases.P (s + 1) [] s3 r3
       ∙ ap (λ z. running (machine w at (c3 + operation_size bases.P (s + 1)) p (slice_set m3 z w) st2.streams)) (at_held C address levels V S1 most bodies m3 p (s + 1) at fits1 (held_second C address levels V S1 most bodies m2 p s at fits1 r2.holds.whole))
-      ∙ ap (λ z. running (machine w at z p (slice_set m3 at w) st2.streams)) (at_end (behind_item s3))) r3 le2)))
+      ∙ ap (λ z. running (machine w at z p (slice_set m3 at w) st2.streams)) (at_end (after_item s3))) r3 le2)))
 
   -- a FOR's limit is stored at its offset
   pub limit_stores : {e : Exp} {s k : ℕ} {o : Operand} {xs : List Piece} → operand_of (Frame k) ≡ Some o → Gives C address levels V S1 most bodies Any e s xs

@@ -23,7 +23,7 @@ use Rattle.bc_right.specs.steps.Landing.{Moment, moment, Later, Stands, Reached,
 use Rattle.bc_right.specs.steps.Goals.{value_goal}
 use Rattle.bc_right.specs.steps.Premises.{CallLands, ValofsLand}
 use Rattle.bc_right.proofs.steps.Agreeing.{holds_up}
-use Rattle.bc_right.proofs.steps.Steps.{later_then, later_refl, at_end, behind_item, plain, at_place, bind_from, does_map, lands_map}
+use Rattle.bc_right.proofs.steps.Steps.{later_then, later_refl, at_end, after_item, plain, at_place, bind_from, does_map, lands_map}
 use Rattle.bc_right.proofs.steps.Holding.{reached_from, kept_words, held_at}
 use Rattle.bc_right.proofs.rules.Filling.{Closed, closed_both, filled, next, filled_parts}
 use Rattle.bc_right.proofs.rules.Stretches.{gets_goal}
@@ -52,7 +52,7 @@ module _ (C : Context) (address levels : ℕ → ℕ) (V : Bodies) (S : Moment) 
       let zs = gives.1 in
       let g1 = next levels bodies ys g in
       let q = filled_parts levels bodies ys (SP s ∷ zs) g gives.3.closed (subst (λ z. Stands address S c (filled levels bodies z g) end) gives.2 stands) in
-      let tail = behind_item q.back in
+      let tail = after_item q.back in
       let more : ℕ → Run (List ℕ) = λ v. then_do (values C es p (s + 1)) (λ vs. Done (v ∷ vs)) in
       regroup (value C e p s st) more f
       (bind_from K K O O1 most x t (p + s) top1 p limit (gets_goal Any a q.middle) (value_goal last) (value C e p s st) (λ v. then_do (more v) f)

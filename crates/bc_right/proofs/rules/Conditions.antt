@@ -19,7 +19,7 @@ use Rattle.bc_gen_defs.specs.Bodies.{BodiesCode}
 use Rattle.bc_right.specs.steps.Landing.{Moment, Later, Stands, Goal, Lands, Does}
 use Rattle.bc_right.specs.steps.Items.{JumpAt}
 use Rattle.bc_right.specs.steps.Goals.{jumps_to, test_goal}
-use Rattle.bc_right.proofs.steps.Steps.{at_end, at_label, behind_item, behind_label, jump_first, at_place, jumped, lands_done, then_raw, does_then, does_onto, does_at, does_map}
+use Rattle.bc_right.proofs.steps.Steps.{at_end, at_label, after_item, after_label, jump_first, at_place, jumped, lands_done, then_raw, does_then, does_onto, does_at, does_map}
 use Rattle.bc_right.proofs.rules.Filling.{Closed, closed_both, filled, next, filled_parts}
 use Rattle.bc_right.proofs.rules.Stretches.{gets_goal, does_lower, both_raw}
 use Rattle.bc_right.proofs.rules.Values.{Gives}
@@ -128,7 +128,7 @@ module _ (C : Context) (address levels : ℕ → ℕ) (V : Bodies) (S : Moment) 
     second_at : address l1 ≡ second
     back : Stands address S second (filled levels bodies ys (next levels bodies (cs ++ xs) g)) second_end
     ends : second_end ≡ end
-    behind : address l2 ≡ end
+    following : address l2 ≡ end
 
   in_three : {c l1 l2 end : ℕ} (cs xs ys : List Piece) (g : ℕ) → Closed cs → Closed xs → Closed ys → Stands address S c (filled levels bodies (cs ++ xs ++ J l2 ∷ label l1 ∷ ys ++ label l2 ∷ []) g) end → InThree c l1 l2 cs xs ys g end
   in_three {l1 = l1} {l2 = l2} cs xs ys g hc hx hy st =
@@ -136,8 +136,8 @@ module _ (C : Context) (address levels : ℕ → ℕ) (V : Bodies) (S : Moment) 
       let u1 = filled_parts levels bodies (cs ++ xs ++ J l2 ∷ label l1 ∷ ys) (label l2 ∷ []) g (closed_both (cs ++ xs) (J l2 ∷ label l1 ∷ ys) closed_two hy) st in
       let u2 = filled_parts levels bodies (cs ++ xs) (J l2 ∷ label l1 ∷ ys) g closed_two u1.front in
       let u3 = filled_parts levels bodies cs xs g hc u2.front in
-      let behind_jump = behind_item u2.back in
-      let over = at_end (behind_label u1.back) in
+      let after_jump = after_item u2.back in
+      let over = at_end (after_label u1.back) in
       record {
         tested = u3.middle;
         first_end = u2.middle;
@@ -146,10 +146,10 @@ module _ (C : Context) (address levels : ℕ → ℕ) (V : Bodies) (S : Moment) 
         test = u3.front;
         front = u3.back;
         jump_on = jump_first u2.back;
-        second_at = at_label behind_jump;
-        back = behind_label behind_jump;
+        second_at = at_label after_jump;
+        back = after_label after_jump;
         ends = over;
-        behind = at_label u1.back ∙ over;
+        following = at_label u1.back ∙ over;
       }
 
   closed_three : (l1 l2 : ℕ) (cs xs ys : List Piece) → Closed cs → Closed xs → Closed ys → Closed (cs ++ xs ++ J l2 ∷ label l1 ∷ ys ++ label l2 ∷ [])
@@ -178,7 +178,7 @@ module _ (C : Context) (address levels : ℕ → ℕ) (V : Bodies) (S : Moment) 
     by_truth : (K : Moment) → Later S K → (p a c end limit g : ℕ) → p + cells_of_exp V (Cond e x y) s ≤ 65536 → (u : InThree c l1 l2 cs xs ys g end) → (t : Bool) (a1 c1 g1 : ℕ) → jumps_to (agrees false t) (address l1) u.tested c1 g1
         → Does K most (p + s) p limit a1 c1 (gets_goal Any a end) (choose t (value C x p s) (value C y p s))
     by_truth K old p a c end limit g room u true a1 c1 g1 w =
-        does_at (gets_goal Any a end) (value C x p s) w (first_lands K old hx p a1 u.tested u.first_end l2 end limit (next levels bodies cs g) a u.front (omega (arith, room)) u.jump_on u.behind)
+        does_at (gets_goal Any a end) (value C x p s) w (first_lands K old hx p a1 u.tested u.first_end l2 end limit (next levels bodies cs g) a u.front (omega (arith, room)) u.jump_on u.following)
     by_truth K old p a c end limit g room u false a1 c1 g1 w =
         does_at (gets_goal Any a end) (value C y p s) (w.0 ∙ u.second_at) (second_lands K old hy p a1 u.second u.second_end end limit (next levels bodies (cs ++ xs) g) a u.back (omega (arith, room)) u.ends)
 
@@ -194,6 +194,6 @@ module _ (C : Context) (address levels : ℕ → ℕ) (V : Bodies) (S : Moment) 
     by_truth : (K : Moment) → Later S K → (p a c end limit g : ℕ) → p + cells_of_exp V (Cond e x y) s ≤ 65536 → (u : InThree c l1 l2 cs ys xs g end) → (t : Bool) (a1 c1 g1 : ℕ) → jumps_to (agrees true t) (address l1) u.tested c1 g1
         → Does K most (p + s) p limit a1 c1 (gets_goal Any a end) (choose t (value C x p s) (value C y p s))
     by_truth K old p a c end limit g room u false a1 c1 g1 w =
-        does_at (gets_goal Any a end) (value C y p s) w (first_lands K old hy p a1 u.tested u.first_end l2 end limit (next levels bodies cs g) a u.front (omega (arith, room)) u.jump_on u.behind)
+        does_at (gets_goal Any a end) (value C y p s) w (first_lands K old hy p a1 u.tested u.first_end l2 end limit (next levels bodies cs g) a u.front (omega (arith, room)) u.jump_on u.following)
     by_truth K old p a c end limit g room u true a1 c1 g1 w =
         does_at (gets_goal Any a end) (value C x p s) (w.0 ∙ u.second_at) (second_lands K old hx p a1 u.second u.second_end end limit (next levels bodies (cs ++ ys) g) a u.back (omega (arith, room)) u.ends)

@@ -8,7 +8,7 @@ use Rattle.bc_gen_defs.specs.Bodies.{BodiesCode, label_ahead, fill}
 use Rattle.bc_right.specs.steps.Landing.{Moment, Stands}
 use Rattle.bc_right.proofs.steps.Steps.{parts}
 
--- a label stands right behind each body
+-- a label stands right after each body
 abbrev pub LabelAhead : List Piece → Type 0
 LabelAhead (pieces.Item (items.Label l) ∷ ps) = Unit {0}
 LabelAhead _ = ⊥
@@ -37,7 +37,7 @@ module _ (levels : ℕ → ℕ) (bodies : BodiesCode Item) where
   abbrev pub filled : List Piece → ℕ → List Item
   filled ps g = (fill (λ i. i) levels bodies ps g).0
 
-  -- the next free label behind pieces
+  -- the next free label after pieces
   abbrev pub next : List Piece → ℕ → ℕ
   next ps g = (fill (λ i. i) levels bodies ps g).1
 

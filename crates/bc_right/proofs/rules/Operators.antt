@@ -1,4 +1,4 @@
--- The rules of operators whose operands are worked out one behind the other: the second one is a push, or the first
+-- The rules of operators whose operands are computed one after the other: the second one is a push, or the first
 -- one is held in the frame.
 use Rattle.std.proofs.Common.{◌≡◌, ℕ, ◌+◌, ◌-◌, ◌%◌, ◌<◌, ◌≤◌, ◌||◌, List, [], ◌∷◌, ◌++◌, true, false, Some, refl, sym, ap, ◌∙◌, arith}
 use Rattle.std.specs.Prelude.{slice_index, slice_set, length, IsTrue}
@@ -27,7 +27,7 @@ use Rattle.bc_right.specs.steps.Landing.{Moment, Later, Stands, Reached, Goal, L
 use Rattle.bc_right.specs.steps.Items.{hold_item, take_item, operate}
 use Rattle.bc_right.specs.steps.Items as code
 use Rattle.bc_right.proofs.steps.Exchange.{sides_exchange}
-use Rattle.bc_right.proofs.steps.Steps.{at_end, behind_item, acts, went, plain, at_place, Onward, bind, lands_done, then_raw}
+use Rattle.bc_right.proofs.steps.Steps.{at_end, after_item, acts, went, plain, at_place, Onward, bind, lands_done, then_raw}
 use Rattle.bc_right.proofs.steps.Holding.{held_at}
 use Rattle.bc_right.proofs.rules.Filling.{Closed, closed_both, filled, next, filled_parts}
 use Rattle.bc_right.proofs.rules.Stretches.{gets_goal, registers_small, raised, does_lower, both_raw, does_unless_wild, added, loaded, negates, operates, held_then}
@@ -48,7 +48,7 @@ module _ (C : Context) (address levels : ℕ → ℕ) (V : Bodies) (S : Moment) 
       let v = filled_parts levels bodies xs ys g hx u.front in
       record { first_end = v.middle; second_end = u.middle; first = v.front; second = v.back; third = u.back }
 
-  -- what is worked out second as a push leaves the first value in B
+  -- what is computed second as a push leaves the first value in B
   pushed : {e : Exp} {ys : List Piece} {K O : Moment} {x : State} {t p b c g : ℕ} {m : List ℕ} {st : outcomes.State} (s a end limit h : ℕ) (goal : Goal ℕ) (f : ℕ → Run ℕ) → Later S K → Gives C address levels V S most bodies Push e (s + 1) ys → Stands address S c (filled levels bodies ys h) end → p + cells_of_exp V e (s + 1) ≤ 65536
       → Reached K most O x t (p + (s + 1)) p a b c g m st → st.turns ≤ limit
       → ((w a2 b2 g2 : ℕ) (m2 : List ℕ) (st2 : outcomes.State) → Reached K most O x t (p + (s + 1)) p a2 b2 end g2 m2 st2 → st2.turns ≤ limit → a2 ≡ w → b2 ≡ a → Lands K most O x t (p + (s + 1)) p limit goal (f w st2))
@@ -109,21 +109,21 @@ module _ (C : Context) (address levels : ℕ → ℕ) (V : Bodies) (S : Moment) 
         (λ n a2 b2 g2 m2 st2 r2 le2 is_n is_v.
         let k = registers_small r2 in
         let r3 = went r2 (acts old functions.Execute false bases.Number 9 (code.execute 2 ∷ []) u.third r2) in
-        let s3 = behind_item u.third in
-        lands_done limit goal ((n + (65536 - v)) % 65536) (at_place (at_end (behind_item s3)) (negates [] old s3 r3)) le2 (minus a2 b2 n v k.a k.b is_n (is_v ∙ w.0), refl, tt)))));
+        let s3 = after_item u.third in
+        lands_done limit goal ((n + (65536 - v)) % 65536) (at_place (at_end (after_item s3)) (negates [] old s3 r3)) le2 (minus a2 b2 n v k.a k.b is_n (is_v ∙ w.0), refl, tt)))));
   }
 
   -- the first value is held, and back as `LIPs` or `AIPs` read it
   pub at_held : (m : List ℕ) (p s v : ℕ) → p + s < 65536 → slice_index m (p + s) ≡ v → slice_index m ((s + p) % 65536) ≡ v
   at_held m p s v fits e = let at : (s + p) % 65536 ≡ p + s = omega arith in ap (λ z. slice_index m z) at ∙ e
 
-  -- both parts with the first one held: what comes behind them
+  -- both parts with the first one held: what comes after them
   pub held_parts : {B : Type 0} {second : Exp} {s : ℕ} {xs ys zs : List Piece} (f : ℕ → ℕ → Run B) (goal : Goal B) {K : Moment} {p c end : ℕ} (a limit g : ℕ) → Later S K → p + s < 65536 → Gives C address levels V S most bodies Any second (s + 1) ys → (u : InOrder c xs (SP s ∷ ys) zs g end) → p + cells_of_exp V second (s + 1) ≤ 65536
       → ((O : Moment) (x : State) (t v w b2 g2 : ℕ) (m2 : List ℕ) (st2 : outcomes.State) → Reached K most O x t (p + s) p w b2 u.second_end g2 m2 st2 → st2.turns ≤ limit → slice_index m2 (p + s) ≡ v → Lands K most O x t (p + s) p limit goal (f v w st2))
       → (O : Moment) (x : State) (t : ℕ) → Onward K most O x t (p + s) p limit (gets_goal Any a u.first_end) goal (λ v. then_do (value C second p (s + 1)) (f v))
   held_parts {second = second} {s = s} {xs = xs} {ys = ys} f goal {K = K} {p = p} a limit g old fits hy u room k O x t v a1 b1 c1 g1 m1 st1 here le w =
       held_then s limit u.second_end a1 (filled levels bodies ys (next levels bodies xs g)) goal (value C second p (s + 1)) (f v) old fits u.second (at_place w.1 here) le
-      (hy.does K old p a1 (u.first_end + operation_size bases.P s) u.second_end limit (next levels bodies xs g) (behind_item u.second) room)
+      (hy.does K old p a1 (u.first_end + operation_size bases.P s) u.second_end limit (next levels bodies xs g) (after_item u.second) room)
       (λ n b2 g2 m2 st2 r2 le2 is. k O x t v n b2 g2 m2 st2 r2 le2 (is ∙ w.0))
 
   pub v15_gives : {op q : Op} {l r : Exp} {s : ℕ} {xs ys : List Piece} → mirror_of op ≡ Some q → Gives C address levels V S most bodies Any l (s + 1) xs → Gives C address levels V S most bodies Any r (s + 1) ys → Gives C address levels V S most bodies Any (Bin op l r) s (xs ++ SP s ∷ ys ++ LIP s ∷ X (number_of q) ∷ [])
@@ -140,7 +140,7 @@ module _ (C : Context) (address levels : ℕ → ℕ) (V : Bodies) (S : Moment) 
         (λ O x t v w b2 g2 m2 st2 r2 le2 is.
         let r3 = loaded true bases.P s v (operate q ∷ []) old u.third (at_held m2 p s v fits is) r2 in
         let k = registers_small r3 in
-        operates q limit a (value_of op v w) old (behind_item u.third) (sym (exchanged op q mirror v w k.a k.b)) r3 le2));
+        operates q limit a (value_of op v w) old (after_item u.third) (sym (exchanged op q mirror v w k.a k.b)) r3 le2));
   }
 
   pub v16_gives : {op : Op} {l r : Exp} {s : ℕ} {xs ys : List Piece} → IsTrue (are_free l r) → Gives C address levels V S most bodies Any r (s + 1) xs → Gives C address levels V S most bodies Any l (s + 1) ys → Gives C address levels V S most bodies Any (Bin op l r) s (xs ++ SP s ∷ ys ++ LIP s ∷ X (number_of op) ∷ [])
@@ -156,7 +156,7 @@ module _ (C : Context) (address levels : ℕ → ℕ) (V : Bodies) (S : Moment) 
         (does_lower (p + s) (p + (s + 1)) (gets_goal Any a u.first_end) (value C r p (s + 1)) (omega arith) (hx.does K old p a c u.first_end limit g u.first (omega (arith, room))))
         (held_parts f goal a limit g old fits hy u (omega (arith, room))
         (λ O x t w v b2 g2 m2 st2 r2 le2 is.
-        operates op limit a (value_of op v w) old (behind_item u.third) refl (loaded true bases.P s w (operate op ∷ []) old u.third (at_held m2 p s w fits is) r2) le2)));
+        operates op limit a (value_of op v w) old (after_item u.third) refl (loaded true bases.P s w (operate op ∷ []) old u.third (at_held m2 p s w fits is) r2) le2)));
   }
 
   pub v18_gives : {l r : Exp} {s : ℕ} {xs ys : List Piece} → Gives C address levels V S most bodies Any l (s + 1) xs → Gives C address levels V S most bodies Any r (s + 1) ys → Gives C address levels V S most bodies Any (Bin operators.Add l r) s (xs ++ SP s ∷ ys ++ AIP s ∷ [])
@@ -172,7 +172,7 @@ module _ (C : Context) (address levels : ℕ → ℕ) (V : Bodies) (S : Moment) 
         (held_parts f goal a limit g old fits hy u (omega (arith, room))
         (λ O x t v w b2 g2 m2 st2 r2 le2 is.
         let same : (w + v) % 65536 ≡ (v + w) % 65536 = omega arith in
-        lands_done limit goal ((v + w) % 65536) (at_place (at_end (behind_item u.third)) (added true bases.P s v [] old u.third (at_held m2 p s v fits is) r2)) le2 (same, refl, tt)));
+        lands_done limit goal ((v + w) % 65536) (at_place (at_end (after_item u.third)) (added true bases.P s v [] old u.third (at_held m2 p s v fits is) r2)) le2 (same, refl, tt)));
   }
 
   pub v19_gives : {l r : Exp} {s : ℕ} {xs ys : List Piece} → Gives C address levels V S most bodies Any l (s + 1) xs → Gives C address levels V S most bodies Any r (s + 1) ys → Gives C address levels V S most bodies Any (Bin operators.Subtract l r) s (xs ++ SP s ∷ ys ++ X 2 ∷ AIP s ∷ [])
@@ -188,9 +188,9 @@ module _ (C : Context) (address levels : ℕ → ℕ) (V : Bodies) (S : Moment) 
         (held_parts f goal a limit g old fits hy u (omega (arith, room))
         (λ O x t v w b2 g2 m2 st2 r2 le2 is.
         let r3 = negates (code.add_item s ∷ []) old u.third r2 in
-        let s3 = behind_item u.third in
+        let s3 = after_item u.third in
         let same : (negated w + v) % 65536 ≡ (v + (65536 - w)) % 65536 = omega arith in
-        lands_done limit goal ((v + (65536 - w)) % 65536) (at_place (at_end (behind_item s3)) (added true bases.P s v [] old s3 (at_held m2 p s v fits is) r3)) le2 (same, refl, tt)));
+        lands_done limit goal ((v + (65536 - w)) % 65536) (at_place (at_end (after_item s3)) (added true bases.P s v [] old s3 (at_held m2 p s v fits is) r3)) le2 (same, refl, tt)));
   }
 
   -- `SP(s+1) LIPs`: both values are held, the first one is in A and the second one in B
@@ -201,7 +201,7 @@ module _ (C : Context) (address levels : ℕ → ℕ) (V : Bodies) (S : Moment) 
       let r1 = held_at {s = s + 1} (take_item s ∷ rest) old fits stands up in
       let m1 = slice_set m (p + (s + 1)) w in
       let still : slice_index m1 (p + s) ≡ v = get_or-set_other m (p + (s + 1)) (p + s) w 0 (λ e. omega arith) ∙ is in
-      let r2 = loaded true bases.P s v rest old (behind_item stands) (at_held m1 p s v (omega arith) still) r1 in
+      let r2 = loaded true bases.P s v rest old (after_item stands) (at_held m1 p s v (omega arith) still) r1 in
       record {
         few = r2.few;
         are_words = r2.are_words;
@@ -229,7 +229,7 @@ module _ (C : Context) (address levels : ℕ → ℕ) (V : Bodies) (S : Moment) 
         (λ O x t v w b2 g2 m2 st2 r2 le2 is.
         let r3 = both_held s (take_item (s + 1) ∷ operate op ∷ []) old fits1 u.third is r2 in
         let m3 = slice_set m2 (p + (s + 1)) w in
-        let s3 = behind_item (behind_item u.third) in
+        let s3 = after_item (after_item u.third) in
         let r4 = loaded true bases.P (s + 1) w (operate op ∷ []) old s3 (at_held m3 p (s + 1) w fits1 (held_second m2 p s w fits1 r2.holds.whole)) r3 in
-        operates op limit a (value_of op v w) old (behind_item s3) refl r4 le2));
+        operates op limit a (value_of op v w) old (after_item s3) refl r4 le2));
   }

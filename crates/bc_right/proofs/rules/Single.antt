@@ -1,4 +1,4 @@
--- What the code of one derivation does, as seen by the machine in front of it: the moment from which all is seen is the one at which
+-- What the code of one derivation does, as seen by the machine before it: the moment from which all is seen is the one at which
 -- it stands there.
 use Rattle.std.proofs.Common.{◌≡◌, ◌∙◌, ℕ, ◌+◌, ◌<◌, Bool, true, false, List, refl, sym, arith}
 use Rattle.std.specs.Prelude.{cond, slice_index}
@@ -12,7 +12,7 @@ use Rattle.bc_right.specs.steps.Agreement.{Holds, Keeps}
 use Rattle.bc_right.specs.steps.Landing.{Moment, moment, Reached, Goal, Lands, Does}
 use Rattle.bc_right.specs.steps.Goals.{value_goal, jumps_to, test_goal, end_goal}
 use Rattle.bc_right.proofs.steps.Steps.{later_refl}
-use Rattle.bc_right.specs.rules.Single.{Start, machine_of, IsReady, NothingElseChanges, Registers, DoesTheSame, has_value, has_jumped, is_behind, EachDerivationIsRight}
+use Rattle.bc_right.specs.rules.Single.{Start, machine_of, IsReady, NothingElseChanges, Registers, DoesTheSame, has_value, has_jumped, is_after, EachDerivationIsRight}
 use Rattle.bc_right.proofs.rules.Stretches.{gets_goal}
 use Rattle.bc_right.proofs.rules.Derivations.{gives, tests, assign_right, limit_right}
 
@@ -83,7 +83,7 @@ each_derivation_is_right address levels S most C V bodies around = record {
       (λ v a b c g turns h. jumped (agrees sense v) (address t) end c g h) few ready
       (right.does S (later_refl S) x.p x.a x.c end x.source.turns g stands room);
   assignments = λ {s = s} {v = v} {to = to} d t f g end x lv lt stands room few ready.
-      does_the_same x (end_goal end) (is_behind end) (assign C v to x.p s) (λ u a b c g turns h. h) few ready
+      does_the_same x (end_goal end) (is_after end) (assign C v to x.p s) (λ u a b c g turns h. h) few ready
       (assign_right C address levels V S most bodies around.places around.calls around.valofs d lv lt S (later_refl S) x.p t f g x.a x.c end x.source.turns stands room);
   limits = λ s {e = e} d t f g end x l stands room few ready.
       let right = limit_right C address levels V S most bodies around.places around.calls around.valofs d l S (later_refl S) x.p t f g x.a x.c end x.source.turns stands room in (

@@ -1,4 +1,4 @@
--- Stretches of a root's code: an operand is read, operands are worked out one behind the other, a value is held in
+-- Stretches of a root's code: an operand is read, operands are computed one after the other, a value is held in
 -- the frame, an instruction works on A and B.
 use Rattle.std.proofs.Common.{◌≡◌, ⊎_elim, ℕ, ◌+◌, ◌%◌, ◌<◌, ◌≤◌, List, [], ◌∷◌, Bool, true, false, not, Option, Some, None, refl, sym, ap, ◌∙◌, subst, arith}
 use Rattle.std.specs.Prelude.{slice_set, slice_index, cond, nat_le}
@@ -46,10 +46,10 @@ use Rattle.bc_right.proofs.steps.Decoding.{operand_at, value_at}
 use Rattle.bc_right.proofs.steps.Keeping.{words_are_kept}
 use Rattle.bc_right.proofs.steps.Agreeing.{holds_up}
 use Rattle.bc_right.proofs.steps.Operands.{Reads, operand_reads}
-use Rattle.bc_right.proofs.steps.Steps.{step_stops, stops_from, later_then, later_refl, at_end, behind_item, acts, went, plain, at_place, Onward, bind_from, lands_from, lands_done, does_map}
+use Rattle.bc_right.proofs.steps.Steps.{step_stops, stops_from, later_then, later_refl, at_end, after_item, acts, went, plain, at_place, Onward, bind_from, lands_from, lands_done, does_map}
 use Rattle.bc_right.proofs.steps.Holding.{reached_from, held_at}
 
--- a value lands behind its code, in A
+-- a value lands after its code, in A
 abbrev pub gets_goal : Mode → (was end : ℕ) → Goal ℕ
 gets_goal m was end v a b c gain turns = (a ≡ v) × (c ≡ end) × Kept m was b
 
@@ -72,7 +72,7 @@ raised {top = top} {m = m} {st = st} top1 up r = record {
   later = record { low = omega (arith, r.later.low); keeps = r.later.keeps };
 }
 
--- what is worked out at a higher level
+-- what is computed at a higher level
 pub does_lower : {A : Type 0} {K : Moment} {most p limit a c : ℕ} (top top1 : ℕ) (goal : Goal A) (run : Run A) → top ≤ top1 → Does K most top1 p limit a c goal run → Does K most top p limit a c goal run
 does_lower {K = K} {most = most} {p = p} {limit = limit} top top1 goal run up d = record {
   from = λ O x t b m st le here.
@@ -82,7 +82,7 @@ does_lower {K = K} {most = most} {p = p} {limit = limit} top top1 goal run up d 
       (d.from M x t b m st le (record { few = here.few; are_words = here.are_words; leads = here.leads; holds = holds_up top top1 st.cells m up here.holds; since = later_then here.since raised; later = later_refl M }));
 }
 
--- two operands, one behind the other
+-- two operands, one after the other
 weighed : {A B : Type 0} (K : Moment) (most : ℕ) (O : Moment) (x : State) (t top p limit : ℕ) (goal : Goal A) (e : Ending) (streams : Content) (o : Outcome B) → (j : ℕ) × StopsAt x j (end_of e) streams → Lands K most O x t top p limit goal (outweighed e streams o)
 weighed K most O x t top p limit goal e streams (Done v st) d = d
 weighed K most O x t top p limit goal e streams (Ended e1 streams1) d = d
@@ -187,9 +187,9 @@ operates {address = address} {S = S} {K = K} {most = most} {O = O} {x = x} {t = 
       let y = machine a b c p m st.streams in
       let h = r.leads.by 1 in
       (h.0, stops_from x y h.0 1 ends.ZeroDivide st.streams h.2 (step_stops y y ends.ZeroDivide (at_operator None e)))
-  by_value (Some u) e = lands_done limit (gets_goal Any was end) u (at_place (at_end (behind_item s)) (went r (at_operator (Some u) e))) le (refl, refl, tt)
+  by_value (Some u) e = lands_done limit (gets_goal Any was end) u (at_place (at_end (after_item s)) (went r (at_operator (Some u) e))) le (refl, refl, tt)
 
--- a value is held at level s while another is worked out
+-- a value is held at level s while another is computed
 pub held_then : {B : Type 0} {address : ℕ → ℕ} {S K : Moment} {most : ℕ} {O : Moment} {x : State} {t p v b c g end0 : ℕ} {m : List ℕ} {st : outcomes.State} (s limit end1 was : ℕ) (rest : List Item) (goal : Goal B) (r2 : Run ℕ) (f : ℕ → Run B) → Later S K → p + s < 65536
     → Stands address S c (hold_item s ∷ rest) end0 → Reached K most O x t (p + s) p v b c g m st → st.turns ≤ limit
     → Does K most (p + (s + 1)) p limit v (c + operation_size bases.P s) (gets_goal Any was end1) r2

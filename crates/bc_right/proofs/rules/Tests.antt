@@ -24,7 +24,7 @@ use Rattle.bc_right.specs.steps.Leads.{machine}
 use Rattle.bc_right.specs.steps.Landing.{Moment, Later, Stands, Reached, Lands, Does}
 use Rattle.bc_right.specs.steps.Items.{test_item}
 use Rattle.bc_right.specs.steps.Goals.{jumps_to, test_goal}
-use Rattle.bc_right.proofs.steps.Steps.{at_end, at_label, behind_item, behind_label, jump_first, acts, went, plain, at_place, jumped, lands_done, then_raw}
+use Rattle.bc_right.proofs.steps.Steps.{at_end, at_label, after_item, after_label, jump_first, acts, went, plain, at_place, jumped, lands_done, then_raw}
 use Rattle.bc_right.proofs.rules.Filling.{Closed, closed_both, filled, next, filled_parts}
 use Rattle.bc_right.proofs.rules.Stretches.{gets_goal, does_lower}
 use Rattle.bc_right.proofs.rules.Values.{Gives}
@@ -43,13 +43,13 @@ at_c a b c p = record { a = a; b = b; c = c; p = p }
 pub jumps : {address : ℕ → ℕ} {S K O : Moment} {most : ℕ} {x : State} {t top p a b c g end : ℕ} {m : List ℕ} {st : outcomes.State} (sense zero : Bool) (target : ℕ) → (a == 0) ≡ zero → Later S K → Stands address S c (test_item sense target ∷ []) end → Reached K most O x t top p a b c g m st
     → Reached K most O x t top p a b (cond (agrees sense (not zero)) (address target) end) (g + 1) m st
 jumps {address = address} {p = p} {a = a} {b = b} {c = c} {m = m} {st = st} true true target e old s r =
-    went r (acts old functions.JumpIfTrue false bases.Label target [] s r ∙ ap (λ z. running (state (cond z (at_c a b (c + 2) p) (at_c a b (address target) p)) m st.streams)) e ∙ ap (λ z. running (machine a b z p m st.streams)) (at_end (behind_item s)))
+    went r (acts old functions.JumpIfTrue false bases.Label target [] s r ∙ ap (λ z. running (state (cond z (at_c a b (c + 2) p) (at_c a b (address target) p)) m st.streams)) e ∙ ap (λ z. running (machine a b z p m st.streams)) (at_end (after_item s)))
 jumps {address = address} {p = p} {a = a} {b = b} {c = c} {m = m} {st = st} true false target e old s r =
     went r (acts old functions.JumpIfTrue false bases.Label target [] s r ∙ ap (λ z. running (state (cond z (at_c a b (c + 2) p) (at_c a b (address target) p)) m st.streams)) e)
 jumps {address = address} {p = p} {a = a} {b = b} {c = c} {m = m} {st = st} false true target e old s r =
     went r (acts old functions.JumpIfFalse false bases.Label target [] s r ∙ ap (λ z. running (state (cond z (at_c a b (address target) p) (at_c a b (c + 2) p)) m st.streams)) e)
 jumps {address = address} {p = p} {a = a} {b = b} {c = c} {m = m} {st = st} false false target e old s r =
-    went r (acts old functions.JumpIfFalse false bases.Label target [] s r ∙ ap (λ z. running (state (cond z (at_c a b (address target) p) (at_c a b (c + 2) p)) m st.streams)) e ∙ ap (λ z. running (machine a b z p m st.streams)) (at_end (behind_item s)))
+    went r (acts old functions.JumpIfFalse false bases.Label target [] s r ∙ ap (λ z. running (state (cond z (at_c a b (address target) p) (at_c a b (c + 2) p)) m st.streams)) e ∙ ap (λ z. running (machine a b z p m st.streams)) (at_end (after_item s)))
 
 pub gained : (jumped : Bool) (target end g : ℕ) → jumps_to jumped target end (cond jumped target end) (g + 1)
 gained true target end g = (refl, omega arith)
@@ -172,7 +172,7 @@ module _ (C : Context) (address levels : ℕ → ℕ) (V : Bodies) (S : Moment) 
     does = λ K old p a c end limit g st room.
         let w1 = filled_parts levels bodies (xs ++ ys) (label mine ∷ []) g (closed_both xs ys hx.closed hy.closed) st in
         let u = filled_parts levels bodies xs ys g hx.closed w1.front in
-        let over : w1.middle ≡ end = at_end (behind_label w1.back) in
+        let over : w1.middle ≡ end = at_end (after_label w1.back) in
         let goal = test_goal true (address target) end in
         does_lower (p + s) (p + (s + 1)) goal (truth C (Bin operators.And l r) p s) (omega arith)
         (then_raw (test_goal false (address mine) u.middle) goal (truth C l p (s + 1)) (λ t. choose t (truth C r p (s + 1)) (Done false)) (hx.does K old p a c u.middle limit g u.front (omega (arith, room)))
@@ -190,7 +190,7 @@ module _ (C : Context) (address levels : ℕ → ℕ) (V : Bodies) (S : Moment) 
     does = λ K old p a c end limit g st room.
         let w1 = filled_parts levels bodies (xs ++ ys) (label mine ∷ []) g (closed_both xs ys hx.closed hy.closed) st in
         let u = filled_parts levels bodies xs ys g hx.closed w1.front in
-        let over : w1.middle ≡ end = at_end (behind_label w1.back) in
+        let over : w1.middle ≡ end = at_end (after_label w1.back) in
         let goal = test_goal false (address target) end in
         does_lower (p + s) (p + (s + 1)) goal (truth C (Bin operators.Or l r) p s) (omega arith)
         (then_raw (test_goal true (address mine) u.middle) goal (truth C l p (s + 1)) (λ t. choose t (Done true) (truth C r p (s + 1))) (hx.does K old p a c u.middle limit g u.front (omega (arith, room)))

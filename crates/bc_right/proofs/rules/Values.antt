@@ -28,7 +28,7 @@ use Rattle.bc_right.specs.steps.Landing.{Moment, Later, Stands, Reached, Lands, 
 use Rattle.bc_right.specs.steps.Items as code
 use Rattle.bc_right.proofs.steps.Exchange.{sides_exchange}
 use Rattle.bc_right.proofs.steps.Operands.{Reads, operand_reads}
-use Rattle.bc_right.proofs.steps.Steps.{at_end, behind_item, acts, has_now, went, at_place, lands_done, then_raw, does_map}
+use Rattle.bc_right.proofs.steps.Steps.{at_end, after_item, acts, has_now, went, at_place, lands_done, then_raw, does_map}
 use Rattle.bc_right.proofs.rules.Filling.{Closed, closed_both, filled, filled_parts}
 use Rattle.bc_right.proofs.rules.Stretches.{Kept, gets_goal, registers_small, does_lower, both_raw, does_unless_wild, operand_then, stands_on, added, loaded, negates, operand_small}
 
@@ -55,7 +55,7 @@ module _ (C : Context) (address levels : ℕ → ℕ) (V : Bodies) (S : Moment) 
         → (r : Outcome ℕ) → Reads address o p m st r → Lands K most O x t (p + s) p limit (gets_goal Push a end) r
     on K old p a c end limit stands O x t b m st le here (Done w st1) h =
         subst (λ z. Lands K most O x t (p + s) p limit (gets_goal Push a end) (Done w z)) h.0
-        (lands_done limit (gets_goal Push a end) w (at_place (at_end (behind_item stands)) (loaded (not o.direct) o.base o.n w [] old stands h.1 here)) le (refl, refl, refl))
+        (lands_done limit (gets_goal Push a end) w (at_place (at_end (after_item stands)) (loaded (not o.direct) o.base o.n w [] old stands h.1 here)) le (refl, refl, refl))
     on K old p a c end limit stands O x t b m st le here (Ended e1 streams) h = absurd h
     on K old p a c end limit stands O x t b m st le here (Going streams) h = absurd h
     on K old p a c end limit stands O x t b m st le here Wild h = tt
@@ -66,7 +66,7 @@ module _ (C : Context) (address levels : ℕ → ℕ) (V : Bodies) (S : Moment) 
   content_lands q limit was v Dead old s e k is r le = tt
   content_lands q limit was v Unset old s e k is r le = tt
   content_lands {end = end} {m = m} q limit was v (Set u) old s e k is r le =
-      lands_done limit (gets_goal q was end) u (at_place (at_end (behind_item s)) (went r (acts old functions.Execute false bases.Number 1 [] s r))) le (ap (λ z. slice_index m z) e ∙ r.holds.agrees v u is, refl, k)
+      lands_done limit (gets_goal q was end) u (at_place (at_end (after_item s)) (went r (acts old functions.Execute false bases.Number 1 [] s r))) le (ap (λ z. slice_index m z) e ∙ r.holds.agrees v u is, refl, k)
 
   pub v2_gives : {q : Mode} {e : Exp} {s : ℕ} {ps : List Piece} → G q e s ps → G q (Load e) s (ps ++ X 1 ∷ [])
   v2_gives {q = q} {e = e} {s = s} {ps = ps} h = record {
@@ -83,7 +83,7 @@ module _ (C : Context) (address levels : ℕ → ℕ) (V : Bodies) (S : Moment) 
     does = λ K old p a c end limit g st room.
         let u = filled_parts levels bodies ps (X 2 ∷ []) g h.closed st in
         then_raw (gets_goal q a u.middle) (gets_goal q a end) (value C e p s) (λ v. Done (negated v)) (h.does K old p a c u.middle limit g u.front room)
-        (λ O x t v a1 b1 c1 g1 m1 st1 r le w. lands_done limit (gets_goal q a end) (negated v) (at_place (at_end (behind_item u.back)) (negates [] old u.back (at_place w.1 r))) le (ap (λ z. negated z) w.0, refl, w.2));
+        (λ O x t v a1 b1 c1 g1 m1 st1 r le w. lands_done limit (gets_goal q a end) (negated v) (at_place (at_end (after_item u.back)) (negates [] old u.back (at_place w.1 r))) le (ap (λ z. negated z) w.0, refl, w.2));
   }
 
   pub v4_gives : {q : Mode} {e : Exp} {s : ℕ} {ps : List Piece} → G q e s ps → G q (Not e) s (ps ++ X 3 ∷ [])
@@ -94,7 +94,7 @@ module _ (C : Context) (address levels : ℕ → ℕ) (V : Bodies) (S : Moment) 
         then_raw (gets_goal q a u.middle) (gets_goal q a end) (value C e p s) (λ v. Done (complemented v)) (h.does K old p a c u.middle limit g u.front room)
         (λ O x t v a1 b1 c1 g1 m1 st1 r le w.
         let here = at_place w.1 r in
-        lands_done limit (gets_goal q a end) (complemented v) (at_place (at_end (behind_item u.back)) (went here (acts old functions.Execute false bases.Number 3 [] u.back here))) le (ap (λ z. complemented z) w.0, refl, w.2));
+        lands_done limit (gets_goal q a end) (complemented v) (at_place (at_end (after_item u.back)) (went here (acts old functions.Execute false bases.Number 3 [] u.back here))) le (ap (λ z. complemented z) w.0, refl, w.2));
   }
 
   -- both operands stand a level higher
@@ -113,7 +113,7 @@ module _ (C : Context) (address levels : ℕ → ℕ) (V : Bodies) (S : Moment) 
         (both_raw (gets_goal q a u.middle) (gets_goal q a end) (has_call l || has_call r) (value C l p (s + 1)) (value C r p (s + 1)) sum (h.does K old p a c u.middle limit g u.front (omega (arith, room)))
         (λ O x t v a1 b1 c1 g1 m1 st1 here le w.
         operand_then C address places r o is (s + 1) (p + (s + 1)) limit (gets_goal q a end) (sum v) here
-        (λ n e. lands_done limit (gets_goal q a end) ((v + n) % 65536) (let on = stands_on functions.Add o [] u.back in at_place (at_end (behind_item on)) (added (not o.direct) o.base o.n n [] old on e (at_place w.1 here))) le (ap (λ z. (z + n) % 65536) w.0, refl, w.2))));
+        (λ n e. lands_done limit (gets_goal q a end) ((v + n) % 65536) (let on = stands_on functions.Add o [] u.back in at_place (at_end (after_item on)) (added (not o.direct) o.base o.n n [] old on e (at_place w.1 here))) le (ap (λ z. (z + n) % 65536) w.0, refl, w.2))));
   }
 
   pub v7_gives : {l r : Exp} {q : Mode} {o : Operand} {s : ℕ} {ps : List Piece} → operand_of l ≡ Some o → IsTrue (are_free l r) → G q r (s + 1) ps → G q (Bin operators.Add l r) s (ps ++ A o ∷ [])
@@ -127,7 +127,7 @@ module _ (C : Context) (address levels : ℕ → ℕ) (V : Bodies) (S : Moment) 
         (then_raw (gets_goal q a u.middle) (gets_goal q a end) (value C r p (s + 1)) (λ w. then_do (value C l p (s + 1)) (λ v. sum v w)) (h.does K old p a c u.middle limit g u.front (omega (arith, room)))
         (λ O x t v a1 b1 c1 g1 m1 st1 here le w.
         operand_then C address places l o is (s + 1) (p + (s + 1)) limit (gets_goal q a end) (λ n. sum n v) here
-        (λ n e. lands_done limit (gets_goal q a end) ((n + v) % 65536) (let on = stands_on functions.Add o [] u.back in at_place (at_end (behind_item on)) (added (not o.direct) o.base o.n n [] old on e (at_place w.1 here))) le (omega (arith, w.0), refl, w.2)))));
+        (λ n e. lands_done limit (gets_goal q a end) ((n + v) % 65536) (let on = stands_on functions.Add o [] u.back in at_place (at_end (after_item on)) (added (not o.direct) o.base o.n n [] old on e (at_place w.1 here))) le (omega (arith, w.0), refl, w.2)))));
   }
 
   -- a 0 is no operand
@@ -169,14 +169,14 @@ module _ (C : Context) (address levels : ℕ → ℕ) (V : Bodies) (S : Moment) 
       subst (λ z. G q (Bin operators.Add z r) s ps) (sym (zero_is l hl)) (left_zero (subst (λ z. G q z (s + 1) ps) (sym (some_is r e is)) h))
   beside false false hr hl is h = absurd (let f : None ≡ Some _ = is in cc)
 
-  behind : {l r e : Exp} {q : Mode} {s : ℕ} {ps : List Piece} (here : Bool) → is_zero r ≡ here → cond here (Some l) None ≡ Some e → G q e (s + 1) ps → G q (Bin operators.Subtract l r) s ps
-  behind {l = l} {r = r} {e = e} {q = q} {s = s} {ps = ps} true hr is h =
+  following : {l r e : Exp} {q : Mode} {s : ℕ} {ps : List Piece} (here : Bool) → is_zero r ≡ here → cond here (Some l) None ≡ Some e → G q e (s + 1) ps → G q (Bin operators.Subtract l r) s ps
+  following {l = l} {r = r} {e = e} {q = q} {s = s} {ps = ps} true hr is h =
       subst (λ z. G q (Bin operators.Subtract l z) s ps) (sym (zero_is r hr)) (right_zero operators.Subtract (λ v lt. ap Some (let same : (v + (65536 - 0)) % 65536 ≡ v = omega arith in same)) (subst (λ z. G q z (s + 1) ps) (sym (some_is l e is)) h))
-  behind false hr is h = absurd (let f : None ≡ Some _ = is in cc)
+  following false hr is h = absurd (let f : None ≡ Some _ = is in cc)
 
   pub v8_gives : {op : Op} {l r e : Exp} {q : Mode} {s : ℕ} {ps : List Piece} → without_zero op l r ≡ Some e → G q e (s + 1) ps → G q (Bin op l r) s ps
   v8_gives {op = operators.Add} {l = l} {r = r} is h = beside (is_zero r) (is_zero l) refl refl is h
-  v8_gives {op = operators.Subtract} {l = l} {r = r} is h = behind (is_zero r) refl is h
+  v8_gives {op = operators.Subtract} {l = l} {r = r} is h = following (is_zero r) refl is h
   v8_gives {op = _} is h = absurd (let f : None ≡ Some _ = is in cc)
 
   -- `A-n`
@@ -188,7 +188,7 @@ module _ (C : Context) (address levels : ℕ → ℕ) (V : Bodies) (S : Moment) 
         does_lower (p + s) (p + (s + 1)) (gets_goal q a end) (value C (Bin operators.Subtract l (Num n)) p s) (omega arith)
         (both_raw (gets_goal q a u.middle) (gets_goal q a end) (has_call l || false) (value C l p (s + 1)) (Done n) difference (h.does K old p a c u.middle limit g u.front (omega (arith, room)))
         (λ O x t v a1 b1 c1 g1 m1 st1 here le w.
-        lands_done limit (gets_goal q a end) ((v + (65536 - n)) % 65536) (at_place (at_end (behind_item u.back)) (added false bases.Number (negated n) (negated n) [] old u.back refl (at_place w.1 here))) le (omega (arith, w.0), refl, w.2)));
+        lands_done limit (gets_goal q a end) ((v + (65536 - n)) % 65536) (at_place (at_end (after_item u.back)) (added false bases.Number (negated n) (negated n) [] old u.back refl (at_place w.1 here))) le (omega (arith, w.0), refl, w.2)));
   }
 
   twice_negated : (v n : ℕ) → v < 65536 → n < 65536 → negated ((negated v + n) % 65536) ≡ (v + (65536 - n)) % 65536
@@ -207,12 +207,12 @@ module _ (C : Context) (address levels : ℕ → ℕ) (V : Bodies) (S : Moment) 
         (λ O x t v a1 b1 c1 g1 m1 st1 here le w.
         let r0 = at_place w.1 here in
         let r1 = negates (Operation functions.Add (cond o.direct false true) o.base o.n ∷ code.execute 2 ∷ []) old u.back r0 in
-        let s1 = stands_on functions.Add o (code.execute 2 ∷ []) (behind_item u.back) in
+        let s1 = stands_on functions.Add o (code.execute 2 ∷ []) (after_item u.back) in
         operand_then C address places r o is (s + 1) (p + (s + 1)) limit (gets_goal q a end) (difference v) r1
         (λ n e.
         let hn : n < 65536 = subst (λ z. z < 65536) e (operand_small address functions.Add (not o.direct) o.base o.n p (u.middle + 1) m1 (registers_small r1).store (has_now old s1 r1).0) in
         let hv = (registers_small r0).a in
-        lands_done limit (gets_goal q a end) ((v + (65536 - n)) % 65536) (at_place (at_end (behind_item (behind_item s1))) (negates [] old (behind_item s1) (added (not o.direct) o.base o.n n (code.execute 2 ∷ []) old s1 e r1))) le
+        lands_done limit (gets_goal q a end) ((v + (65536 - n)) % 65536) (at_place (at_end (after_item (after_item s1))) (negates [] old (after_item s1) (added (not o.direct) o.base o.n n (code.execute 2 ∷ []) old s1 e r1))) le
         (twice_negated a1 n hv hn ∙ ap (λ z. (z + (65536 - n)) % 65536) w.0, refl, w.2))));
   }
 
@@ -228,11 +228,11 @@ module _ (C : Context) (address levels : ℕ → ℕ) (V : Bodies) (S : Moment) 
         (λ O x t v a1 b1 c1 g1 m1 st1 here le w.
         let r0 = at_place w.1 here in
         let r1 = negates (Operation functions.Add (cond o.direct false true) o.base o.n ∷ []) old u.back r0 in
-        let s1 = stands_on functions.Add o [] (behind_item u.back) in
+        let s1 = stands_on functions.Add o [] (after_item u.back) in
         operand_then C address places l o is (s + 1) (p + (s + 1)) limit (gets_goal q a end) (λ n. difference n v) r1
         (λ n e.
         let hn : n < 65536 = subst (λ z. z < 65536) e (operand_small address functions.Add (not o.direct) o.base o.n p (u.middle + 1) m1 (registers_small r1).store (has_now old s1 r1).0) in
         let hv = (registers_small r0).a in
-        lands_done limit (gets_goal q a end) ((n + (65536 - v)) % 65536) (at_place (at_end (behind_item s1)) (added (not o.direct) o.base o.n n [] old s1 e r1)) le
+        lands_done limit (gets_goal q a end) ((n + (65536 - v)) % 65536) (at_place (at_end (after_item s1)) (added (not o.direct) o.base o.n n [] old s1 e r1)) le
         (from_negated a1 n hv hn ∙ ap (λ z. (n + (65536 - z)) % 65536) w.0, refl, w.2)))));
   }

@@ -12,7 +12,7 @@ use Rattle.bc_gen_defs.specs.Bodies.{Choice, BodiesCode, coding_of, over}
 use Rattle.bc_right.specs.steps.Landing.{Moment, Does}
 use Rattle.bc_right.specs.steps.Goals.{value_goal}
 use Rattle.bc_right.specs.steps.Premises.{CallLands, ValofsLand, RootsLand}
-use Rattle.bc_right.proofs.steps.Steps.{parts, behind_label, at_end}
+use Rattle.bc_right.proofs.steps.Steps.{parts, after_label, at_end}
 use Rattle.bc_right.specs.rules.Examples.{alone, no_body}
 use Rattle.bc_right.proofs.rules.Derivations.{derivations_are_right}
 
@@ -39,7 +39,7 @@ module _ (T : Table) (choice : Choice T) (levels : ℕ → ℕ) (S : Moment) (mo
   valofs_land = record {
     from = λ K later n p l first a c end limit stands room.
         let q = parts (sevens n (levels n) l first).0 (Label l ∷ []) stands in
-        let ends : q.middle ≡ end = at_end (behind_label q.back) in
+        let ends : q.middle ≡ end = at_end (after_label q.back) in
         subst (λ z. Does K most (p + levels n) p limit a c (value_goal z) (value alone (Num 7) p (levels n))) ends
         (alone_lands.gives K later (Num 7) p (levels n) first a c q.middle limit q.front (omega (arith, room)) tt);
   }

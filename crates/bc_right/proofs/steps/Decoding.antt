@@ -153,7 +153,7 @@ stepped f i b l low s h e =
 next_is : (c : ℕ) → c + 1 < 65536 → next c ≡ c + 1
 next_is c h = omega arith
 
--- what the machine does at an operation: its function, with its operand, behind its words
+-- what the machine does at an operation: its function, with its operand, after its words
 abbrev pub Executes : (ℕ → ℕ) → Function → Bool → Base → ℕ → State → Type 0
 Executes address f i b n s =
     step s ≡ perform (machine_function f) (operand_at address i b n s.registers.p s.store) (record s.registers { c = s.registers.c + operation_size b n }) s

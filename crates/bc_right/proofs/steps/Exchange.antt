@@ -1,4 +1,4 @@
--- Free operands may be worked out in the other order.
+-- Free operands may be computed in the other order.
 use Rattle.std.proofs.Common.{◌≡◌, ◌⊎◌, inl, inr, ⊎_elim, ℕ, ◌+◌, ◌%◌, Bool, true, false, not, ◌||◌, Option, Some, None, refl, sym, ap, ◌∙◌, subst}
 use Rattle.std.specs.Prelude.{cond}
 use Rattle.bc_word.specs.declared.operator.Op.TheVariants as operators

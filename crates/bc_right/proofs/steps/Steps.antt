@@ -70,13 +70,13 @@ at_end s = omega (arith, s.ends)
 pub at_label : {address : ℕ → ℕ} {K : Moment} {c end l : ℕ} {ys : List Item} → Stands address K c (Label l ∷ ys) end → address l ≡ c
 at_label s = s.code.has.1
 
--- behind an item
-pub behind_item : {address : ℕ → ℕ} {K : Moment} {c end : ℕ} {i : Item} {ys : List Item} → Stands address K c (i ∷ ys) end → Stands address K (c + size i) ys end
-behind_item s = let k = s.code in
+-- after an item
+pub after_item : {address : ℕ → ℕ} {K : Moment} {c end : ℕ} {i : Item} {ys : List Item} → Stands address K c (i ∷ ys) end → Stands address K (c + size i) ys end
+after_item s = let k = s.code in
     record { code = record { has = k.has.2; dead = λ a lo hi. k.dead a (omega arith) (omega arith); below = omega (arith, k.below); fits = omega (arith, k.fits) }; ends = omega (arith, s.ends) }
 
-pub behind_label : {address : ℕ → ℕ} {K : Moment} {c end l : ℕ} {ys : List Item} → Stands address K c (Label l ∷ ys) end → Stands address K c ys end
-behind_label {address = address} {K = K} {c = c} {end = end} {l = l} {ys = ys} s = let e : c + 0 ≡ c = omega arith in subst (λ z. Stands address K z ys end) e (behind_item s)
+pub after_label : {address : ℕ → ℕ} {K : Moment} {c end l : ℕ} {ys : List Item} → Stands address K c (Label l ∷ ys) end → Stands address K c ys end
+after_label {address = address} {K = K} {c = c} {end = end} {l = l} {ys = ys} s = let e : c + 0 ≡ c = omega arith in subst (λ z. Stands address K z ys end) e (after_item s)
 
 pub first_item : {address : ℕ → ℕ} {K : Moment} {c end : ℕ} {i : Item} {ys : List Item} → Stands address K c (i ∷ ys) end → Stands address K c (i ∷ []) (c + size i)
 first_item s = let k = s.code in

@@ -1,7 +1,7 @@
 -- Calls and routines: where their code stands, and that it does what they mean.
 use Rattle.std.specs.Prelude.{ℕ, ◌≡◌, ◌+◌, List, Some}
 use Rattle.bc_core.specs.Commands.{Routine}
-use Rattle.bc_core.specs.Level.{level_behind_parameters}
+use Rattle.bc_core.specs.Level.{level_after_parameters}
 use Rattle.bc_core.specs.Map.{Placed}
 use Rattle.bc_core.specs.Primitive.{Primitive, primitive_frame, primitive_work}
 use Rattle.bc_core.specs.Meaning.{OfSection, OfLibrary, callee, calls, in_frame, with_arguments}
@@ -16,10 +16,10 @@ pub record RoutineStands (S : Moment) (section : Placed) (r : Routine) (v : ℕ)
   pub first : ℕ
   pub end : ℕ
   pub right : RootsRight section.address (level_of section.core.valofs) S over
-  pub levelled : BodyLevelled (level_of section.core.valofs) r.body (level_behind_parameters r.parameters)
+  pub levelled : BodyLevelled (level_of section.core.valofs) r.body (level_after_parameters r.parameters)
   pub valofs : ValofsLevelled (level_of section.core.valofs) section.core.valofs
   pub stands : Stands section.address S v (emit_body (λ i. i) (over (bodies_from (λ i. i) over 0 section.core.valofs)) r.body
-      (level_behind_parameters r.parameters) first).0 end
+      (level_after_parameters r.parameters) first).0 end
 
 abbrev pub ProgramStands : Moment → List Placed → Type 0
 ProgramStands S program = (v : ℕ) (section : Placed) (r : Routine) → callee program v ≡ Some (OfSection section r) → RoutineStands S section r v

@@ -16,7 +16,7 @@ use Rattle.bc_right.specs.commands.Levelled.{CommandLevelled}
 abbrev pub return_items : List Item
 return_items = zero_item ∷ execute 4 ∷ []
 
--- The machine is behind the code, or where it is about to jump or to return; a GOTO has jumped, and taken a turn.
+-- The machine is after the code, or where it is about to jump or to return; a GOTO has jumped, and taken a turn.
 abbrev pub exit_goal : (ℕ → ℕ) → Moment → Exits → (end limit : ℕ) → Goal Exit
 exit_goal address S E end limit Past a b c gain turns = c ≡ end
 exit_goal address S E end limit Broke a b c gain turns = JumpAt address S c E.broken

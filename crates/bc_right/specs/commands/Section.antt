@@ -2,7 +2,7 @@
 use Rattle.std.specs.Prelude.{ℕ, List, [], ◌∷◌}
 use Rattle.bc_core.specs.Commands as commands
 use Rattle.bc_core.specs.Commands.{Place}
-use Rattle.bc_core.specs.Level.{level_behind_parameters}
+use Rattle.bc_core.specs.Level.{level_after_parameters}
 use Rattle.bc_core.specs.Map.{Placed}
 use Rattle.bc_gen_defs.specs.Bodies.{bodies_from, level_of}
 use Rattle.bc_gen_defs.specs.Section.{emit_routines}
@@ -13,7 +13,7 @@ use Rattle.bc_right.specs.commands.Calls.{ProgramStands}
 
 abbrev pub PlacesLevelled : (ℕ → ℕ) → List Place → Type 0
 PlacesLevelled levels [] = Unit {0}
-PlacesLevelled levels (commands.Code r ∷ places) = BodyLevelled levels r.body (level_behind_parameters r.parameters) × PlacesLevelled levels places
+PlacesLevelled levels (commands.Code r ∷ places) = BodyLevelled levels r.body (level_after_parameters r.parameters) × PlacesLevelled levels places
 PlacesLevelled levels (commands.Static w ∷ places) = PlacesLevelled levels places
 PlacesLevelled levels (commands.Table ws ∷ places) = PlacesLevelled levels places
 PlacesLevelled levels (commands.Text bytes ∷ places) = PlacesLevelled levels places

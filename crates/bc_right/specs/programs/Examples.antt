@@ -1,4 +1,4 @@
--- Worked examples: three small programs, what they mean and what the machine does, each worked out from the
+-- Worked examples: three small programs, what they mean and what the machine does, each computed from the
 -- definitions alone. The items are a generator's, written down here; cells and store go a few words beyond the code.
 use Rattle.std.specs.Prelude.{ℕ, ◌≡◌, true, false, List, [], ◌∷◌, ◌++◌, replicate, Some, None, refl}
 use Rattle.bc_word.specs.declared.operator.Op.TheVariants.{Add, Subtract, Divide, Less, Equal}

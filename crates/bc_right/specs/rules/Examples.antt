@@ -1,5 +1,5 @@
 -- Worked examples: the code of derivations, run on the machine from a small store, and the value that the meaning
--- gives, each worked out from the definitions alone.
+-- gives, each computed from the definitions alone.
 use Rattle.std.specs.Prelude.{ℕ, ◌≡◌, ◌+◌, ◌-◌, ◌==◌, cond, true, false, List, [], ◌∷◌, ◌++◌, length, replicate, slice_index, slice_set, refl}
 use Rattle.bc_word.specs.declared.operator.Op.TheVariants.{Add, Subtract, Multiply, Divide, Equal}
 use Rattle.bc_text_items.specs.declared.item.Item.{Item}
@@ -35,7 +35,7 @@ no_body n s l f = ([], f)
 abbrev words_of : {T : _} {r : _} → (target : ℕ) → RootDerives T r → List ℕ
 words_of target d = assembled (λ l. target) (fill (λ i. i) (λ n. 0) no_body (root_code d 0 1) 9).0
 
--- A after n instructions of this code at 0, with its frame behind it
+-- A after n instructions of this code at 0, with its frame after it
 abbrev gives : (n : ℕ) → (code frame : List ℕ) → ℕ
 gives n code frame = (runs n (machine 0 0 0 (length code) (code ++ frame) no_stream)).0.registers.a
 
@@ -58,7 +58,7 @@ push = v1 refl
 abbrev get : {T : _} {k : ℕ} → Derives T (at k) (Gets Any)
 get = v0 (v1 refl)
 
--- A and B after n instructions of this code at 0, where A was 40, with its frame behind it
+-- A and B after n instructions of this code at 0, where A was 40, with its frame after it
 abbrev from_forty : {T : _} {e : Exp} {m : _} → (n : ℕ) → Derives T e (Gets m) → ℕ × ℕ
 from_forty n d =
     let words = assembled (λ l. 0) (fill (λ i. i) (λ n. 0) no_body (code d 6 0 1) 9).0 in
@@ -118,7 +118,7 @@ pub exchanged_gives : gives 9 (words_of 0 exchanged) frame ≡ 7
 unfolding runs step
 exchanged_gives = refl
 
--- the cell at 4 + 5 is set to 7: the address is worked out first
+-- the cell at 4 + 5 is set to 7: the address is computed first
 abbrev addressed : RootDerives One (Assign 6 (at 5) (Bin Add (at 2) (at 3)))
 addressed = a2 refl refl (v0 (v6 refl push)) get
 
@@ -224,7 +224,7 @@ abbrev adds_to : ℕ → List ℕ
 adds_to n = assembled (λ l. 0) (Operation functions.Load true bases.P 2 ∷ Operation functions.Add false bases.Number n
     ∷ Operation functions.Execute false bases.Number 4 ∷ [])
 
--- A after n instructions of this code at 9 + 2, with g and h behind it, and the frame at 50
+-- A after n instructions of this code at 9 + 2, with g and h after it, and the frame at 50
 abbrev of_calls : (n : ℕ) → List ℕ → ℕ
 of_calls n code =
     let store = replicate 9 0 ++ 30 ∷ 33 ∷ code ++ replicate (19 - length code) 0 ++ adds_to 5 ++ adds_to 1 ++ replicate 30 0 in

@@ -1,4 +1,4 @@
--- What the code of one derivation does to a machine that stands in front of it. Nothing is said of the code of other roots, nor
+-- What the code of one derivation does to a machine that stands before it. Nothing is said of the code of other roots, nor
 -- of how the derivation was chosen.
 use Rattle.std.specs.Prelude.{ℕ, ◌≡◌, ◌+◌, ◌<◌, ◌≤◌, Bool, cond, List, [], ◌∷◌, slice_index}
 use Rattle.bc_text_items.specs.declared.item.Item.{Item}
@@ -81,15 +81,15 @@ abbrev pub Kept : Mode → (was b : ℕ) → Type 0
 Kept Any was b = Unit {0}
 Kept Push was b = b ≡ was
 
--- the value in A, behind the code; a test's jump where its truth is the sense; an assignment's end
+-- the value in A, after the code; a test's jump where its truth is the sense; an assignment's end
 abbrev pub has_value : Mode → (was end : ℕ) → Registers ℕ
 has_value m was end v a b c = (a ≡ v) × (c ≡ end) × Kept m was b
 
 abbrev pub has_jumped : (sense : Bool) → (target end : ℕ) → Registers Bool
 has_jumped sense target end v a b c = c ≡ cond (agrees sense v) target end
 
-abbrev pub is_behind : ℕ → Registers (Unit {0})
-is_behind end v a b c = c ≡ end
+abbrev pub is_after : ℕ → Registers (Unit {0})
+is_after end v a b c = c ≡ end
 
 -- labels have the addresses of the source's places, and calls and the bodies of VALOFs do what they mean
 pub record Surrounds (address levels : ℕ → ℕ) (S : Moment) (most : ℕ) (C : Context) (V : Bodies) (bodies : BodiesCode Item) : Type 0 where
@@ -118,7 +118,7 @@ pub record EachIsRight (address levels : ℕ → ℕ) (S : Moment) (most : ℕ) 
       → Levelled levels v (side_level to s) → Levelled levels to (side_level to s)
       → CodeStands address levels S bodies (root_code d t f) g x end → x.p + cells_of_assignment V v to s ≤ 65536
       → x.source.turns < most → IsReady S (x.p + s) x
-      → DoesTheSame (x.p + s) x (is_behind end) (assign C v to x.p s x.source)
+      → DoesTheSame (x.p + s) x (is_after end) (assign C v to x.p s x.source)
   pub limits : {T : Table} (s : ℕ) {e : Exp} (d : RootDerives T (Assign (s + 2) e (Frame (s + 1)))) (t f g end : ℕ) (x : Start)
       → Levelled levels e (s + 2) → CodeStands address levels S bodies (root_code d t f) g x end → x.p + cells_of_exp V e (s + 2) ≤ 65536
       → x.source.turns < most → IsReady S (x.p + (s + 2)) x

@@ -1,4 +1,4 @@
--- When the operands of an operator may be worked out in the other order.
+-- When the operands of an operator may be computed in the other order.
 use Rattle.std.specs.Prelude.{ℕ, ◌≡◌, ◌⊎◌, Bool, true, false, not, ◌||◌, Option, Some, None}
 use Rattle.bc_word.specs.declared.operator.Op.{Op}
 use Rattle.bc_word.specs.Words.{value_of}

@@ -3,7 +3,7 @@ use Rattle.std.specs.Prelude.{ℕ, ◌≡◌, ◌≤◌, Bool, true, false}
 use Rattle.bc_core.specs.Loop.{agrees}
 use Rattle.bc_right.specs.steps.Landing.{Goal}
 
--- a value lands behind its code, in A
+-- a value lands after its code, in A
 abbrev pub value_goal : ℕ → Goal ℕ
 value_goal end v a b c gain turns = (a ≡ v) × (c ≡ end)
 

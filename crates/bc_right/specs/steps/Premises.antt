@@ -14,7 +14,7 @@ use Rattle.bc_right.specs.steps.Landing.{Moment, Later, Stands, Reached, Lands, 
 use Rattle.bc_right.specs.steps.Items.{hold_item, call_item}
 use Rattle.bc_right.specs.steps.Goals.{value_goal, test_goal, end_goal}
 
--- items, and the next free label behind them
+-- items, and the next free label after them
 abbrev pub Code : Type 0
 Code = List Item × ℕ
 
@@ -42,15 +42,15 @@ abbrev mutual
   AllLevelled levels no_argument s = Unit {0}
   AllLevelled levels (argument e es) s = Levelled levels e s × AllLevelled levels es (s + 1)
 
--- With the arguments held behind the new frame's links and the value v that is called in A, the machine at `Ks`
--- lands behind it, with the call's value in A.
+-- With the arguments held after the new frame's links and the value v that is called in A, the machine at `Ks`
+-- lands after it, with the call's value in A.
 pub record CallLands (S : Moment) (most v : ℕ) (call : List ℕ → ℕ → Run ℕ) : Type 0 where
   pub from : (K : Moment) → Later S K → (address : ℕ → ℕ) (O : Moment) (x : State) (t p s b c end limit : ℕ) (vs store : List ℕ) (st : outcomes.State)
       → Stands address S c (call_item s ∷ []) end → HasWords store (p + s + 2) vs → p + s + 2 + length vs ≤ 65536
       → st.turns ≤ limit → Reached K most O x t (p + s) p v b c 0 store st
       → Lands K most O x t (p + s) p limit (value_goal end) (call vs (p + s) st)
 
--- where the code of a VALOF's body stands, with its label right behind, it gives the VALOF's value at its level
+-- where the code of a VALOF's body stands, with its label right after, it gives the VALOF's value at its level
 pub record ValofsLand (address levels : ℕ → ℕ) (S : Moment) (most : ℕ) (V : Bodies) (bodies : BodiesCode) (valof : ℕ → ℕ → ℕ → Run ℕ) : Type 0 where
   pub from : (K : Moment) → Later S K → (n p l first a c end limit : ℕ)
       → Stands address S c ((bodies n (levels n) l first).0 ++ Label l ∷ []) end → p + V n (levels n) ≤ 65536

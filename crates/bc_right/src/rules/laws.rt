@@ -8,7 +8,7 @@ pub fn derivations_are_right()
     ensures { DerivationsAreRight }
 {}
 
-/// The code of each single derivation, wherever it stands, does to the machine in front of it what its expression or assignment means; in
+/// The code of each single derivation, wherever it stands, does to the machine before it what its expression or assignment means; in
 /// Push, B is then what A was; and no cell changes but those that the source changes.
 pub fn each_derivation_is_right()
     ensures { EachDerivationIsRight }

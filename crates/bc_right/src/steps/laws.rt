@@ -4,12 +4,12 @@ ghost use Rattle.bc_right.specs.steps.Free.{FreeOperandsExchange, FreeSidesExcha
 ghost use Rattle.bc_right.specs.steps.Keeping.{WordsAreKept};
 
 /// Where an operator's operands are free, that is neither holds a call or VALOF, or one is a number or
-/// an address, the right one worked out first gives the same, or the source is wild.
+/// an address, the right one computed first gives the same, or the source is wild.
 pub fn free_operands_exchange()
     ensures { FreeOperandsExchange }
 {}
 
-/// Where the sides of an assignment are free, the address worked out first gives the same, or the source
+/// Where the sides of an assignment are free, the address computed first gives the same, or the source
 /// is wild.
 pub fn free_sides_exchange()
     ensures { FreeSidesExchange }

@@ -3,7 +3,7 @@ use Rattle.std.proofs.lemmas.Result.{err_from_is_err_and}
 use Rattle.bc_parse_tree.specs.View.{exp_view, exps_view, item_view, items_view}
 use Rattle.bc_scope_names.proofs.Extends.{extends_on}
 use Rattle.bc_scope_names.specs.View.{scope_view, numbers_view}
-use Rattle.bc_scope_defs.specs.Numbering.{behind}
+use Rattle.bc_scope_defs.specs.Numbering.{following}
 use Rattle.bc_scope_defs.specs.FramesAlong.{width, widths}
 use Rattle.bc_scope_faults.specs.Parts.{head_level, side_width}
 use Rattle.bc_scope_faults.specs.Seen.{allowed_view, met_view}
@@ -139,7 +139,7 @@ expressions::sides-loop-e-preserved t c =
     let p = c.in_ok-push_width.ensures in
     let a = c.in_ok-i.ensures in (
       rw (w.2, k, a, sym d) (rw w.0 at (sym (side_fault_on E at0 x es ss) ∙ v.0)),
-      rw (w.2, k, a, sym d, p.1, w.1) (append_assoc c.loop-e.widths.items (side_width ss (width E at0 x (head_level ss))) (widths E (behind at0 x) es (drop 1 ss)) ∙ rw (side_widths_on E at0 x es ss) at v.1),
+      rw (w.2, k, a, sym d, p.1, w.1) (append_assoc c.loop-e.widths.items (side_width ss (width E at0 x (head_level ss))) (widths E (following at0 x) es (drop 1 ss)) ∙ rw (side_widths_on E at0 x es ss) at v.1),
       rw w.2 v.2,
       rw (w.2, k, a, sym d, w.3) (simp frames_along at (rw (side_found_on E at0 x es ss) at v.3)),
       k ∙ v.4,

@@ -1,8 +1,8 @@
 use Rattle.std.proofs.Common.{◌≡◌, ◌+◌, ◌*◌, ◌++◌, max, drop, []}
 use Rattle.bc_parse_tree.specs.Size.{block_size, command_size, declaration_size, declarations_size, definition_size, definitions_size, entries_size, exp_size, exps_size, item_size, items_size, label_size, labels_size}
 use Rattle.bc_parse_tree.specs.View.{block_view, command_view, declaration_view, declarations_view, definition_view, definitions_view, entries_view, exp_view, exps_view, item_view, items_view, label_view, labels_view}
-use Rattle.bc_scope_defs.specs.Numbering.{behind_entries, behind_all, behind_declarations, behind_definitions, behind_items}
-use Rattle.bc_scope_defs.specs.Scoping.{in_entries, in_declarations, level_behind}
+use Rattle.bc_scope_defs.specs.Numbering.{after_entries, after_all, after_declarations, after_definitions, after_items}
+use Rattle.bc_scope_defs.specs.Scoping.{in_entries, in_declarations, level_after}
 use Rattle.bc_scope_defs.specs.Found.{found_in_arguments, found_in_sides, found_in_initials, found_in_entries, found_in_definitions, found_in_declarations, found_in_items}
 use Rattle.bc_scope_defs.specs.FramesAlong.{widths, width_of_arguments, width_of_initials, width_of_definitions, width_of_declarations, width_of_items}
 use Rattle.bc_scope_defs.specs.Faults.{none_met, met_labels}
@@ -113,7 +113,7 @@ abbrev pub invariant-expressions::arguments-loop-e : goal.invariant-expressions:
 invariant-expressions::arguments-loop-e l =
     (arguments_fault l.in_constant (scope_view l.scope) (numbers_view l.progress.at) (exps_view (drop l.e-index l.list)) l.above ≡ arguments_fault l.in_constant (scope_view l.fn.scope) (numbers_view l.fn.progress.at) (exps_view l.list) l.level)
     × (max l.width (width_of_arguments (scope_view l.scope) (numbers_view l.progress.at) (exps_view (drop l.e-index l.list)) l.above) ≡ width_of_arguments (scope_view l.fn.scope) (numbers_view l.fn.progress.at) (exps_view l.list) l.level)
-    × (behind_all (numbers_view l.progress.at) (exps_view (drop l.e-index l.list)) ≡ behind_all (numbers_view l.fn.progress.at) (exps_view l.list))
+    × (after_all (numbers_view l.progress.at) (exps_view (drop l.e-index l.list)) ≡ after_all (numbers_view l.fn.progress.at) (exps_view l.list))
     × (frames_fit l.progress.fits (found_in_arguments (scope_view l.scope) (numbers_view l.progress.at) (exps_view (drop l.e-index l.list)) l.above) ≡ frames_fit l.fn.progress.fits (found_in_arguments (scope_view l.fn.scope) (numbers_view l.fn.progress.at) (exps_view l.list) l.level))
     × (l.scope ≡ l.fn.scope)
 
@@ -126,7 +126,7 @@ abbrev pub invariant-expressions::sides-loop-e : goal.invariant-expressions::sid
 invariant-expressions::sides-loop-e l =
     (sides_fault (scope_view l.scope) (numbers_view l.progress.at) (exps_view (drop l.e-index l.list)) (drop l.i l.levels) ≡ sides_fault (scope_view l.fn.scope) (numbers_view l.fn.progress.at) (exps_view l.list) l.levels)
     × (l.widths.items ++ widths (scope_view l.scope) (numbers_view l.progress.at) (exps_view (drop l.e-index l.list)) (drop l.i l.levels) ≡ widths (scope_view l.fn.scope) (numbers_view l.fn.progress.at) (exps_view l.list) l.levels)
-    × (behind_all (numbers_view l.progress.at) (exps_view (drop l.e-index l.list)) ≡ behind_all (numbers_view l.fn.progress.at) (exps_view l.list))
+    × (after_all (numbers_view l.progress.at) (exps_view (drop l.e-index l.list)) ≡ after_all (numbers_view l.fn.progress.at) (exps_view l.list))
     × (frames_fit l.progress.fits (found_in_sides (scope_view l.scope) (numbers_view l.progress.at) (exps_view (drop l.e-index l.list)) (drop l.i l.levels)) ≡ frames_fit l.fn.progress.fits (found_in_sides (scope_view l.fn.scope) (numbers_view l.fn.progress.at) (exps_view l.list) l.levels))
     × (l.scope ≡ l.fn.scope)
 
@@ -134,7 +134,7 @@ abbrev pub invariant-expressions::initials-loop-e : goal.invariant-expressions::
 invariant-expressions::initials-loop-e l =
     (initials_fault (scope_view l.scope) (numbers_view l.progress.at) (exps_view (drop l.e-index l.list)) l.level ≡ initials_fault (scope_view l.fn.scope) (numbers_view l.fn.progress.at) (exps_view l.list) l.level)
     × (max l.width (width_of_initials (scope_view l.scope) (numbers_view l.progress.at) (exps_view (drop l.e-index l.list)) l.level) ≡ width_of_initials (scope_view l.fn.scope) (numbers_view l.fn.progress.at) (exps_view l.list) l.level)
-    × (behind_all (numbers_view l.progress.at) (exps_view (drop l.e-index l.list)) ≡ behind_all (numbers_view l.fn.progress.at) (exps_view l.list))
+    × (after_all (numbers_view l.progress.at) (exps_view (drop l.e-index l.list)) ≡ after_all (numbers_view l.fn.progress.at) (exps_view l.list))
     × (frames_fit l.progress.fits (found_in_initials (scope_view l.scope) (numbers_view l.progress.at) (exps_view (drop l.e-index l.list)) l.level) ≡ frames_fit l.fn.progress.fits (found_in_initials (scope_view l.fn.scope) (numbers_view l.fn.progress.at) (exps_view l.list) l.level))
     × (l.scope ≡ l.fn.scope)
 
@@ -142,7 +142,7 @@ abbrev pub invariant-declarations::entries-loop-entry : goal.invariant-declarati
 invariant-declarations::entries-loop-entry l =
     (entries_fault l.storage (names_view l.before.keys) (numbers_view l.progress.at) (entries_view (drop l.entry-index l.list)) (scope_view l.scope) ≡ entries_fault l.storage [] (numbers_view l.fn.progress.at) (entries_view l.list) (scope_view l.fn.scope))
     × (in_entries l.storage (numbers_view l.progress.at) (entries_view (drop l.entry-index l.list)) (scope_view l.scope) ≡ in_entries l.storage (numbers_view l.fn.progress.at) (entries_view l.list) (scope_view l.fn.scope))
-    × (behind_entries l.storage (numbers_view l.progress.at) (entries_view (drop l.entry-index l.list)) ≡ behind_entries l.storage (numbers_view l.fn.progress.at) (entries_view l.list))
+    × (after_entries l.storage (numbers_view l.progress.at) (entries_view (drop l.entry-index l.list)) ≡ after_entries l.storage (numbers_view l.fn.progress.at) (entries_view l.list))
     × (frames_fit l.progress.fits (found_in_entries l.storage (numbers_view l.progress.at) (entries_view (drop l.entry-index l.list)) (scope_view l.scope)) ≡ frames_fit l.fn.progress.fits (found_in_entries l.storage (numbers_view l.fn.progress.at) (entries_view l.list) (scope_view l.fn.scope)))
     × Extends l.fn.scope l.scope
 
@@ -150,18 +150,18 @@ abbrev pub invariant-declarations::definitions-loop-tree : goal.invariant-declar
 invariant-declarations::definitions-loop-tree l =
     (definitions_fault (names_view l.before.keys) (scope_view l.scope) (numbers_view l.progress.at) (definitions_view (drop l.tree-index l.list)) l.level ≡ definitions_fault [] (scope_view l.fn.scope) (numbers_view l.fn.progress.at) (definitions_view l.list) l.level)
     × (max l.width (width_of_definitions (scope_view l.scope) (numbers_view l.progress.at) (definitions_view (drop l.tree-index l.list)) l.level) ≡ width_of_definitions (scope_view l.fn.scope) (numbers_view l.fn.progress.at) (definitions_view l.list) l.level)
-    × (behind_definitions (numbers_view l.progress.at) (definitions_view (drop l.tree-index l.list)) ≡ behind_definitions (numbers_view l.fn.progress.at) (definitions_view l.list))
+    × (after_definitions (numbers_view l.progress.at) (definitions_view (drop l.tree-index l.list)) ≡ after_definitions (numbers_view l.fn.progress.at) (definitions_view l.list))
     × (frames_fit l.progress.fits (found_in_definitions (scope_view l.scope) (scope_view l.scope) (numbers_view l.progress.at) (definitions_view (drop l.tree-index l.list)) l.level) ≡ frames_fit l.fn.progress.fits (found_in_definitions (scope_view l.fn.scope) (scope_view l.fn.scope) (numbers_view l.fn.progress.at) (definitions_view l.list) l.level))
     × (l.scope ≡ l.fn.scope)
 
 abbrev pub invariant-declarations::declarations-loop-tree : goal.invariant-declarations::declarations-loop-tree
 invariant-declarations::declarations-loop-tree l =
-    (declarations_fault (scope_view l.scope) (numbers_view l.progress.at) (declarations_view (drop l.tree-index l.list)) l.behind ≡ declarations_fault (scope_view l.fn.scope) (numbers_view l.fn.progress.at) (declarations_view l.list) l.level)
-    × (in_declarations (scope_view l.scope) (numbers_view l.progress.at) l.behind (declarations_view (drop l.tree-index l.list)) ≡ in_declarations (scope_view l.fn.scope) (numbers_view l.fn.progress.at) l.level (declarations_view l.list))
-    × (level_behind (scope_view l.scope) (numbers_view l.progress.at) l.behind (declarations_view (drop l.tree-index l.list)) ≡ level_behind (scope_view l.fn.scope) (numbers_view l.fn.progress.at) l.level (declarations_view l.list))
-    × (max l.width (width_of_declarations (scope_view l.scope) (numbers_view l.progress.at) (declarations_view (drop l.tree-index l.list)) l.behind) ≡ width_of_declarations (scope_view l.fn.scope) (numbers_view l.fn.progress.at) (declarations_view l.list) l.level)
-    × (behind_declarations (numbers_view l.progress.at) (declarations_view (drop l.tree-index l.list)) ≡ behind_declarations (numbers_view l.fn.progress.at) (declarations_view l.list))
-    × (frames_fit l.progress.fits (found_in_declarations (scope_view l.scope) (numbers_view l.progress.at) (declarations_view (drop l.tree-index l.list)) l.behind) ≡ frames_fit l.fn.progress.fits (found_in_declarations (scope_view l.fn.scope) (numbers_view l.fn.progress.at) (declarations_view l.list) l.level))
+    (declarations_fault (scope_view l.scope) (numbers_view l.progress.at) (declarations_view (drop l.tree-index l.list)) l.following ≡ declarations_fault (scope_view l.fn.scope) (numbers_view l.fn.progress.at) (declarations_view l.list) l.level)
+    × (in_declarations (scope_view l.scope) (numbers_view l.progress.at) l.following (declarations_view (drop l.tree-index l.list)) ≡ in_declarations (scope_view l.fn.scope) (numbers_view l.fn.progress.at) l.level (declarations_view l.list))
+    × (level_after (scope_view l.scope) (numbers_view l.progress.at) l.following (declarations_view (drop l.tree-index l.list)) ≡ level_after (scope_view l.fn.scope) (numbers_view l.fn.progress.at) l.level (declarations_view l.list))
+    × (max l.width (width_of_declarations (scope_view l.scope) (numbers_view l.progress.at) (declarations_view (drop l.tree-index l.list)) l.following) ≡ width_of_declarations (scope_view l.fn.scope) (numbers_view l.fn.progress.at) (declarations_view l.list) l.level)
+    × (after_declarations (numbers_view l.progress.at) (declarations_view (drop l.tree-index l.list)) ≡ after_declarations (numbers_view l.fn.progress.at) (declarations_view l.list))
+    × (frames_fit l.progress.fits (found_in_declarations (scope_view l.scope) (numbers_view l.progress.at) (declarations_view (drop l.tree-index l.list)) l.following) ≡ frames_fit l.fn.progress.fits (found_in_declarations (scope_view l.fn.scope) (numbers_view l.fn.progress.at) (declarations_view l.list) l.level))
     × Extends l.fn.scope l.scope
 
 abbrev pub invariant-blocks::labels-loop-tree : goal.invariant-blocks::labels-loop-tree
@@ -174,6 +174,6 @@ abbrev pub invariant-blocks::items-loop-tree : goal.invariant-blocks::items-loop
 invariant-blocks::items-loop-tree l =
     (items_fault l.list.cases (met_view l.met) (allowed_view l.list.allowed) (scope_view l.scope) (numbers_view l.progress.at) (items_view (drop l.tree-index l.trees)) l.level ≡ items_fault l.list.cases none_met (allowed_view l.list.allowed) (scope_view l.fn.scope) (numbers_view l.fn.progress.at) (items_view l.trees) l.level)
     × (max l.width (width_of_items (scope_view l.scope) 0 (numbers_view l.progress.at) (items_view (drop l.tree-index l.trees)) l.level) ≡ width_of_items (scope_view l.fn.scope) 0 (numbers_view l.fn.progress.at) (items_view l.trees) l.level)
-    × (behind_items (numbers_view l.progress.at) (items_view (drop l.tree-index l.trees)) ≡ behind_items (numbers_view l.fn.progress.at) (items_view l.trees))
+    × (after_items (numbers_view l.progress.at) (items_view (drop l.tree-index l.trees)) ≡ after_items (numbers_view l.fn.progress.at) (items_view l.trees))
     × (frames_fit l.progress.fits (found_in_items (scope_view l.scope) 0 (numbers_view l.progress.at) (items_view (drop l.tree-index l.trees)) l.level) ≡ frames_fit l.fn.progress.fits (found_in_items (scope_view l.fn.scope) 0 (numbers_view l.fn.progress.at) (items_view l.trees) l.level))
     × (l.scope ≡ l.fn.scope)

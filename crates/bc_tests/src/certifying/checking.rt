@@ -6,7 +6,7 @@ use std::io::{ErrorKind, Read};
 const SAMPLE: &[u8] =
     b"BCPLCERT 1\nE 0 1 0 2 4\n4 N65 1 1 0 2 V0.V1\n5 G14 1 1 3 3 -\n5 ! 1 1 3 3 V0.V1\n2 K1 4 - 6 6 V22\nR V\nC L65 SP4 LIG14 K2\nZ 1\n";
 
-// Gives a byte a call, and fails behind the last one if it is to.
+// Gives a byte a call, and fails after the last one if it is to.
 #[derive(Drop)]
 struct Slow<'b> {
     bytes: &'b [u8],

@@ -30,7 +30,7 @@ fn product(alloc: Global) -> Result<CoreExp, Memory> {
     bin(alloc, Op::Multiply, sum, difference)
 }
 
-/// Whether a root can be selected for, and has 22 rows by the calls that can answer for want of memory together.
+/// Whether a root can be selected for, and has 22 rows by the calls that can answer because memory ran out together.
 fn has_rows(alloc: Global, root: &Root) -> Result<bool, Memory> {
     if !is_selectable(root) {
         return Ok(false);

@@ -43,7 +43,7 @@ const PENDING: [Meaning; 3] = [
     },
 ];
 
-/// What they mean behind it.
+/// What they mean after it.
 const DECLARED: [Meaning; 6] = [
     Meaning {
         name: b"A",
@@ -108,15 +108,15 @@ fn is_pending<'s>(scope: &mut Scope<'s>, list: &[Definition<'s>]) -> Result<bool
     Ok(is_right)
 }
 
-/// Whether they are known behind it, from offset 5 on up to 12.
+/// Whether they are known after it, from offset 5 on up to 12.
 fn is_declared<'s>(scope: &mut Scope<'s>, list: &[Definition<'s>]) -> Result<bool, Memory> {
     let priors = priors_of_let(scope, list)?;
     let is_undeclared = scope.meant_by(b"V") == Meant::Undeclared;
-    let behind = declare_let(scope, &priors, Numbers::start(), 5, list)?;
-    Ok(is_undeclared && behind == 12 && are_known(scope, &DECLARED))
+    let following = declare_let(scope, &priors, Numbers::start(), 5, list)?;
+    Ok(is_undeclared && following == 12 && are_known(scope, &DECLARED))
 }
 
-/// Whether they are known in a routine in it, in a routine in that, and behind both.
+/// Whether they are known in a routine in it, in a routine in that, and after both.
 fn is_known_inside(scope: &mut Scope<'_>) -> Result<bool, Memory> {
     let outside = scope.mark();
     declare_parameters(scope, &[b"A"])?;
@@ -127,7 +127,7 @@ fn is_known_inside(scope: &mut Scope<'_>) -> Result<bool, Memory> {
     Ok(is_inside && is_deeper && are_known(scope, &DECLARED))
 }
 
-/// Whether the names of this LET behind a global are known where they are.
+/// Whether the names of this LET after a global are known where they are.
 fn is_let<'s>(alloc: Global, list: &[Definition<'s>]) -> Result<bool, Memory> {
     let mut scope = Scope::new(alloc);
     scope.declare(b"G", Meant::Global(7))?;
@@ -155,7 +155,7 @@ pub fn of_let(alloc: Global, section: &Section<'_>) -> Result<bool, Memory> {
     is_let(alloc, definitions(section))
 }
 
-/// A LET behind a global, outside routines: what its names mean for its constants, behind it, in a routine in it, in a routine in that, and behind both.
+/// A LET after a global, outside routines: what its names mean for its constants, after it, in a routine in it, in a routine in that, and after both.
 #[test]
 fn a_let_is_declared(rt: HostRuntime) {
     assert_eq!(rt; answered(rt.alloc(), Asked::Let, LET), Answer::Right);
@@ -266,7 +266,7 @@ fn all_mean(scope: &Scope<'_>, meant: Meant) -> bool {
 }
 
 /// Where all names are constants, in a VALOF where each of them is a label as well: whether each is a label outside of its VALOF in one more, and a
-/// constant behind both.
+/// constant after both.
 fn known_in_valofs(scope: &mut Scope<'_>) -> Result<bool, Memory> {
     let outside = scope.mark();
     scope.enter_valof()?;
@@ -278,7 +278,7 @@ fn known_in_valofs(scope: &mut Scope<'_>) -> Result<bool, Memory> {
 }
 
 /// Where all names are variables, in a routine where each of them is a constant as well: whether each is another routine's variable before that, a
-/// constant then, also before VALOFs, in them and behind them, and a variable behind the routine.
+/// constant then, also before VALOFs, in them and after them, and a variable after the routine.
 fn known_in_routine(scope: &mut Scope<'_>) -> Result<bool, Memory> {
     let outside = scope.mark();
     scope.enter_routine()?;
@@ -297,7 +297,7 @@ pub fn known(alloc: Global) -> Result<bool, Memory> {
     known_in_routine(&mut scope)
 }
 
-/// What is known inside, and what is known again behind it.
+/// What is known inside, and what is known again after it.
 #[test]
 fn many_names_are_known(rt: HostRuntime) {
     assert_eq!(rt; known(rt.alloc()), Ok(true));

@@ -20,7 +20,7 @@ fn resolved(alloc: Global) -> Answer {
     Answer::Right
 }
 
-/// The same, behind scopes of many names.
+/// The same, after scopes of many names.
 fn grown(alloc: Global) -> Answer {
     match Answer::of(known(alloc)) {
         Answer::Right => resolved(alloc),

@@ -1,4 +1,4 @@
-//! What is answered of the section that a source is. A tree is let go of in one function alone, since that is what costs most here.
+//! What is answered of the section that a source is. A tree is drop in one function alone, since that is what costs most here.
 
 ghost use Rattle.std.specs.Prelude.{◌≤◌};
 ghost use Rattle.bc_parse_tree.specs.View.{section_view};

@@ -94,7 +94,7 @@ fn runs_come_to_what_they_mean(rt: HostRuntime) -> Result<(), Fail> {
     Ok(())
 }
 
-/// The calls that take memory: whether each gave its answer, or else only a fault for want of memory.
+/// The calls that take memory: whether each gave its answer, or else only a fault because memory ran out.
 fn grown(alloc: Global) -> (bool, bool) {
     match outcome_of(alloc, LETTER, 100, 1000) {
         Came::To(Outcome::Wild(Cause::Unset(_))) => (true, true),

@@ -23,7 +23,7 @@ fn setting(number: u16) -> Option<Item> {
     })
 }
 
-/// What linking `1 LL1` behind a segment that sets a global answers; none where the items themselves had no memory.
+/// What linking `1 LL1` after a segment that sets a global answers; none where the items themselves had no memory.
 fn grown(alloc: alloc::Global) -> Option<Result<Image, LinkError>> {
     let load = [label(1), operation(Function::Load, false, Base::Label, 1)];
     let sets = [label(1), setting(14)?];

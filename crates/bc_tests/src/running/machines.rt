@@ -4,7 +4,7 @@ use bc_machine::{
     DeviceFault, End, FileStreams, Image, Machine, MemoryStreams, Places, Side, Streams,
     StreamsError, Words,
 };
-use bc_run::behind_primitives;
+use bc_run::after_primitives;
 use bc_text::read_all;
 use bc_word::{Memory, Word};
 use std::alloc::Global;
@@ -16,10 +16,10 @@ const PRINTS: &[u8] = b"1 L65 SP4 LIG14 K2 X4 G1L1 Z";
 /// Writes the next byte of the input.
 const ECHOES: &[u8] = b"1 LIG13 K2 SP4 LIG14 K2 X4 G1L1 Z";
 
-/// The image of a text behind the primitives.
+/// The image of a text after the primitives.
 fn image(alloc: Global, text: &[u8]) -> Option<Image> {
     let segments = read_all(alloc, &[text]).ok()?;
-    let all = behind_primitives(alloc, segments).ok()?;
+    let all = after_primitives(alloc, segments).ok()?;
     link(alloc, all.as_slice()).ok()
 }
 

@@ -23,7 +23,7 @@ struct Wanted {
     output: &'static [u8],
 }
 
-/// Whether running a text that is read a byte a call answers what is wanted, where the reader fails behind so many calls.
+/// Whether running a text that is read a byte a call answers what is wanted, where the reader fails after so many calls.
 fn is_answered(alloc: Global, bytes: &[u8], left: usize, wanted: &Wanted) -> Option<bool> {
     let mut streams = memory(alloc, b"", 1000).ok()?;
     let text = Source {
@@ -60,7 +60,7 @@ fn slow_readers_change_nothing(rt: HostRuntime) {
     assert_eq!(rt; is_answered(rt.alloc(), HELLO, 1000, &wanted), Some(true));
 }
 
-/// A refusal of the text stands in front of a failure behind it.
+/// A refusal of the text stands before a failure after it.
 #[test]
 fn refusals_come_before_failures(rt: HostRuntime) {
     let wanted = Wanted {

@@ -59,7 +59,7 @@ fn has_failed(mut reader: Reader) -> bool {
         && reader.finish().err() == Some(TextError::Failed)
 }
 
-/// Whether reading `PROGRAM` gives its items; its fault, where the reader answers `Failed` behind it.
+/// Whether reading `PROGRAM` gives its items; its fault, where the reader answers `Failed` after it.
 fn read_program(alloc: Global) -> Result<bool, TextError> {
     let mut reader = Reader::new(alloc);
     match reader.feed(PROGRAM) {
@@ -140,7 +140,7 @@ impl Way {
         out
     }
 
-    /// What printing answers where the call of this number fails: none is made behind the last one.
+    /// What printing answers where the call of this number fails: none is made after the last one.
     fn wanted(self, fails: u32) -> Result<(), TextError> {
         if fails > 0 && fails <= self.calls {
             Err(TextError::Write)
@@ -149,7 +149,7 @@ impl Way {
         }
     }
 
-    /// Whether printing answers as it must where no call fails, where each does in turn, and where the one behind the last does.
+    /// Whether printing answers as it must where no call fails, where each does in turn, and where the one after the last does.
     fn is_lawful(self, alloc: Global, segment: &Segment, failure: Option<ErrorKind>) -> bool {
         for fails in 0..=self.calls.saturating_add(1) {
             let out = self.writer(alloc, failure, fails);

@@ -3,7 +3,7 @@ use Rattle.std.specs.Prelude.{OnOk, Err}
 use Rattle.std.proofs.Common.{◌∙◌, ◌≡◌, ◌≤◌, ◌+◌, Ok, refl, ap, sym, subst, take, length, length-take, arith}
 use Rattle.bc_cert_defs.specs.View.{judged}
 use Rattle.bc_cert_trees.specs.Stacks.{AreParallel}
-use Rattle.bc_cert.specs.View.{own, fed_behind, gone}
+use Rattle.bc_cert.specs.View.{own, fed_after, gone}
 use Rattle.bc_cert.proofs.Lengths.{seen_length}
 use Rattle.bc_cert.proofs.Summed.{own_is_fed, found_none, found_more, found_moved, found_few, found_fault, found_answer}
 use Rattle.bc_cert.specs.Answer.{IsShort}
@@ -38,7 +38,7 @@ pub forget-words-requires : goal.forget-words-requires
 forget-words-requires g c =
     let done = c.in_default-feed.ensures {u = tt} in
     let passed = done.passed in
-    let led = done.exact ∙ ap (λ n. Ok (fed_behind (gone n) (own c.feed.new.self, c.feed.new.self.line.items))) passed in
+    let led = done.exact ∙ ap (λ n. Ok (fed_after (gone n) (own c.feed.new.self, c.feed.new.self.line.items))) passed in
     let few = found_few (own c.loop.checker, c.loop.checker.line.items) (own c.feed.new.self, c.feed.new.self.line.items) c.loop.checker.passed _ _ c.loop.words (take c.min-kept.result c.read.new.buf) c.loop.invariant.so_far c.loop.invariant.none led in
     let short : length (take c.min-kept.result c.read.new.buf) ≤ c.min-kept.result = simp length-take (omega arith) in
     let seen = seen_length judged c.feed.new.self.entries.items in
@@ -50,7 +50,7 @@ loop-preserved g c =
     let done = c.in_default-feed.ensures {u = tt} in
     let forgot = c.forget-words.ensures in
     let passed = done.passed in
-    let led = done.exact ∙ ap (λ n. Ok (fed_behind (gone n) (own c.feed.new.self, c.feed.new.self.line.items))) passed in
+    let led = done.exact ∙ ap (λ n. Ok (fed_after (gone n) (own c.feed.new.self, c.feed.new.self.line.items))) passed in
     let few = found_few (own c.loop.checker, c.loop.checker.line.items) (own c.feed.new.self, c.feed.new.self.line.items) c.loop.checker.passed _ _ c.loop.words (take c.min-kept.result c.read.new.buf) c.loop.invariant.so_far c.loop.invariant.none led in
     let short : length (take c.min-kept.result c.read.new.buf) ≤ c.min-kept.result = simp length-take (omega arith) in
     let seen = seen_length judged c.feed.new.self.entries.items in

@@ -1,4 +1,4 @@
--- What was found so far is what the bytes say that the reader gave, behind entries that are no longer kept.
+-- What was found so far is what the bytes say that the reader gave, after entries that are no longer kept.
 use Rattle.std.proofs.Common.{◌≡◌, ◌≤◌, ◌+◌, []}
 use Rattle.bc_cert_trees.specs.Stacks.{AreParallel}
 use Rattle.bc_cert.specs.View.{own}

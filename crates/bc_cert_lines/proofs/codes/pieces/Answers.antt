@@ -15,6 +15,6 @@ pub loop-turn-preserved : goal.loop-turn-preserved
 loop-turn-preserved c =
     let shorter = rw c.in-Some.is at c.cut.ensures.shorter in
     record {
-      same = sym (pieces_more c.loop-turn.pieces.items c.add_piece.new.pieces.items c.loop-turn.rest.now (seen_cut c.cut.result) c.in-Some.behind.now c.cut.ensures.exact (subst (λ t. Adds t (piece c.cut.result.0.now) c.loop-turn.pieces.items c.add_piece.new.pieces.items) c.if-not-branch.false (c.in_ok-add_piece.ensures {u = tt})) (ap slice c.in-Some.is)) ∙ c.loop-turn.invariant.same;
+      same = sym (pieces_more c.loop-turn.pieces.items c.add_piece.new.pieces.items c.loop-turn.rest.now (seen_cut c.cut.result) c.in-Some.following.now c.cut.ensures.exact (subst (λ t. Adds t (piece c.cut.result.0.now) c.loop-turn.pieces.items c.add_piece.new.pieces.items) c.if-not-branch.false (c.in_ok-add_piece.ensures {u = tt})) (ap slice c.in-Some.is)) ∙ c.loop-turn.invariant.same;
       shorter = omega (arith, shorter, c.loop-turn.invariant.shorter);
     }

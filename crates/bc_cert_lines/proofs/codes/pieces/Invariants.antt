@@ -1,11 +1,11 @@
 -- What is left goes on from the pieces so far, and gets shorter.
 use Rattle.std.proofs.Common.{◌≡◌, ◌+◌, ◌≤◌, length, []}
 use Rattle.bc_cert_lines.specs.Fields.{fields}
-use Rattle.bc_cert_lines.specs.Lines.{pieces_behind}
+use Rattle.bc_cert_lines.specs.Lines.{pieces_after}
 use Rattle.bc_cert_lines.proofs.codes.pieces.Given as goal
 
 abbrev pub invariant-loop-turn : goal.invariant-loop-turn
 invariant-loop-turn l = record {
-  same : pieces_behind l.pieces.items (fields 32 l.rest) ≡ pieces_behind [] (fields 32 l.text);
+  same : pieces_after l.pieces.items (fields 32 l.rest) ≡ pieces_after [] (fields 32 l.text);
   shorter : length l.rest + l.turn ≤ length l.text;
 }

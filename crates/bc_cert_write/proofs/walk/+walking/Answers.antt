@@ -2,7 +2,7 @@ use Rattle.std.proofs.Common.{rules, arith}
 use Rattle.bc_core.specs.View.{exp, args}
 use Rattle.bc_select.proofs.Bounds.{some_node, count_of_args}
 use Rattle.bc_select.proofs.Wholes.{args_count}
-use Rattle.bc_cert_write.proofs.Steps.{arguments_more, nodes_more, on_ok, routine_behind}
+use Rattle.bc_cert_write.proofs.Steps.{arguments_more, nodes_more, on_ok, routine_after}
 use Rattle.bc_cert_write.proofs.walk.+walking.Goals as goal
 
 pub all-loop-i-preserved : goal.all-loop-i-preserved
@@ -21,4 +21,4 @@ call-lay-requires t c = (search rules, omega (arith, count_of_args (args c.args.
 
 pub call-returns : goal.call-returns
 call-returns t c =
-    on_ok c.lay.result (λ h. routine_behind c.args.marks.now.items c.all.new.marks.items c.lay.new.marks.items c.args.arguments.now (exp c.args.routine.now) c.args.level c.args.trees.now _ c.in_ok-all.ensures c.at.ensures h) c.lay.ensures
+    on_ok c.lay.result (λ h. routine_after c.args.marks.now.items c.all.new.marks.items c.lay.new.marks.items c.args.arguments.now (exp c.args.routine.now) c.args.level c.args.trees.now _ c.in_ok-all.ensures c.at.ensures h) c.lay.ensures

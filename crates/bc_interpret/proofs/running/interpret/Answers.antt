@@ -11,7 +11,7 @@ pub returns : goal.returns
 returns g c =
     let image = c.args.image.now in
     let cores = map section c.args.cores.now in
-    let places : c.behind_first-places.result.now ≡ drop 1 image.places = c.behind_first-places.ensures ∙ ap (drop 1) c.as_slice.ensures in
+    let places : c.after_first-places.result.now ≡ drop 1 image.places = c.after_first-places.ensures ∙ ap (drop 1) c.as_slice.ensures in
     let e : program_of c.as_slice-3.result.now ≡ placed cores (map_of image).places =
     ap program_of c.as_slice-3.ensures.value
     ∙ (c.in_ok-sections.ensures

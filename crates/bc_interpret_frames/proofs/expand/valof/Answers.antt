@@ -1,6 +1,6 @@
 use Rattle.std.proofs.Common.{◌≡◌, ◌+◌, ◌-◌, max, sym, ap, subst, ◌∙◌, refl, arith}
 use Rattle.bc_interpret_frames.specs.Parts.{bodies, weights, Expanded}
-use Rattle.bc_interpret_frames.proofs.Valofs.{cells_before, cells_behind, valof_waits}
+use Rattle.bc_interpret_frames.proofs.Valofs.{cells_before, cells_after, valof_waits}
 use Rattle.bc_interpret_frames.proofs.Waits.{none_waits}
 use Rattle.bc_interpret_frames.proofs.expand.valof.Goals as goal
 
@@ -10,7 +10,7 @@ returns-then-number-within c =
 
 pub returns-then-index-within : goal.returns-then-index-within
 returns-then-index-within c =
-    none_waits _ _ c.args.waiting.now.items (cells_behind c.args.within.first c.args.within.valofs.now c.args.number (c.args.number - c.args.within.first) c.args.s (omega arith) c.if-index-within.true)
+    none_waits _ _ c.args.waiting.now.items (cells_after c.args.within.first c.args.within.valofs.now c.args.number (c.args.number - c.args.within.first) c.args.s (omega arith) c.if-index-within.true)
 
 pub returns : goal.returns
 returns c =

@@ -3,15 +3,15 @@ use Rattle.std.proofs.lemmas.Result.{on_ok_weaker}
 use Rattle.bc_core.specs.Commands as commands
 use Rattle.bc_core.specs.View.{exp, block_of}
 use Rattle.bc_interpret_defs.specs.Machine.{perform_step}
-use Rattle.bc_interpret_quiet.specs.declared.worth.Truth.{Truth}
-use Rattle.bc_interpret_quiet.specs.Views.{IsTruth}
+use Rattle.bc_interpret_pure.specs.declared.value.Truth.{Truth}
+use Rattle.bc_interpret_pure.specs.Views.{IsTruth}
 use Rattle.bc_interpret_steps.specs.declared.forms.Ending.TheVariants as endings
 use Rattle.bc_interpret_steps.specs.declared.forms.Progress.TheVariants as progress
-use Rattle.bc_interpret_steps.specs.declared.rests.Rest.TheVariants as rests
-use Rattle.bc_interpret_steps.specs.declared.rests.TruthRest.TheVariants as truth_rests
+use Rattle.bc_interpret_steps.specs.declared.continuations.Rest.TheVariants as rests
+use Rattle.bc_interpret_steps.specs.declared.continuations.TruthRest.TheVariants as truth_rests
 use Rattle.bc_interpret_steps.specs.Came.{sight}
 use Rattle.bc_interpret_steps.specs.Code.{spot_of, stack, given}
-use Rattle.bc_interpret_steps.proofs.Behind.{behind}
+use Rattle.bc_interpret_steps.proofs.After.{following}
 use Rattle.bc_interpret_steps.proofs.Tests.{if_told, if_divides, if_fails, if_calls}
 use Rattle.bc_interpret_steps.proofs.commands.if_so.Goals as goal
 
@@ -29,8 +29,8 @@ returns-in-Some-Divides c =
     let b = block_of c.args.body.now in
     let before = c.args.stacks.now.rests.items in
     let st = c.args.state.now in
-    let f = c.put_behind in
-    on_ok_weaker f.result (behind (perform_step E (commands.If c.args.condition.now.sense e b) c.args.s) (rests.Truth (truth_rests.Ifs c.args.spot c.args.condition.now.sense c.args.body c.args.s)) (progress.Ended endings.ZeroDivide) before f.new.stacks.next f.new.stacks.rests.items st st
+    let f = c.put_after in
+    on_ok_weaker f.result (following (perform_step E (commands.If c.args.condition.now.sense e b) c.args.s) (rests.Truth (truth_rests.Ifs c.args.spot c.args.condition.now.sense c.args.body c.args.s)) (progress.Ended endings.ZeroDivide) before f.new.stacks.next f.new.stacks.rests.items st st
     (if_divides E c.args.condition.now.sense e b c.args.s (stack before) st c.in_ok-t.field-0 [] [] c.in_ok-t.ensures cc)) f.ensures
 
 pub returns-in-Some-Fails : goal.returns-in-Some-Fails
@@ -40,8 +40,8 @@ returns-in-Some-Fails c =
     let b = block_of c.args.body.now in
     let before = c.args.stacks.now.rests.items in
     let st = c.args.state.now in
-    let f = c.put_behind-in-Some-Fails in
-    on_ok_weaker f.result (behind (perform_step E (commands.If c.args.condition.now.sense e b) c.args.s) (rests.Truth (truth_rests.Ifs c.args.spot c.args.condition.now.sense c.args.body c.args.s)) (progress.Wild c.in-Some-Fails.cause) before f.new.stacks.next f.new.stacks.rests.items st st
+    let f = c.put_after-in-Some-Fails in
+    on_ok_weaker f.result (following (perform_step E (commands.If c.args.condition.now.sense e b) c.args.s) (rests.Truth (truth_rests.Ifs c.args.spot c.args.condition.now.sense c.args.body c.args.s)) (progress.Wild c.in-Some-Fails.cause) before f.new.stacks.next f.new.stacks.rests.items st st
     (if_fails E c.args.condition.now.sense e b c.args.s (stack before) st c.in_ok-t.field-0 c.in-Some-Fails.cause [] [] c.in_ok-t.ensures cc)) f.ensures
 
 pub returns-in-None : goal.returns-in-None

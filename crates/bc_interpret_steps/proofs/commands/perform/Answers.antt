@@ -13,25 +13,25 @@ use Rattle.bc_interpret_steps.proofs.commands.perform.Goals as goal
 pub returns-in-Call : goal.returns-in-Call
 returns-in-Call c =
     let st = c.args.state.now in
-    on_ok_weaker c.behind_value.result (λ h. subst (λ k. GoesOrMalformed (perform_step (spot_of c.args.spot) k c.args.s) c.args.stacks.now.rests.items st c.behind_value.new.stacks.next c.behind_value.new.stacks.rests.items st)
-    (sym (ap command c.in-Call.is)) h) c.behind_value.ensures
+    on_ok_weaker c.after_value.result (λ h. subst (λ k. GoesOrMalformed (perform_step (spot_of c.args.spot) k c.args.s) c.args.stacks.now.rests.items st c.after_value.new.stacks.next c.after_value.new.stacks.rests.items st)
+    (sym (ap command c.in-Call.is)) h) c.after_value.ensures
 
 pub returns-in-SwitchOn : goal.returns-in-SwitchOn
 returns-in-SwitchOn c =
     let st = c.args.state.now in
     let t = c.in-SwitchOn in
     let E = spot_of c.args.spot in
-    let after = c.behind_value-in-SwitchOn.new.stacks.rests.items in
-    let p = c.behind_value-in-SwitchOn.new.stacks.next in
-    on_ok_weaker c.behind_value-in-SwitchOn.result (λ h. subst (λ k. GoesOrMalformed (perform_step E k c.args.s) c.args.stacks.now.rests.items st p after st) (sym (ap command t.is ∙ switchon_view t.value t.items))
+    let after = c.after_value-in-SwitchOn.new.stacks.rests.items in
+    let p = c.after_value-in-SwitchOn.new.stacks.next in
+    on_ok_weaker c.after_value-in-SwitchOn.result (λ h. subst (λ k. GoesOrMalformed (perform_step E k c.args.s) c.args.stacks.now.rests.items st p after st) (sym (ap command t.is ∙ switchon_view t.value t.items))
     (subst (λ is. GoesOrMalformed (λ rs. machine.evaluate E (exp t.value) c.args.s (machine.Switches E (items is) c.args.s ∷ rs)) c.args.stacks.now.rests.items st p after st) c.deref.ensures.value
-    h)) c.behind_value-in-SwitchOn.ensures
+    h)) c.after_value-in-SwitchOn.ensures
 
 pub returns-in-ResultIs : goal.returns-in-ResultIs
 returns-in-ResultIs c =
     let st = c.args.state.now in
-    on_ok_weaker c.behind_value-in-ResultIs.result (λ h. subst (λ k. GoesOrMalformed (perform_step (spot_of c.args.spot) k c.args.s) c.args.stacks.now.rests.items st c.behind_value-in-ResultIs.new.stacks.next c.behind_value-in-ResultIs.new.stacks.rests.items st)
-    (sym (ap command c.in-ResultIs.is)) h) c.behind_value-in-ResultIs.ensures
+    on_ok_weaker c.after_value-in-ResultIs.result (λ h. subst (λ k. GoesOrMalformed (perform_step (spot_of c.args.spot) k c.args.s) c.args.stacks.now.rests.items st c.after_value-in-ResultIs.new.stacks.next c.after_value-in-ResultIs.new.stacks.rests.items st)
+    (sym (ap command c.in-ResultIs.is)) h) c.after_value-in-ResultIs.ensures
 
 pub returns-in-Nested : goal.returns-in-Nested
 returns-in-Nested c =

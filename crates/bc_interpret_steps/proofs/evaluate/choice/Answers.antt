@@ -3,9 +3,9 @@ use Rattle.std.proofs.lemmas.Result.{on_ok_weaker}
 use Rattle.bc_core.specs.View.{exp}
 use Rattle.bc_interpret_steps.specs.Code.{spot_of, stack, given}
 use Rattle.bc_interpret_steps.specs.Came.{sight}
-use Rattle.bc_interpret_quiet.specs.declared.worth.Truth.{Truth}
-use Rattle.bc_interpret_quiet.specs.declared.worth.Truth.TheVariants as truths
-use Rattle.bc_interpret_quiet.specs.Views.{IsTruth}
+use Rattle.bc_interpret_pure.specs.declared.value.Truth.{Truth}
+use Rattle.bc_interpret_pure.specs.declared.value.Truth.TheVariants as truths
+use Rattle.bc_interpret_pure.specs.Views.{IsTruth}
 use Rattle.bc_interpret_steps.proofs.Quiet.{told_truth, choice_on, choice_divides, choice_fails, choice_calls}
 use Rattle.bc_interpret_steps.proofs.evaluate.choice.Goals as goal
 

@@ -1,8 +1,8 @@
 use Rattle.std.proofs.Common.{◌≡◌, Option, None, subst}
 use Rattle.std.proofs.lemmas.Result.{on_ok_weaker}
 use Rattle.bc_core.specs.View.{exp}
-use Rattle.bc_interpret_quiet.specs.declared.worth.Worth.{Worth}
-use Rattle.bc_interpret_quiet.specs.Views.{IsWorth}
+use Rattle.bc_interpret_pure.specs.declared.value.Worth.{Worth}
+use Rattle.bc_interpret_pure.specs.Views.{IsWorth}
 use Rattle.bc_interpret_steps.specs.Code.{spot_of, stack, given}
 use Rattle.bc_interpret_steps.specs.Came.{sight}
 use Rattle.bc_interpret_steps.proofs.Quiet.{value_parts}

@@ -1,7 +1,7 @@
 use Rattle.std.proofs.Common.{ℕ, ap, slice_index_or, arith}
 use Rattle.bc_interpret_steps.specs.Code.{stack}
 use Rattle.bc_interpret_steps.specs.Came.{state_of}
-use Rattle.bc_interpret_steps.proofs.Valofs.{none_before, none_behind, valof_entered}
+use Rattle.bc_interpret_steps.proofs.Valofs.{none_before, none_after, valof_entered}
 use Rattle.bc_interpret_steps.proofs.evaluate.valof.Goals as goal
 
 pub returns-then-number-spot : goal.returns-then-number-spot
@@ -14,7 +14,7 @@ pub returns-then-index-spot : goal.returns-then-index-spot
 returns-then-index-spot c st =
     let E = c.args.spot in
     let address : ℕ → ℕ = λ l. slice_index_or E.section.now.addresses.now l 0 in
-    (λ any. ap (λ r. r any) (none_behind address E.frame E.first E.section.now.valofs.now c.args.number c.args.s (stack c.args.stacks.now.rests.items) c.if-number-spot.false c.if-index-spot.true))
+    (λ any. ap (λ r. r any) (none_after address E.frame E.first E.section.now.valofs.now c.args.number c.args.s (stack c.args.stacks.now.rests.items) c.if-number-spot.false c.if-index-spot.true))
 
 pub returns : goal.returns
 returns c st =

@@ -21,5 +21,5 @@ returns-in-Past c =
 pub returns-in-Cases : goal.returns-in-Cases
 returns-in-Cases c =
     let exit = c.args.exit in
-    let out = c.behind_cases.result in
-    subst (λ r. IsHandedOn (exit_of exit) r (Some out)) (sym c.in-Cases.is) (λ rs. cases_out (exit_of exit) (exit_of out) rs c.behind_cases.ensures)
+    let out = c.after_cases.result in
+    subst (λ r. IsHandedOn (exit_of exit) r (Some out)) (sym c.in-Cases.is) (λ rs. cases_out (exit_of exit) (exit_of out) rs c.after_cases.ensures)

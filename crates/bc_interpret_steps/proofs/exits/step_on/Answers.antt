@@ -4,7 +4,7 @@ use Rattle.bc_core.specs.View.{block_of}
 use Rattle.bc_interpret_defs.specs.Machine.{Left, ForBody, next}
 use Rattle.bc_interpret_steps.specs.Code.{spot_of, exit_of, stack, given}
 use Rattle.bc_interpret_steps.specs.Came.{CameOrMalformed}
-use Rattle.bc_interpret_steps.proofs.Loops.{for_behind}
+use Rattle.bc_interpret_steps.proofs.Loops.{for_after}
 use Rattle.bc_interpret_steps.proofs.Quiet.{loosen}
 use Rattle.bc_interpret_steps.proofs.exits.step_on.Goals as goal
 
@@ -17,5 +17,5 @@ returns-in_ok-stacks-in-None c program =
     let b = block_of c.args.body.now in
     let came = c.in_ok-stacks-in-None in
     subst (λ r. CameOrMalformed r old came.field-0 (stack before) (given before) new)
-    (for_behind program E c.args.bounds.0 c.args.bounds.1 b c.args.s (exit_of c.args.exit) (stack before) c.in-None.ensures)
+    (for_after program E c.args.bounds.0 c.args.bounds.1 b c.args.s (exit_of c.args.exit) (stack before) c.in-None.ensures)
     (loosen (next program (ForBody E c.args.bounds.0 c.args.bounds.1 b c.args.s) (Left Past) (stack before)) old came.field-0 (stack before) (given before) new (came.ensures program (stack before) (given before)))

@@ -1,5 +1,5 @@
 use Rattle.std.proofs.Common.{Some, sym, ap, ◌∙◌, option_copied}
-use Rattle.bc_interpret_steps.specs.declared.rests.Rest.TheVariants as rests
+use Rattle.bc_interpret_steps.specs.declared.continuations.Rest.TheVariants as rests
 use Rattle.bc_interpret_steps.proofs.operands.waiting.Goals as goal
 
 pub returns-in-Some-Number-Operates : goal.returns-in-Some-Number-Operates

@@ -10,7 +10,7 @@ pub one_part-returns-then-trees-ne1 : goal.one_part-returns-then-trees-ne1
 one_part-returns-then-trees-ne1 t c = single_writes_not _ _ _ _ _ _ _ _ _ c.if-trees-ne1.true
 
 pub one_part-returns : goal.one_part-returns
-one_part-returns t c = single_writes _ _ _ _ _ _ _ _ _ _ _ _ _ _ c.if-trees-ne1.false c.index-trees-0.is c.in_ok-level.ensures c.in_ok-write.ensures c.in_ok-behind_single.ensures
+one_part-returns t c = single_writes _ _ _ _ _ _ _ _ _ _ _ _ _ _ c.if-trees-ne1.false c.index-trees-0.is c.in_ok-level.ensures c.in_ok-write.ensures c.in_ok-after_single.ensures
 
 pub two_parts-returns-then-trees-ne2 : goal.two_parts-returns-then-trees-ne2
 two_parts-returns-then-trees-ne2 t c = pair_writes_not _ _ _ _ _ _ _ _ _ _ _ c.if-trees-ne2.true
@@ -18,7 +18,7 @@ two_parts-returns-then-trees-ne2 t c = pair_writes_not _ _ _ _ _ _ _ _ _ _ _ c.i
 pub two_parts-returns : goal.two_parts-returns
 two_parts-returns t c =
     pair_writes _ _ _ _ _ _ _ _ _ _ _ _ _ _ _ _ _ _ _ _ _ _ _ _ c.if-trees-ne2.false c.index-trees-0.is c.index-trees-1.is c.own_labels.ensures c.in_ok-level.ensures c.in_ok-target.ensures
-    c.in_ok-first.ensures.first c.in_ok-first.ensures.takes c.in_ok-write.ensures c.in_ok-between.ensures c.in_ok-write-2.ensures c.in_ok-behind_pair.ensures
+    c.in_ok-first.ensures.first c.in_ok-first.ensures.takes c.in_ok-write.ensures c.in_ok-between.ensures c.in_ok-write-2.ensures c.in_ok-after_pair.ensures
 
 pub three_parts-returns-then-trees-ne3 : goal.three_parts-returns-then-trees-ne3
 three_parts-returns-then-trees-ne3 t c = triple_writes_not _ _ _ _ _ _ _ _ _ _ _ _ _ c.if-trees-ne3.true

@@ -4,17 +4,17 @@ use Rattle.bc_link.specs.Refusals.{refusal_of}
 use Rattle.bc_machine.specs.Ran.{Ran, RanFrom, held_state}
 use Rattle.bc_machine_defs.specs.State.{State, start}
 use Rattle.bc_machine_defs.specs.declared.state.End.{End}
-use Rattle.bc_run.specs.Runs.{behind}
+use Rattle.bc_run.specs.Runs.{with_primitives}
 use Rattle.bc_run.proofs.running.run_text.Goals as goal
 
 pub returns-clause-run : goal.returns-clause-run
 returns-clause-run g c =
     let segments = c.in_ok-read_text.field-0.items in
-    let all : c.as_slice.result.now ≡ behind segments = c.as_slice.ensures.value ∙ c.in_ok-segments.ensures in
-    let image : c.in_ok-image.image ≡ image_of (behind segments) = c.in_ok-image.ensures.image ∙ ap image_of all in
+    let all : c.as_slice.result.now ≡ with_primitives segments = c.as_slice.ensures.value ∙ c.in_ok-segments.ensures in
+    let image : c.in_ok-image.image ≡ image_of (with_primitives segments) = c.in_ok-image.ensures.image ∙ ap image_of all in
     let old = g.S.Streams.content c.args.streams.now in
     let new = g.S.Streams.content c.run.new.streams in
-    let begun : held_state c.in_ok-machine.machine old ≡ start (image_of (behind segments)).words (image_of (behind segments)).stack_base old = c.in_ok-machine.ensures.start old ∙ ap (λ i. start i.words i.stack_base old) image in
+    let begun : held_state c.in_ok-machine.machine old ≡ start (image_of (with_primitives segments)).words (image_of (with_primitives segments)).stack_base old = c.in_ok-machine.ensures.start old ∙ ap (λ i. start i.words i.stack_base old) image in
     let told = g.S.Streams.known c.args.streams.now in
     let tells = g.S.Streams.known c.run.new.streams in
     let before = g.S.Streams.failures c.args.streams.now in

@@ -3,7 +3,7 @@ use Rattle.bc_parse_tree.specs.View.{definitions_view}
 use Rattle.bc_scope_names.specs.Priors.{own_by}
 use Rattle.bc_scope_names.specs.View.{scope_view}
 use Rattle.bc_scope_names.proofs.Extends.{extends_on, extends_self}
-use Rattle.bc_scope_names.proofs.Lets.{own_on, own_behind}
+use Rattle.bc_scope_names.proofs.Lets.{own_on, own_after}
 use Rattle.bc_scope_names.proofs.declaring.declare_own.Goals as goal
 
 pub loop-definition-init : goal.loop-definition-init
@@ -29,4 +29,4 @@ returns c =
     let gs = c.args.globals.now in
     let ds = c.args.definitions.now in
     let kept = c.loop-definition.invariant in
-    (sym (own_behind (drop c.loop-definition.i gs) ds c.loop-definition.definition-index (scope_view c.loop-definition.scope) c.loop-definition-test.false) ∙ kept.0, kept.1)
+    (sym (own_after (drop c.loop-definition.i gs) ds c.loop-definition.definition-index (scope_view c.loop-definition.scope) c.loop-definition-test.false) ∙ kept.0, kept.1)

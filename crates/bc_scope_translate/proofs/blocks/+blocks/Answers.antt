@@ -3,8 +3,8 @@ use Rattle.std.proofs.lemmas.List.{at_drop_all}
 use Rattle.bc_core.specs.View.{declarations as declarations_of, items as items_of}
 use Rattle.bc_parse_tree.specs.declared.tree.Block.{out-Block}
 use Rattle.bc_parse_tree.specs.View.{declarations_view, items_view}
-use Rattle.bc_scope_defs.specs.Numbering.{labels_in, behind_items}
-use Rattle.bc_scope_defs.specs.Scope.{behind_labels}
+use Rattle.bc_scope_defs.specs.Numbering.{labels_in, after_items}
+use Rattle.bc_scope_defs.specs.Scope.{after_labels}
 use Rattle.bc_scope_names.specs.View.{scope_view}
 use Rattle.bc_scope_translate.specs.Next.{next_numbers}
 use Rattle.bc_scope_defs.specs.Translation.{core_declarations}
@@ -19,7 +19,7 @@ items-returns t c =
     let E = scope_view c.args.scope.now in
     let at = next_numbers c.loop-tree.at in (
       items_done c.loop-tree.list.items c.args.trees.now c.loop-tree.tree-index (λ is. items_entries (scope_view c.loop-tree.scope) c.loop-tree.number at (items_view is) c.args.level) E c.args.number (next_numbers c.args.at.now) (items_view c.args.trees.now) c.args.level c.loop-tree-test.false refl c.loop-tree.invariant.0,
-      sym (at_drop_all (λ is. behind_items at (items_view is)) c.args.trees.now c.loop-tree.tree-index c.loop-tree-test.false) ∙ c.loop-tree.invariant.1,
+      sym (at_drop_all (λ is. after_items at (items_view is)) c.args.trees.now c.loop-tree.tree-index c.loop-tree-test.false) ∙ c.loop-tree.invariant.1,
       c.loop-tree.invariant.2,
     )
 
@@ -34,6 +34,6 @@ block-returns t c =
     let u = rw c.deref-2.ensures.value at c.in_ok-list.ensures in
     rw (block_seen c.args.tree.now) (
       block_made (declarations_of c.declarations.new.declarations.items) (items_of c.in_ok-list.list.items) (scope_view c.declarations.new.scope) E at1 at0 ds is c.in_ok-level.level c.args.level (w.3 ∙ ap (λ xs. declarations_of xs ++ core_declarations E at0 c.args.level ds) c.new-opened.ensures.items) w.2 w.1.0 w.0 u.0,
-      u.1 ∙ ap (λ n. behind_items (behind_labels n (labels_in is)) is) w.2,
+      u.1 ∙ ap (λ n. after_items (after_labels n (labels_in is)) is) w.2,
       taken_back c.args.scope.now c.declarations.new.scope c.command_list.new.scope c.leave.new.self _ c.mark-outside.ensures w.1.1 u.2 c.leave.ensures,
     )

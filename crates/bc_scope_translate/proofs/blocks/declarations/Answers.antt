@@ -10,7 +10,7 @@ pub loop-tree-preserved : goal.loop-tree-preserved
 loop-tree-preserved c =
     let n = declarations_on c.args.list.now c.loop-tree.tree-index c.tree-item.result c.loop-tree-test.true c.tree-item.is in
     let v = rw n at c.loop-tree.invariant in
-    let w = c.in_ok-behind.ensures in (
+    let w = c.in_ok-following.ensures in (
       rw (w.0, w.1.0, w.2) v.0,
       rw (w.0, w.1.0, w.2) v.1,
       rw w.2 v.2,

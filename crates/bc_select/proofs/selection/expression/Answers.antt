@@ -24,7 +24,7 @@ returns-clause-derivation c =
     let p = c.in_ok-parts.ensures in
     let own : c.parts.new.waiting.items ≡ p.added = p.is ∙ ap (λ x. x ++ p.added) c.new-waiting.ensures.items in
     c.tree.ensures ∙ ap (by rule) (c.in_ok-trees.ensures ∙ ap trees_of own ∙ p.trees_are)
-    ∙ reading_is e s c.args.aim rule (c.rule_at-rule.ensures (h.front ++ before e s) h.behind (node e s) (at_end _ _ [] e s h) (at_end_count _ _ [] e s h))
+    ∙ reading_is e s c.args.aim rule (c.rule_at-rule.ensures (h.front ++ before e s) h.following (node e s) (at_end _ _ [] e s h) (at_end_count _ _ [] e s h))
 
 pub returns-clause-words : goal.returns-clause-words
 returns-clause-words c = c.count.ensures ∙ ap words_or_none (c.choice_for.ensures ∙ ap (λ p. choice_for c.args.aim p.choices) (c.last.ensures [] (exp c.args.e.now) c.args.level c.requires.nodes))

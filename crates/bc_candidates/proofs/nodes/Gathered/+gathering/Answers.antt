@@ -8,7 +8,7 @@ use Rattle.bc_select_defs.specs.Choices.{choices, by_value}
 use Rattle.bc_select_defs.specs.Nodes.{in_order, all_in_order}
 use Rattle.bc_candidates.specs.Lists.{line, choices_of}
 use Rattle.bc_candidates.specs.Below.{Adds, IsOnTheWay}
-use Rattle.bc_candidates.proofs.Below.{choices_are, both_added, on_begin, on_step, on_end, args_left, none_left, behind_all, call_words}
+use Rattle.bc_candidates.proofs.Below.{choices_are, both_added, on_begin, on_step, on_end, args_left, none_left, after_all, call_words}
 use Rattle.bc_candidates.proofs.nodes.Gathered.+gathering.Goals as goal
 
 pub part-returns-clause-part : goal.part-returns-clause-part
@@ -20,8 +20,8 @@ pub call-returns-clause-below : goal.call-returns-clause-below
 call-returns-clause-below t c =
     let es = c.args.arguments.now in let f = exp c.args.routine.now in let s = c.args.level in
     let stored = c.in_ok-stored.ensures.arguments in let part = c.in_ok-node.ensures.part in
-    let behind = behind_all es s _ _ c.in_ok-inside.ensures c.in_ok-behind.ensures in
-    let words = call_words (args es) f s _ _ _ _ _ _ _ _ c.in_ok-inside.ensures behind stored.words part.choices c.any_words.ensures c.in_ok-both.ensures c.number_words.ensures.words c.in_ok-words.ensures in
+    let following = after_all es s _ _ c.in_ok-inside.ensures c.in_ok-following.ensures in
+    let words = call_words (args es) f s _ _ _ _ _ _ _ _ c.in_ok-inside.ensures following stored.words part.choices c.any_words.ensures c.in_ok-both.ensures c.number_words.ensures.words c.in_ok-words.ensures in
     let own = stored.nodes in let more = part.nodes in let first = c.in_ok-count.ensures in let last = c.in_ok-count-2.ensures in
     record { lists = c.in_ok-called_lists.ensures ∙ ap (λ x. line None [] (candidate V22 x ∷ []) by_value) words; calls = refl; nodes = omega arith }
 
@@ -31,7 +31,7 @@ call-returns-clause-found t c =
     let old = c.args.self.now.found.items in let mid = c.arguments.new.self.found.items in let new = c.part.new.self.found.items in
     let P : ℕ → Type 0 = λ n. Adds old mid (all_in_order (args es) n) in
     let Q : ℕ → Type 0 = λ n. Adds mid new (in_order f n) in
-    both_added old mid new _ _ (subst P c.in_ok-inside.ensures c.in_ok-stored.ensures.found) (subst Q (behind_all es s _ _ c.in_ok-inside.ensures c.in_ok-behind.ensures) c.in_ok-node.ensures.found)
+    both_added old mid new _ _ (subst P c.in_ok-inside.ensures c.in_ok-stored.ensures.found) (subst Q (after_all es s _ _ c.in_ok-inside.ensures c.in_ok-following.ensures) c.in_ok-node.ensures.found)
 
 pub arguments-loop-argument-init : goal.arguments-loop-argument-init
 arguments-loop-argument-init t c = on_begin _ c.args.self.now.found.items (args c.args.arguments.now) c.args.level refl refl

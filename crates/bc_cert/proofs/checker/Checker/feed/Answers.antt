@@ -14,14 +14,14 @@ returns-in-None-clause-exact c =
 
 pub returns-in-Err-clause-exact : goal.returns-in-Err-clause-exact
 returns-in-Err-clause-exact c =
-    feed_fails c.loop-turn.rest.now c.in-Some.behind.now (fed c.loop-turn.self) (seen_cut c.first_line.result) c.in-Err.fault _ c.first_line.ensures.exact (ap slice c.in-Some.is) (c.in-Err.ensures {u = tt}).exact c.loop-turn.invariant.same
+    feed_fails c.loop-turn.rest.now c.in-Some.following.now (fed c.loop-turn.self) (seen_cut c.first_line.result) c.in-Err.fault _ c.first_line.ensures.exact (ap slice c.in-Some.is) (c.in-Err.ensures {u = tt}).exact c.loop-turn.invariant.same
 
 pub loop-turn-preserved : goal.loop-turn-preserved
 loop-turn-preserved c =
     let shorter = rw c.in-Some.is at c.first_line.ensures.shorter in
     let done = c.in_default.ensures {u = tt} in
     record {
-      same = feed_on c.loop-turn.rest.now c.in-Some.behind.now (fed c.loop-turn.self) (fed c.end.new.self) (seen_cut c.first_line.result) _ c.first_line.ensures.exact (ap slice c.in-Some.is) done.exact c.loop-turn.invariant.same;
+      same = feed_on c.loop-turn.rest.now c.in-Some.following.now (fed c.loop-turn.self) (fed c.end.new.self) (seen_cut c.first_line.result) _ c.first_line.ensures.exact (ap slice c.in-Some.is) done.exact c.loop-turn.invariant.same;
       shorter = omega (arith, shorter, c.loop-turn.invariant.shorter);
       parallel = done.parallel;
       few = omega (arith, shorter, done.few, c.loop-turn.invariant.few);

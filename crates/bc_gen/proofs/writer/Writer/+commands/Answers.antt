@@ -11,16 +11,16 @@ use Rattle.bc_gen_defs.specs.Bodies.{fill, level_of, label_ahead}
 use Rattle.bc_rules_defs.specs.View.{derivation}
 use Rattle.bc_gen_defs.specs.Entries.{Plain, Begins, count_items, marked_over}
 use Rattle.bc_gen.specs.Chosen.{coding}
-use Rattle.bc_gen.specs.declared.mark.Mark.{Mark}
-use Rattle.bc_gen.specs.declared.parts.Part.{Part}
-use Rattle.bc_gen.specs.declared.parts.Part.TheVariants as variants
+use Rattle.bc_gen.specs.declared.root_mark.Mark.{Mark}
+use Rattle.bc_gen.specs.declared.marked_items.Part.{Part}
+use Rattle.bc_gen.specs.declared.marked_items.Part.TheVariants as variants
 use Rattle.bc_gen.specs.Parts.{parts, mark}
 use Rattle.bc_gen.specs.Room.{room_in}
 use Rattle.bc_gen.specs.Surroundings.{roots_in, exits_of, valofs_in, bodies_of, label_in, one_piece}
 use Rattle.bc_gen.proofs.Weights.{weight, weight_of_items, weight_of_block, weight_of_valofs, weight_if, weight_test, weight_while, weight_repeat, weight_repeat_while, weight_for, weight_switchon, weight_nested, weight_of_one, weight_of_valof}
 use Rattle.bc_gen.proofs.Forms.{if_writes, test_writes, while_writes, repeat_writes, repeat_while_writes, for_writes, switchon_writes, block_writes, command_room, command_writes, writes_nothing, written_is, grown, root_marked, two_taken, three_taken}
 use Rattle.bc_gen.proofs.Turns.{list_turn, entries_turn, item_room, declarations_turn, declaration_room, declarations_end, variables_turn, variable_room, cells_turn, fill_turn}
-use Rattle.bc_gen.proofs.Bodies.{none_before, none_behind, outside, valof_has_room, valof_writes}
+use Rattle.bc_gen.proofs.Bodies.{none_before, none_after, outside, valof_has_room, valof_writes}
 use Rattle.bc_gen.proofs.Outs.{block_declared, block_labelled, bodies_grow, declarations_out, ended, fails, fill_out, for_ended, for_limited, for_started, for_stepped, for_taken, for_tested, grown_on, if_taken, if_tested, less_one, less_two, limited, list_out, repeat_done, repeat_taken, repeat_while_done, repeat_while_half, repeat_while_taken, rising, root_taken, second, second_of_three, started, switchon_done, switchon_taken, switchon_valued, test_done, test_half, test_taken, test_tested, tested, third, valof_out, variables_out, while_done, while_taken, while_tested}
 use Rattle.bc_gen.proofs.Rises.{less}
 use Rattle.bc_gen.proofs.writer.Writer.+commands.Goals as goal
@@ -115,16 +115,16 @@ list-list_item-requires t c =
 pub list-loop-item-preserved : goal.list-loop-item-preserved
 list-loop-item-preserved t c =
     let e = entries_turn c.args.list.now c.loop-item.item-index c.item-item.result c.loop-item.entry c.loop-item-test.true c.item-item.is in
-    let turned = list_turn (roots_in c.args.around.now) c.args.level (exits_of c.args.around.now) c.args.list.now c.loop-item.item-index c.item-item.result c.loop-item.entry c.entry_behind-entry.result c.args.self.now c.loop-item.self c.list_item.new.self
+    let turned = list_turn (roots_in c.args.around.now) c.args.level (exits_of c.args.around.now) c.args.list.now c.loop-item.item-index c.item-item.result c.loop-item.entry c.entry_after-entry.result c.args.self.now c.loop-item.self c.list_item.new.self
     (emit_items Plain (roots_in c.args.around.now) (items c.args.list.now) c.args.level (exits_of c.args.around.now) c.args.first c.args.self.now.next)
-    c.loop-item-test.true c.item-item.is c.entry_behind-entry.ensures c.in_ok-list_item.ensures (c.loop-item.invariant.0, c.loop-item.invariant.1) in
-    (turned.0, turned.1, omega (arith, e, c.entry_behind-entry.ensures, c.loop-item.invariant.2))
+    c.loop-item-test.true c.item-item.is c.entry_after-entry.ensures c.in_ok-list_item.ensures (c.loop-item.invariant.0, c.loop-item.invariant.1) in
+    (turned.0, turned.1, omega (arith, e, c.entry_after-entry.ensures, c.loop-item.invariant.2))
 
 pub block-list-requires : goal.block-list-requires
 block-list-requires t c =
     let d = ap (λ xs. weight_of_items (items xs)) c.deref-4.ensures.value in
     let n = ap (λ xs. entries_in (items xs)) c.deref-4.ensures.value in
-    let k = rw c.deref-2.ensures.value at c.in_ok-inner.ensures.behind in
+    let k = rw c.deref-2.ensures.value at c.in_ok-inner.ensures.following in
     (omega (arith, d), (rw (c.deref-4.ensures.value, k) c.requires.2, omega (arith, n, c.requires.1)))
 
 pub block-returns : goal.block-returns
@@ -132,7 +132,7 @@ block-returns t c =
     let ls = rw c.deref.ensures.value at c.in_ok-labels.ensures.labels in
     let n = rw c.deref.ensures.value at c.in_ok-labels.ensures.next in
     let ds = rw c.deref-2.ensures.value at c.in_ok-inner.ensures.written in
-    let k = rw c.deref-2.ensures.value at c.in_ok-inner.ensures.behind in
+    let k = rw c.deref-2.ensures.value at c.in_ok-inner.ensures.following in
     let h = rw (c.deref-3.ensures.value, c.deref-4.ensures.value) at c.list.ensures in
     block_writes c.list.result (roots_in c.args.around.now) (exits_of c.args.around.now) c.args.around.now.labels.now (declarations c.args.block.now.declarations.items) (items c.args.block.now.list.items)
     c.args.level c.in_ok-inner.inner c.in_ok-labels.labels.items c.args.self.now c.list_labels.new.self c.declarations.new.self c.list.new.self
@@ -205,8 +205,8 @@ declarations-loop-declaration-preserved t c =
     c.loop-declaration-test.true c.declaration-item.is cells refl wrote (c.loop-declaration.invariant.0, c.loop-declaration.invariant.1, c.loop-declaration.invariant.2) in
     (turned.0, turned.1, turned.2, rw cells room.2)
 
-pub declarations-returns-clause-behind : goal.declarations-returns-clause-behind
-declarations-returns-clause-behind t c =
+pub declarations-returns-clause-following : goal.declarations-returns-clause-following
+declarations-returns-clause-following t c =
     declarations_end c.args.declarations.now c.loop-declaration.declaration-index c.loop-declaration.level (c.args.level + cells_declared (declarations c.args.declarations.now)) c.loop-declaration-test.false c.loop-declaration.invariant.2
 
 pub variables-loop-variable-preserved : goal.variables-loop-variable-preserved
@@ -222,7 +222,7 @@ pub fill-loop-i-preserved : goal.fill-loop-i-preserved
 fill-loop-i-preserved t c =
     let levels = level_of (valofs_in c.args.around.now.valofs.now) in
     let bodies = bodies_of (valofs_in c.args.around.now.valofs.now) c.args.around.now.least in
-    let ahead = c.label_ahead-label.ensures ∙ ap label_ahead c.behind.ensures in
+    let ahead = c.label_ahead-label.ensures ∙ ap label_ahead c.following.ensures in
     fill_turn levels bodies c.args.pieces.now c.loop-i.i c.index-pieces-i.result c.label_ahead-label.result c.loop-i.bodies.items c.piece.new.bodies.items c.args.self.now c.loop-i.self c.piece.new.self
     (fill Plain levels bodies c.args.pieces.now c.args.self.now.next) c.loop-i-test.true c.index-pieces-i.is ahead (c.in_ok-piece.ensures.written, c.in_ok-piece.ensures.counts) c.loop-i.invariant
 
@@ -232,7 +232,7 @@ body-returns-clause-count t c =
     let code = bodies_of vs c.args.around.now.least c.args.number (level_of vs c.args.number) c.args.label c.args.self.now.next in
     let n : c.len-before.result ≡ length c.args.self.now.parts.items = omega (arith, c.len-before.ensures, c.args.self.now.parts.ok.0) in
     c.count_items.ensures
-    ∙ ap (λ (xs : List Part). count_items (parts xs)) (c.behind.ensures ∙ ap (λ (k : ℕ). drop k c.deref.result.now) n ∙ ap (λ (xs : List Part). drop (length c.args.self.now.parts.items) xs) c.deref.ensures.value)
+    ∙ ap (λ (xs : List Part). count_items (parts xs)) (c.following.ensures ∙ ap (λ (k : ℕ). drop k c.deref.result.now) n ∙ ap (λ (xs : List Part). drop (length c.args.self.now.parts.items) xs) c.deref.ensures.value)
     ∙ ap count_items (written_is c.args.self.now c.valof.new.self code.0 c.in_ok-valof.ensures.0)
 
 pub valof-returns-then-number-around : goal.valof-returns-then-number-around
@@ -254,7 +254,7 @@ valof-returns-in-None t c =
     let f = c.args.self.now.next in
     let least = c.args.around.now.least in
     writes_nothing c.args.self.now (bodies_of vs least n (level_of vs n) l f)
-    (none_behind (marked_over coding (level_of vs)) least (drop least vs) n (level_of vs n) l f (outside cvs least n c.if-number-around.false c.in-None.ensures.lookup.3))
+    (none_after (marked_over coding (level_of vs)) least (drop least vs) n (level_of vs n) l f (outside cvs least n c.if-number-around.false c.in-None.ensures.lookup.3))
 
 pub valof-block-requires : goal.valof-block-requires
 valof-block-requires t c =
@@ -539,7 +539,7 @@ variables-returns-in_err-set t c =
 pub fill-returns-in_err-piece-clause-written : goal.fill-returns-in_err-piece-clause-written
 fill-returns-in_err-piece-clause-written t c =
     let whole = fill Plain (level_of (valofs_in c.args.around.now.valofs.now)) (bodies_of (valofs_in c.args.around.now.valofs.now) c.args.around.now.least) c.args.pieces.now c.args.self.now.next in
-    let ahead = c.label_ahead-label.ensures ∙ ap label_ahead c.behind.ensures in
+    let ahead = c.label_ahead-label.ensures ∙ ap label_ahead c.following.ensures in
     fails c.from_residual.result c.in_err-piece.field-0.0 c.args.self.now c.piece.new.self (one_piece (level_of (valofs_in c.args.around.now.valofs.now)) (bodies_of (valofs_in c.args.around.now.valofs.now) c.args.around.now.least) c.index-pieces-i.result c.label_ahead-label.result c.loop-i.self.next).1
     (whole.0, whole.1) c.from_residual.ensures.1 c.in_err-piece.ensures.written
     (fill_out (level_of (valofs_in c.args.around.now.valofs.now)) (bodies_of (valofs_in c.args.around.now.valofs.now) c.args.around.now.least) (bodies_grow (valofs_in c.args.around.now.valofs.now) c.args.around.now.least) c.args.pieces.now c.loop-i.i c.index-pieces-i.result c.label_ahead-label.result c.loop-i.self.next _

@@ -1,5 +1,5 @@
 use Rattle.std.proofs.Common.{map}
-use Rattle.bc_core.specs.Level.{level_behind_parameters}
+use Rattle.bc_core.specs.Level.{level_after_parameters}
 use Rattle.bc_core.specs.View.{body_of, place_of}
 use Rattle.bc_gen_defs.specs.Bodies.{emit_body}
 use Rattle.bc_gen_defs.specs.Section.{emit_routines}
@@ -15,7 +15,7 @@ pub returns-in_err-routine : goal.returns-in_err-routine
 returns-in_err-routine c =
     let r = c.in-Routine.routine in
     fails c.from_residual-in_err-routine.result c.in_err-routine.field-0.0 c.args.self.now c.routine.new.self
-    (emit_body Plain (roots_in c.args.around.now) (body_of r.body) (level_behind_parameters r.parameters) c.label.new.self.next).1
+    (emit_body Plain (roots_in c.args.around.now) (body_of r.body) (level_after_parameters r.parameters) c.label.new.self.next).1
     (emit_routines Plain (roots_in c.args.around.now) 0 (map place_of c.args.places.now) c.args.self.now.next)
     c.from_residual-in_err-routine.ensures.1 c.in_err-routine.ensures
     (routines_out (roots_in c.args.around.now) (rising c.args.around.now) c.args.places.now c.loop-place.place-index c.place-item.result r c.loop-place.label c.loop-place.self.next c.label.new.self.next _

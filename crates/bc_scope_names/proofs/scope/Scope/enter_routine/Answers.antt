@@ -13,7 +13,7 @@ invariant_of-self-2 c =
     let kept = c.self.invariant in
     let put = c.in_ok-push.ensures.items in (
       λ q. rw put (kept.0 q ∙ sym (newest_last es (entry.Routine b) q.now None)),
-      rw put (c.behind_routine-self-inside.ensures ∙ routine_border es b b _ kept.1 (c.len.ensures ∙ c.push.new.self.ok.0 ∙ ap (λ l. length l) put)),
+      rw put (c.after_routine-self-inside.ensures ∙ routine_border es b b _ kept.1 (c.len.ensures ∙ c.push.new.self.ok.0 ∙ ap (λ l. length l) put)),
       rw put (can_undo_push es (entry.Routine b) kept.2 kept.1),
       rw put (All-push (HasPosition (names c.self.inside.index)) es (entry.Routine b) kept.3 tt),
     )

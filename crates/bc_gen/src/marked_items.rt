@@ -1,0 +1,88 @@
+//! Code with a mark where that of each root begins.
+ghost use Rattle.std.specs.Prelude.{◌≡◌, IfOk, map};
+ghost use Rattle.std.specs.List.{AllZip};
+ghost use Rattle.bc_rules_defs.specs.View.{entry as entry_view};
+ghost use Rattle.bc_cert_write.specs.Workings.{WorkedOut};
+ghost use Rattle.bc_gen_defs.specs.Entries.{plain_items, count_items as count_of, entries_from, entry_at};
+ghost use Rattle.bc_gen.specs.Parts.{mark as mark_view, parts as parts_view};
+
+use crate::root_mark::Mark;
+use bc_cert_write::Workings;
+use bc_rules_defs::Entry;
+use bc_text_items::Item;
+use bc_word::Memory;
+use std::alloc::Global;
+
+/// An item, or the place where a root's code begins.
+#[derive(Debug, Drop)]
+pub(crate) enum Part {
+    Item(Item),
+    Begins(Box<Mark>),
+}
+
+/// How many items there are among these.
+pub(crate) fn count_items(parts: &[Part]) -> u64
+    ensures { result ≡ count_of (parts_view parts.now) }
+{
+    let mut count = 0;
+    for part in parts {
+        match part {
+            Part::Item(_) => count += 1,
+            Part::Begins(_) => {}
+        }
+    }
+    count
+}
+
+/// A section's items apart from the entries of its roots, and the workings of each entry.
+#[derive(Drop)]
+pub(crate) struct Apart {
+    pub(crate) items: Vec<Item>,
+    pub(crate) entries: Vec<Entry>,
+    pub(crate) workings: Vec<Workings>,
+}
+
+/// The items, and the entries of the roots with their workings.
+pub(crate) fn separated(alloc: Global, parts: Vec<Part>) -> Result<Apart, Memory>
+    ensures items { IfOk result (λ r. r.items.items ≡ plain_items (parts_view parts.items)) }
+    ensures entries { IfOk result (λ r. map entry_view r.entries.items ≡ entries_from 0 (parts_view parts.items)) }
+    ensures worked { IfOk result (λ r. AllZip WorkedOut (map entry_view r.entries.items) r.workings.items) }
+{
+    let count = count_items(&parts) as usize;
+    let roots = parts.len().saturating_sub(count);
+    let mut items = Vec::with_capacity(alloc, count)?;
+    let mut entries = Vec::with_capacity(alloc, roots)?;
+    let mut workings = Vec::with_capacity(alloc, roots)?;
+    for part in parts {
+        match part {
+            Part::Item(item) => items.push(item)?,
+            Part::Begins(mark) => {
+                let (entry, worked) = entry(items.len() as u64, Box::into_inner(mark));
+                entries.push(entry)?;
+                workings.push(worked)?;
+            }
+        }
+    }
+    Ok(Apart {
+        items,
+        entries,
+        workings,
+    })
+}
+
+/// The entry of a root whose code begins at this item, and the workings of the entry.
+fn entry(item: u64, mark: Mark) -> (Entry, Workings)
+    ensures entry { entry_view result.0 ≡ entry_at item (mark_view mark) }
+    ensures worked { WorkedOut (entry_view result.0) result.1 }
+{
+    let entry = Entry {
+        segment: 0,
+        item,
+        target: mark.target,
+        first: mark.first,
+        root: mark.root,
+        derivation: mark.derivation,
+        bodies: mark.bodies,
+    };
+    (entry, mark.workings)
+}

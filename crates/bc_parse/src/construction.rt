@@ -1,0 +1,663 @@
+//! What is made of a part that was just read. Each function takes the part's answer as it comes, and hands on its fault. So it calls
+//! no reader, and is proved by itself, and the readers, which call one another and have one proof, hold few trees.
+ghost use Rattle.std.specs.Prelude.{◌≡◌, ◌+◌, ◌-◌, ◌<◌, ◌≤◌, ◌==◌, if◌then◌else◌, true, false, length, max, Result, Ok, Err};
+ghost use Rattle.bc_lex_tokens.specs.declared.symbol.Symbol.TheVariants as sign;
+ghost use Rattle.bc_parse_tree.specs.Operators.{own_level, level_of};
+ghost use Rattle.bc_parse_tree.specs.Spelling.{count, add_exp, add_declaration, add_definition, add_entry, add_item, add_label};
+ghost use Rattle.bc_parse_tree.specs.Tree as tree;
+ghost use Rattle.bc_parse_tree.specs.View.{exp_view, exps_view, command_view, block_view, declaration_view, declarations_view};
+ghost use Rattle.bc_parse_tree.specs.View.{definition_view, definitions_view, entries_view, items_view, labels_view};
+ghost use Rattle.bc_parse_defs.specs.Reading.{Fault, Expected, Piece, piece, on, after_of, expect_of, moved, as_body, next_exp};
+ghost use Rattle.bc_parse_defs.specs.Reading.{tested_command};
+ghost use Rattle.bc_parse.specs.Names.{names_view};
+ghost use Rattle.bc_parse.specs.Seen.{◌~>◌, seen, read_view, box_view, list_view, levelled_view, parts_view, Reads};
+ghost use Rattle.bc_parse.specs.Seen.{Made, MadeOperand, MadeTurn, Nests, NestsTurn};
+
+use crate::blocks::{Parts, body_from};
+use crate::commands::{switch_of, test_of, tested_of};
+use crate::cursor::Rest;
+use crate::expressions::{Levelled, exp_count};
+use crate::fault::ReadFault;
+use crate::names::name_count;
+use crate::read::{Answer, Read, Room, Turn};
+use crate::{boxes, cursor};
+use bc_lex_tokens::Symbol;
+use bc_parse_defs::words;
+use bc_parse_defs::words::Tested;
+use bc_parse_tree::{
+    Block, Command, Constant, Declaration, Definition, Dyadic, Exp, Label, Monadic, Storage,
+};
+
+/// An expression in memory of its own.
+pub fn exp_kept<'s, 't>(room: Room, found: Answer<'s, 't, Exp<'s>>) -> Answer<'s, 't, Box<Exp<'s>>>
+    requires { Nests found room.nest }
+    ensures read { (r : Result (Piece tree.Exp) Fault) → Reads exp_view found.entry r → Reads (box_view exp_view) result r }
+    ensures low { Nests result room.nest }
+{
+    let found = found?;
+    let tree = boxes::exp(room.alloc, found.tree)?;
+    Ok(Read {
+        tree,
+        height: found.height,
+        rest: found.rest,
+    })
+}
+
+/// An operand of this level.
+fn operand<'s, 't>(
+    exp: Exp<'s>,
+    level: usize,
+    height: usize,
+    rest: Rest<'s, 't>,
+) -> Read<'s, 't, Levelled<'s>>
+    ensures read { read_view levelled_view result ≡ piece (exp_view exp.entry, level) height (seen rest.entry) }
+    ensures height { result.height ≡ height }
+{
+    let tree = Levelled { exp, level };
+    Read { tree, height, rest }
+}
+
+/// TABLE with its constants.
+pub fn table_of<'s, 't>(
+    room: Room,
+    found: Answer<'s, 't, Vec<Exp<'s>>>,
+) -> Answer<'s, 't, Levelled<'s>>
+    requires room { 0 < room.nest }
+    requires found { Nests found (room.nest - 1) }
+    ensures read { MadeOperand (list_view exps_view) found.entry result (λ ks. Ok (piece (tree.Table ks.tree) (ks.height + 1) ks.rest)) 12 }
+    ensures low { Nests result room.nest }
+{
+    let found = found?;
+    Ok(operand(Exp::Table(found.tree), 12, found.height + 1, found.rest))
+}
+
+/// VALOF with its body.
+pub fn valof_of<'s, 't>(
+    room: Room,
+    found: Answer<'s, 't, Block<'s>>,
+) -> Answer<'s, 't, Levelled<'s>>
+    requires room { 0 < room.nest }
+    requires found { Nests found (room.nest - 1) }
+    ensures read { MadeOperand block_view found.entry result (λ b. Ok (piece (tree.Valof b.tree) (b.height + 1) b.rest)) 12 }
+    ensures low { Nests result room.nest }
+{
+    let found = found?;
+    Ok(operand(Exp::Valof(found.tree), 12, found.height + 1, found.rest))
+}
+
+/// An operator with its one operand.
+pub fn monadic_of<'s, 't>(
+    room: Room,
+    op: Monadic,
+    found: Answer<'s, 't, Box<Exp<'s>>>,
+) -> Answer<'s, 't, Levelled<'s>>
+    requires room { 0 < room.nest }
+    requires found { Nests found (room.nest - 1) }
+    ensures read { MadeOperand (box_view exp_view) found.entry result (λ e. Ok (piece (tree.Monadic op e.tree) (e.height + 1) e.rest)) (own_level op) }
+    ensures low { Nests result room.nest }
+{
+    let found = found?;
+    let exp = Exp::Monadic(op, found.tree);
+    Ok(operand(exp, words::monadic_level(op), found.height + 1, found.rest))
+}
+
+/// An expression with the round bracket after it.
+pub fn bracket_of<'s, 't>(
+    room: Room,
+    found: Answer<'s, 't, Exp<'s>>,
+) -> Answer<'s, 't, Levelled<'s>>
+    requires { Nests found room.nest }
+    ensures read { MadeOperand exp_view found.entry result (λ e. expect_of sign.CloseBracket e.rest ~> λ rest. Ok (moved e rest)) 12 }
+    ensures low { Nests result room.nest }
+{
+    let found = found?;
+    let found = boxes::closed(Symbol::CloseBracket, found)?;
+    Ok(operand(found.tree, 12, found.height, found.rest))
+}
+
+/// An operator between two operands, of which the left one nests so deep.
+pub fn dyadic_of<'s, 't>(
+    room: Room,
+    op: Dyadic,
+    height: usize,
+    left: Box<Exp<'s>>,
+    right: Answer<'s, 't, Box<Exp<'s>>>,
+) -> Answer<'s, 't, Levelled<'s>>
+    requires room { height < room.nest }
+    requires right { Nests right (room.nest - 1) }
+    ensures read { MadeOperand (box_view exp_view) right.entry result (λ r. Ok
+        (piece (tree.Dyadic op (exp_view left.entry.value) r.tree) (max height r.height + 1) r.rest)) (level_of op) }
+    ensures low { Nests result room.nest }
+{
+    let right = right?;
+    let exp = Exp::Dyadic(op, left, right.tree);
+    Ok(operand(
+        exp,
+        words::level(op),
+        height.max(right.height) + 1,
+        right.rest,
+    ))
+}
+
+/// A call of a routine that nests so deep.
+pub fn call_from<'s, 't>(
+    room: Room,
+    height: usize,
+    routine: Box<Exp<'s>>,
+    found: Answer<'s, 't, Vec<Exp<'s>>>,
+) -> Answer<'s, 't, Levelled<'s>>
+    requires room { height < room.nest }
+    requires found { Nests found (room.nest - 1) }
+    ensures read { MadeOperand (list_view exps_view) found.entry result (λ es. Ok
+        (piece (tree.Call (exp_view routine.entry.value) es.tree) (max height es.height + 1) es.rest)) 12 }
+    ensures low { Nests result room.nest }
+{
+    let found = found?;
+    let exp = Exp::Call(routine, found.tree);
+    Ok(operand(exp, 12, height.max(found.height) + 1, found.rest))
+}
+
+/// A choice whose first two parts nest so deep.
+pub fn condition_of<'s, 't>(
+    room: Room,
+    height: usize,
+    test: Box<Exp<'s>>,
+    this: Box<Exp<'s>>,
+    that: Answer<'s, 't, Box<Exp<'s>>>,
+) -> Answer<'s, 't, Levelled<'s>>
+    requires room { height < room.nest }
+    requires that { Nests that (room.nest - 1) }
+    ensures read { MadeOperand (box_view exp_view) that.entry result (λ y. Ok
+        (piece (tree.Condition (exp_view test.entry.value) (exp_view this.entry.value) y.tree) (max height y.height + 1) y.rest)) 1 }
+    ensures low { Nests result room.nest }
+{
+    let found = that?;
+    let that = found.tree;
+    let exp = Exp::Condition { test, this, that };
+    Ok(operand(exp, 1, height.max(found.height) + 1, found.rest))
+}
+
+/// A longer operand, after which another one may stand.
+pub fn grown<'s, 't>(
+    room: Room,
+    next: Answer<'s, 't, Levelled<'s>>,
+) -> Result<Turn<'s, 't, Levelled<'s>>, ReadFault>
+    requires { Nests next room.nest }
+    ensures read { MadeTurn levelled_view next.entry levelled_view result (λ t. Ok (t, false)) }
+    ensures low { NestsTurn result room.nest }
+{
+    Ok(Turn::More(next?))
+}
+
+/// Expressions with one more, and whether it is the last.
+pub fn exps_more<'s, 't>(
+    room: Room,
+    limit: usize,
+    next: Answer<'s, 't, Exp<'s>>,
+    list: Read<'s, 't, Vec<Exp<'s>>>,
+) -> Result<Turn<'s, 't, Vec<Exp<'s>>>, ReadFault>
+    requires list { list.height ≤ room.nest }
+    requires next { Nests next room.nest }
+    ensures read { MadeTurn exp_view next.entry (list_view exps_view) result (λ e. next_exp limit
+        (piece (add_exp (exps_view list.entry.tree.items) e.tree) (max list.entry.height e.height) e.rest)) }
+    ensures low { NestsTurn result room.nest }
+{
+    let next = next?;
+    let tree = boxes::exp_added(list.tree, next.tree)?;
+    let height = list.height.max(next.height);
+    let rest = next.rest;
+    if exp_count(&tree) == limit {
+        return Ok(Turn::Last(Read { tree, height, rest }));
+    }
+    Ok(match cursor::after(Symbol::Comma, rest) {
+        None => Turn::Last(Read { tree, height, rest }),
+        Some(rest) => Turn::More(Read { tree, height, rest }),
+    })
+}
+
+/// A command with REPEATWHILE and its test.
+pub fn while_of<'s, 't>(
+    room: Room,
+    whole: Read<'s, 't, Box<Command<'s>>>,
+    test: Answer<'s, 't, Exp<'s>>,
+) -> Result<Turn<'s, 't, Box<Command<'s>>>, ReadFault>
+    requires room { whole.height < room.nest }
+    requires test { Nests test (room.nest - 1) }
+    ensures read { MadeTurn exp_view test.entry (box_view command_view) result (λ e. Ok
+        (piece (tree.RepeatWhile (command_view whole.entry.tree.value) e.tree) (max whole.entry.height e.height + 1) e.rest, false)) }
+    ensures low { NestsTurn result room.nest }
+{
+    let test = test?;
+    let tree = boxes::command(room.alloc, Command::RepeatWhile(whole.tree, test.tree))?;
+    Ok(Turn::More(Read {
+        tree,
+        height: whole.height.max(test.height) + 1,
+        rest: test.rest,
+    }))
+}
+
+/// A command with REPEATUNTIL and its test.
+pub fn until_of<'s, 't>(
+    room: Room,
+    whole: Read<'s, 't, Box<Command<'s>>>,
+    test: Answer<'s, 't, Exp<'s>>,
+) -> Result<Turn<'s, 't, Box<Command<'s>>>, ReadFault>
+    requires room { whole.height < room.nest }
+    requires test { Nests test (room.nest - 1) }
+    ensures read { MadeTurn exp_view test.entry (box_view command_view) result (λ e. Ok
+        (piece (tree.RepeatUntil (command_view whole.entry.tree.value) e.tree) (max whole.entry.height e.height + 1) e.rest, false)) }
+    ensures low { NestsTurn result room.nest }
+{
+    let test = test?;
+    let tree = boxes::command(room.alloc, Command::RepeatUntil(whole.tree, test.tree))?;
+    Ok(Turn::More(Read {
+        tree,
+        height: whole.height.max(test.height) + 1,
+        rest: test.rest,
+    }))
+}
+
+/// An assignment, of as many values as there are targets.
+#[tactic(auto, using(crate::proofs::Views::assign_view))]
+pub fn assignment<'s, 't>(
+    room: Room,
+    targets: Read<'s, 't, Vec<Exp<'s>>>,
+    values: Answer<'s, 't, Vec<Exp<'s>>>,
+) -> Answer<'s, 't, Command<'s>>
+    requires room { targets.height < room.nest }
+    requires values { Nests values (room.nest - 1) }
+    ensures read { Made (list_view exps_view) values.entry command_view result (λ es.
+        if count es.tree == count (exps_view targets.entry.tree.items)
+        then Ok (piece (tree.Assign (exps_view targets.entry.tree.items) es.tree) (max targets.entry.height es.height + 1) es.rest)
+        else Err (Expected (length es.rest))) }
+    ensures low { Nests result room.nest }
+{
+    let values = values?;
+    if exp_count(&values.tree) != exp_count(&targets.tree) {
+        return Err(ReadFault::Expected(values.rest.parts.len()));
+    }
+    Ok(Read {
+        tree: Command::Assign(targets.tree, values.tree),
+        height: targets.height.max(values.height) + 1,
+        rest: values.rest,
+    })
+}
+
+/// A block as a command.
+pub fn compound<'s, 't>(room: Room, inner: Answer<'s, 't, Block<'s>>) -> Answer<'s, 't, Command<'s>>
+    requires room { 0 < room.nest }
+    requires inner { Nests inner (room.nest - 1) }
+    ensures read { Made block_view inner.entry command_view result (λ b. Ok (piece (tree.Compound b.tree) (b.height + 1) b.rest)) }
+    ensures low { Nests result room.nest }
+{
+    let inner = inner?;
+    Ok(Read {
+        tree: Command::Block(inner.tree),
+        height: inner.height + 1,
+        rest: inner.rest,
+    })
+}
+
+/// RESULTIS with its value.
+pub fn result_of<'s, 't>(room: Room, value: Answer<'s, 't, Exp<'s>>) -> Answer<'s, 't, Command<'s>>
+    requires room { 0 < room.nest }
+    requires value { Nests value (room.nest - 1) }
+    ensures read { Made exp_view value.entry command_view result (λ e. Ok (piece (tree.ResultIs e.tree) (e.height + 1) e.rest)) }
+    ensures low { Nests result room.nest }
+{
+    let value = value?;
+    Ok(Read {
+        tree: Command::ResultIs(value.tree),
+        height: value.height + 1,
+        rest: value.rest,
+    })
+}
+
+/// IF, UNLESS, WHILE or UNTIL, with its test and its body.
+pub fn tested<'s, 't>(
+    room: Room,
+    word: Tested,
+    test: Read<'s, 't, Box<Exp<'s>>>,
+    found: Answer<'s, 't, Block<'s>>,
+) -> Answer<'s, 't, Command<'s>>
+    requires room { test.height < room.nest }
+    requires found { Nests found (room.nest - 1) }
+    ensures read { Made block_view found.entry command_view result (λ b. Ok
+        (piece (tested_command word (exp_view test.entry.tree.value) b.tree) (max test.entry.height b.height + 1) b.rest)) }
+    ensures low { Nests result room.nest }
+{
+    let found = found?;
+    Ok(Read {
+        tree: tested_of(word, test.tree, found.tree),
+        height: test.height.max(found.height) + 1,
+        rest: found.rest,
+    })
+}
+
+/// TEST with its two bodies.
+pub fn test<'s, 't>(
+    room: Room,
+    test: Read<'s, 't, Box<Exp<'s>>>,
+    this: Read<'s, 't, Block<'s>>,
+    that: Answer<'s, 't, Block<'s>>,
+) -> Answer<'s, 't, Command<'s>>
+    requires room { test.height < room.nest }
+    requires this { this.height < room.nest }
+    requires that { Nests that (room.nest - 1) }
+    ensures read { Made block_view that.entry command_view result (λ d. Ok (piece
+        (tree.Test (exp_view test.entry.tree.value) (block_view this.entry.tree) d.tree)
+        (max (max test.entry.height this.entry.height) d.height + 1) d.rest)) }
+    ensures low { Nests result room.nest }
+{
+    let that = that?;
+    Ok(Read {
+        tree: test_of(test.tree, this.tree, that.tree),
+        height: test.height.max(this.height).max(that.height) + 1,
+        rest: that.rest,
+    })
+}
+
+/// SWITCHON with its value and its cases.
+pub fn switch<'s, 't>(
+    room: Room,
+    value: Read<'s, 't, Box<Exp<'s>>>,
+    found: Answer<'s, 't, Parts<'s>>,
+) -> Answer<'s, 't, Command<'s>>
+    requires room { value.height < room.nest }
+    requires found { Nests found (room.nest - 1) }
+    ensures read { Made parts_view found.entry command_view result (λ p. Ok
+        (piece (tree.SwitchOn (exp_view value.entry.tree.value) p.tree.1) (max value.entry.height p.height + 1) p.rest)) }
+    ensures low { Nests result room.nest }
+{
+    let found = found?;
+    Ok(Read {
+        tree: switch_of(value.tree, found.tree),
+        height: value.height.max(found.height) + 1,
+        rest: found.rest,
+    })
+}
+
+/// A block, of what stands in it.
+pub fn block_from<'s, 't>(room: Room, found: Answer<'s, 't, Parts<'s>>) -> Answer<'s, 't, Block<'s>>
+    requires { Nests found room.nest }
+    ensures read { Made parts_view found.entry block_view result (λ p. Ok (piece (tree.block p.tree.0 p.tree.1) p.height p.rest)) }
+    ensures low { Nests result room.nest }
+{
+    let found = found?;
+    let Parts {
+        declarations,
+        items,
+    } = found.tree;
+    let tree = Block {
+        declarations,
+        items,
+    };
+    Ok(Read {
+        tree,
+        height: found.height,
+        rest: found.rest,
+    })
+}
+
+/// A command as the body that it is.
+pub fn body_of<'s, 't>(room: Room, whole: Answer<'s, 't, Command<'s>>) -> Answer<'s, 't, Block<'s>>
+    requires { Nests whole room.nest }
+    ensures read { Made command_view whole.entry block_view result (λ c. Ok
+        (piece (as_body c.tree c.height).0 (as_body c.tree c.height).1 c.rest)) }
+    ensures low { Nests result room.nest }
+{
+    body_from(room.alloc, whole?)
+}
+
+/// Labels with `CASE value:` after them.
+pub fn case_of<'s, 't>(
+    room: Room,
+    value: Answer<'s, 't, Box<Exp<'s>>>,
+    list: Read<'s, 't, Vec<Label<'s>>>,
+) -> Result<Turn<'s, 't, Vec<Label<'s>>>, ReadFault>
+    requires list { list.height ≤ room.nest }
+    requires value { Nests value room.nest }
+    ensures read { MadeTurn (box_view exp_view) value.entry (list_view labels_view) result (λ k. expect_of sign.Colon k.rest ~> λ rest. Ok
+        (piece (add_label (labels_view list.entry.tree.items) (tree.Case k.tree)) (max list.entry.height k.height) rest, false)) }
+    ensures low { NestsTurn result room.nest }
+{
+    let value = value?;
+    let rest = cursor::expect(Symbol::Colon, value.rest)?;
+    let tree = boxes::case_added(list.tree, value.tree)?;
+    Ok(Turn::More(Read {
+        tree,
+        height: list.height.max(value.height),
+        rest,
+    }))
+}
+
+/// One more item, of these labels and the command after them.
+pub fn command_item<'s, 't>(
+    room: Room,
+    remaining: Answer<'s, 't, Command<'s>>,
+    list: Read<'s, 't, Parts<'s>>,
+    found: Read<'s, 't, Vec<Label<'s>>>,
+) -> Answer<'s, 't, Parts<'s>>
+    requires list { list.height ≤ room.nest }
+    requires found { found.height ≤ room.nest }
+    requires remaining { Nests remaining room.nest }
+    ensures read { (r : Result (Piece tree.Command) Fault) → Reads command_view remaining.entry r → Reads parts_view result
+        ((r ~> λ c. Ok (piece (tree.Labelled (labels_view found.entry.tree.items) c.tree) (max found.entry.height c.height) c.rest)) ~> λ i. Ok
+        (piece (declarations_view list.entry.tree.declarations.items, add_item (items_view list.entry.tree.items.items) i.tree)
+        (max list.entry.height i.height) i.rest)) }
+    ensures low { Nests result room.nest }
+{
+    let remaining = remaining?;
+    let Parts {
+        declarations,
+        items,
+    } = list.tree;
+    let items = boxes::command_added(items, found.tree, remaining.tree)?;
+    let tree = Parts {
+        declarations,
+        items,
+    };
+    let height = found.height.max(remaining.height);
+    Ok(Read {
+        tree,
+        height: list.height.max(height),
+        rest: remaining.rest,
+    })
+}
+
+/// One more declaration of a list of places.
+pub fn declared<'s, 't>(
+    room: Room,
+    found: Answer<'s, 't, Declaration<'s>>,
+    list: Read<'s, 't, Parts<'s>>,
+) -> Answer<'s, 't, Parts<'s>>
+    requires list { list.height ≤ room.nest }
+    requires found { Nests found room.nest }
+    ensures read { Made declaration_view found.entry parts_view result (λ d. Ok (piece
+        (add_declaration (declarations_view list.entry.tree.declarations.items) d.tree, items_view list.entry.tree.items.items)
+        (max list.entry.height d.height) d.rest)) }
+    ensures low { Nests result room.nest }
+{
+    let found = found?;
+    let Parts {
+        declarations,
+        items,
+    } = list.tree;
+    let declarations = boxes::declaration_added(declarations, found.tree)?;
+    let tree = Parts {
+        declarations,
+        items,
+    };
+    Ok(Read {
+        tree,
+        height: list.height.max(found.height),
+        rest: found.rest,
+    })
+}
+
+/// LET with its definitions.
+pub fn let_of<'s, 't>(
+    room: Room,
+    found: Answer<'s, 't, Vec<Definition<'s>>>,
+) -> Answer<'s, 't, Declaration<'s>>
+    requires { Nests found room.nest }
+    ensures read { Made (list_view definitions_view) found.entry declaration_view result (λ ds. Ok (piece (tree.Let ds.tree) ds.height ds.rest)) }
+    ensures low { Nests result room.nest }
+{
+    let found = found?;
+    Ok(Read {
+        tree: Declaration::Let(found.tree),
+        height: found.height,
+        rest: found.rest,
+    })
+}
+
+/// Constants of this storage.
+pub fn constants<'s, 't>(
+    room: Room,
+    storage: Storage,
+    found: Answer<'s, 't, Vec<Constant<'s>>>,
+) -> Answer<'s, 't, Declaration<'s>>
+    requires { Nests found room.nest }
+    ensures read { Made (list_view entries_view) found.entry declaration_view result (λ es. Ok (piece (tree.Constants storage es.tree) es.height es.rest)) }
+    ensures low { Nests result room.nest }
+{
+    let found = found?;
+    Ok(Read {
+        tree: Declaration::Constants(storage, found.tree),
+        height: found.height,
+        rest: found.rest,
+    })
+}
+
+/// Constants with one more, of this name.
+pub fn constant<'s, 't>(
+    room: Room,
+    name: &'s [u8],
+    value: Answer<'s, 't, Exp<'s>>,
+    list: Read<'s, 't, Vec<Constant<'s>>>,
+) -> Answer<'s, 't, Vec<Constant<'s>>>
+    requires list { list.height ≤ room.nest }
+    requires value { Nests value room.nest }
+    ensures read { Made exp_view value.entry (list_view entries_view) result (λ k. Ok
+        (piece (add_entry (entries_view list.entry.tree.items) name.entry.now k.tree) (max list.entry.height k.height) k.rest)) }
+    ensures low { Nests result room.nest }
+{
+    let value = value?;
+    let tree = boxes::constant_added(list.tree, name, value.tree)?;
+    Ok(Read {
+        tree,
+        height: list.height.max(value.height),
+        rest: value.rest,
+    })
+}
+
+/// Definitions with one more, and whether it is the last.
+pub fn definitions_more<'s, 't>(
+    room: Room,
+    next: Answer<'s, 't, Definition<'s>>,
+    list: Read<'s, 't, Vec<Definition<'s>>>,
+) -> Result<Turn<'s, 't, Vec<Definition<'s>>>, ReadFault>
+    requires list { list.height ≤ room.nest }
+    requires next { Nests next room.nest }
+    ensures read { MadeTurn definition_view next.entry (list_view definitions_view) result (λ d.
+        on (after_of sign.And d.rest)
+        (Ok (piece (add_definition (definitions_view list.entry.tree.items) d.tree) (max list.entry.height d.height) d.rest, true))
+        (λ after. Ok (piece (add_definition (definitions_view list.entry.tree.items) d.tree) (max list.entry.height d.height) after, false))) }
+    ensures low { NestsTurn result room.nest }
+{
+    let next = next?;
+    let tree = boxes::definition_added(list.tree, next.tree)?;
+    let height = list.height.max(next.height);
+    let rest = next.rest;
+    Ok(match cursor::after(Symbol::And, rest) {
+        None => Turn::Last(Read { tree, height, rest }),
+        Some(rest) => Turn::More(Read { tree, height, rest }),
+    })
+}
+
+/// A vector of this name.
+pub fn vector<'s, 't>(
+    room: Room,
+    name: &'s [u8],
+    size: Answer<'s, 't, Exp<'s>>,
+) -> Answer<'s, 't, Definition<'s>>
+    requires room { 0 < room.nest }
+    requires size { Nests size (room.nest - 1) }
+    ensures read { Made exp_view size.entry definition_view result (λ k. Ok (piece (tree.Vector name.entry.now k.tree) (k.height + 1) k.rest)) }
+    ensures low { Nests result room.nest }
+{
+    let size = size?;
+    Ok(Read {
+        tree: Definition::Vector(name, size.tree),
+        height: size.height + 1,
+        rest: size.rest,
+    })
+}
+
+/// Variables with their values, as many as there are names.
+pub fn variables<'s, 't>(
+    room: Room,
+    found: Vec<&'s [u8]>,
+    values: Answer<'s, 't, Vec<Exp<'s>>>,
+) -> Answer<'s, 't, Definition<'s>>
+    requires room { 0 < room.nest }
+    requires values { Nests values (room.nest - 1) }
+    ensures read { Made (list_view exps_view) values.entry definition_view result (λ es.
+        if count es.tree == length (names_view found.entry.items)
+        then Ok (piece (tree.Variables (names_view found.entry.items) es.tree) (es.height + 1) es.rest)
+        else Err (Expected (length es.rest))) }
+    ensures low { Nests result room.nest }
+{
+    let values = values?;
+    if exp_count(&values.tree) != name_count(&found) {
+        return Err(ReadFault::Expected(values.rest.parts.len()));
+    }
+    Ok(Read {
+        tree: Definition::Variables(found, values.tree),
+        height: values.height + 1,
+        rest: values.rest,
+    })
+}
+
+/// A function of this name and these parameters.
+pub fn function<'s, 't>(
+    room: Room,
+    name: &'s [u8],
+    found: Vec<&'s [u8]>,
+    value: Answer<'s, 't, Exp<'s>>,
+) -> Answer<'s, 't, Definition<'s>>
+    requires room { 0 < room.nest }
+    requires value { Nests value (room.nest - 1) }
+    ensures read { Made exp_view value.entry definition_view result (λ e. Ok
+        (piece (tree.Function name.entry.now (names_view found.entry.items) e.tree) (e.height + 1) e.rest)) }
+    ensures low { Nests result room.nest }
+{
+    let value = value?;
+    Ok(Read {
+        tree: Definition::Function(name, found, value.tree),
+        height: value.height + 1,
+        rest: value.rest,
+    })
+}
+
+/// A routine of this name and these parameters.
+pub fn routine<'s, 't>(
+    room: Room,
+    name: &'s [u8],
+    found: Vec<&'s [u8]>,
+    body: Answer<'s, 't, Block<'s>>,
+) -> Answer<'s, 't, Definition<'s>>
+    requires room { 0 < room.nest }
+    requires body { Nests body (room.nest - 1) }
+    ensures read { Made block_view body.entry definition_view result (λ b. Ok
+        (piece (tree.Routine name.entry.now (names_view found.entry.items) b.tree) (b.height + 1) b.rest)) }
+    ensures low { Nests result room.nest }
+{
+    let body = body?;
+    Ok(Read {
+        tree: Definition::Routine(name, found, body.tree),
+        height: body.height + 1,
+        rest: body.rest,
+    })
+}

@@ -1,9 +1,0 @@
-use Rattle.std.proofs.Common.{◌≡◌, drop}
-use Rattle.bc_parse_tree.specs.View.{entries_view}
-use Rattle.bc_scope_defs.specs.Numbering.{behind_entries}
-use Rattle.bc_scope_names.specs.View.{numbers_view}
-use Rattle.bc_scope_names.proofs.numbering.behind_entries.Given as goal
-
-abbrev pub invariant-loop-each : goal.invariant-loop-each
-invariant-loop-each l =
-    behind_entries l.storage (numbers_view l.at) (entries_view (drop l._each-index l.entries)) ≡ behind_entries l.storage (numbers_view l.fn.at) (entries_view l.entries)

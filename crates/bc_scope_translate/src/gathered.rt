@@ -1,0 +1,59 @@
+//! What was found so far.
+ghost use Rattle.std.specs.Prelude.{◌≡◌, IfOk};
+ghost use Rattle.bc_core.specs.View.{place_of, valof_of};
+ghost use Rattle.bc_scope_defs.specs.Found.{section_start};
+ghost use Rattle.bc_scope_defs.specs.Scope.{after_place};
+ghost use Rattle.bc_scope_names.specs.View.{numbers_view};
+ghost use Rattle.bc_scope_translate.specs.Finding.{core_view, nothing, with_place, with_valof};
+
+use bc_core::{Place, Valof};
+use bc_scope_names::Numbers;
+use bc_word::Memory;
+use std::alloc::Global;
+
+/// What was found so far, and the next numbers.
+#[derive(Debug, Drop)]
+pub struct Gathered {
+    pub at: Numbers,
+    pub places: Vec<Place>,
+    pub valofs: Vec<Valof>,
+}
+
+#[tactic(auto, unfolding(crate::specs::Finding::core_view))]
+impl Gathered {
+    /// Nothing yet.
+    pub fn new(alloc: Global) -> Gathered
+        ensures { (core_view result ≡ nothing) × (numbers_view result.at ≡ section_start) }
+    {
+        Gathered {
+            at: Numbers::start(),
+            places: Vec::new(alloc),
+            valofs: Vec::new(alloc),
+        }
+    }
+
+    /// A place more.
+    pub fn place(&mut self, place: Place) -> Result<(), Memory>
+        ensures { IfOk result (λ _. (core_view self.new ≡ with_place (core_view self.old) (place_of place))
+            × (numbers_view self.new.at ≡ after_place (numbers_view self.old.at))) }
+    {
+        let following = self.at.after_place()?;
+        self.places.push(place)?;
+        self.at = following;
+        Ok(())
+    }
+
+    /// The body of a VALOF more, whose number was taken before.
+    pub fn valof(&mut self, valof: Valof) -> Result<(), Memory>
+        ensures { IfOk result (λ _. (core_view self.new ≡ with_valof (core_view self.old) (valof_of valof)) × (self.new.at ≡ self.old.at)) }
+    {
+        Ok(self.valofs.push(valof)?)
+    }
+
+    /// The numbers from here on.
+    pub fn go_on_at(&mut self, at: Numbers)
+        ensures { (core_view self.new ≡ core_view self.old) × (self.new.at ≡ at) }
+    {
+        self.at = at;
+    }
+}

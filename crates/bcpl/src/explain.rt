@@ -1,0 +1,274 @@
+//! The command `explain`.
+
+ghost use Rattle.std.specs.Prelude.{◌≤◌, length, IfOk};
+ghost use Rattle.bc_lex_tokens.specs.Token.{lexemes_of};
+
+use crate::compiling::{refused, spare_given};
+use crate::output::{of_output, print_all};
+use crate::source_files::{Gathered, sources_of};
+use crate::texts::in_memory;
+use bc_build::{Built, build};
+use bc_cert::{check_sums, write_cert};
+use bc_lex::{Source, Token, lex};
+use bc_parse::{Section, parse};
+use bc_rules_defs::Entry;
+use bc_scope::{Core, resolve};
+use bc_word::Memory;
+use bcpl_cli::{Cause, ExplainOrder, Failure, Sources, Written};
+use bcpl_explain::{Checked, explanation};
+use bcpl_show::Files;
+use std::alloc::Global;
+use std::io::Write;
+use std::mem::forget;
+use std::rt::Files as Access;
+
+/// What the compiler sees of a main: its index among the sources, its segment's index, and its trees. It is forgotten at the end.
+#[derive(Drop)]
+struct Front<'s> {
+    main: usize,
+    segment: usize,
+    tokens: Vec<Token<'s>>,
+    section: Section<'s>,
+    core: Core,
+}
+
+/// The tokens of a main of a program that was built, so that only memory can be missing.
+fn tokens_of<'s>(
+    alloc: Global,
+    sources: &[Source<'s>],
+    main: usize,
+) -> Result<Vec<Token<'s>>, Failure>
+    ensures { IfOk result (λ tokens. length (lexemes_of tokens.items) ≤ 60000) }
+{
+    if main >= sources.len() {
+        return Err(Failure::new(Cause::Memory));
+    }
+    match lex(alloc, sources, main) {
+        Ok(tokens) => Ok(tokens),
+        Err(_) => Err(Failure::new(Cause::Memory)),
+    }
+}
+
+/// Adds this, and forgets it where there is no room.
+fn keep<T: Drop>(all: &mut Vec<T>, value: T) -> Result<(), Failure> {
+    match all.push(value) {
+        Ok(()) => Ok(()),
+        Err(refused) => {
+            forget(refused);
+            Err(Failure::new(Cause::Memory))
+        }
+    }
+}
+
+/// Adds what the compiler sees of a main of a program that was built, so that only memory can be missing.
+fn add_front<'s>(
+    alloc: Global,
+    fronts: &mut Vec<Front<'s>>,
+    sources: &[Source<'s>],
+    main: usize,
+    segment: usize,
+) -> Result<(), Failure> {
+    let tokens = tokens_of(alloc, sources, main)?;
+    match parse(alloc, tokens.as_slice()) {
+        Ok(section) => match resolve(alloc, &section) {
+            Ok(core) => keep(
+                fronts,
+                Front {
+                    main,
+                    segment,
+                    tokens,
+                    section,
+                    core,
+                },
+            ),
+            Err(_) => {
+                forget(section);
+                Err(Failure::new(Cause::Memory))
+            }
+        },
+        Err(_) => Err(Failure::new(Cause::Memory)),
+    }
+}
+
+/// The entries of a segment.
+pub fn entries_of(entries: &[Entry], segment: usize) -> &[Entry] {
+    let wanted = segment as u64;
+    let from = entries.partition_point(|entry| entry.segment < wanted);
+    let to = entries.partition_point(|entry| entry.segment <= wanted);
+    entries.get(from..to).unwrap_or(&[])
+}
+
+/// What the checker says of the certificate of a program.
+fn judged(alloc: Global, built: &Built) -> Result<Checked, Failure> {
+    let mut certificate = Vec::new(alloc);
+    if write_cert(alloc, built.entries.as_slice(), &mut certificate).is_err() {
+        return Err(Failure::new(Cause::Certificate));
+    }
+    match check_sums(alloc, certificate.as_slice()) {
+        Ok(sums) => Ok(Checked {
+            entries: sums.entries,
+            words: sums.words,
+        }),
+        Err(fault) => Err(Failure::new(Cause::Check(fault))),
+    }
+}
+
+/// A main of a program that was built, with what the compiler sees of it.
+fn program_of<'p, 's>(
+    files: Files<'p, 's>,
+    front: &'p Front<'s>,
+    built: &'p Built,
+) -> bcpl_show::Program<'p, 's> {
+    let items = match built.segments.as_slice().get(front.segment) {
+        Some(segment) => segment.items(),
+        None => &[],
+    };
+    bcpl_show::Program {
+        files,
+        main: front.main,
+        tokens: front.tokens.as_slice(),
+        section: &front.section,
+        core: &front.core,
+        items,
+        entries: entries_of(built.entries.as_slice(), front.segment),
+        first: [0, 0, 0],
+    }
+}
+
+/// The mains of a program that was built, with what the compiler sees of each.
+fn programs_of<'p, 's>(
+    alloc: Global,
+    files: Files<'p, 's>,
+    fronts: &'p [Front<'s>],
+    built: &'p Built,
+) -> Result<Vec<bcpl_show::Program<'p, 's>>, Memory> {
+    let mut programs = Vec::new(alloc);
+    for front in fronts {
+        programs.push(program_of(files, front, built))?;
+    }
+    Ok(programs)
+}
+
+/// Adds what the compiler sees of these mains, if they stand after so many sources.
+fn add_fronts<'s>(
+    alloc: Global,
+    fronts: &mut Vec<Front<'s>>,
+    sources: &[Source<'s>],
+    mains: &[usize],
+    following: usize,
+) -> Result<(), Failure> {
+    for (segment, main) in mains.iter().enumerate() {
+        if *main >= following {
+            add_front(alloc, fronts, sources, *main, segment)?;
+        }
+    }
+    Ok(())
+}
+
+/// The report on these mains of a program that was built.
+fn report_of<'p, 's>(
+    alloc: Global,
+    files: Files<'p, 's>,
+    fronts: &'p [Front<'s>],
+    built: &'p Built,
+) -> Result<Vec<u8>, Failure> {
+    let programs = programs_of(alloc, files, fronts, built)?;
+    let checked = judged(alloc, built)?;
+    in_memory(explanation(alloc, programs.as_slice(), checked))
+}
+
+/// The report on a program that was built of these sources.
+fn report_on(
+    alloc: Global,
+    gathered: &Gathered<'_, '_>,
+    given: &Sources<'_>,
+    built: &Built,
+) -> Result<Vec<u8>, Failure> {
+    let program = gathered.program();
+    let files = Files {
+        sources: program.named.sources,
+        paths: program.named.paths,
+        library: gathered.library,
+    };
+    let following = gathered.library.saturating_add(given.gets.len());
+    let mut fronts = Vec::new(alloc);
+    let report = match add_fronts(alloc, &mut fronts, files.sources, program.mains, following) {
+        Ok(()) => report_of(alloc, files, fronts.as_slice(), built),
+        Err(failure) => Err(failure),
+    };
+    // The process is about to end, and the system takes all memory back at once.
+    forget(fronts);
+    report
+}
+
+/// The report on the program that was gathered from these sources. `shows` says whether the place of a refusal is told.
+fn built_report(
+    alloc: Global,
+    gathered: &Gathered<'_, '_>,
+    given: &Sources<'_>,
+    shows: bool,
+) -> Result<Vec<u8>, Failure> {
+    let program = gathered.program();
+    match build(alloc, program.named.sources, program.mains) {
+        Ok(built) => report_on(alloc, gathered, given, &built),
+        Err(fault) => Err(refused(alloc, &program, fault, shows)),
+    }
+}
+
+/// The report that is asked for, and what the checker said.
+fn reported<F: Access>(
+    rt: &F,
+    alloc: Global,
+    order: &ExplainOrder<'_>,
+    shows: bool,
+) -> Result<Vec<u8>, Failure> {
+    let given = &order.sources;
+    let loaded = sources_of(rt, alloc, given)?;
+    let gathered = Gathered::new(alloc, given, loaded.as_slice())?;
+    built_report(alloc, &gathered, given, shows)
+}
+
+/// Writes a report to the file of this path, which has all of it or stays as it was.
+fn write_report<F: Access>(
+    rt: &F,
+    alloc: Global,
+    path: &str,
+    report: &[u8],
+) -> Result<(), Failure> {
+    let mut written = Written::begin(rt, alloc, path)?;
+    match written.out().write_all(report) {
+        Ok(()) => written.finish(rt, alloc, path),
+        Err(error) => {
+            written.abandon(rt);
+            Err(Failure::io(alloc, &error, path))
+        }
+    }
+}
+
+/// Refuses a report's file that is one of the sources.
+fn spare_sources<F: Access>(
+    rt: &F,
+    alloc: Global,
+    order: &ExplainOrder<'_>,
+) -> Result<(), Failure> {
+    match order.out {
+        Some(path) => spare_given(rt, alloc, path, &order.sources),
+        None => Ok(()),
+    }
+}
+
+/// Does what `explain` asks for. `shows` says whether the place of a refusal is told.
+pub fn explain<F: Access, O: Write + Drop>(
+    rt: &F,
+    alloc: Global,
+    order: &ExplainOrder<'_>,
+    shows: bool,
+    out: &mut O,
+) -> Result<(), Failure> {
+    spare_sources(rt, alloc, order)?;
+    let report = reported(rt, alloc, order, shows)?;
+    match order.out {
+        Some(path) => write_report(rt, alloc, path, report.as_slice()),
+        None => of_output(alloc, print_all(report.as_slice(), out)),
+    }
+}

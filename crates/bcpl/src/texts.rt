@@ -1,0 +1,198 @@
+//! Texts in files, read and linked.
+
+ghost use Rattle.std.specs.Prelude.{◌≡◌};
+
+use crate::growing_list::Growing;
+use bc_link::{LinkError, link};
+use bc_machine_defs::Image;
+use bc_run::after_primitives;
+use bc_text::Reader;
+use bc_text_items::Segment;
+use bc_word::Memory;
+use bcpl_cli::{Cause, FILE_LIMIT, Failure, contents};
+use bcpl_reports::{Text, link_lines, text_lines};
+use std::alloc::Global;
+use std::io;
+use std::io::{ErrorKind, Read};
+use std::rt::Files;
+
+/// Adds what was found, if it was.
+pub fn add<T: Drop>(all: &mut Vec<T>, found: Result<T, Failure>) -> Result<(), Failure> {
+    Ok(all.push(found?)?)
+}
+
+/// What was found, where it is a failure that memory was refused.
+pub fn in_memory<T: Drop>(found: Result<T, Memory>) -> Result<T, Failure> {
+    match found {
+        Ok(found) => Ok(found),
+        Err(_) => Err(Failure::new(Cause::Memory)),
+    }
+}
+
+/// The bytes of the files of these paths.
+pub fn all_contents<F: Files>(
+    rt: &F,
+    alloc: Global,
+    paths: &[&str],
+) -> Result<Vec<Vec<u8>>, Failure> {
+    let mut all = Vec::new(alloc);
+    for path in paths {
+        add(&mut all, contents(rt, alloc, path))?;
+    }
+    Ok(all)
+}
+
+/// The bytes of the file of this path, where it can be read.
+pub fn readable<F: Files>(rt: &F, alloc: Global, path: &str) -> Option<Vec<u8>> {
+    contents(rt, alloc, path).ok()
+}
+
+/// The failure of a text on standard input that can't be read to its end, or that of the bytes before that, if they are refused.
+fn judged_first(alloc: Global, bytes: &[u8], failure: Failure) -> Failure {
+    let front = bytes.get(..FILE_LIMIT as usize).unwrap_or(bytes);
+    let mut reader = Reader::new(alloc);
+    match reader.feed(front) {
+        Ok(()) => failure,
+        Err(fault) => Failure::from(fault),
+    }
+}
+
+/// The failure of a text on standard input of which these bytes were read, and that came to this.
+fn unread(alloc: Global, bytes: &[u8], read: &io::Result<usize>) -> Failure {
+    match read {
+        Err(error) if error.kind() == ErrorKind::OutOfMemory => Failure::new(Cause::Memory),
+        Err(error) => judged_first(alloc, bytes, Failure::io(alloc, error, "SYSIN")),
+        Ok(_) => judged_first(
+            alloc,
+            bytes,
+            Failure::file_since(alloc, "SYSIN", "the text has more than 16777216 bytes"),
+        ),
+    }
+}
+
+/// Whether all bytes of a text were read.
+fn is_read(read: &io::Result<usize>) -> bool {
+    match read {
+        Ok(count) => *count as u64 <= FILE_LIMIT,
+        Err(_) => false,
+    }
+}
+
+/// The bytes of a text on standard input. Where that fails, or gives more bytes than a file may have, what it gave before that is
+/// judged first.
+pub fn standard_text<R: Read + Drop>(alloc: Global, input: R) -> Result<Vec<u8>, Failure> {
+    let mut bytes = Vec::new(alloc);
+    let read = input.take(FILE_LIMIT + 1).read_to_end(&mut bytes);
+    if is_read(&read) {
+        Ok(bytes)
+    } else {
+        Err(unread(alloc, bytes.as_slice(), &read))
+    }
+}
+
+/// The texts with these bytes, under these paths.
+pub fn texts_of<'a>(
+    alloc: Global,
+    paths: &[&'a str],
+    contents: &'a [Vec<u8>],
+) -> Result<Vec<Text<'a>>, Memory> {
+    let mut texts = Growing::new(alloc);
+    for (path, bytes) in paths.iter().zip(contents) {
+        texts.add(Text {
+            path: *path,
+            bytes: bytes.as_slice(),
+        });
+    }
+    texts.whole()
+}
+
+/// A failure with these lines on it, where there was memory for them.
+pub fn explained(failure: Failure, lines: Result<String, Memory>) -> Failure
+    ensures { result.cause ≡ failure.cause }
+{
+    match lines {
+        Ok(lines) => failure.with(lines),
+        Err(_) => failure,
+    }
+}
+
+/// The segments of a text, after these.
+fn add_segments(alloc: Global, segments: &mut Vec<Segment>, text: &[u8]) -> Result<(), Failure> {
+    let mut reader = Reader::new(alloc);
+    reader.feed(text)?;
+    for segment in reader.finish()? {
+        segments.push(segment)?;
+    }
+    Ok(())
+}
+
+/// The failure of a text with what is told of its place.
+fn told_of_text(alloc: Global, failure: Failure, text: Text<'_>) -> Failure {
+    let lines = match &failure.cause {
+        Cause::Text(fault) => text_lines(alloc, text, *fault),
+        _ => return failure,
+    };
+    explained(failure, lines)
+}
+
+/// The segments of these texts, judged in their order. `shows` says whether the place of a refusal is told.
+pub fn segments_of(
+    alloc: Global,
+    texts: &[Text<'_>],
+    shows: bool,
+) -> Result<Vec<Segment>, Failure> {
+    let mut segments = Vec::new(alloc);
+    for text in texts {
+        if let Err(failure) = add_segments(alloc, &mut segments, text.bytes) {
+            return Err(if shows {
+                told_of_text(alloc, failure, *text)
+            } else {
+                failure
+            });
+        }
+    }
+    Ok(segments)
+}
+
+/// A program that was linked: its segments, the primitives first, and its image.
+#[derive(Drop)]
+pub struct LinkedProgram {
+    pub segments: Vec<Segment>,
+    pub image: Image,
+}
+
+/// The failure of segments of these texts that can't be linked.
+fn unlinked(
+    alloc: Global,
+    texts: &[Text<'_>],
+    segments: &[Segment],
+    fault: &LinkError,
+    shows: bool,
+) -> Failure {
+    let failure = Failure::from(*fault);
+    if shows {
+        explained(failure, link_lines(alloc, texts, segments, *fault))
+    } else {
+        failure
+    }
+}
+
+/// The program of these texts after the primitives. `shows` says whether the place of a refusal is told.
+pub fn linked(alloc: Global, texts: &[Text<'_>], shows: bool) -> Result<LinkedProgram, Failure> {
+    let segments = after_primitives(alloc, segments_of(alloc, texts, shows)?)?;
+    match link(alloc, segments.as_slice()) {
+        Ok(image) => Ok(LinkedProgram { segments, image }),
+        Err(fault) => Err(unlinked(alloc, texts, segments.as_slice(), &fault, shows)),
+    }
+}
+
+/// The program of the texts with these bytes, under these paths. `shows` says whether the place of a refusal is told.
+pub fn program_of<'a>(
+    alloc: Global,
+    paths: &[&'a str],
+    contents: &'a [Vec<u8>],
+    shows: bool,
+) -> Result<LinkedProgram, Failure> {
+    let texts = texts_of(alloc, paths, contents)?;
+    linked(alloc, texts.as_slice(), shows)
+}
