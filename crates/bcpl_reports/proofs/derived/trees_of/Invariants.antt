@@ -1,5 +1,5 @@
-use Rattle.bc_cert_trees.specs.Stacks.{AreParallel}
-use Rattle.bc_cert_trees.specs.View.{stack}
+use Rattle.bc_cert_read.specs.Stacks.{AreParallel}
+use Rattle.bc_cert_read.specs.TreeView.{stack}
 use Rattle.bcpl_reports.proofs.derived.trees_of.Given as goal
 
 abbrev pub invariant-loop-node : goal.invariant-loop-node
