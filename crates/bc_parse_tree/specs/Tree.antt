@@ -1,4 +1,5 @@
--- Trees without where they lie in memory.
+-- Syntax trees as the definitions use them: the types of `src/tree.rt` without pointers. Names and strings are lists
+-- of bytes, a string with its quotes.
 use Rattle.std.specs.Prelude.{ℕ, List}
 use Rattle.bc_parse_tree.specs.declared.tree.Storage.{Storage}
 use Rattle.bc_parse_tree.specs.declared.tree.Monadic as monadic
@@ -40,7 +41,7 @@ mutual
     no_entries : Entries
     entry : List ℕ → Exp → Entries → Entries
 
-  -- the names come first, and a routine's parameters next
+  -- what the LET defines comes first: names of variables, or a name; a routine's parameters come next
   pub data Definition : Type 0 where
     Variables : List (List ℕ) → Exps → Definition
     Vector : List ℕ → Exp → Definition
@@ -51,7 +52,7 @@ mutual
     no_definitions : Definitions
     definition : Definition → Definitions → Definitions
 
-  -- labels with a command, or labels alone
+  -- labels with a command, or only labels
   pub data Item : Type 0 where
     Labelled : Labels → Command → Item
     Labels_alone : Labels → Item
@@ -71,9 +72,9 @@ mutual
 
   pub data Command : Type 0 where
     Assign : Exps → Exps → Command
-    -- a call that is a command
+    -- a call as a command
     Do : Exp → Exps → Command
-    -- a block that is a command
+    -- a block as a command
     Compound : Block → Command
     Break : Command
     Loop : Command
@@ -91,6 +92,6 @@ mutual
     Until : Exp → Block → Command
     Test : Exp → Block → Block → Command
     For : List ℕ → Exp → Exp → Block → Command
-    -- with BY
+    -- a FOR with BY and its step
     ForBy : List ℕ → Exp → Exp → Exp → Block → Command
     SwitchOn : Exp → Items → Command

@@ -1,4 +1,5 @@
--- What the program's trees mean.
+-- What the program's trees are in the definitions: a view for each type. Each is the generated fold over the types,
+-- with one step per type.
 use Rattle.std.specs.Prelude.{ℕ, List, [], ◌∷◌, map, Option, Some, None}
 use Rattle.std.specs.declared.alloc.Global.{Global}
 use Rattle.std.specs.declared.boxed.Box.{Box}
@@ -46,7 +47,7 @@ abbrev pub labels_of : List Label → Labels
 labels_of [] = no_labels
 labels_of (l ∷ ls) = label l (labels_of ls)
 
--- one layer, with what is inside already seen
+-- one layer of an expression, whose parts are views already
 abbrev pub exp_step : Exp-F Command Declaration Definition Exp Label Block (List ℕ × Exp) Item → Exp
 exp_step (Exp-F.Exp::Name s) = pure.Name s.now
 exp_step (Exp-F.Number n) = pure.Number n
@@ -119,7 +120,7 @@ command_step (Command-F.Test e b d) = pure.Test e.value b d
 command_step (Command-F.For n a z k b) = for_from n.now a.value z.value (unboxed k) b
 command_step (Command-F.SwitchOn e is) = pure.SwitchOn e (items_of is.items)
 
--- what each tree means
+-- the view of each type of tree
 abbrev pub exp_view : code.Exp → Exp
 exp_view = fold-Exp Command Declaration Definition Exp Label Block
     (List ℕ × Exp) Item command_step declaration_step definition_step exp_step label_step block_step constant_step item_step
@@ -152,7 +153,7 @@ abbrev pub constant_view : code_constant.Constant → List ℕ × Exp
 constant_view = fold-Constant Command Declaration Definition Exp Label Block
     (List ℕ × Exp) Item command_step declaration_step definition_step exp_step label_step block_step constant_step item_step
 
--- what lists of trees mean
+-- the views of lists of trees
 abbrev pub exps_view : List code.Exp → Exps
 exps_view es = exps_of (map exp_view es)
 
@@ -171,6 +172,6 @@ items_view is = items_of (map item_view is)
 abbrev pub labels_view : List code_label.Label → Labels
 labels_view ls = labels_of (map label_view ls)
 
--- a section is its declarations
+-- the view of a section is that of its declarations
 abbrev pub section_view : Section → Declarations
 section_view s = declarations_view s.declarations.items
