@@ -18,8 +18,8 @@ back = in_turn (Done (Again tt))
 abbrev pub leave : LoopRound
 leave = Done (Leave Past)
 
--- After the body of a loop: BREAK leaves the loop, LOOP goes on with what follows the body, and any other jump leaves
--- the loop too, to where it goes.
+-- After the body of a loop: BREAK leaves the loop, LOOP goes on with what follows the body, and any other jump leaves the
+-- loop and goes on to its target.
 abbrev pub after_body : LoopRound → Exit → LoopRound
 after_body rest Past = rest
 after_body rest Looped = rest

@@ -92,7 +92,7 @@ abbrev pub with_cells : {A : Type 0} → ℕ → ℕ → Run A → Run A
 with_cells n a r st = left n a (r (record st { cells = opened n a st.cells }))
 
 -- If the first of two sides ended the run by a zero divisor, and neither side contains a call or a VALOF, then a wild
--- second side outweighs this: the whole is wild. Otherwise the ending stands.
+-- second side outweighs this: the whole is wild. Otherwise the run ends there.
 abbrev pub outweighed : {A B : Type 0} → Ending → Content → Outcome A → Outcome B
 outweighed e streams (Done x st) = Ended e streams
 outweighed e streams (Ended e1 streams1) = Ended e streams
@@ -107,7 +107,7 @@ second_side true (Ended e streams) second f st = Ended e streams
 second_side calls (Going streams) second f st = Going streams
 second_side calls Wild second f st = Wild
 
--- Two sides, the left one first, then what `f` does with both values. `calls` says whether one of them contains a
+-- Two sides, one after the other, then what `f` does with both values. `calls` says whether one of them contains a
 -- call or a VALOF.
 abbrev pub both : {A B C : Type 0} → (calls : Bool) → Run A → Run B → (A → B → Run C) → Run C
 both calls first second f st = second_side calls (first st) second f st

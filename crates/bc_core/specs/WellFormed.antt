@@ -177,10 +177,11 @@ abbrev mutual
   items_fit A J (default is) s = items_fit A J is s
   items_fit A J (label l is) s = items_fit A J is s
 
--- RETURN leaves a routine of BE, but not from inside a VALOF. RESULTIS leaves a VALOF. No other jump leaves either.
+-- what is allowed in a routine of BE: RETURN leaves it, and no other jump does
 abbrev pub jumps_in_routine : Jumps
 jumps_in_routine = record { in_loop = false; in_cases = false; in_valof = false; may_return = true; labels = [] }
 
+-- what is allowed in a VALOF: RESULTIS leaves it, and no other jump does, not even RETURN
 abbrev pub jumps_in_valof : Jumps
 jumps_in_valof = record { in_loop = false; in_cases = false; in_valof = true; may_return = false; labels = [] }
 

@@ -52,6 +52,7 @@ pub record Piece (X : Type 0) : Type 0 where
   pub height : ℕ
   pub rest : List Part
 
+-- a piece from its three components
 abbrev pub piece : {X : Type 0} → X → ℕ → List Part → Piece X
 piece x h ts = record { tree = x; height = h; rest = ts }
 
@@ -597,7 +598,7 @@ module _ (E : Reader) (C : CommandReader) (D : DefinitionReader) where
   unfoldable pub valof_read : ℕ → ℕ → List Part → Result (Piece Exp) Fault
   valof_read nest round ts = body_read (nest - 1) round ts >>= λ b. Ok (piece (tree.Valof b.tree) (b.height + 1) b.rest)
 
-  -- the rest of an operand whose first part is `place`, and its level
+  -- the rest of an operand whose first part is at `place`, and its level
   unfoldable pub started_read : ℕ → ℕ → ℕ → Start → List Part → Result (Piece (Exp × ℕ)) Fault
   started_read nest round place start.Bracket ts = bracket_read E nest round place ts >>= λ e. Ok (piece (e.tree, 12) e.height e.rest)
   started_read nest round place start.Table ts = table_read E nest round ts >>= λ e. Ok (piece (e.tree, 12) e.height e.rest)

@@ -6,6 +6,7 @@ use Rattle.bc_parse_tree.specs.declared.tree.Monadic as monadic
 use Rattle.bc_parse_tree.specs.declared.tree.Dyadic as dyadic
 
 mutual
+  -- an expression
   pub data Exp : Type 0 where
     Name : List ℕ → Exp
     Number : ℕ → Exp
@@ -20,6 +21,7 @@ mutual
     Condition : Exp → Exp → Exp → Exp
     Call : Exp → Exps → Exp
 
+  -- a list of expressions
   pub data Exps : Type 0 where
     none : Exps
     more : Exp → Exps → Exps
@@ -28,10 +30,12 @@ mutual
   pub data Block : Type 0 where
     block : Declarations → Items → Block
 
+  -- a declaration: a list of constants, or a LET with its definitions
   pub data Declaration : Type 0 where
     Constants : Storage → Entries → Declaration
     Let : Definitions → Declaration
 
+  -- a list of declarations
   pub data Declarations : Type 0 where
     no_declarations : Declarations
     declaration : Declaration → Declarations → Declarations
@@ -48,6 +52,7 @@ mutual
     Function : List ℕ → List (List ℕ) → Exp → Definition
     Routine : List ℕ → List (List ℕ) → Block → Definition
 
+  -- the definitions of a LET
   pub data Definitions : Type 0 where
     no_definitions : Definitions
     definition : Definition → Definitions → Definitions
@@ -57,19 +62,23 @@ mutual
     Labelled : Labels → Command → Item
     Labels_alone : Labels → Item
 
+  -- a list of items
   pub data Items : Type 0 where
     no_items : Items
     item : Item → Items → Items
 
+  -- a label: `CASE K:`, `DEFAULT:`, or `N:`
   pub data Label : Type 0 where
     Case : Exp → Label
     Default : Label
     Named : List ℕ → Label
 
+  -- the labels of an item
   pub data Labels : Type 0 where
     no_labels : Labels
     label : Label → Labels → Labels
 
+  -- a command
   pub data Command : Type 0 where
     Assign : Exps → Exps → Command
     -- a call as a command

@@ -23,6 +23,7 @@ use Rattle.bc_parse_tree.specs.declared.tree.Section.{Section}
 use Rattle.bc_parse_tree.specs.Tree.{Exp, Exps, none, more, Block, block, Declaration, Declarations, no_declarations, declaration, Entries, no_entries, entry, Definition, Definitions, no_definitions, definition, Item, Labelled, Labels_alone, Items, no_items, item, Label, Labels, no_labels, label, Command}
 use Rattle.bc_parse_tree.specs.Tree as pure
 
+-- ---- lists of the program as lists of the definitions
 abbrev pub exps_of : List Exp → Exps
 exps_of [] = none
 exps_of (e ∷ es) = more e (exps_of es)
@@ -62,42 +63,52 @@ exp_step (Exp-F.Dyadic o l r) = pure.Dyadic o l.value r.value
 exp_step (Exp-F.Condition c x y) = pure.Condition c.value x.value y.value
 exp_step (Exp-F.Exp::Call f es) = pure.Call f.value (exps_of es.items)
 
+-- one layer of a label
 abbrev pub label_step : Label-F Command Declaration Definition Exp Label Block (List ℕ × Exp) Item → Label
 label_step (Label-F.Case e) = pure.Case e
 label_step Label-F.Default = pure.Default
 label_step (Label-F.Label::Name s) = pure.Named s.now
 
+-- an item from its labels and its command, which may be missing
 abbrev pub item_from : Labels → Option Command → Item
 item_from ls None = Labels_alone ls
 item_from ls (Some c) = Labelled ls c
 
+-- one layer of an item
 abbrev pub item_step : Item-F Command Declaration Definition Exp Label Block (List ℕ × Exp) Item → Item
 item_step i = item_from (labels_of i.labels.items) i.command
 
+-- one layer of an entry: a name and its constant
 abbrev pub constant_step : Constant-F Command Declaration Definition Exp Label Block (List ℕ × Exp) Item → List ℕ × Exp
 constant_step c = (c.name.now, c.value)
 
+-- one layer of a block
 abbrev pub block_step : Block-F Command Declaration Definition Exp Label Block (List ℕ × Exp) Item → Block
 block_step b = block (declarations_of b.declarations.items) (items_of b.items.items)
 
+-- one layer of a declaration
 abbrev pub declaration_step : Declaration-F Command Declaration Definition Exp Label Block (List ℕ × Exp) Item → Declaration
 declaration_step (Declaration-F.Constants s es) = pure.Constants s (entries_of es.items)
 declaration_step (Declaration-F.Let ds) = pure.Let (definitions_of ds.items)
 
+-- one layer of a definition
 abbrev pub definition_step : Definition-F Command Declaration Definition Exp Label Block (List ℕ × Exp) Item → Definition
 definition_step (Definition-F.Variables ns es) = pure.Variables (map (λ n. n.now) ns.items) (exps_of es.items)
 definition_step (Definition-F.Vector n k) = pure.Vector n.now k
 definition_step (Definition-F.Function n ps e) = pure.Function n.now (map (λ n. n.now) ps.items) e
 definition_step (Definition-F.Routine n ps b) = pure.Routine n.now (map (λ n. n.now) ps.items) b
 
+-- a FOR, with or without BY
 abbrev pub for_from : List ℕ → Exp → Exp → Option Exp → Block → Command
 for_from n a z None b = pure.For n a z b
 for_from n a z (Some k) b = pure.ForBy n a z k b
 
+-- an expression in a box, which may be missing
 abbrev pub unboxed : Option (Box Exp Global) → Option Exp
 unboxed None = None
 unboxed (Some k) = Some k.value
 
+-- one layer of a command
 abbrev pub command_step : Command-F Command Declaration Definition Exp Label Block (List ℕ × Exp) Item → Command
 command_step (Command-F.Assign xs es) = pure.Assign (exps_of xs.items) (exps_of es.items)
 command_step (Command-F.Command::Call f es) = pure.Do f.value (exps_of es.items)

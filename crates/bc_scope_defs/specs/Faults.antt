@@ -143,6 +143,7 @@ all_twice_fault before (n ∷ ns) = or_else (twice_fault before n) (all_twice_fa
 
 -- ---- Labels: the names, the values of CASEs, and whether DEFAULT is among the labels of a list up to here
 
+-- the labels of a list up to here
 pub record Met : Type 0 where
   pub names : List Name
   pub values : List ℕ
