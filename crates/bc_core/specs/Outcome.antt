@@ -22,7 +22,7 @@ pub data Outcome (A : Type 0) : Type 0 where
   Going : Content → Outcome A
   Wild : Outcome A
 
--- a run takes a state to an outcome
+-- a run: from a state to an outcome
 abbrev pub Run : Type 0 → Type 0
 Run A = State → Outcome A
 

@@ -53,7 +53,7 @@ abbrev pub operated : Op → (calls : Bool) → Run ℕ → Run ℕ → Run ℕ
 operated op calls a b = both calls a b (λ x y. given (value_of op x y))
 
 -- The truth of an operator. In a test position the right operand of `&` or of the bar is evaluated only if the left
--- one doesn't decide. Any other operator is evaluated.
+-- one doesn't decide. The truth of any other operator is that of its value.
 abbrev pub operator_truth : Op → Sense → Sense → Run ℕ → Run Bool
 operator_truth And a b v = then_do a.truth (λ t. choose t b.truth (Done false))
 operator_truth Or a b v = then_do a.truth (λ t. choose t (Done true) b.truth)

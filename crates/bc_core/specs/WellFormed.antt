@@ -1,5 +1,6 @@
 -- What holds of every resolved section, which `Core` keeps as its invariant. Its labels, numbers and jump targets
--- exist. No CASE occurs twice in one SWITCHON, and no DEFAULT. Its frames and roots are within their limits.
+-- exist. In a SWITCHON no value of a CASE occurs twice, and DEFAULT at most once. Its frames and roots are within their
+-- limits.
 use Rattle.std.specs.Prelude.{ℕ, suc, ◌+◌, ◌==◌, ◌&&◌, ◌||◌, not, nat_le, nat_lt, Bool, true, false, List, [], ◌∷◌, ◌++◌, map, length, slice_get, Option, Some, None}
 use Rattle.bc_core.specs.Tree.{Exp, Frame, Glob, Place, Load, Neg, Not, Bin, Cond, Call, Args, no_argument, argument, count}
 use Rattle.bc_core.specs.Tree as tree
@@ -136,7 +137,7 @@ defaults_in (case v is) = defaults_in is
 defaults_in (default is) = suc (defaults_in is)
 defaults_in (label l is) = defaults_in is
 
--- whether no CASE occurs twice in a list, and at most one DEFAULT
+-- whether no value of a CASE occurs twice in a list, and DEFAULT at most once
 abbrev pub entries_differ : Items → Bool
 entries_differ is = are_distinct (cases_of is) && nat_le (defaults_in is) 1
 

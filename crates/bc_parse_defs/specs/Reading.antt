@@ -204,7 +204,7 @@ abbrev pub past_do : List Part → List Part
 past_do ts = or_else (after_of sign.Do (past_line ts)) (past_line ts)
 
 -- What follows an operand in an expression of level `level`, where the operand has the level `top`: the end of the
--- expression, an operator, the arguments of a call, or a choice `->`. The list has the parts after it.
+-- expression, an operator, the arguments of a call, or a choice `->`. The argument has the parts after it.
 pub data Following : Type 0 where
   Ends : Following
   Operator : code_dyadic.Dyadic → List Part → Following
@@ -231,7 +231,7 @@ following level top (A sign.Arrow ∷ ts) = if nat_lt 1 level || nat_lt top 2 th
 following level top (A s ∷ ts) = operator_of level top ts (dyadic_of s)
 following level top _ = Ends
 
--- what begins a label: CASE, DEFAULT, or a name and a colon; the list has the parts after it
+-- what begins a label: CASE, DEFAULT, or a name and a colon; the argument has the parts after it
 pub data LabelStart : Type 0 where
   NoLabel : LabelStart
   CaseLabel : List Part → LabelStart
@@ -289,7 +289,7 @@ end_of places.Cases ts = after_of sign.CloseSection ts
 abbrev pub moved : {X : Type 0} → Piece X → List Part → Piece X
 moved p ts = piece p.tree p.height ts
 
--- after an element of such a list: a semicolon, or the end, which makes it the last
+-- after an element of a list of this kind: a semicolon, or the end, which makes it the last
 abbrev pub place_end : Places → List Part → Result (List Part × Bool) Fault
 place_end mode ts =
     on (separator_of ts)

@@ -26,8 +26,8 @@ pub record Around : Type 0 where
   pub place : ℕ → ℕ
   pub call : Call
 
--- What an expression is: its address and its content, each with a value and a truth. Something without a cell is
--- itself for both.
+-- What an expression denotes: an address and a content, each as a value and as a truth. Without a cell both are the
+-- same.
 pub record Worth : Type 0 where
   pub address : Sense
   pub content : Sense
@@ -36,7 +36,7 @@ pub record Worth : Type 0 where
 abbrev pub cell : Sense → Worth
 cell a = record { address = a; content = by_value (then_do a.value read) }
 
--- something without a cell
+-- an expression without a cell
 abbrev pub plain : Sense → Worth
 plain v = record { address = v; content = v }
 
@@ -44,7 +44,7 @@ plain v = record { address = v; content = v }
 abbrev pub known : ℕ → Sense
 known w = by_value (Done w)
 
--- what a name is; a name that is a fault counts as the number 0, but a section without fault has none
+-- what a name denotes; a name that is a fault counts as the number 0, but a section without fault has none
 abbrev pub worth_of_name : Around → Meant → (p : ℕ) → Worth
 worth_of_name A (Constant w) p = plain (known w)
 worth_of_name A (Static m) p = cell (known (A.place m))
@@ -62,19 +62,19 @@ holds_call (tree.Dyadic o l r) = holds_call l || holds_call r
 holds_call (tree.Condition c x y) = holds_call c || holds_call x || holds_call y
 holds_call _ = false
 
--- what a monadic operator makes of its operand
+-- what a monadic operator denotes with this operand
 abbrev pub worth_of_monadic : Monadic → Worth → Worth
 worth_of_monadic monadic.Load e = cell e.content
 worth_of_monadic monadic.Address e = plain e.address
 worth_of_monadic monadic.Not e = plain (not_sense e.content)
 worth_of_monadic monadic.Negate e = plain (by_value (then_do e.content.value (λ v. Done (negated v))))
 
--- what a dyadic operator makes of its operands; `l ! r` is the cell at the sum of both
+-- what a dyadic operator denotes with these operands; `l ! r` is the cell at the sum of both
 abbrev pub worth_of_dyadic : Option Op → (calls : Bool) → Sense → Sense → Worth
 worth_of_dyadic None calls l r = cell (operator_sense operators.Add calls l r)
 worth_of_dyadic (Some op) calls l r = plain (operator_sense op calls l r)
 
--- one expression on a side of an assignment: whether it contains a call or a VALOF, and what it is
+-- one expression on a side of an assignment: whether it contains a call or a VALOF, and what it denotes
 pub record Side : Type 0 where
   pub calls : Bool
   pub worth : Worth
@@ -150,7 +150,7 @@ run_for by a start limit body =
     (then_do (read (a % 65536)) (λ i. write (a % 65536) ((i + by) % 65536))) body)
 
 abbrev mutual
-  -- what an expression is
+  -- what an expression denotes
   pub worth : Around → Env → Numbers → Exp → (p s : ℕ) → Worth
   worth A E at (tree.Name n) p s = worth_of_name A (meant_by E n) p
   worth A E at (tree.Number w) p s = plain (known w)

@@ -43,7 +43,7 @@ abbrev pub constant_name : Meant → Option ℕ
 constant_name (Constant w) = Some w
 constant_name _ = None
 
--- `-` or NOT of a constant; the other monadic operators make no constant
+-- `-` or NOT of a constant; `!` and `@` make no constant
 abbrev pub constant_monadic : Monadic → Option ℕ → Option ℕ
 constant_monadic monadic.Negate (Some w) = Some (negated w)
 constant_monadic monadic.Not (Some w) = Some (complemented w)

@@ -40,7 +40,7 @@ kind_of_sum _ _ = NoOperand
 abbrev pub kinds_of_cell : Kind → Kinds
 kinds_of_cell a = record { address = a; content = kind_of_content a }
 
--- something without a cell
+-- an expression without a cell
 abbrev pub kinds_of_plain : Kind → Kinds
 kinds_of_plain v = record { address = v; content = v }
 

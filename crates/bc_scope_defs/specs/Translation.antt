@@ -16,7 +16,7 @@ use Rattle.bc_scope_defs.specs.Scoping.{operator, constant, before_let, in_let, 
 use Rattle.bc_scope_defs.specs.Found.{Thing, AValof, ARoutine, Data, Datum, AStatic, ATable, AText, Found, FoundRoutine, RoutineBody, Gives, Does, found_in_section}
 use Rattle.bc_scope_defs.specs.Meaning.{label_number}
 
--- What an expression becomes: its address and its content. Something without a cell is itself for both.
+-- What an expression becomes: an address and a content. Without a cell both are the same.
 pub record Forms : Type 0 where
   pub address : Exp
   pub content : Exp
@@ -25,7 +25,7 @@ pub record Forms : Type 0 where
 abbrev pub cell : Exp → Forms
 cell a = record { address = a; content = Load a }
 
--- something without a cell
+-- an expression without a cell
 abbrev pub plain : Exp → Forms
 plain v = record { address = v; content = v }
 
