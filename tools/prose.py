@@ -48,7 +48,7 @@ def prose_of(path, text):
 
 
 def without_quotes(line):
-    """A line without what stands in backticks or double quotes."""
+    """A line without what is in backticks or double quotes."""
     return re.sub(r"`[^`]*`|\"[^\"]*\"", " ", line)
 
 

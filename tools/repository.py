@@ -1,4 +1,4 @@
-"""What the scripts of this folder know of the repository: its crates, what they cost, the kit at hand, and what a build is at."""
+"""What the scripts of this folder share: the crates, what they cost, the installed kit, and what a build is doing."""
 import os
 import re
 import subprocess
@@ -21,7 +21,7 @@ def crates():
 
 
 def below(wanted, uses):
-    """The crates that these stand on and they themselves, each behind those that it uses."""
+    """These crates and those on which they depend, each after those that it uses."""
     order = []
 
     def put(name):
@@ -36,7 +36,7 @@ def below(wanted, uses):
 
 
 def read_times():
-    """What docs/times.txt tells: for each crate the minutes of each kind of work, nothing where it has none."""
+    """What docs/times.txt has: for each crate the minutes of each kind of work, None if there are none."""
     times = {}
     if os.path.exists(TIMES):
         with open(TIMES, encoding="utf-8") as lines:
@@ -49,7 +49,7 @@ def read_times():
 
 
 def kit():
-    """The kit's line; nothing, where no kit is at hand."""
+    """The kit's line; None if no kit is installed."""
     try:
         done = subprocess.run(["rt", "version"], check=True, stdout=subprocess.PIPE, stderr=subprocess.DEVNULL, text=True)
         return done.stdout.strip()
@@ -58,8 +58,8 @@ def kit():
 
 
 def processes_of(root):
-    """A process, all that it started and all that these started: for each its processor seconds, with those of what it waited for, and
-    the crate that it is at, where its command line tells one."""
+    """A process and all its descendants: for each its processor seconds, with those of what it waited for, and
+    its crate, if its command line names one."""
     tick = os.sysconf("SC_CLK_TCK")
     fields, children = {}, {}
     for name in os.listdir("/proc"):
@@ -80,7 +80,7 @@ def processes_of(root):
 
 
 def crate_of(pid):
-    """The crate that a process is at. A quick pass over the sources, which proves nothing, is at none."""
+    """The crate at which a process works. A quick pass over the sources, which proves nothing, has none."""
     try:
         with open(f"/proc/{pid}/cmdline", "rb") as file:
             words = file.read()
