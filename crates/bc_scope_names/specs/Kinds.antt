@@ -1,4 +1,4 @@
--- For proofs: what kinds of operands of the code mean.
+-- For proofs: the operand kinds of the code as those of the definitions.
 use Rattle.bc_scope_names.specs.declared.sides.Kind.{Kind}
 use Rattle.bc_scope_names.specs.declared.sides.Kind.TheVariants as code
 use Rattle.bc_scope_names.specs.declared.sides.Kinds.{Kinds}
