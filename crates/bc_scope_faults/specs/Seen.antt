@@ -1,4 +1,4 @@
--- For proofs: what the walk's own data mean.
+-- For proofs: the walk's data in the code as those of the definitions.
 use Rattle.std.specs.Prelude.{nat_le, ◌&&◌, Bool, List, [], ◌∷◌, map, ℕ}
 use Rattle.std.specs.Borrow.{Bor}
 use Rattle.bc_scope_faults.specs.declared.judging.Allowed as code_allowed
@@ -16,7 +16,7 @@ names_view ns = map (λ n. n.now) ns
 abbrev pub met_view : code_met.Met → Met
 met_view m = record { names = names_view m.names.keys; values = m.values.keys; default = m.default }
 
--- whether each frame has at most 32,768 cells, where those before have
+-- whether each frame of these routines has at most 32,768 cells, and b
 abbrev pub frames_fit : Bool → List Thing → Bool
 frames_fit b [] = b
 frames_fit b (AValof f ∷ things) = frames_fit b things
