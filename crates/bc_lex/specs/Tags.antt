@@ -1,4 +1,4 @@
--- The symbols after which a tag may stand.
+-- The symbols that may have a tag: the section brackets.
 use Rattle.std.specs.Prelude.{Bool, true, false}
 use Rattle.bc_lex_tokens.specs.declared.symbol.Symbol.{Symbol}
 use Rattle.bc_lex_tokens.specs.declared.symbol.Symbol.TheVariants as symbol
