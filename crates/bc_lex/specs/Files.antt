@@ -10,6 +10,7 @@ pub record File : Type 0 where
 abbrev pub file_of : Source → File
 file_of s = record { name = s.name.now; text = s.text.now }
 
+-- sources of the code
 abbrev pub files_of : List Source → List File
 files_of = map file_of
 

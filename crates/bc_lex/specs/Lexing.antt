@@ -79,6 +79,7 @@ pub data Found : Type 0 where
   Token : Lexeme → Found
   Get : ℕ → ℕ → ℕ → Found
 
+-- whether a token is the word GET
 abbrev pub is_get : Kind → Bool
 is_get (Sign symbol.Get) = true
 is_get _ = false

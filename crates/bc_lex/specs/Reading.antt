@@ -23,10 +23,12 @@ value_from base n (b ∷ bs) =
 abbrev pub digits_of : ℕ → List ℕ → ℕ
 digits_of base = prefix_len (λ b. is_some (digit_of base b))
 
+-- a number of n bytes with this value, if it isn't too large
 abbrev pub valued : ℕ → Option ℕ → Result (ℕ × ℕ) Fault
 valued n None = Err (fault_at faults.NumberTooLarge 0)
 valued n (Some v) = Ok (v, n)
 
+-- a number of some base after a prefix, and how many bytes it takes with the prefix
 abbrev pub based_of : ℕ → ℕ → List ℕ → Result (ℕ × ℕ) Fault
 based_of base prefix bs =
     let n = digits_of base (drop prefix bs) in

@@ -5,6 +5,7 @@ use Rattle.bc_lex.specs.declared.quoted.Quoted.TheVariants as quoted
 use Rattle.bc_lex.specs.Files.{File}
 use Rattle.bc_lex.specs.Reading.{quoted_of}
 
+-- whether the closing quote was read
 abbrev pub is_closed : Quoted → Bool
 is_closed quoted.Closed = true
 is_closed _ = false
@@ -14,6 +15,7 @@ abbrev pub same_as : ℕ → Quoted → Option ℕ
 same_as b (quoted.Character v n) = if v == b then Some n else None
 same_as b _ = None
 
+-- the number of bytes of the next character of a string, if it is this one
 abbrev pub same_of : ℕ → List ℕ → Option ℕ
 same_of b bs = same_as b (quoted_of 34 bs)
 

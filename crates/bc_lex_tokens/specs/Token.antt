@@ -30,6 +30,7 @@ kind_of (kind.Number n) = Number n
 kind_of (kind.Character c) = Character c
 kind_of (kind.String text) = String text.now
 
+-- kinds of tokens of the code
 abbrev pub kinds_of : List TokenKind → List Kind
 kinds_of = map kind_of
 
@@ -37,5 +38,6 @@ kinds_of = map kind_of
 abbrev pub lexeme_of : Token → Lexeme
 lexeme_of t = record { kind = kind_of t.kind; text = t.text.now; file = t.file; start = t.start; end = t.end; line_before = t.line_before }
 
+-- tokens of the code
 abbrev pub lexemes_of : List Token → List Lexeme
 lexemes_of = map lexeme_of

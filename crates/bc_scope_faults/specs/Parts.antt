@@ -98,6 +98,7 @@ of_function ps e h =
     let a = of_exp false e (level_after_parameters (length ps)) (record { names = in_parameters ps h.names; at = after_place h.at }) in
     record a { fault = or_else (all_twice_fault [] ps) a.fault; found = routine h.names h.names h.at [] ps (Gives e) ∷ a.found }
 
+-- a block at level s; W says which commands may be in it
 abbrev pub of_block : Allowed → Block → (s : ℕ) → Part
 of_block W b s h = record {
   fault = block_fault W h.names h.at b s;
@@ -128,6 +129,7 @@ of_let ds s h =
       level = k;
     }
 
+-- one declaration, whose first free offset is s
 abbrev pub of_declaration : Declaration → (s : ℕ) → Here → Declaring
 of_declaration d s h = record {
   walk = record {
@@ -140,6 +142,7 @@ of_declaration d s h = record {
   level = s + cells_in h.names d;
 }
 
+-- declarations, whose first free offset is s
 abbrev pub of_declarations : Declarations → (s : ℕ) → Here → Declaring
 of_declarations ds s h = record {
   walk = record {
@@ -175,6 +178,7 @@ of_body W ds is s h =
     let d = of_declarations ds s h in
     in_turn (λ _. d.walk) (among (λ _. d.names) (of_list false W is d.level)) h
 
+-- a command at level s; W says which commands may be here
 abbrev pub of_command : Allowed → Command → (s : ℕ) → Part
 of_command W c s h = record {
   fault = command_fault W h.names h.at c s;
@@ -183,14 +187,17 @@ of_command W c s h = record {
   found = found_in_command h.names h.at c s;
 }
 
+-- the first fault of an item, after the labels M of its list
 abbrev pub item_fault : (cases : Bool) → Met → Allowed → Env → Numbers → Item → (s : ℕ) → Option Fault
 item_fault cases M W E at (Labelled ls c) s = or_else (labels_fault cases M E at ls) (command_fault W E at c s)
 item_fault cases M W E at (Labels_alone ls) s = labels_fault cases M E at ls
 
+-- what is found in an item
 abbrev pub item_found : Env → Numbers → Item → (s : ℕ) → List Thing
 item_found E at (Labelled ls c) s = found_in_command E at c s
 item_found E at (Labels_alone ls) s = []
 
+-- the frame size that an item needs
 abbrev pub item_width : Env → Numbers → Item → (s : ℕ) → ℕ
 item_width E at (Labelled ls c) s = width_of_command E at c s
 item_width E at (Labels_alone ls) s = 0
@@ -214,6 +221,7 @@ of_guarded W e b s = in_turn (of_exp false e s) (of_block W b s)
 abbrev pub of_repeated : Allowed → Command → Exp → (s : ℕ) → Part
 of_repeated W c e s = in_turn (of_command (in_a_loop W) c s) (of_exp false e s)
 
+-- an assignment at level s: its addresses, its values, and then that each address has a cell
 abbrev pub of_assignment : (places values : Exps) → (s : ℕ) → Part
 of_assignment xs es s h =
     let ss = side_levels h.names xs s in
@@ -226,6 +234,7 @@ of_assignment xs es s h =
       found = a.walk.found ++ b.walk.found;
     }
 
+-- a TEST with its two blocks
 abbrev pub of_test : Allowed → Exp → (this that : Block) → (s : ℕ) → Part
 of_test W e b c s = in_turn (of_exp false e s) (in_turn (of_block W b s) (of_block W c s))
 
@@ -233,15 +242,18 @@ of_test W e b c s = in_turn (of_exp false e s) (in_turn (of_block W b s) (of_blo
 abbrev pub of_counted : Allowed → Name → Block → (s : ℕ) → Part
 of_counted W n b s = among (λ E. in_for E n s) (of_block (in_a_loop W) b (level_in_for s))
 
+-- a FOR without BY
 abbrev pub of_for : Allowed → Name → (start limit : Exp) → Block → (s : ℕ) → Part
 of_for W n a z b s =
     let k = level_in_for s in at_least (k + 2) (in_turn (of_exp false a k) (in_turn (of_exp false z k) (of_counted W n b s)))
 
+-- a FOR with BY
 abbrev pub of_for_by : Allowed → Name → (start limit by : Exp) → Block → (s : ℕ) → Part
 of_for_by W n a z y b s =
     let k = level_in_for s in
     at_least (k + 2) (in_turn (of_exp false a k) (in_turn (of_exp false z k) (after_judged (constant_fault y) (of_counted W n b s))))
 
+-- a SWITCHON
 abbrev pub of_switch : Allowed → Exp → Items → (s : ℕ) → Part
 of_switch W e is s = in_turn (of_exp false e s) (of_list true (in_a_switch W) is s)
 

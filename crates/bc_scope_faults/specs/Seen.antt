@@ -7,12 +7,15 @@ use Rattle.bc_scope_defs.specs.Found.{Thing, AValof, ARoutine, Data}
 use Rattle.bc_scope_defs.specs.FramesAlong.{frame_of}
 use Rattle.bc_scope_defs.specs.Faults.{Allowed, Met}
 
+-- what may be done, as the definitions have it
 abbrev pub allowed_view : code_allowed.Allowed → Allowed
 allowed_view a = record { in_loop = a.in_loop; in_cases = a.in_cases; in_valof = a.in_valof; may_return = a.may_return }
 
+-- names of the code, as lists of bytes
 abbrev pub names_view : List (Bor (List ℕ)) → List (List ℕ)
 names_view ns = map (λ n. n.now) ns
 
+-- the labels of a list up to some point, as the definitions have them
 abbrev pub met_view : code_met.Met → Met
 met_view m = record { names = names_view m.names.keys; values = m.values.keys; default = m.default }
 

@@ -17,6 +17,7 @@ global_before E (tree.Vector n k) = None
 global_before E (tree.Function n ps e) = global_of (meant_by E n)
 global_before E (tree.Routine n ps b) = global_of (meant_by E n)
 
+-- the global that each definition sets
 abbrev pub globals_before : Env → Definitions → List (Option ℕ)
 globals_before E no_definitions = []
 globals_before E (definition d ds) = global_before E d ∷ globals_before E ds
@@ -28,6 +29,7 @@ greatest_of K (tree.Vector n k) = constant K k
 greatest_of K (tree.Function n ps e) = 0
 greatest_of K (tree.Routine n ps b) = 0
 
+-- the greatest index of each definition that is a vector, else 0
 abbrev pub all_greatest_of : Env → Definitions → List ℕ
 all_greatest_of K no_definitions = []
 all_greatest_of K (definition d ds) = greatest_of K d ∷ all_greatest_of K ds
@@ -39,6 +41,7 @@ is_vector (tree.Vector n k) = true
 is_vector (tree.Function n ps e) = false
 is_vector (tree.Routine n ps b) = false
 
+-- whether a LET declares a vector
 abbrev pub has_vector : Definitions → Bool
 has_vector no_definitions = false
 has_vector (definition d ds) = is_vector d || has_vector ds
@@ -47,10 +50,12 @@ has_vector (definition d ds) = is_vector d || has_vector ds
 abbrev pub ArePriors : Priors → Env → Definitions → Type 0
 ArePriors ps E ds = (ps.globals.items ≡ globals_before E ds) × (ps.greatest.items ≡ all_greatest_of (before_let ds E) ds)
 
+-- the first global; none if the list is empty
 abbrev pub first_global : List (Option ℕ) → Option ℕ
 first_global [] = None
 first_global (g ∷ gs) = g
 
+-- the first greatest index; 0 if the list is empty
 abbrev pub first_word : List ℕ → ℕ
 first_word [] = 0
 first_word (w ∷ ws) = w
@@ -66,6 +71,7 @@ cells_by p (tree.Vector n k) = p.greatest + 2
 cells_by p (tree.Function n ps e) = 0
 cells_by p (tree.Routine n ps b) = 0
 
+-- the number of cells that a LET takes
 abbrev pub all_cells_by : List (Option ℕ) → List ℕ → Definitions → ℕ
 all_cells_by gs ws no_definitions = 0
 all_cells_by gs ws (definition d ds) = cells_by (prior_at gs ws) d + all_cells_by (drop 1 gs) (drop 1 ws) ds
@@ -82,6 +88,7 @@ declared_by p at k (tree.Vector n c) E = with_name n (Variable k) E
 declared_by p at k (tree.Function n ps e) E = routine_by p.global n at.place E
 declared_by p at k (tree.Routine n ps b) E = routine_by p.global n at.place E
 
+-- the names after all definitions of a LET
 abbrev pub all_declared_by : List (Option ℕ) → List ℕ → Numbers → (k : ℕ) → Definitions → Env → Env
 all_declared_by gs ws at k no_definitions E = E
 all_declared_by gs ws at k (definition d ds) E =

@@ -185,6 +185,7 @@ fn all_greatest_of(
     Ok(greatest)
 }
 
+/// Whether a definition is a vector.
 fn is_vector(definition: &Definition<'_>) -> bool
     ensures { result ≡ is_vector (definition_view definition.now) }
 {

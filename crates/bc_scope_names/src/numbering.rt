@@ -116,6 +116,7 @@ pub fn after_block(at: &mut Numbers, block: &Block<'_>) -> Result<(), Memory>
     after_items(at, &block.items)
 }
 
+/// Moves the numbers past declarations.
 #[cycle(numbering)]
 fn after_declarations(at: &mut Numbers, list: &[Declaration<'_>]) -> Result<(), Memory>
     ensures { IfOk result (λ _. numbers_view at.new ≡ after_declarations (numbers_view at.old) (declarations_view list.now)) }
@@ -126,6 +127,7 @@ fn after_declarations(at: &mut Numbers, list: &[Declaration<'_>]) -> Result<(), 
     Ok(())
 }
 
+/// Moves the numbers past one declaration.
 #[cycle(numbering)]
 fn after_declaration(at: &mut Numbers, declaration: &Declaration<'_>) -> Result<(), Memory>
     ensures { IfOk result (λ _. numbers_view at.new ≡ after_declaration (numbers_view at.old) (declaration_view declaration.now)) }
@@ -136,6 +138,7 @@ fn after_declaration(at: &mut Numbers, declaration: &Declaration<'_>) -> Result<
     }
 }
 
+/// Moves the numbers past the definitions of a LET.
 #[cycle(numbering)]
 fn after_definitions(at: &mut Numbers, list: &[Definition<'_>]) -> Result<(), Memory>
     ensures { IfOk result (λ _. numbers_view at.new ≡ after_definitions (numbers_view at.old) (definitions_view list.now)) }
@@ -165,6 +168,7 @@ pub fn after_definition(at: &mut Numbers, definition: &Definition<'_>) -> Result
     }
 }
 
+/// Moves the numbers past the items of a list, whose labels are already counted.
 #[cycle(numbering)]
 fn after_items(at: &mut Numbers, list: &[Item<'_>]) -> Result<(), Memory>
     ensures { IfOk result (λ _. numbers_view at.new ≡ after_items (numbers_view at.old) (items_view list.now)) }
@@ -175,6 +179,7 @@ fn after_items(at: &mut Numbers, list: &[Item<'_>]) -> Result<(), Memory>
     Ok(())
 }
 
+/// Moves the numbers past the command of an item.
 #[cycle(numbering)]
 fn after_item(at: &mut Numbers, item: &Item<'_>) -> Result<(), Memory>
     ensures { IfOk result (λ _. numbers_view at.new ≡ after_item (numbers_view at.old) (item_view item.now)) }
@@ -185,6 +190,7 @@ fn after_item(at: &mut Numbers, item: &Item<'_>) -> Result<(), Memory>
     }
 }
 
+/// Moves the numbers past a command.
 #[cycle(numbering)]
 fn after_command(at: &mut Numbers, command: &Command<'_>) -> Result<(), Memory>
     ensures { IfOk result (λ _. numbers_view at.new ≡ after_command (numbers_view at.old) (command_view command.now)) }

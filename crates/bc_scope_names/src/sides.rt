@@ -77,6 +77,7 @@ fn kinds_of_plain(value: Kind) -> Kinds
     }
 }
 
+/// The kinds of a name. A name that is at fault counts as a number.
 fn kinds_of_name(meant: Meant) -> Kinds
     ensures { kinds_view result ≡ kinds_of_name (meant_view meant) }
 {
@@ -96,6 +97,7 @@ fn kinds_of_name(meant: Meant) -> Kinds
     }
 }
 
+/// The kinds of a monadic operator's result, by the kinds of its operand.
 fn kinds_of_monadic(sign: Monadic, operand: Kinds) -> Kinds
     ensures { kinds_view result ≡ kinds_of_monadic sign (kinds_view operand) }
 {
@@ -106,6 +108,7 @@ fn kinds_of_monadic(sign: Monadic, operand: Kinds) -> Kinds
     }
 }
 
+/// The kinds of a dyadic operator's result, by the kinds of its operands' values.
 fn kinds_of_dyadic(sign: Dyadic, left: Kind, right: Kind) -> Kinds
     ensures { kinds_view result ≡ kinds_of_dyadic sign (kind_view left) (kind_view right) }
 {

@@ -17,12 +17,15 @@ use Rattle.bc_parse_tree.specs.Tree.{Item, Items, no_items, item, Labelled, Labe
 unfoldable pub core_view : Gathered → core.Core
 core_view g = record { places = map place_of g.places.items; valofs = map view.valof_of g.valofs.items }
 
+-- nothing found yet
 abbrev pub nothing : core.Core
 nothing = record { places = []; valofs = [] }
 
+-- with one VALOF more
 abbrev pub with_valof : core.Core → core.Valof → core.Core
 with_valof c v = record { places = c.places; valofs = c.valofs ++ v ∷ [] }
 
+-- with one place more
 abbrev pub with_place : core.Core → core.Place → core.Core
 with_place c p = record { places = c.places ++ p ∷ []; valofs = c.valofs }
 
@@ -33,6 +36,7 @@ found_after c (AValof f ∷ things) = found_after (with_valof c (valof_of f)) th
 found_after c (ARoutine r ∷ things) = found_after (with_place c (core.Code (core_routine r))) things
 found_after c (Data q d ∷ things) = found_after (with_place c (core_datum d)) things
 
+-- what is found in an item
 abbrev pub item_found : Env → scoping.Numbers → Item → (s : ℕ) → List Thing
 item_found E at (Labelled ls c) s = found_in_command E at c s
 item_found E at (Labels_alone ls) s = []

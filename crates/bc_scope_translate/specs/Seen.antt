@@ -19,10 +19,12 @@ use Rattle.bc_scope_translate.specs.declared.numbering.NextNumbers.{NextNumbers}
 use Rattle.bc_scope_translate.specs.Next.{next_numbers}
 use Rattle.bc_parse_tree.specs.Tree as tree
 
+-- a translated expression of the code, by address and content
 abbrev pub formed_view : code_formed.Formed → Forms
 formed_view (formed.Cell a) = cell (exp a)
 formed_view (formed.Plain v) = plain (exp v)
 
+-- translated expressions of the code
 abbrev pub formed_list : List code_formed.Formed → List Forms
 formed_list fs = map formed_view fs
 
@@ -38,12 +40,14 @@ pub data Entry : Type 0 where
   ADefault : Entry
   ALabel : ℕ → Entry
 
+-- an item of the code
 abbrev pub entry_view : code_entry.ListItem → Entry
 entry_view (items.Command c) = ACommand (view.command c)
 entry_view (items.Case k) = ACase k
 entry_view items.Default = ADefault
 entry_view (items.Label l) = ALabel l
 
+-- items of the definitions, as a list
 abbrev pub entry_list : core.Items → List Entry
 entry_list core.no_item = []
 entry_list (core.command c is) = ACommand c ∷ entry_list is
@@ -51,6 +55,7 @@ entry_list (core.case k is) = ACase k ∷ entry_list is
 entry_list (core.default is) = ADefault ∷ entry_list is
 entry_list (core.label l is) = ALabel l ∷ entry_list is
 
+-- the item for a label, with number k if it is named
 abbrev pub label_entry : scoping.Env → (k : ℕ) → tree.Label → Entry
 label_entry E k (tree.Case c) = ACase (constant E c)
 label_entry E k tree.Default = ADefault
@@ -66,6 +71,7 @@ abbrev pub command_entry : scoping.Env → scoping.Numbers → tree.Item → (s 
 command_entry E at (tree.Labelled ls c) s = ACommand (core_command E at c s) ∷ []
 command_entry E at (tree.Labels_alone ls) s = []
 
+-- the labels of an item
 abbrev pub labels_before : tree.Item → tree.Labels
 labels_before (tree.Labelled ls c) = ls
 labels_before (tree.Labels_alone ls) = ls

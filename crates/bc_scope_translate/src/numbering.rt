@@ -12,6 +12,7 @@ use bc_word::Memory;
 /// The tree that was skipped since the numbers were last counted.
 #[derive(Clone, Copy)]
 enum Passed<'t, 's> {
+    /// No tree.
     Nothing,
     /// A routine definition.
     Routine(&'t Definition<'s>),
