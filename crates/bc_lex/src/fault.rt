@@ -19,7 +19,7 @@ pub enum FaultKind {
 /// A fault, and where it is in the bytes that were read.
 #[derive(Clone, Copy, Debug, PartialEq, Eq)]
 pub struct Fault {
-    /// What is wrong.
+    /// The kind of fault.
     pub kind: FaultKind,
     /// The offset of the fault from the start of these bytes.
     pub at: usize,

@@ -6,7 +6,7 @@ use crate::byte::escaped;
 use crate::fault::{Fault, FaultKind};
 use crate::run::following;
 
-/// What comes next in a string or character constant.
+/// The next item in a string or character constant.
 #[derive(Clone, Copy, Debug, PartialEq, Eq)]
 pub enum Quoted {
     /// The closing quote.
@@ -19,7 +19,7 @@ pub enum Quoted {
     Character(u8, usize),
 }
 
-/// What comes first in these bytes, which are in a string or constant with this closing quote.
+/// The item at the start of these bytes, which are inside a string or constant with this closing quote.
 pub fn next_quoted(close: u8, bytes: &[u8]) -> Quoted
     ensures value { result ≡ quoted_of close bytes.now }
     ensures fits { Fits bytes.now result }

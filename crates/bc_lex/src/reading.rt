@@ -108,7 +108,7 @@ fn target(
     }
 }
 
-/// What comes next in a file.
+/// The next item in a file.
 #[derive(Clone, Copy, Debug)]
 enum Found<'s> {
     /// The end of the file.
@@ -137,7 +137,7 @@ fn is_get(kind: TokenKind) -> bool
     matches!(kind, TokenKind::Symbol(Symbol::Get))
 }
 
-/// What comes next in a file, after blanks, line breaks and comments.
+/// Finds the next item in a file, after blanks, line breaks and comments. Fails with the first fault of these or the item.
 #[tactic(auto, unfolding(crate::specs::Lexing::item_of, crate::specs::Lexing::item_by))]
 fn find<'s>(sources: &[Source<'s>], file: usize, place: Place) -> Result<Found<'s>, LexError>
     requires file { file < length sources.now }

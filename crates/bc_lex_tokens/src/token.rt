@@ -19,7 +19,7 @@ pub enum TokenKind<'s> {
 /// A token, and where it is.
 #[derive(Clone, Copy, Debug, PartialEq, Eq)]
 pub struct Token<'s> {
-    /// What kind of token it is.
+    /// The kind of the token, with its value.
     pub kind: TokenKind<'s>,
     /// The text of the token in its file. The tag of a section bracket belongs to it.
     pub text: &'s [u8],

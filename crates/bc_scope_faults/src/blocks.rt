@@ -30,11 +30,11 @@ use bc_scope_names::{Scope, ScopeError, constant, declare_list, labels_in};
 pub struct List {
     /// Whether it is the list of a SWITCHON, which may have CASEs and a DEFAULT.
     pub cases: bool,
-    /// What its commands may do.
+    /// Which commands are allowed in it.
     pub allowed: Allowed,
 }
 
-/// Walks a block; see the head of this file for what it returns. `allowed` says which commands may be in it.
+/// Walks a block. `allowed` says which commands may be in it.
 #[cycle(faults)]
 #[tactic(auto, using(crate::proofs::Kept::keeping))]
 pub fn block<'s>(

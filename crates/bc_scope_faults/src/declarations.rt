@@ -1,4 +1,4 @@
-//! The first fault of declarations, and what they take of their frame. `blocks.rt` says what these functions take and return.
+//! The first fault of declarations, and the frame cells that they take. `blocks.rt` says what these functions take and return.
 ghost use Rattle.std.specs.Prelude.{◌++◌};
 ghost use Rattle.bc_parse_tree.specs.View.{exp_view, block_view, declaration_view, declarations_view, definition_view, definitions_view, entries_view};
 ghost use Rattle.bc_scope_defs.specs.Scoping.{names_of};
@@ -88,7 +88,7 @@ fn definition<'s>(
     }
 }
 
-/// A routine that is an expression: its parameters, then its value. Its own frame counts after those of routines inside it.
+/// A routine that is an expression: its parameters, then its value. Its own frame is checked after those of routines inside it.
 #[inline(never)]
 #[cycle(faults)]
 #[tactic(auto, using(crate::proofs::Frames::frames_last, bc_scope_names::proofs::Extends::left, crate::proofs::Kept::keeping))]
@@ -112,7 +112,7 @@ fn function<'s>(
     Ok(())
 }
 
-/// A routine that is a block: its parameters, then its body. Its own frame counts after those of routines inside it.
+/// A routine that is a block: its parameters, then its body. Its own frame is checked after those of routines inside it.
 #[cycle(faults)]
 #[tactic(auto, using(crate::proofs::Frames::frames_last, bc_scope_names::proofs::Extends::left, crate::proofs::Kept::keeping))]
 fn routine<'s>(

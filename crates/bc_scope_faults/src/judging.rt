@@ -15,7 +15,7 @@ use bc_word::{Memory, Word};
 use indexmap::IndexSet;
 use std::alloc::Global;
 
-/// Which commands are allowed at one point of a routine or VALOF.
+/// The commands that are allowed at one point of a routine or VALOF, of those that aren't allowed everywhere.
 #[derive(Clone, Copy, Debug, PartialEq, Eq)]
 pub struct Allowed {
     /// BREAK and LOOP are allowed.
@@ -29,7 +29,7 @@ pub struct Allowed {
 }
 
 impl Allowed {
-    /// What is allowed in the body of a routine.
+    /// The commands allowed in the body of a routine: RETURN.
     pub fn routine() -> Allowed
         ensures { allowed_view result ≡ allowed_in_routine }
     {
@@ -41,7 +41,7 @@ impl Allowed {
         }
     }
 
-    /// What is allowed in the body of a VALOF.
+    /// The commands allowed in the body of a VALOF: RESULTIS.
     pub fn valof() -> Allowed
         ensures { allowed_view result ≡ allowed_in_valof }
     {
@@ -53,7 +53,7 @@ impl Allowed {
         }
     }
 
-    /// What is allowed in the body of a loop here.
+    /// Also allows BREAK and LOOP, for the body of a loop.
     pub fn in_a_loop(self) -> Allowed
         ensures { allowed_view result ≡ in_a_loop (allowed_view self) }
     {
@@ -65,7 +65,7 @@ impl Allowed {
         }
     }
 
-    /// What is allowed in the list of a SWITCHON here.
+    /// Also allows ENDCASE, for the list of a SWITCHON.
     pub fn in_a_switch(self) -> Allowed
         ensures { allowed_view result ≡ in_a_switch (allowed_view self) }
     {

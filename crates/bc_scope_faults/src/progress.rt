@@ -12,7 +12,7 @@ pub struct Progress {
     pub fits: bool,
 }
 
-/// What declarations take of their frame.
+/// The frame cells that declarations take.
 #[derive(Clone, Copy, Debug, PartialEq, Eq)]
 pub struct Extent {
     /// The first free offset after them.

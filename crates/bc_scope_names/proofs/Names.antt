@@ -1,4 +1,4 @@
--- What a scope finds by its index and borders is what the definitions find by walking its entries.
+-- The index and the borders of a scope lead to the same meanings as the walk over its entries in the definitions.
 use Rattle.std.proofs.Common.{◌≡◌, ℕ, ◌+◌, ◌<◌, ◌≤◌, refl, ap, ◌∙◌, sym, List, [], ◌∷◌, ◌++◌, length, Bool, true, false, not, ◌==◌, true≢false, cond, ltb, Option, Some, None, arith, rules}
 use Rattle.bc_scope_names.specs.declared.scope.Borders.{Borders}
 use Rattle.bc_scope_names.specs.declared.scope.Bound.{Bound}

@@ -1,4 +1,4 @@
-//! What declarations add to a scope. Each call returns `Memory` when an allocation fails or a number exceeds 64 bits.
+//! The names that declarations add to a scope. Each call fails with `Memory` when an allocation fails or a number exceeds 64 bits.
 ghost use Rattle.std.specs.Prelude.{◌≡◌, ◌+◌, [], drop, map, None, IfOk};
 ghost use Rattle.bc_scope_defs.specs.Scope.{with_name};
 ghost use Rattle.bc_parse_tree.specs.View.{exps_view, definition_view, definitions_view, label_view, labels_view, item_view, items_view, constant_view, entries_view};
@@ -83,7 +83,7 @@ pub fn count(list: &[Exp<'_>]) -> u64
     list.len() as u64
 }
 
-/// What must be known of a LET's definitions before the LET adds its names.
+/// The facts about a LET's definitions that must be found before the LET adds its names.
 #[derive(Debug, Drop)]
 pub struct Priors {
     /// For each definition the number of the global that it sets. Only a routine whose name already means a global sets one.
@@ -92,7 +92,7 @@ pub struct Priors {
     pub greatest: Vec<u16>,
 }
 
-/// What must be known of one definition before its LET adds its names.
+/// The facts about one definition that must be found before its LET adds its names.
 #[derive(Clone, Copy, Debug, PartialEq, Eq)]
 pub struct Prior {
     /// The number of the global that it sets, if it is a routine whose name already means a global.

@@ -1,5 +1,5 @@
-//! How many places, VALOFs and labels each tree contains: each function moves a section's numbers past a tree. They return
-//! `Memory` where a number exceeds 64 bits. Trees are numbered in text order.
+//! Moves a section's numbers past trees, in text order: each tree takes as many numbers as it contains places, VALOFs and labels.
+//! All calls fail with `Memory` if a number exceeds 64 bits.
 ghost use Rattle.std.specs.Prelude.{◌≡◌, IfOk};
 ghost use Rattle.bc_parse_tree.specs.View.{exp_view, exps_view, command_view, block_view, declaration_view, declarations_view, definition_view, definitions_view, label_view, labels_view, item_view, items_view, entries_view};
 ghost use Rattle.bc_scope_defs.specs.Numbering.{labels_named, labels_of, labels_in, after_entry, after_entries, following, after_all, after_block, after_declarations, after_declaration, after_definitions, after_definition, after_items, after_item, after_command};

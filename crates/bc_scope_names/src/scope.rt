@@ -1,4 +1,5 @@
-//! One scope for all points of a section: names are added going in and taken back going out.
+//! The scope of a section. There is only one: the walk adds names as it enters a block, LET or routine, and takes them back as it
+//! leaves.
 ghost use Rattle.std.specs.Prelude.{◌≡◌, ◌-◌, ◌≤◌, [], None, IfOk, take, length};
 ghost use Rattle.bc_scope_defs.specs.Scope.{meant_by, with_name};
 ghost use Rattle.bc_scope_defs.specs.Scoping.{around_routine, around_valof, in_routine, in_valof};
@@ -11,7 +12,7 @@ use indexmap::IndexMap;
 use std::alloc::Global;
 use std::marker::Model;
 
-/// What a name means at one point of a section.
+/// The meaning of a name at one point of a section.
 #[derive(Clone, Copy, Debug, PartialEq, Eq)]
 pub enum Meant {
     /// A manifest, by its value.
@@ -36,7 +37,7 @@ pub enum Meant {
     StrayVariable,
     /// In a routine: a label outside all routines.
     StrayLabel,
-    /// A label outside the innermost VALOF, to which no GOTO may lead.
+    /// A label outside the innermost VALOF. A GOTO can't jump to it.
     LabelOutside,
     /// No declaration is in scope.
     Undeclared,
@@ -51,7 +52,7 @@ pub struct Named<'s> {
     pub meant: Meant,
 }
 
-/// What a name's newest entry says, and the number of entries before that one.
+/// The meaning by a name's newest entry, and the number of entries before that one.
 #[derive(Clone, Copy, Debug, PartialEq, Eq)]
 struct Bound {
     meant: Meant,
@@ -150,7 +151,7 @@ impl<'s> Scope<'s> {
         }
     }
 
-    /// What a name means here; `Undeclared` if no declaration of it is in scope.
+    /// The meaning of a name here; `Undeclared` if no declaration of it is in scope.
     #[tactic(auto, unfolding(crate::specs::View::scope_view), using(crate::proofs::Names::meant_is))]
     pub fn meant_by(&self, name: &[u8]) -> Meant
         ensures { meant_view result ≡ meant_by (scope_view self.now) name.now }
@@ -198,7 +199,7 @@ impl<'s> Scope<'s> {
         Ok(())
     }
 
-    /// Enters a VALOF: in it, the labels known up to here are outside. Fails with `Memory` when an allocation fails.
+    /// Enters a VALOF: in it, no GOTO can jump to the labels known up to here. Fails with `Memory` when an allocation fails.
     pub fn enter_valof(&mut self) -> Result<(), Memory>
         ensures { IfOk result (λ _. Declares self.old self.new (in_valof (scope_view self.old))) }
     {
@@ -262,7 +263,7 @@ fn after_routine(entries: usize, borders: Borders) -> Borders
     }
 }
 
-/// What a name means inside these borders.
+/// The meaning of a name inside these borders.
 fn seen(borders: Borders, bound: Bound) -> Meant
     ensures { meant_view result ≡ seen borders bound }
 {

@@ -1,4 +1,4 @@
--- What it means that a token is the name in a fault.
+-- The names in faults and in tokens.
 use Rattle.std.specs.Prelude.{◌≡◌, ℕ, List, Option, Some, None, slice_get}
 use Rattle.std.specs.Borrow.{Bor}
 use Rattle.bc_lex_tokens.specs.declared.token.Token.{Token}

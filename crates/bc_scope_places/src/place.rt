@@ -13,7 +13,7 @@ use bc_scope_names::ScopeError;
 use bc_word::Memory;
 use std::alloc::Global;
 
-/// What else belongs to a fault, beside the construct that has it.
+/// Further information on a fault.
 #[derive(Clone, Copy)]
 pub enum Also {
     /// Nothing more.
@@ -30,12 +30,12 @@ pub enum Also {
     Places(u64),
 }
 
-/// Where the fault of a section is, and what else belongs to it.
+/// Where the fault of a section is, with further information.
 #[derive(Clone, Copy)]
 pub struct FaultPlace {
     /// The tokens of the construct that has the fault.
     pub at: Span,
-    /// What else belongs to the fault.
+    /// Further information.
     pub also: Also,
 }
 
@@ -99,7 +99,7 @@ fn span_of(tokens: &[Token<'_>], at: Leaves) -> Option<Span>
     }
 }
 
-/// What else belongs to a fault, in tokens. `None` if the tokens have no such leaves, or not this name.
+/// Further information on a fault, in tokens. `None` if the tokens have no such leaves, or not this name.
 fn also_of(tokens: &[Token<'_>], name: Option<&[u8]>, beside: Beside) -> Option<Also> {
     match beside {
         Beside::Nothing => Some(Also::Nothing),

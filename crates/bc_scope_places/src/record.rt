@@ -1,4 +1,4 @@
-//! What a walk records beside faults: where each expression, test, assignment, variable, global and place is.
+//! The record that a walk makes beside faults: where each expression, test, assignment, variable, global and place is.
 
 use bc_word::Memory;
 use std::alloc::Global;
@@ -110,10 +110,10 @@ impl Sites {
     }
 }
 
-/// What a walk has recorded up to here, and where it is.
+/// The record of a walk up to here, and where the walk is.
 #[derive(Drop)]
 pub(crate) struct Record {
-    /// What was recorded.
+    /// The parts found up to here.
     pub sites: Sites,
     /// The body that the walk is in.
     pub body: BodyOf,

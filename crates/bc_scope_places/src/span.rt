@@ -1,4 +1,5 @@
 //! Ranges of tokens.
+
 /// A nonempty range of a section's tokens.
 #[derive(Clone, Copy, PartialEq, Eq)]
 pub struct Span {

@@ -10,7 +10,7 @@ use bc_word::Memory;
 use indexmap::IndexMap;
 use std::alloc::{AllocError, AllocFailed, Global};
 
-/// What else belongs to a fault, by leaves.
+/// Further information on a fault, by leaves.
 #[derive(Clone, Copy)]
 pub enum Beside {
     /// Nothing more.
@@ -34,7 +34,7 @@ pub struct Found<'s> {
     pub fault: ScopeError<'s>,
     /// The construct that has it.
     pub at: Leaves,
-    /// What else belongs to it.
+    /// Further information.
     pub beside: Beside,
 }
 
@@ -118,7 +118,7 @@ pub struct Walk<'s> {
     places: u64,
     /// The leaf of place number 8,001.
     one_too_many: Option<u64>,
-    /// What is recorded beside faults.
+    /// The record of parts.
     pub(crate) record: Record,
 }
 
@@ -139,7 +139,7 @@ impl<'s> Walk<'s> {
         }
     }
 
-    /// What was recorded.
+    /// The parts that the walk recorded.
     pub(crate) fn into_sites(self) -> Sites {
         let Walk { record, .. } = self;
         let Record { sites, .. } = record;

@@ -1,4 +1,4 @@
--- What is found in several parts, one after another.
+-- The things found in several parts, one part after another.
 use Rattle.std.proofs.Common.{◌≡◌, ◌+◌, ℕ, refl, ap, ◌∙◌, sym, List, [], ◌∷◌, ◌++◌, drop, append_assoc, length, take, subst, Result, Ok, Err}
 use Rattle.std.proofs.lemmas.List.{append-nil, drop-drop}
 use Rattle.bc_core.specs.Commands as core

@@ -36,8 +36,8 @@ use bc_scope_names::{
 };
 use bc_word::{Memory, Word};
 
-/// The first part of a TEST: its condition, and the branch taken if it holds. TEST is translated in two steps, because recursion
-/// over one tree at a time ends without a proof by hand.
+/// The first part of a TEST: its condition, and the branch taken if it holds. TEST is translated by two functions with one block
+/// each, because a function with two trees of the cycle would need a measure to prove that it returns.
 #[derive(Drop)]
 struct Branch {
     test: CoreExp,
@@ -209,7 +209,7 @@ fn labels<'s>(
     Ok(number)
 }
 
-/// Translates the test of a command; `sense` is the value on which the command acts.
+/// Translates the test of a command; `sense` is the truth value for which the body is executed.
 fn condition<'t, 's>(
     scope: &Scope<'s>,
     at: &mut NextNumbers<'t, 's>,
