@@ -1,4 +1,4 @@
-//! Single lexemes: the longest one at the start of given bytes.
+//! Reading a single lexeme, the longest one at the start of the bytes.
 ghost use Rattle.std.specs.Prelude.{◌≡◌, ◌<◌, ◌≤◌, length, IfOk, IfErr};
 ghost use Rattle.bc_lex_tokens.specs.Token.{kind_of};
 ghost use Rattle.bc_lex.specs.Tags.{has_tag as with_tag};

@@ -1,4 +1,4 @@
-//! Runs of bytes at the start of given bytes.
+//! Runs of bytes at the start of a slice, and the rest of a slice.
 ghost use Rattle.std.specs.Prelude.{◌≡◌, ◌+◌, ◌≤◌, ◌==◌, not, is_some, length, drop};
 ghost use Rattle.std.specs.List.{prefix_len};
 ghost use Rattle.bc_lex.specs.Bytes.{is_name_byte as name_byte, digit_of};

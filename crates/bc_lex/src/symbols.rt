@@ -74,7 +74,7 @@ fn fits(text: &[u8]) -> bool
     }
 }
 
-/// The symbol that a text spells, or `None`. Returns the same as `Symbol::spelled`, but faster.
+/// The symbol that a text spells, or `None`. Returns the same as `Symbol::spelled`, without a search where that is possible.
 pub fn spelled(text: &[u8]) -> Option<Symbol>
     ensures { result ≡ symbol_of text.now }
 {

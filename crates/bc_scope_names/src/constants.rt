@@ -63,7 +63,7 @@ fn of_dyadic(sign: Option<Op>, left: Option<Word>, right: Option<Word>) -> Optio
     apply(sign?, left?, right?)
 }
 
-/// The value of a constant expression, with names as `scope` knows them; `None` if the expression isn't constant.
+/// The value of a constant expression, by the names in `scope`; `None` if the expression isn't constant.
 pub fn constant_in(scope: &Scope<'_>, e: &Exp<'_>) -> Option<Word>
     ensures { result ≡ constant_in (scope_view scope.now) (exp_view e.now) }
 {
