@@ -1,4 +1,4 @@
--- Text after text.
+-- Concatenations of many pieces of text, grouped as the program and as the definitions group them.
 use Rattle.std.proofs.Common.{◌≡◌, ℕ, ◌+◌, ◌<◌, ◌≤◌, List, [], ◌∷◌, ◌++◌, length, get_or, drop, refl, ap, sym, ◌∙◌, add-one, append_assoc, append-nil, drop-cons}
 use Rattle.std.proofs.lemmas.List.{drop_all}
 use Rattle.bc_select.specs.declared.row.Row.{Row}
@@ -10,7 +10,7 @@ pub of_five : (t0 t1 t2 t3 t4 t5 t6 a b c d e z : List ℕ) → t1 ≡ t0 ++ a �
 of_five t0 t1 t2 t3 t4 t5 t6 a b c d e z h1 h2 h3 h4 h5 h6 =
     h6 ∙ ap (λ l. l ++ z) (h5 ∙ ap (λ l. l ++ e) (h4 ∙ ap (λ l. l ++ d) (h3 ∙ ap (λ l. l ++ c) (h2 ∙ ap (λ l. l ++ b) h1)))) ∙ simp append_assoc
 
--- two more in front
+-- two more pieces before them
 pub of_seven : (t0 t1 t2 t3 t4 t5 t6 t7 t8 a b c d e f g z : List ℕ) → t1 ≡ t0 ++ a → t2 ≡ t1 ++ b → t3 ≡ t2 ++ c → t4 ≡ t3 ++ d → t5 ≡ t4 ++ e → t6 ≡ t5 ++ f → t7 ≡ t6 ++ g → t8 ≡ t7 ++ z
     → t8 ≡ t0 ++ (a ++ (b ++ (c ++ (d ++ (e ++ (f ++ (g ++ z)))))))
 of_seven t0 t1 t2 t3 t4 t5 t6 t7 t8 a b c d e f g z h1 h2 h3 h4 h5 h6 h7 h8 =
@@ -20,7 +20,7 @@ of_seven t0 t1 t2 t3 t4 t5 t6 t7 t8 a b c d e f g z h1 h2 h3 h4 h5 h6 h7 h8 =
 pub of_two : (t0 t1 t2 t3 a b z : List ℕ) → t1 ≡ t0 ++ a → t2 ≡ t1 ++ b → t3 ≡ t2 ++ z → t3 ≡ t0 ++ (a ++ (b ++ z))
 of_two t0 t1 t2 t3 a b z h1 h2 h3 = h3 ∙ ap (λ l. l ++ z) (h2 ∙ ap (λ l. l ++ b) h1) ∙ simp append_assoc
 
--- the line of the i-th node comes after those so far
+-- the line of the i-th node follows those of the nodes before it
 next_lines : (ms : List Mark) (rows : List Row) (i : ℕ) (d : Mark) (q : Row) → i < length ms → i < length rows
     → mark_lines (drop i ms) (drop i rows) ≡ mark_line (get_or ms i d) (get_or rows i q) ++ mark_lines (drop (i + 1) ms) (drop (i + 1) rows)
 next_lines ms rows i d q h k =

@@ -1,4 +1,4 @@
--- Arguments one after another.
+-- The nodes of a call's arguments, appended one argument at a time.
 use Rattle.std.proofs.Common.{◌≡◌, ℕ, ◌+◌, ◌<◌, Option, List, ◌∷◌, ◌++◌, length, get_or, drop, ap, sym, ◌∙◌, arith, add-one, append_assoc, drop-cons, Result, Ok, Err, OnOk}
 use Rattle.bc_core.specs.declared.expression.CoreExp.{CoreExp}
 use Rattle.bc_core.specs.Tree.{Exp, argument, count}
@@ -20,7 +20,7 @@ next_argument es i e h is =
 moved : (xs ys zs us vs ws : List Mark) → ys ≡ xs ++ zs → us ≡ zs ++ vs → xs ++ us ≡ ws → ys ++ vs ≡ ws
 moved xs ys zs us vs ws h i j = ap (λ l. l ++ vs) h ∙ append_assoc xs zs vs ∙ ap (λ l. xs ++ l) (sym i) ∙ j
 
--- the nodes of the i-th argument come after those so far
+-- the nodes of the i-th argument follow those of the arguments before it
 pub arguments_more : (now new whole : List Mark) (es : List CoreExp) (xs : List Derivation) (s i : ℕ) (e : CoreExp) (t : Option Tree)
     → i < length es → e ≡ get_or es i e → t ≡ first (derivations (drop i xs)) → new ≡ now ++ whole_with mark (exp e) (s + i) t
     → now ++ all_with mark (args (drop i es)) (s + i) (derivations (drop i xs)) ≡ whole
@@ -41,7 +41,7 @@ pub on_ok : {X E P Q : Type 0} (r : Result X E) → (P → Q) → OnOk r P → O
 on_ok (Ok x) f h = f h
 on_ok (Err e) f h = h
 
--- the routine's nodes come after those of the arguments
+-- the routine's nodes follow those of the arguments
 pub routine_after : (old mid new : List Mark) (es : List CoreExp) (f : Exp) (s : ℕ) (xs : List Derivation) (t : Option Tree)
     → mid ≡ old ++ all_with mark (args es) (s + 2) (derivations xs) → t ≡ first (derivations (drop (length es) xs))
     → new ≡ mid ++ whole_with mark f (s + 2 + length es) t

@@ -1,4 +1,4 @@
--- The lines that are written of a root's nodes are those of its derivation.
+-- The node lines that the program writes for a root are those of its derivation.
 use Rattle.std.proofs.Common.{◌≡◌, ℕ, ◌+◌, Option, Some, None, List, [], ◌∷◌, ◌++◌, map, flat_map, get_or, refl, ap, sym, subst, ◌∙◌, arith, append-nil, append_assoc}
 use Rattle.std.specs.Fmt.{decimal}
 use Rattle.std.specs.Prelude.{true, false}
@@ -35,7 +35,7 @@ use Rattle.bc_cert_write.specs.Nodes.{Laid, laid, shown_at, node_at}
 use Rattle.bc_cert_write.specs.Laws.{NodesInOrder}
 use Rattle.bc_cert_write.proofs.Shapes.{root_nodes_shown}
 
--- what is seen of the nodes
+-- one list of nodes, seen by three functions
 map_both : {A B : Type 0} (g : A → B) (xs ys : List A) (us vs : List B) → map g xs ≡ us → map g ys ≡ vs → map g (xs ++ ys) ≡ us ++ vs
 map_both g [] ys us vs h i = i ∙ ap (λ l. l ++ vs) h
 map_both g (x ∷ xs) ys us vs h i = ap (λ l. g x ∷ l) (map_both g xs ys (map g xs) vs refl i) ∙ ap (λ l. l ++ vs) h

@@ -1,4 +1,4 @@
--- For proofs: the lines of an entry, from what the program has of its nodes.
+-- For proofs: the lines of an entry, from the program's own types `Form`, `Chain`, `Mark` and `Row`.
 use Rattle.std.specs.Prelude.{ℕ, None, List, [], ◌∷◌, ◌++◌, get_or}
 use Rattle.std.specs.Fmt.{decimal}
 use Rattle.bc_core.specs.Tree.{Root, Value, Test, Assign}

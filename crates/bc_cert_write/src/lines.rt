@@ -1,4 +1,4 @@
-//! The lines of an entry.
+//! Appends the lines of an entry to a text. All functions return `Memory` if an allocation fails.
 
 ghost use Rattle.std.specs.Prelude.{◌≡◌, ◌++◌, ◌∷◌, OnOk, []};
 ghost use Rattle.bc_core.specs.View.{root as root_of};
@@ -15,7 +15,7 @@ use bc_select::Row;
 use bc_text_items::Item;
 use bc_word::Memory;
 
-/// The `E` line.
+/// Appends the `E` line. `words` is the number of words of the entry's code.
 #[tactic(auto, using(crate::proofs::Joined::of_five))]
 pub fn entry_line(text: &mut Text, entry: &Entry, words: u64) -> Result<(), Memory>
     ensures { OnOk result (text.new.bytes.items ≡ text.old.bytes.items
@@ -29,7 +29,7 @@ pub fn entry_line(text: &mut Text, entry: &Entry, words: u64) -> Result<(), Memo
     text.push(b"\n")
 }
 
-/// A node line.
+/// Appends the line of a node, with the least words from its row.
 pub fn node_line(text: &mut Text, mark: &Mark, row: &Row) -> Result<(), Memory>
     ensures { OnOk result (text.new.bytes.items ≡ text.old.bytes.items ++ mark_line mark.now row.now) }
 {
@@ -43,7 +43,7 @@ pub fn node_line(text: &mut Text, mark: &Mark, row: &Row) -> Result<(), Memory>
     text.push(b"\n")
 }
 
-/// The node lines, as far as there are rows.
+/// Appends the lines of these nodes: the n-th has the n-th row. Nodes without a row have no line.
 pub fn node_lines(text: &mut Text, marks: &[Mark], rows: &[Row]) -> Result<(), Memory>
     ensures { OnOk result (text.new.bytes.items ≡ text.old.bytes.items ++ mark_lines marks.now rows.now) }
 {
@@ -56,7 +56,7 @@ pub fn node_lines(text: &mut Text, marks: &[Mark], rows: &[Row]) -> Result<(), M
     Ok(())
 }
 
-/// The root line.
+/// Appends the root line. The rule of an assignment is that of the derivation.
 pub fn root_line(text: &mut Text, root: &Root, derivation: &Derivation) -> Result<(), Memory>
     ensures { OnOk result (text.new.bytes.items ≡ text.old.bytes.items ++ line_of_root (root_of root.now) (tree derivation.now)) }
 {
@@ -71,7 +71,7 @@ pub fn root_line(text: &mut Text, root: &Root, derivation: &Derivation) -> Resul
     }
 }
 
-/// The code line. The n-th body has the n-th number of items, or 0.
+/// Appends the code line. The n-th body of a VALOF has the n-th of these numbers of items, or 0 if there are fewer numbers.
 pub fn code_line(text: &mut Text, code: &[Piece], bodies: &[u64]) -> Result<(), Memory>
     ensures { OnOk result (text.new.bytes.items ≡ text.old.bytes.items ++ text_of_code code.now bodies.now) }
 {

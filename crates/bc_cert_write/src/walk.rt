@@ -1,4 +1,4 @@
-//! The nodes of a root in order, each with the rules that a tree has there.
+//! Lists the nodes of a root in the order of their lines, each with the rules that the derivation has at it.
 
 ghost use Rattle.std.specs.Prelude.{◌≡◌, ◌≤◌, ◌+◌, ◌*◌, ◌^◌, ◌++◌, OnOk, IfOk, drop, false};
 ghost use Rattle.bc_core.specs.Tree.{count};
@@ -18,7 +18,7 @@ use bc_rules_defs::{Derivation, is_zero};
 use bc_word::Memory;
 use std::alloc::Global;
 
-/// Two operands, with the trees of the rule that stands above them.
+/// Appends the nodes of two operands. `own` is the tree of the node above them.
 #[cycle(walking)]
 fn pair(
     a: &CoreExp,
@@ -38,7 +38,7 @@ fn pair(
     lay(b, level + 1, second_part(other, zero), marks)
 }
 
-/// The condition of `->` and its two values.
+/// Appends the nodes of `->`: the condition, then its two values.
 #[cycle(walking)]
 fn triple(
     c: &CoreExp,
@@ -61,7 +61,7 @@ fn triple(
     lay(y, level, third_part(third), marks)
 }
 
-/// The arguments of a call, with the first of these trees.
+/// Appends the nodes of a call's arguments. Their trees are the first of these.
 #[cycle(walking)]
 fn all(
     arguments: &[CoreExp],
@@ -78,7 +78,7 @@ fn all(
     Ok(())
 }
 
-/// The arguments of a call, and its routine.
+/// Appends the nodes of a call's arguments, then those of its routine.
 #[cycle(walking)]
 fn call(
     arguments: &[CoreExp],
@@ -98,7 +98,7 @@ fn call(
     lay(routine, level + 2 + count as u64, at(trees, count), marks)
 }
 
-/// The nodes below that of an expression.
+/// Appends the nodes below the node of an expression.
 #[cycle(walking)]
 #[tactic(auto, using(bc_core::proofs::Rows::call_view))]
 fn below(
@@ -125,9 +125,7 @@ fn below(
     }
 }
 
-/// The nodes of an expression, with the tree that it has.
-///
-/// `Memory` comes where the vector could not grow.
+/// Appends the nodes of an expression with this tree. Returns `Memory` if the vector can't grow.
 #[cycle(walking)]
 fn lay(
     e: &CoreExp,
@@ -149,7 +147,7 @@ fn lay(
     Ok(())
 }
 
-/// The level of both sides of an assignment to this address.
+/// The level of both sides of an assignment to this address at this level.
 fn side_level(address: &CoreExp, level: u16) -> u64
     ensures exact { result ≡ side_level_of (exp address.now) level }
     ensures small { result ≤ 65536 }
@@ -160,7 +158,7 @@ fn side_level(address: &CoreExp, level: u16) -> u64
     }
 }
 
-/// The two sides of an assignment, the value's first.
+/// Appends the nodes of an assignment's two sides, the value's first.
 fn sides(
     value_side: &CoreExp,
     address_side: &CoreExp,
@@ -177,9 +175,8 @@ fn sides(
     lay(address_side, level, second_part(Some(tree), false), marks)
 }
 
-/// The nodes of a root, with the rules of its tree. There is room for so many from the start.
-///
-/// `Memory` comes where an allocation was refused.
+/// The nodes of a root with the rules of this derivation. `room` is the number of nodes for which memory is allocated at the start.
+/// Returns `Memory` if an allocation fails.
 pub fn marks_of(
     alloc: Global,
     root: &Root,
