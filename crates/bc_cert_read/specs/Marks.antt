@@ -1,4 +1,4 @@
--- For proofs: what the lines above ask of trees, by computing.
+-- For proofs: what the lines above a tree need to know of it, computed as the program does it.
 use Rattle.std.specs.Prelude.{ℕ, ◌+◌, ◌==◌, max, Bool, true, false, ◌||◌, cond, List, [], ◌∷◌}
 use Rattle.bc_rules_defs.specs.declared.rule.Mode.TheVariants.{Any, Push}
 use Rattle.bc_rules_defs.specs.declared.rule.Aim.{Aim}
@@ -22,7 +22,7 @@ first_level (Bin op) = (1, 0)
 first_level (Call n) = (2, 1)
 first_level _ = (0, 0)
 
--- the first part has this level, and each next one so much more
+-- the first part has this level, and each further one is higher by the step
 abbrev pub levels_from : ℕ → ℕ → List Mark → Bool
 levels_from s step [] = true
 levels_from s step (m ∷ ms) = cond (m.level == s) (levels_from (s + step) step ms) false

@@ -1,4 +1,4 @@
--- For proofs: the aims for which the rules of a line make a derivation, by computing.
+-- For proofs: for which aims the rules of a node line make a derivation, computed as the program does it.
 use Rattle.std.specs.Prelude.{ℕ, ◌+◌, ◌==◌, Bool, true, false, not, ◌&&◌, cond, List, [], ◌∷◌, Option, Some, None, Result, Ok, Err}
 use Rattle.bc_cert_defs.specs.declared.check_fault.CheckFault.{CheckFault}
 use Rattle.bc_cert_defs.specs.declared.check_fault.CheckFault.TheVariants.{WrongCost, WrongRule}
@@ -28,7 +28,7 @@ has_words (Some m) (Some n) = m == n
 has_words (Some m) None = false
 has_words None n = false
 
--- a part shows rules for the aim that is asked of it; and none, where none is
+-- a part shows rules for the aim that is required of it, or none if the rule doesn't derive it
 abbrev pub fits : Option Aim → Mark → Bool
 fits None m = m.is_bare
 fits (Some aim) m = has_aim m.shown aim
@@ -41,7 +41,7 @@ abbrev pub makes_by : Node → List Mark → Option ℕ → Option Recipe → Bo
 makes_by n ms words None = false
 makes_by n ms words (Some r) = has_words (words_of n.level n.parts r) words && agree r.takes 0 ms
 
--- the rule makes a derivation for the aim of what the parts show, of so many words
+-- the rule applies for this aim, the parts show what it needs, and it has these words
 abbrev pub makes : Node → List Mark → Rule → Aim → Option ℕ → Bool
 makes n ms r aim words = makes_by n ms words (recipe_by n r aim)
 
@@ -75,7 +75,7 @@ same_value (Some m) n = m == n
 abbrev pub is_value : Costs → Bool
 is_value c = same_value c.push c.any
 
--- V0 in front or not, of a rule of values
+-- a value by a rule of values, with V0 before it or not
 abbrev pub any_by : Node → List Mark → Costs → Rule → (freed : Bool) → Bool
 any_by n ms c r freed = cond freed (makes n ms r (Gets Push) c.push && is_value c) (makes n ms r (Gets Any) (Some c.any))
 

@@ -1,4 +1,4 @@
--- For proofs: what node lines and a root line make of the trees of an entry, by computing.
+-- For proofs: what node lines and a root line do to the stack of trees, computed as the program does it.
 use Rattle.std.specs.Prelude.{◌≡◌, ℕ, ◌+◌, ◌-◌, ◌==◌, Bool, true, false, ◌&&◌, ◌||◌, cond, nat_lt, nat_le, length, take, drop, List, [], ◌∷◌, ◌++◌, Option, Some, None, Result, Ok, Err}
 use Rattle.bc_cert_defs.specs.declared.check_fault.CheckFault.{CheckFault}
 use Rattle.bc_cert_defs.specs.declared.check_fault.CheckFault.TheVariants.{Line, TooDeep, WrongRule}
@@ -33,7 +33,7 @@ abbrev pub ◌>>=◌ : {A B : Type 0} → Result A CheckFault → (A → Result 
 (Ok x) >>= f = f x
 (Err e) >>= f = Err e
 
--- the trees of an entry that no whole has taken yet, in the order of their lines
+-- the trees of an entry that aren't parts of another one yet, in the order of their lines
 pub record Stack : Type 0 where
   pub marks : List Mark
   pub facts : List Facts
@@ -43,6 +43,7 @@ pub record Stack : Type 0 where
 abbrev pub no_trees : Stack
 no_trees = record { marks = []; facts = []; expressions = []; derivations = [] }
 
+-- the four lists have the same length
 pub record AreParallel (st : Stack) : Type 0 where
   pub marks : length st.marks ≡ length st.facts
   pub expressions : length st.expressions ≡ length st.facts
@@ -77,7 +78,7 @@ abbrev pub with_whole : {A : Type 0} → Position → Option A → Result A Chec
 with_whole p None = Err (Line p.line)
 with_whole p (Some e) = Ok e
 
--- A node over the trees from a place on: their expressions are taken off first, then comes its own tree in their place.
+-- A node whose parts are the trees from an index on: their expressions are removed first, then its own tree replaces them.
 abbrev pub without_expressions : ℕ → Stack → Stack
 without_expressions at st = record st { expressions = take at st.expressions }
 
@@ -117,7 +118,7 @@ node_from T line p st at = fitting line (drop at st.marks) p >>= (λ depth. node
 abbrev pub node_step : Table → NodeLine → Position → Stack → Result Stack CheckFault
 node_step T line p st = cond (nat_lt (length st.facts) (parts_of line.form)) (Err (Line p.line)) (node_from T line p st (length st.facts - parts_of line.form))
 
--- a tree
+-- one tree of the stack
 pub record One : Type 0 where
   pub mark : Mark
   pub facts : Facts
@@ -160,7 +161,7 @@ abbrev pub test_root : Bool → Position → One → Result Rooted CheckFault
 test_root sense p o = cond (has_aim o.mark.shown (Jumps sense))
     (Ok (record { root = Test o.mark.level sense o.expression; derivation = o.derivation; words = words_on sense o.facts })) (wrong_rule p)
 
--- the level of the sides
+-- the level of the sides of an assignment
 abbrev pub side : Option ℕ → ℕ → ℕ
 side None s = s + 1
 side (Some o) s = s
@@ -189,7 +190,7 @@ assign_root r s p q =
     (with_least r s p q.0 q.1 (same (words_by s q.0.facts q.1.facts r) (least_of s q.0.facts q.1.facts)))
     (Err (Line p.line))
 
--- the root of the trees
+-- the root that the trees make
 abbrev pub root_step : RootLine → Position → Stack → Result Rooted CheckFault
 root_step lines.Value p st = with_whole p (one_tree st) >>= (λ o. value_root p o)
 root_step (lines.Test sense) p st = with_whole p (one_tree st) >>= (λ o. test_root sense p o)

@@ -1,8 +1,7 @@
-//! What the rules make at a node of a certificate, from what is known of its parts alone.
+//! The parts of the checker of certificates: what a line says, which rules apply at a node and with how many words, and the stack of
+//! trees that the node lines of an entry build.
 //!
-//! What the lines of a certificate say.
-//!
-//! The trees of an entry of a certificate: what its node lines and its root line make of them.
+//! `bc_cert` drives them line by line.
 #![tactic(auto)]
 
 mod chain;
