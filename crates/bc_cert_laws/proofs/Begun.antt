@@ -1,4 +1,4 @@
--- The rules at a node, of any form: what the checker finds they make, and the derivations that begin with them.
+-- The rules at a node of any form: which ones the checker finds, and the derivations that begin with them.
 use Rattle.std.proofs.Common.{◌≡◌, ℕ, true, Some, List, inl, inr, ◌⊎◌, refl, ap, sym, subst, ◌∙◌}
 use Rattle.bc_core.specs.Tree.{Exp, Frame, Glob, Place}
 use Rattle.bc_rules_defs.specs.declared.rule.Table.{Table}

@@ -1,4 +1,4 @@
--- The checker's step at a line against the lines that lead to a stage, and against the fault of a line.
+-- The checker's step at any line agrees with the relations: it succeeds exactly if the line leads on, else it returns the line's fault.
 use Rattle.std.proofs.Common.{◌≡◌, ℕ, ◌+◌, ◌==◌, Bool, true, false, cond, List, [], ◌∷◌, ◌++◌, length, Option, Some, None, Result, Ok, Err, refl, ap, sym, subst, ◌∙◌, arith}
 use Rattle.std.specs.List.{AllByRecursion}
 use Rattle.std.proofs.lemmas.Bool.{eqb-true}

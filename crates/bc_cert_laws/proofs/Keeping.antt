@@ -1,4 +1,4 @@
--- Trees that are kept, cut at a place, and with one more.
+-- A stack whose trees are true: cut at an index, and with one more tree.
 use Rattle.std.proofs.Common.{◌≡◌, ℕ, zero, suc, List, [], ◌∷◌, ◌++◌, length, take, drop, refl, ap}
 use Rattle.bc_core.specs.Tree.{Exp}
 use Rattle.bc_rules_defs.specs.declared.rule.Table.{Table}

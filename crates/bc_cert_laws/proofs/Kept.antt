@@ -1,4 +1,4 @@
--- What the checker keeps of a node over its parts, by the form.
+-- What the checker keeps of a node is true if what it keeps of the parts is, form by form.
 use Rattle.std.proofs.Common.{◌≡◌, ℕ, ◌+◌, max, Bool, true, false, cond, List, [], ◌∷◌, ◌++◌, map, refl, ap, sym, ◌∙◌, arith, append_assoc}
 use Rattle.std.specs.Prelude.{◌||◌}
 use Rattle.bc_core.specs.Tree.{Exp, Args, count}
@@ -137,7 +137,7 @@ bare_from {s = s} (choice {a = x} {b = y} {c = z} {ks = ks} {ns = ns} {os = os} 
     true_two _ _ (h.bare_from d.0) (true_two _ _ (i.bare_from d.1) (true_two _ _ (j.bare_from c.1) refl))
 bare_from (call h) k = arguments_bare h k
 
--- how many nodes stand one within another
+-- the depth
 arguments_depth : {T : Table} {es : Args} {f : Exp} {s : ℕ} {ns : List Shown} {ms : List Mark} {ps : List Facts} {xs : List Tree} → AreArguments T es f s ns ms ps xs → (d : ℕ) → depth_from d ms ≡ max d (max (all_nested es) (nested f))
 arguments_depth {f = f} (routine {m = m} h) d =
     let k : m.depth ≡ nested f = h.depth in
@@ -164,7 +164,7 @@ depth_of (choice {a = a} {b = b} {c = c} {l = l} {m = m} {n = n} h i j) =
     omega arith
 depth_of (call {es = es} {f = f} {ms = ms} h) = let k : depth_from 0 ms ≡ max 0 (max (all_nested es) (nested f)) = arguments_depth h 0 in omega arith
 
--- whether a call stands in it
+-- whether it contains a call
 cond_true : (b : Bool) → cond b true false ≡ b
 cond_true true = refl
 cond_true false = refl
@@ -199,7 +199,7 @@ calls_of (bin {p = p} {q = q} h i) = more_calls p (q ∷ []) _ _ (calls_is p h) 
 calls_of (choice {a = a} {b = b} {c = c} {o = o} {p = p} {q = q} h i j) = more_calls o (p ∷ q ∷ []) _ _ (calls_is o h) (more_calls p (q ∷ []) _ _ (calls_is p i) (one_calls q _ (calls_is q j))) ∙ or_grouped (has_call a) (has_call b) (has_call c)
 calls_of (call h) = refl
 
--- whether its test is made of its value
+-- whether a test may be made of its value
 pub plain_of : {T : Table} {s : ℕ} {form : Form} {ns : List Shown} {ms : List Mark} {ps : List Facts} {xs : List Tree} {e : Exp} → Over T s form ns ms ps xs e → is_plain form ≡ free.is_plain e
 plain_of num = refl
 plain_of frame = refl

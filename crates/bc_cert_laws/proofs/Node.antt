@@ -1,4 +1,4 @@
--- A node line over the trees of its parts: the tree that it makes stands, or its rules are those of no derivation.
+-- A node line with true trees as its parts: its own tree is true, or no derivation of least words has its rules.
 use Rattle.std.proofs.Common.{◌≡◌, ℕ, Bool, true, false, cond, Option, Some, Result, Ok, Err, List, [], ◌∷◌, ◌++◌, map, inl, inr, refl, ap, sym, subst, ◌∙◌}
 use Rattle.std.specs.Prelude.{◌&&◌, ◌||◌}
 use Rattle.std.proofs.lemmas.Bool.{and_from, or_cases, or_left, or_right}

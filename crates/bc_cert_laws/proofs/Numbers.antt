@@ -1,4 +1,4 @@
--- Numbers as fields: a text is read as a number just where it is that number in decimal digits.
+-- Numbers as fields: a text is read as a number exactly if it is that number in decimal digits.
 use Rattle.std.proofs.Common.{◌≡◌, ◌⊎◌, inl, inr, ℕ, zero, suc, ◌+◌, ◌-◌, ◌*◌, ◌^◌, ◌<◌, ◌≤◌, ◌==◌, Bool, true, false, cond, List, [], ◌∷◌, length, get_or, Option, Some, None, IfSome, refl, ap, sym, ◌∙◌, arith, rules, ne_eqb, ⊎_elim}
 use Rattle.std.specs.Prelude.{nat_le, nat_lt}
 use Rattle.std.specs.List.{AllByRecursion}

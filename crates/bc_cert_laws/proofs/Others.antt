@@ -1,4 +1,4 @@
--- The rules at a node but those of operators: what the checker finds they make, and the derivations that begin with them.
+-- The rules at nodes other than dyadic operators: which ones the checker finds, and the derivations that begin with them.
 use Rattle.std.proofs.Common.{◌≡◌, ℕ, ◌+◌, ◌≤◌, Bool, true, false, cond, Option, Some, None, List, [], ◌∷◌, ◌++◌, refl, ap, sym, subst, ◌∙◌, arith, append_assoc}
 use Rattle.std.specs.Prelude.{◌&&◌, not}
 use Rattle.std.proofs.lemmas.Bool.{and_parts, and_from}

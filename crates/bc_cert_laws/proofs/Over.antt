@@ -1,4 +1,4 @@
--- A node over the trees of its parts, taken apart by its form.
+-- A node with the trees of its parts, split by its form.
 use Rattle.std.proofs.Common.{◌≡◌, ℕ, ◌+◌, ◌==◌, Bool, true, false, cond, Option, Some, None, List, [], ◌∷◌, ◌++◌, refl, ap, sym, subst, ◌∙◌, arith, append-nil, append_assoc}
 use Rattle.std.proofs.lemmas.Bool.{eqb-true}
 use Rattle.bc_word.specs.declared.operator.Op.{Op}

@@ -1,4 +1,4 @@
--- What a part gives a rule that takes it, and what it has of a derivation that shows its lines.
+-- A part of a node: what it contributes to a rule that takes it, and which derivation its lines show.
 use Rattle.std.proofs.Common.{◌≡◌, ℕ, true, Option, Some, None, List, [], ◌∷◌, ◌++◌, refl, ap, sym, subst, ◌∙◌, arith}
 use Rattle.std.proofs.lemmas.Bool.{eqb-true, eq-eqb}
 use Rattle.bc_core.specs.Tree.{Exp, Value, Test}
@@ -34,7 +34,7 @@ shown_order {T = T} {e = e} (Gets Any) d s = nodes_in_order T (Value s e) (value
 shown_order {T = T} {e = e} (Gets Push) d s = other_rules (below d s) _ _ refl ∙ nodes_in_order T (Value s e) (value (v0 d))
 shown_order {T = T} {e = e} (Jumps sense) d s = nodes_in_order T (Test s sense e) (test d)
 
--- a derivation has the least words just where no other has fewer
+-- a derivation has the least words exactly if no other has fewer
 least_words : (T : Table) (e : Exp) (s : ℕ) (c : Costs) → AreLeast T e s c → (aim : Aim) → AreLeastWords T e aim s (cost_of aim c)
 least_words T e s c h aim = subst (AreLeastWords T e aim s) (h.words aim) (choices_are_least T e aim s).0
 

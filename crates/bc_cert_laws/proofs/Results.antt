@@ -1,4 +1,4 @@
--- What comes of steps one after another, and tests as what they say.
+-- Sequences of steps that may fail, and Boolean tests as statements.
 use Rattle.std.proofs.Common.{◌≡◌, ℕ, ◌==◌, ◌≤◌, Bool, true, false, cond, List, length, Result, Ok, Err, refl, arith}
 use Rattle.std.specs.Prelude.{◌+◌, ◌&&◌, nat_le}
 use Rattle.bc_cert_defs.specs.declared.check_fault.CheckFault.{CheckFault}

@@ -1,4 +1,4 @@
--- The items of a derivation's code have room where its nodes and labels do.
+-- The items of a derivation's code fit into a code line if the derivation's nodes and labels have room.
 use Rattle.std.proofs.Common.{◌≡◌, ℕ, ◌+◌, ◌%◌, ◌≤◌, Bool, true, false, cond, Option, Some, None, List, [], ◌∷◌, ◌++◌, refl, sym, subst, arith}
 use Rattle.std.specs.List.{AllByRecursion}
 use Rattle.bc_word.specs.declared.operator.Op.TheVariants as operators

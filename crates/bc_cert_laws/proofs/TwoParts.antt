@@ -1,4 +1,4 @@
--- What a rule of an operator takes of its two parts, and what a derivation that shows their lines has.
+-- What a rule of a dyadic operator takes of its operands, and which derivation their lines show.
 use Rattle.std.proofs.Common.{◌≡◌, ℕ, ◌+◌, ◌==◌, ◌&&◌, Bool, true, false, cond, Option, Some, None, List, [], ◌∷◌, ◌++◌, refl, ap, sym, subst, ◌∙◌, arith}
 use Rattle.std.proofs.lemmas.Bool.{eqb-true, and_parts, eq-eqb}
 use Rattle.bc_word.specs.declared.operator.Op.{Op}

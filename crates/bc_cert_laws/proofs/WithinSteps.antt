@@ -1,4 +1,4 @@
--- What a line within an entry comes to, node line or root line, against what it may say.
+-- The checker's step at a node line or root line agrees with the relations.
 use Rattle.std.proofs.Common.{◌≡◌, ℕ, ◌+◌, ◌≤◌, ◌<◌, true, false, map, List, [], ◌∷◌, ◌++◌, length, Option, Some, None, IfSome, Result, Ok, Err, refl, ap, sym, subst, ◌∙◌, arith}
 use Rattle.std.specs.Fmt.{decimal}
 use Rattle.bc_cert_defs.specs.declared.check_fault.CheckFault.{CheckFault}
