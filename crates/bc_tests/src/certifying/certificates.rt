@@ -234,6 +234,7 @@ fn growth_is_given(rt: HostRuntime) {
     assert!(rt; calls(rt.alloc(), false));
 }
 
+/// Under `tests/stress/failed-allocations` each allocation fails in turn. The result must be right, or a failed allocation.
 #[test]
 fn refused_growth_is_memory(rt: HostRuntime) {
     assert!(rt; calls(rt.alloc(), true));

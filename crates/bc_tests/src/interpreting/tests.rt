@@ -111,6 +111,7 @@ fn growth_is_given(rt: HostRuntime) {
     assert!(rt; given);
 }
 
+/// Under `tests/stress/failed-allocations` each allocation fails in turn. The result must be right, or a failed allocation.
 #[test]
 fn refused_growth_is_memory(rt: HostRuntime) {
     let (_, lawful) = grown(rt.alloc());
