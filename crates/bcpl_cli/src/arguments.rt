@@ -384,8 +384,7 @@ fn asked<'a>(alloc: Global, matches: &ArgMatches<'a>) -> Result<Order<'a>, BadWo
 /// # Errors
 ///
 /// `BadWords::Said` if the argument parser rejects it or prints help, `BadWords::Option` if an option has an invalid
-/// value, and
-/// `BadWords::Memory` if an allocation fails.
+/// value, and `BadWords::Memory` if an allocation fails.
 pub fn wanted<'a>(alloc: Global, words: &'a [&'a str]) -> Result<Order<'a>, BadWords<'a>> {
     if words.is_empty() {
         return Ok(Order::RunInput);

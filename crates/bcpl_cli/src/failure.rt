@@ -137,8 +137,7 @@ impl Failure {
     }
 
     /// Whether the further lines are always printed, even if standard error is no terminal: for these causes the
-    /// first line
-    /// alone says too little.
+    /// first line alone says too little.
     pub fn is_told_always(&self) -> bool {
         matches!(
             &self.cause,

@@ -26,8 +26,7 @@ pub fn bare(path: &str) -> &str {
 }
 
 /// A hint for a file with this path and content that looks like something other than `wanted`: what it looks like,
-/// and
-/// which command accepts it. `None` if it looks as expected, or like nothing known.
+/// and which command accepts it. `None` if it looks as expected, or like nothing known.
 ///
 /// # Errors
 ///

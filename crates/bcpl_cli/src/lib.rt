@@ -1,8 +1,10 @@
 //! The command line of the program: its arguments, its failures and its files.
 //!
-//! - Reading arguments: `wanted` turns them into an `Order`; `guess_of` and `hint` guess what an invalid one was meant to be.
+//! - Reading arguments: `wanted` turns them into an `Order`; `guess_of` and `hint` guess what an invalid one was
+//!   meant to be.
 //! - Failing: a `Failure` has the first line of the message, further lines, and the exit status.
-//! - Files: `contents` reads one up to a limit, `Written` writes one completely or not at all, `kind_of` guesses what one is.
+//! - Files: `contents` reads one up to a limit, `Written` writes one completely or not at all, `kind_of` guesses what
+//!   one is.
 #![tactic(auto)]
 
 mod arguments;

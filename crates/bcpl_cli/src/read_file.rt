@@ -10,8 +10,7 @@ use std::rt::Files;
 pub const FILE_LIMIT: u64 = 16_777_216;
 
 /// The content of the file with this path. Fails if the file can't be opened or read, has more than `FILE_LIMIT`
-/// bytes,
-/// or an allocation fails.
+/// bytes, or an allocation fails.
 pub fn contents<F: Files>(rt: &F, alloc: Global, path: &str) -> Result<Vec<u8>, Failure> {
     let file = match fs::open(rt, path) {
         Ok(file) => file,

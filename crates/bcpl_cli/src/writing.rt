@@ -15,8 +15,7 @@ const UNFINISHED: &str = ".unfinished";
 const NAMES: usize = 100;
 
 /// A file that is being written. To replace a regular file, or to create one, the bytes go to a new file beside it,
-/// which is
-/// renamed at the end. A device, a pipe or the target of a link is written directly.
+/// which is renamed at the end. A device, a pipe or the target of a link is written directly.
 #[derive(Drop)]
 pub struct Written<W: Write + Drop> {
     out: BufWriter<W>,
@@ -113,8 +112,7 @@ impl<W: Write + Drop> Written<W> {
     }
 
     /// The failure of the file with this path after a failed write. It includes the reason if the system still
-    /// reports one when
-    /// the buffer is flushed once more.
+    /// reports one when the buffer is flushed once more.
     pub fn failure(&mut self, alloc: Global, path: &str) -> Failure {
         match self.out.flush() {
             Ok(()) => Failure::file(alloc, path),

@@ -1,4 +1,4 @@
-//! A listing of a linked program: each word of its image with its address, its item, and what speaks of it.
+//! The listing of a linked program: each word of its image with its address, its item, and what refers to it.
 #![tactic(auto)]
 
 mod listing;
