@@ -1,5 +1,5 @@
 //! The listing as a whole: the boot code, the globals, and the segments item by item.
-//!
+
 use crate::page::Page;
 use crate::references::{Manner, Reference, of_label, references};
 use crate::strings::{run_after, say_bytes};
@@ -12,10 +12,11 @@ use std::alloc::Global;
 /// A note on the code that begins at an item.
 #[derive(Clone, Copy)]
 pub struct Note<'p> {
-    /// The index of the segment in the program. The index of the item in its segment.
+    /// The index of the segment in the program.
     pub segment: usize,
-    /// The text of the note.
+    /// The index of the item in its segment.
     pub item: usize,
+    /// The text of the note.
     pub said: &'p str,
 }
 
@@ -40,7 +41,7 @@ const GLOBALS: usize = 512;
 
 /// What the words of the boot code do.
 const BOOT: [&str; 3] = [
-    "the routine in global 1",
+    "load the routine in global 1",
     "call it, with its frame at 2",
     "finish the run",
 ];
@@ -442,7 +443,7 @@ impl<'p> Listing<'p> {
         self.page.add(name);
         self.page.add(": begins at ");
         self.page.add_number(start);
-        self.page.add(" \n");
+        self.page.add("\n");
     }
 
     /// Adds the items of a segment.

@@ -1,5 +1,5 @@
 //! The text of a listing while it is written, with its columns.
-//!
+
 use bc_show::ShownItem;
 use bc_text_items::Item;
 use bc_word::Memory;

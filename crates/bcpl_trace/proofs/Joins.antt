@@ -1,4 +1,4 @@
--- Runs that are put together of shorter ones.
+-- Runs composed of shorter runs, for the loop of `run_watched`.
 use Rattle.std.proofs.Common.{◌≡◌, ◌≢◌, ◌≤◌, ℕ, ◌+◌, ◌-◌, suc, Option, None, Some, sym, ap, ◌∙◌, refl, arith, subst}
 use Rattle.bc_machine_defs.specs.State.{State}
 use Rattle.bc_machine_defs.specs.Run.{runs, ended, Comes}

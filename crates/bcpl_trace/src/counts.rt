@@ -9,7 +9,9 @@ const ADDRESSES: usize = 65_536;
 /// How often the instruction at each address was carried out, and how often it was called.
 #[derive(Drop)]
 pub struct Counts {
+    /// How often the instruction at each address was executed.
     pub times: Vec<u64>,
+    /// How often each address was called.
     pub calls: Vec<u64>,
 }
 
