@@ -1,4 +1,4 @@
-//! A file on the page: its lines with their code, its data, and its words by routine.
+//! The part of the page about a file: its lines with their code, its data, and the sizes of its routines.
 
 use crate::html::{Html, Part};
 use crate::items::{add_data, add_items};
@@ -17,10 +17,10 @@ use bcpl_show::{
 };
 use std::alloc::Global;
 
-/// Where a line goes on below itself, it has at most so many free columns in front, and two.
+/// The largest indentation, in columns, of the continuation lines of a long source line.
 const MOST_FREE: u64 = 16;
 
-/// How many columns are free before a line's text, with a tab to each eighth.
+/// The number of blank columns before a line's text, at most `MOST_FREE`. A tab goes to the next multiple of eight.
 fn free_columns(text: &[u8]) -> u64 {
     let mut columns: u64 = 0;
     for byte in text {
@@ -33,17 +33,17 @@ fn free_columns(text: &[u8]) -> u64 {
     columns.min(MOST_FREE)
 }
 
-/// Says so where other lines' code stands between what ends here, if anything does, and what begins there.
+/// Marks that code of other lines comes between the item before `following`, if there is one, and the item at `from`.
 fn add_gap(html: &mut Html, following: Option<usize>, from: usize) {
     match following {
         Some(following) if following != from => {
-            html.mark("<div class=\"gap\">behind the code of other lines:</div>")
+            html.mark("<div class=\"gap\">after the code of other lines:</div>")
         }
         _ => {}
     }
 }
 
-/// Adds the items of an entry's root, of so many words, and below them why it has these, with these names.
+/// Adds the items of an entry, whose size is `words`, and the explanation that opens below them.
 fn add_entry(html: &mut Html, entry: &Entry, words: u64, items: &[Item], names: Names<'_, '_>) {
     html.mark("<details class=\"root\"><summary>");
     add_items(html, items);
@@ -56,23 +56,23 @@ fn add_entry(html: &mut Html, entry: &Entry, words: u64, items: &[Item], names: 
     html.mark("</details>\n");
 }
 
-/// What the report of a file stands on.
+/// What the part about a file is computed from.
 #[derive(Drop)]
 pub struct Basis<'p, 's> {
     ground: Ground<'p, 's>,
     marks: Marks,
-    /// The names of the places, by their labels from 1 on.
+    /// The names of the places, in the order of their labels.
     names: Vec<&'s [u8]>,
 }
 
-/// The files of a program with their lines, and the leaves of its section. Memory is answered where a growth was refused.
+/// The files of a program with their lines, and the leaves of its section. `Memory` if an allocation fails.
 fn ground_of<'p, 's>(alloc: Global, program: Program<'p, 's>) -> Result<Ground<'p, 's>, Memory> {
     let leaves = leaves_of(alloc, program.tokens)?;
     Ground::new(alloc, program.files, program.main, leaves)
 }
 
 impl<'p, 's> Basis<'p, 's> {
-    /// That of a file of a program. Memory is answered where a growth was refused.
+    /// The basis for the part about a program's file. `Memory` if an allocation fails.
     pub fn new(alloc: Global, program: Program<'p, 's>) -> Result<Basis<'p, 's>, Memory> {
         let outline = Outline::new(alloc, program.section)?;
         let marks = Marks::new(alloc, &outline, program.items.len(), program.entries)?;
@@ -86,20 +86,21 @@ impl<'p, 's> Basis<'p, 's> {
     }
 }
 
-/// A file that is reported on.
+/// The part of the page about a file.
 #[derive(Drop)]
 pub struct File<'b, 'p, 's> {
     program: Program<'p, 's>,
     basis: &'b Basis<'p, 's>,
     globals: Vec<GlobalName<'s>>,
     locals: Locals<'s>,
-    /// The runs in the order of the code, and by their lines.
+    /// The runs of items, in the order of the code.
     runs: Vec<Run>,
+    /// The same runs, by source line.
     placed: Placed,
 }
 
 impl<'b, 'p, 's> File<'b, 'p, 's> {
-    /// What is reported of a file of a program, which stands on this. Memory is answered where a growth was refused.
+    /// The part about a file of a program. `Memory` if an allocation fails.
     pub fn new(
         alloc: Global,
         program: Program<'p, 's>,
@@ -125,7 +126,7 @@ impl<'b, 'p, 's> File<'b, 'p, 's> {
         all.get(run.from..run.to).unwrap_or(&[])
     }
 
-    /// The words of a root's code.
+    /// The size of a root's code, in words.
     fn words_of(&self, alloc: Global, index: usize) -> Result<u64, Memory> {
         match self.program.entries.get(index) {
             Some(entry) => {
@@ -142,7 +143,7 @@ impl<'b, 'p, 's> File<'b, 'p, 's> {
         }
     }
 
-    /// The names where the root of this entry stands.
+    /// The names at the root of this entry.
     fn names_of(&self, index: usize) -> Names<'_, 's> {
         Names {
             places: self.basis.names.as_slice(),
@@ -152,7 +153,7 @@ impl<'b, 'p, 's> File<'b, 'p, 's> {
         }
     }
 
-    /// Adds items that don't open, and what they are.
+    /// Adds items that don't open, with a description.
     fn add_plain(html: &mut Html, items: &[Item], what: &str) {
         html.mark("<div class=\"own\">");
         add_items(html, items);
@@ -163,11 +164,11 @@ impl<'b, 'p, 's> File<'b, 'p, 's> {
         ]);
     }
 
-    /// Adds a root's items, and below them why it has these.
+    /// Adds the items of a root, with their explanation.
     fn add_root(&self, html: &mut Html, index: usize, run: Run) {
         let items = self.items_of(run);
         if !run.is_first {
-            return File::add_plain(html, items, "the same, behind a VALOF");
+            return File::add_plain(html, items, "continued after a VALOF");
         }
         if let Some(entry) = self.program.entries.get(index) {
             let found = self.words_of(html.alloc(), index);
@@ -176,7 +177,7 @@ impl<'b, 'p, 's> File<'b, 'p, 's> {
         }
     }
 
-    /// Adds a run's items.
+    /// Adds the items of a run.
     fn add_run(&self, html: &mut Html, run: Run) {
         match run.owner {
             Owner::Root(index) => self.add_root(html, index, run),
@@ -189,7 +190,7 @@ impl<'b, 'p, 's> File<'b, 'p, 's> {
         }
     }
 
-    /// Begins a line of a source; its code follows.
+    /// Begins a source line; its code follows.
     fn begin_line(&self, html: &mut Html, spot: Spot) {
         let text = self.basis.ground.line(spot);
         let (path, sign) = match self.basis.ground.path_elsewhere(spot) {
@@ -235,7 +236,7 @@ impl<'b, 'p, 's> File<'b, 'p, 's> {
         if self.placed.others.is_empty() {
             return;
         }
-        html.mark("<h3>What it gets from other files</h3>\n");
+        html.mark("<h3>Code from other files</h3>\n");
         for other in &self.placed.others {
             self.begin_line(html, other.spot);
             self.add_run(html, other.run);
@@ -248,13 +249,13 @@ impl<'b, 'p, 's> File<'b, 'p, 's> {
         if self.placed.data.is_empty() {
             return;
         }
-        html.mark("<h3>Data, and globals that are set</h3>\n");
+        html.mark("<h3>Data and globals</h3>\n");
         for run in &self.placed.data {
             self.add_run(html, *run);
         }
     }
 
-    /// Adds the file's report, with this number among the files.
+    /// Adds the part about the file. `number` is its index among the files.
     pub fn add(&self, html: &mut Html, number: usize) {
         html.all(&[
             Part::Mark("<h2 id=\"file"),
@@ -268,13 +269,13 @@ impl<'b, 'p, 's> File<'b, 'p, 's> {
         self.add_own_data(html);
     }
 
-    /// The words of a run's items.
+    /// The size of a run's items, in words.
     fn words_of_run(&self, html: &mut Html, run: Run) -> u64 {
         let found = words_of_items(html.alloc(), self.items_of(run));
         html.counted(found)
     }
 
-    /// Takes a run into the totals.
+    /// Adds a run to the totals.
     fn count_run(&self, html: &mut Html, run: Run, totals: &mut Totals<'s>) {
         match run.owner {
             Owner::Root(index) => {
@@ -291,7 +292,7 @@ impl<'b, 'p, 's> File<'b, 'p, 's> {
         }
     }
 
-    /// Begins the totals of a routine, where what is at this index of the commands' own is what a routine begins with.
+    /// Begins the totals of a routine, if the command's items at this index are the beginning of one.
     fn begin_routine(&self, html: &mut Html, index: usize, totals: &mut Totals<'s>) {
         match self.basis.marks.own.get(index) {
             Some(own) if own.what == Purpose::Routine => {
@@ -301,7 +302,7 @@ impl<'b, 'p, 's> File<'b, 'p, 's> {
         }
     }
 
-    /// The words of the file by routine, and how often each rule is used.
+    /// The sizes of the file's routines, and the number of uses of each rule.
     pub fn totals(&self, html: &mut Html) -> Totals<'s> {
         let mut totals = Totals::new(html.alloc());
         for run in &self.runs {

@@ -57,7 +57,8 @@ fn begin_data(html: &mut Html, name: &[u8]) {
     ]);
 }
 
-/// Adds data, and globals that are set: a line for each place, with its name. `names` has those of the places, by their labels from 1 on.
+/// Adds data, and globals that are set: a line for each place, with its name. `names` has those of the places, by
+/// their labels from 1 on.
 pub fn add_data(html: &mut Html, items: &[Item], names: &[&[u8]]) {
     let mut is_first = true;
     for item in items {

@@ -12,7 +12,8 @@ pub struct GlobalName<'s> {
     name: &'s [u8],
 }
 
-/// The names of the places, by their labels from 1 on, those of the globals, and those of the cells at the leaf where a root stands.
+/// The names of the places, by their labels from 1 on, those of the globals, and those of the cells at the leaf where
+/// a root stands.
 #[derive(Clone, Copy)]
 pub struct Names<'k, 's> {
     pub places: &'k [&'s [u8]],
@@ -48,7 +49,8 @@ pub fn cell_name<'s>(names: Names<'_, 's>, offset: u16) -> &'s [u8] {
     }
 }
 
-/// Puts the globals of a list after those that are there, where their numbers are written as such. Memory is answered where a growth was refused.
+/// Puts the globals of a list after those that are there, where their numbers are written as such. Memory is answered
+/// where a growth was refused.
 fn add_globals<'s>(globals: &mut Vec<GlobalName<'s>>, list: &[Constant<'s>]) -> Result<(), Memory> {
     for constant in list {
         if let Exp::Number(number) = &constant.value {
@@ -61,8 +63,8 @@ fn add_globals<'s>(globals: &mut Vec<GlobalName<'s>>, list: &[Constant<'s>]) -> 
     Ok(())
 }
 
-/// The globals that a section declares outside of its routines, where their numbers are written as such. Memory is answered where a growth
-/// was refused.
+/// The globals that a section declares outside of its routines, where their numbers are written as such. Memory is
+/// answered where a growth was refused.
 pub fn globals_of<'s>(alloc: Global, section: &Section<'s>) -> Result<Vec<GlobalName<'s>>, Memory> {
     let mut globals = Vec::new(alloc);
     for declaration in &section.declarations {
