@@ -124,7 +124,7 @@ impl<'p, 's> Listing<'p, 's> {
         self.page.add_all(&[
             Field::Text("vector 0 to "),
             Field::Number(u64::from(last), 0),
-            Field::Text("  after its own cell, "),
+            Field::Text(" after its own cell, "),
         ]);
     }
 

@@ -373,7 +373,7 @@ impl<'p, 's> Listing<'p, 's> {
         if token.file == self.program.main {
             let number = self.lines.number_at(token.start);
             return self.page.add_line(&[
-                Field::Text("  on line "),
+                Field::Text(" on line "),
                 Field::Number(number as u64, 0),
             ]);
         }
@@ -382,7 +382,7 @@ impl<'p, 's> Listing<'p, 's> {
             return self.page.refuse();
         };
         self.page.add_line(&[
-            Field::Text("  in "),
+            Field::Text(" in "),
             Field::Text(self.program.files.path(token.file)),
             Field::Text(":"),
             Field::Number(lines.number_at(token.start) as u64, 0),
