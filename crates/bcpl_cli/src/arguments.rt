@@ -32,6 +32,7 @@ pub struct WatchOrder<'a> {
 /// The arguments of `run`.
 #[derive(Drop)]
 pub struct RunOrder<'a> {
+    /// The limit on instructions.
     pub steps: u64,
     pub watch: WatchOrder<'a>,
     pub inputs: Vec<Binding<'a>>,
@@ -106,9 +107,13 @@ pub struct InterpretOrder<'a> {
 /// What `show` lists.
 #[derive(Clone, Copy)]
 pub enum Listing {
+    /// The tokens of the source.
     Tokens,
+    /// The tree, in canonical layout.
     Tree,
+    /// The meaning of names.
     Scopes,
+    /// The source lines with their code.
     Code,
 }
 

@@ -202,6 +202,7 @@ impl From<StreamsError> for Failure {
     }
 }
 
+/// Prints how a run ended.
 fn write_end<W: fmt::Write>(f: &mut fmt::Formatter<W>, end: End) -> fmt::Result {
     match end {
         End::Finished => write!(f, "ended Finished"),
@@ -215,6 +216,7 @@ fn write_end<W: fmt::Write>(f: &mut fmt::Formatter<W>, end: End) -> fmt::Result 
     }
 }
 
+/// Prints a wild access.
 fn write_wild<W: fmt::Write>(f: &mut fmt::Formatter<W>, wild: Wild) -> fmt::Result {
     match wild {
         Wild::Unset(address) => write!(f, "wild 1 Unset {address}"),
