@@ -72,8 +72,8 @@ const NO_WARNINGS: Argument = Argument {
 const BUILD: Described = Described {
     name: "build",
     about: "Compiles BCPL sources to INTCODE text and certifies that the code is as short as possible",
-    more: "Each FILE is one section and becomes one segment. The library BLIB is compiled first, as segment 1; sources\n\
-           declare it with GET \"LIBHDR\". With --library ext, EXTLIB follows it; GET \"EXTHDR\" declares both.\n\n\
+    more: "Each FILE is one section and becomes one segment. The library BLIB is compiled first, as the first segment;\n\
+           sources declare it with GET \"LIBHDR\". With --library ext, EXTLIB follows it; GET \"EXTHDR\" declares both.\n\n\
            On success, prints `ok`, the number of segments, the number of certificate entries, and the address at which\n\
            the stack begins.\n\n\
            Exit status: 0 success, 1 refused, 3 invalid arguments.\n\n\
