@@ -57,7 +57,7 @@ pub enum Cause {
     Link(LinkError),
     /// The streams of a run were refused.
     Streams(StreamsError),
-    /// The file with this path can't be opened, read or written, or is too large.
+    /// The file with this path can't be opened, read or written, is too large, or must not be overwritten.
     File(String),
     /// A run ended in another way than by finishing.
     Ended(End),
