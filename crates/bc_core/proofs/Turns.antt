@@ -456,7 +456,7 @@ more_enter d call call1 t (Some (OfLibrary q)) vs f =
     more_choose d (nat_le (f + primitive_frame) 65536) _ _ _ _
     (more_turn d _ _ (more_opened d 1 (f + 2) (passed 1 (f + 2) vs) _ _ (more_primitive d q f))) (more_wild ℕ d)
 
-more_calls : (d : ℕ) (program : List Placed) (n m : ℕ) → n ≤ m → MoreCall d (calls program n) (calls program m)
+pub more_calls : (d : ℕ) (program : List Placed) (n m : ℕ) → n ≤ m → MoreCall d (calls program n) (calls program m)
 more_calls d program zero m le a vs f =
     let g = of_tidy f (calls program m a vs f) (tidy_calls program m a vs f) in record { from = λ st. g.from (later d st); grows = g }
 more_calls d program (suc n) zero le a vs f = absurd (omega arith)
