@@ -69,7 +69,7 @@ fn add_wrong(
     wrong: NodeNumber,
 ) -> Result<(), Memory> {
     let sentence = if wrong.right.is_some() {
-        "the least words {} are {} by the numbers of its parts, but {} is written here"
+        "the least words {} are {} according to its parts, but {} is written here"
     } else {
         "no code {} can be made from the parts, so this must be {}, but {} is written here"
     };

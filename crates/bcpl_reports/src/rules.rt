@@ -227,7 +227,7 @@ fn add_right(report: &mut Report, right: &[Name]) -> Result<(), Memory> {
         "these are right"
     };
     report.say(
-        "  help: by the lines of its parts, {}: ",
+        "  help: according to the lines of its parts, {}: ",
         &[Fill::Text(does)],
     )?;
     for (index, name) in right.iter().enumerate() {
@@ -248,7 +248,7 @@ fn add_roots(report: &mut Report, right: &[Name]) -> Result<(), Memory> {
 /// Adds the rules that would be right, or that there are none.
 fn add_rules(report: &mut Report, right: &[Name]) -> Result<(), Memory> {
     if right.is_empty() {
-        return report.help("by the lines of its parts, no rules are right");
+        return report.help("according to the lines of its parts, no rules are right");
     }
     add_right(report, right)
 }

@@ -277,7 +277,7 @@ fn warns_of_unreached(draft: &mut Draft, main: &Main<'_, '_, '_>, at: usize) -> 
     };
     begin(draft, main.tokens, following);
     draft.say(
-        "this command is never reached: {} before it goes elsewhere",
+        "this command is never reached: the {} before it goes elsewhere",
         &[Fill::Shown(main.text(at))],
     );
     draft.help(
