@@ -17,11 +17,13 @@ pub enum Fill<'a> {
     Number(u64),
 }
 
+/// Appends a number in decimal.
 fn add_number(text: &mut String, number: u64) -> Result<(), Memory> {
     write!(text, "{number}")?;
     Ok(())
 }
 
+/// Appends what fills one `{}`.
 fn add_part(text: &mut String, part: Fill<'_>) -> Result<(), Memory> {
     match part {
         Fill::Text(added) => Ok(text.push_str(added)?),

@@ -4,8 +4,8 @@ use crate::read::Read;
 use bcpl_places::Span;
 use bstr::ByteSlice;
 
-/// The last occurrence of this sign in the comments before the token with this index. An index past the end asks for
-/// the comments after the last token.
+/// The last occurrence of this sign in the comments directly before the token with this index. An index past the end asks
+/// for the comments after the last token.
 fn hidden_in_front(read: Read<'_, '_>, index: usize, sign: &str) -> Option<Span> {
     let before = read.tokens.get(index.checked_sub(1)?)?;
     let text = read.source(before.file);

@@ -99,7 +99,7 @@ fn number_size(text: &[u8], at: usize) -> usize {
     size.max(1)
 }
 
-/// The distance from the quote of a character constant to the next quote on its line, if there is one.
+/// How many bytes are between the quote of a character constant and the next quote on its line, if there is one.
 fn closing(text: &[u8], at: usize) -> Option<usize> {
     let rest = text.get(at.saturating_add(1)..)?;
     let end = rest

@@ -65,7 +65,7 @@ const PAIRS: [(&[u8], &[u8], &str); 21] = [
 const FIRSTS: [(&[u8], &str); 7] = [
     (
         b"RETURN",
-        "RETURN returns no value; a function returns that of the expression after its =, as in LET F(X) = VALOF $( .. RESULTIS X $)",
+        "RETURN returns no value; a function's value is the expression after its =, as in LET F(X) = VALOF $( .. RESULTIS X $)",
     ),
     (
         b"MANIFEST",

@@ -8,12 +8,12 @@ use bcpl_places::Span;
 
 /// A main's tokens, with all sources.
 #[derive(Clone, Copy)]
-/// All sources, of which a token names one by its index.
 pub struct Read<'a, 's> {
-    /// The index of the main.
+    /// All sources, of which a token names one by its index.
     pub sources: &'a [Source<'s>],
-    /// The main's tokens, with those of the files that it gets.
+    /// The index of the main.
     pub main: usize,
+    /// The main's tokens, with those of the files that it gets.
     pub tokens: &'a [Token<'s>],
 }
 

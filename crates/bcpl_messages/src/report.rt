@@ -133,6 +133,7 @@ impl Told<'_, '_> {
         }
     }
 
+    /// Appends all lines of a message.
     fn add_all(&mut self, message: &Message) -> Result<(), Memory> {
         self.add_first(message)?;
         for note in &message.notes {

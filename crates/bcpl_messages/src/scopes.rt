@@ -89,12 +89,12 @@ const MISPLACED: [(Symbol, &str, &str); 8] = [
     (
         Symbol::Case,
         "this CASE is not directly in the list of a SWITCHON",
-        "move the CASE out of the block within the list",
+        "put each CASE directly in the list of a SWITCHON, not in a block within it",
     ),
     (
         Symbol::Default,
         "this DEFAULT is not directly in the list of a SWITCHON",
-        "move the DEFAULT out of the block within the list",
+        "put each DEFAULT directly in the list of a SWITCHON, not in a block within it",
     ),
     (
         Symbol::Goto,
@@ -108,7 +108,7 @@ const OUTSIDE: &str = "variables and vectors can't be declared outside routines"
 
 /// The help for it.
 const INSTEAD: &str =
-    "outside routines, LET can declare only routines; write STATIC $( N = 0 $) for a cell that lasts the whole run, and can hold a vector's address";
+    "outside routines, LET can declare only routines; write STATIC $( N = 0 $) for a cell that lasts the whole run, which can also hold a vector's address";
 
 /// Names that are misplaced after a word: the word, the sentence and the help.
 const MISNAMED: [(Symbol, &str, &str); 3] = [

@@ -15,8 +15,8 @@ const OPENING: [Symbol; 2] = [Symbol::OpenBracket, Symbol::OpenSection];
 /// The closing brackets.
 const CLOSING: [Symbol; 2] = [Symbol::CloseBracket, Symbol::CloseSection];
 
-/// The symbols at which the search for the sign of a list ends: it begins a definition, is `:=`, or shows that there is
-/// no list.
+/// The symbols that end a backward search: LET, AND and `:=` come before a list of values, and `;` shows that there is
+/// none.
 const SIGNS: [Symbol; 4] = [Symbol::Let, Symbol::And, Symbol::Assign, Symbol::Semicolon];
 
 /// The symbols which show that a comma is followed by another definition or assignment, not by another value.

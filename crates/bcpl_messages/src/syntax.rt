@@ -699,7 +699,7 @@ fn tell_not_open(draft: &mut Draft, read: Read<'_, '_>, index: usize) {
 fn tell_too_deep(draft: &mut Draft, read: Read<'_, '_>, index: usize) {
     draft.place(read.place(index));
     draft.say(
-        "the nesting is too deep here: more than 200 definitions, commands and expressions inside one another, or 400 open brackets",
+        "the nesting is too deep here: more than 200 definitions, commands and expressions inside one another, or 400 open parentheses",
         &[],
     );
     draft.help("move a part of it to a separate routine or variable", &[]);

@@ -232,7 +232,7 @@ fn add_routine(report: &mut Report, global: u16, distance: usize) -> Result<(), 
         None => ("", ""),
     };
     report.line(
-        "  the nearest routine of a global before it is that of {}{}{}, which begins {} {} earlier",
+        "  the nearest routine of a global before it is that of global {}{}{}, which begins {} {} earlier",
         &[
             Fill::Number(u128::from(global)),
             Fill::Text(comma),

@@ -74,6 +74,7 @@ impl Report {
         Ok(self.lines.push_str(text)?)
     }
 
+    /// Appends bytes, each as the character with its code.
     fn letters(&mut self, letters: &[u8]) -> Result<(), Memory> {
         for letter in letters {
             self.lines.push(char::from(*letter))?;
@@ -92,11 +93,13 @@ impl Report {
         Ok(())
     }
 
+    /// Appends a number in decimal.
     fn number(&mut self, number: u128) -> Result<(), Memory> {
         write!(self.lines, "{number}")?;
         Ok(())
     }
 
+    /// Appends an item as a text has it.
     fn item(&mut self, item: &Item) -> Result<(), Memory> {
         let printed = printed(self.alloc, *item)?;
         self.letters(first_line(printed.as_slice()))
@@ -126,6 +129,7 @@ impl Report {
         }
     }
 
+    /// Appends what fills one `{}`.
     fn part(&mut self, part: Fill<'_>) -> Result<(), Memory> {
         match part {
             Fill::Text(text) => self.text(text),

@@ -5,7 +5,7 @@ use bc_lex::Source;
 use bc_lex_tokens::{Symbol, Token};
 use bcpl_places::line_at;
 
-/// How a line looks, where it is read otherwise.
+/// How a line looks that is read otherwise.
 #[derive(Clone, Copy)]
 pub enum Looks {
     /// It looks like a separate command, but continues the line before.

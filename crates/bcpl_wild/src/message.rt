@@ -352,6 +352,7 @@ enum Called<'s> {
 }
 
 impl<'s> Called<'s> {
+    /// The name of the called routine, if it is known.
     fn name(self) -> Option<&'s [u8]> {
         match self {
             Called::Library => None,

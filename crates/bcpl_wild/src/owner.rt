@@ -26,7 +26,7 @@ pub struct Owner {
 /// What is at an address.
 #[derive(Clone, Copy)]
 pub enum Kind {
-    /// A cell that isn't a variable's own.
+    /// A cell, other than that of a local variable.
     Cell,
     /// The cell of a variable whose name has this leaf, in the call that is `back` calls older than the newest one.
     Variable { back: usize, leaf: u64 },

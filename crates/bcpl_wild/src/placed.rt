@@ -14,7 +14,9 @@ use bcpl_places::Span;
 /// A label of a segment; segments are counted without that of the primitives.
 #[derive(Clone, Copy)]
 pub struct LabelOf {
+    /// The index of the segment; that of the primitives isn't counted.
     pub segment: usize,
+    /// The label.
     pub label: u64,
 }
 
