@@ -8,7 +8,7 @@ use bcpl_places::{Get, Span, gets_of};
 const BYTES: [(u8, &str); 12] = [
     (
         b'{',
-        "open a block with $( and close it with $); bcpl convert converts old sources",
+        "open a block with $( and close it with $); use bcpl convert for old sources",
     ),
     (b'}', "close a block with $)"),
     (
@@ -166,7 +166,7 @@ fn is_libhdr(name: &[u8]) -> bool {
 fn help_for_get(draft: &mut Draft, name: &[u8]) {
     if is_libhdr(name) {
         draft.help(
-            "the library's header is LIBHDR, in upper case; bcpl convert converts old sources",
+            "the library's header is LIBHDR, in upper case; use bcpl convert for old sources",
             &[],
         );
     } else if name == b"EXTHDR".as_slice() {
@@ -199,7 +199,7 @@ fn tell_get(draft: &mut Draft, site: Site<'_>) {
     }
     draft.place(span(file, at, 3));
     draft.say("GET needs a string with the name of a source", &[]);
-    draft.help("write it as in GET \"LIBHDR\"", &[]);
+    draft.help("write GET and a name, as in GET \"LIBHDR\"", &[]);
 }
 
 /// Describes an unknown escape.

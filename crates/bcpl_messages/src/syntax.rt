@@ -395,7 +395,7 @@ pub fn name_of<'s>(token: Option<&Token<'s>>) -> Option<&'s [u8]> {
 /// in an old source.
 fn say_reserved<'a>(draft: &mut Draft, name: &'a [u8], word: &'a str, is_first: bool) {
     let old = if is_first {
-        "; bcpl convert converts old sources"
+        "; use bcpl convert for old sources"
     } else {
         ""
     };

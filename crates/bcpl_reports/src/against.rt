@@ -158,7 +158,7 @@ fn beyond(
     let count = extent(judged.code.as_slice());
     report.fault(
         placed,
-        "the code of this entry takes {} items from item {} on, but segment {} has {}",
+        "the code of this entry takes {} items from item {} on, but segment {} has only {}",
         &[
             Fill::Number(u128::from(count)),
             Fill::Number(u128::from(judged.item)),
