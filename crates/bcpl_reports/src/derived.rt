@@ -1,12 +1,12 @@
 //! Runs the checker's stack of trees over the nodes of one entry, to try other rules and roots.
 
 ghost use Rattle.std.specs.Prelude.{OnOk};
-ghost use Rattle.bc_cert_trees.specs.Stacks.{AreParallel};
-ghost use Rattle.bc_cert_trees.specs.View.{stack};
+ghost use Rattle.bc_cert_read.specs.Stacks.{AreParallel};
+ghost use Rattle.bc_cert_read.specs.TreeView.{stack};
 
 use bc_cert_defs::CheckFault;
-use bc_cert_lines::{NodeLine, RootLine};
-use bc_cert_trees::{Position, Rooted, Stack};
+use bc_cert_read::{NodeLine, RootLine};
+use bc_cert_read::{Position, Rooted, Stack};
 use bc_rules_defs::Table;
 use bc_word::Memory;
 use std::alloc::Global;
