@@ -3,8 +3,7 @@
 use crate::fields::field_of;
 use crate::placed::{Placed, Stretch, Text, is_byte};
 use bc_cert_defs::Head;
-use bc_cert_read::{NodeLine, RootLine, entry_line, header, node_line, root_line};
-use bc_cert_read::Form;
+use bc_cert_read::{Form, NodeLine, RootLine, entry_line, header, node_line, root_line};
 use bc_rules_defs::Table;
 use bc_word::Memory;
 use std::alloc::Global;

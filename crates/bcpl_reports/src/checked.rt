@@ -7,8 +7,7 @@ use crate::placed::{Placed, Text};
 use crate::report::{Fill, Report};
 use crate::rules::wrong_rule;
 use bc_cert_defs::CheckFault;
-use bc_cert_read::{end_line, node_line, root_line};
-use bc_cert_read::Stack;
+use bc_cert_read::{Stack, end_line, node_line, root_line};
 use bc_word::Memory;
 use std::alloc::Global;
 

@@ -3,8 +3,7 @@
 use crate::certificate::Entry;
 use crate::least::least_of;
 use crate::report::{Fill, Report};
-use bc_cert_read::NodeLine;
-use bc_cert_read::LeastWords;
+use bc_cert_read::{LeastWords, NodeLine};
 use bc_word::Memory;
 
 /// What the numbers of a node line are for, in their order.

@@ -5,8 +5,7 @@ ghost use Rattle.bc_cert_read.specs.Stacks.{AreParallel};
 ghost use Rattle.bc_cert_read.specs.TreeView.{stack};
 
 use bc_cert_defs::CheckFault;
-use bc_cert_read::{NodeLine, RootLine};
-use bc_cert_read::{Position, Rooted, Stack};
+use bc_cert_read::{NodeLine, Position, RootLine, Rooted, Stack};
 use bc_rules_defs::Table;
 use bc_word::Memory;
 use std::alloc::Global;

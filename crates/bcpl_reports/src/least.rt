@@ -1,7 +1,6 @@
 //! The least words of a certificate's node, computed from the lines before it.
 
-use bc_cert_read::NodeLine;
-use bc_cert_read::{Facts, Form, LeastWords, Node, words_as_operand};
+use bc_cert_read::{Facts, Form, LeastWords, Node, NodeLine, words_as_operand};
 use bc_core::CoreExp;
 use bc_rules_defs::Table;
 use bc_word::{Memory, Op};

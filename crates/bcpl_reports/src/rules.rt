@@ -4,8 +4,7 @@
 use crate::certificate::Entry;
 use crate::derived::{rooted_of, takes};
 use crate::report::{Fill, Report};
-use bc_cert_read::{NodeLine, RootLine, node_line};
-use bc_cert_read::Stack;
+use bc_cert_read::{NodeLine, RootLine, Stack, node_line};
 use bc_rules_defs::{Rule, Table};
 use bc_word::Memory;
 use std::alloc::Global;
