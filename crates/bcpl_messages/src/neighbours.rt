@@ -255,7 +255,7 @@ fn help_for_pair(before: &[u8], at: &[u8]) -> Option<&'static str> {
 pub const VECTOR_WITHOUT_SIZE: &str =
     "perhaps VEC has no size, and this line was read as the size; write LET V = VEC 10";
 
-/// How many tokens before an index the beginning of its line is searched for.
+/// How many tokens before an index are searched for the beginning of its line.
 const LOOK_BACK: usize = 12;
 
 /// The index of the token that begins the line of the one at `index`, if it is near.

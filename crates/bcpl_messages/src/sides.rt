@@ -82,8 +82,8 @@ fn equal(tokens: &[Token<'_>]) -> Option<usize> {
     }
 }
 
-/// The index after the values of which one ends before `index`. That is `index` itself; if a comma is there, the end of
-/// the line.
+/// The end of a list of values, given the index after one of them. That is `index` itself or, if a comma is there, the
+/// end of the line.
 fn end_of_values(tokens: &[Token<'_>], index: usize) -> usize {
     let following = index.saturating_add(1);
     let rest = tokens.get(index..).unwrap_or(&[]);

@@ -97,7 +97,7 @@ fn is_remedy(
     reached(draft, tokens, at, Change::Replace(kind)).is_after(refused)
 }
 
-/// How many tokens, counted back from the refused one, a remedy is tried at.
+/// At how many tokens, from the refused one backwards, a remedy is tried.
 const LOOK_BACK: usize = 12;
 
 /// The help of the first remedy that makes the parser get further, if there is one.
@@ -662,8 +662,8 @@ fn tell_unclosed(draft: &mut Draft, read: Read<'_, '_>) {
     );
 }
 
-/// Whether the tag of the `$)` at an index was probably meant as a word: it is a reserved word, or what follows
-/// continues it as a name.
+/// Whether the tag of the `$)` at an index was probably meant as a word: it is a reserved word, or `(` or `:=` follows
+/// it.
 fn is_word_after(tokens: &[Token<'_>], index: usize, name: &[u8]) -> bool {
     let next = index.saturating_add(1);
     Symbol::spelled(name).is_some()

@@ -1,4 +1,4 @@
-//! Small questions about tokens, and how their text is shown in a sentence.
+//! Predicates on single tokens, and how a sentence shows their text.
 
 use bc_lex_tokens::{Symbol, Token, TokenKind};
 use bc_word::Memory;

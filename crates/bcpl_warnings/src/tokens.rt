@@ -1,4 +1,4 @@
-//! Questions about single tokens, and where commands begin and end.
+//! Predicates on single tokens, and on where commands begin and end.
 
 use bc_lex_tokens::{Symbol, Token, TokenKind};
 use bc_parse_defs::{is_symbol_beginning, is_symbol_end};

@@ -27,13 +27,14 @@ use std::alloc::Global;
 /// At most this many warnings are printed.
 const MOST: usize = 10;
 
-/// A sentence and a help on a token that is probably wrong. A `{}` is the token.
+/// For an assignment to a routine of the library. This and the next constants have a sentence and a help each, in which
+/// `{}` is the token.
 const ASSIGNMENT: (&str, &str) = (
     "{} is a routine of the library, and this assignment replaces it",
     "all calls of it are changed, also those in the library; declare a variable of your own with LET",
 );
 
-/// For a call without a value whose value is used.
+/// For a routine without a value that is called for its value.
 const VALUE: (&str, &str) = (
     "the value of {} is used, but it is declared with BE and has no meaningful value",
     "declare a routine that returns a value with =, as in LET F(X) = VALOF $( .. RESULTIS E $)",

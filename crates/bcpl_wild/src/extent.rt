@@ -1,4 +1,5 @@
-//! The tokens of an expression, test or assignment, found from its first leaf, and what is among them.
+//! The tokens of an expression, test or assignment, found from its first leaf (a name, number or word), and what is
+//! among them.
 
 use bc_lex_tokens::{Symbol, Token, TokenKind};
 use bcpl_messages::{is_at, symbol_at};
