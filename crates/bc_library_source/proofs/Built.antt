@@ -15,7 +15,8 @@ use Rattle.bc_parse.specs.Parsing.{parsed, read_list, placed}
 use Rattle.bc_scope_defs.specs.Translation.{core_of}
 use Rattle.bc_core.specs.Commands.{Core}
 use Rattle.bc_library_laws.specs.Library.{library}
-use Rattle.bc_library_source.specs.Tree.{header_file, source_file, core_in, core_closed, core_read, library_is}
+use Rattle.bc_library_source.specs.Texts.{header_file, source_file}
+use Rattle.bc_library_source.specs.Tree.{core_in, core_closed, core_read, library_is}
 
 same_core : (x y : Core) → Some x ≡ Some y → x ≡ y
 same_core x y e = cc

@@ -7,7 +7,7 @@ use Rattle.bc_parse_tree.specs.Tree.{Declarations}
 use Rattle.bc_parse.specs.Parsing.{parsed}
 use Rattle.bc_scope_defs.specs.Translation.{core_of}
 use Rattle.bc_library_laws.specs.Library.{library}
-use Rattle.bc_library_source.specs.Tree.{header_file, source_file}
+use Rattle.bc_library_source.specs.Texts.{header_file, source_file}
 
 -- after LIBHDR, whatever files follow: the section of BLIB's text resolves to the library that the laws speak of
 abbrev pub LibraryIsTheSection : Type 0

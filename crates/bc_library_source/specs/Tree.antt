@@ -1,9 +1,8 @@
--- That BLIB's text has the section of the laws.
-use Rattle.std.specs.Prelude.{◌≡◌, List, ◌∷◌, codes, Option, Some, None, Result, Ok, Err, refl}
+-- For proofs: the lexer, the parser and the scopes, computed on the text of BLIB, give the section that the laws speak of.
+use Rattle.std.specs.Prelude.{◌≡◌, List, ◌∷◌, Option, Some, None, Result, Ok, Err, refl}
 use Rattle.bc_lex_tokens.specs.Token.{Lexeme}
 use Rattle.bc_lex_tokens.specs.Spelling.{symbol_of}
 use Rattle.bc_lex.specs.declared.error.LexError.{LexError}
-use Rattle.bc_lex.specs.Files.{File}
 use Rattle.bc_lex.specs.Blank.{gap_of}
 use Rattle.bc_lex.specs.Lexeme.{lexeme_in_front}
 use Rattle.bc_lex.specs.Reading.{string_of}
@@ -17,13 +16,7 @@ use Rattle.bc_parse_tree.specs.Tree.{Declarations}
 use Rattle.bc_scope_defs.specs.Translation.{core_of}
 use Rattle.bc_core.specs.Commands.{Core}
 use Rattle.bc_library_laws.specs.Library.{library}
-use Rattle.bc_library_source.specs.Texts.{header, source}
-
-abbrev pub header_file : File
-header_file = record { name = codes "LIBHDR"; text = header }
-
-abbrev pub source_file : File
-source_file = record { name = codes "BLIB"; text = source }
+use Rattle.bc_library_source.specs.Texts.{header_file, source_file}
 
 abbrev pub core_in : Result Declarations reading.Fault → Option Core
 core_in (Ok ds) = Some (core_of ds)
