@@ -47,7 +47,7 @@ impl Words {
         self.words.as_slice()
     }
 
-    /// A copy of the words as numbers. Not inlined, since that makes the interpreter's loop slower (docs/PERFORMANCE.md).
+    /// A copy of the words as numbers. Not inlined, since inlining it makes the interpreter's loop slower (docs/PERFORMANCE.md).
     ///
     /// `Memory` if an allocation fails.
     #[inline(never)]
