@@ -6,12 +6,12 @@ use Rattle.bc_cert_defs.specs.declared.check_fault.CheckFault.{CheckFault}
 use Rattle.bc_cert_defs.specs.declared.check_fault.CheckFault.TheVariants as faults
 use Rattle.bc_cert_defs.specs.Verdict.{Judged}
 use Rattle.bc_cert_defs.specs.declared.head.Head.{Head}
-use Rattle.bc_cert_lines.specs.declared.lines.NodeLine.{NodeLine}
-use Rattle.bc_cert_lines.specs.declared.lines.RootLine.{RootLine}
-use Rattle.bc_cert_lines.specs.Lines.{header, entry_line, end_line, node_line, root_line}
-use Rattle.bc_cert_trees.specs.declared.position.Position.{Position}
-use Rattle.bc_cert_trees.specs.Stacks.{◌>>=◌, Stack, no_trees, Rooted, node_step, root_step}
-use Rattle.bc_cert_trees.specs.View.{Fails}
+use Rattle.bc_cert_read.specs.declared.lines.NodeLine.{NodeLine}
+use Rattle.bc_cert_read.specs.declared.lines.RootLine.{RootLine}
+use Rattle.bc_cert_read.specs.Lines.{header, entry_line, end_line, node_line, root_line}
+use Rattle.bc_cert_read.specs.declared.position.Position.{Position}
+use Rattle.bc_cert_read.specs.Stacks.{◌>>=◌, Stack, no_trees, Rooted, node_step, root_step}
+use Rattle.bc_cert_read.specs.TreeView.{Fails}
 use Rattle.bc_cert_laws.specs.Judging.{Stage, the_header, between, nodes, code, the_end, State, code_judged, begun, ended, entered, noded, rooted, step_at, place_of, counted, line_step, byte_step, feed_from}
 use Rattle.bc_cert.specs.Answer.{sum_of}
 use Rattle.bc_cert.specs.View.{following, fed_after, gone, no_entry}

@@ -9,7 +9,7 @@ use Rattle.bc_rules_defs.proofs.ByShape.{root_labels_same, root_code_same}
 use Rattle.bc_rules.specs.Code.{IsNextLabel, IsCodeOf}
 use Rattle.bc_rules.proofs.Bridge.{root_found}
 use Rattle.bc_cert_defs.specs.declared.head.Head.{Head}
-use Rattle.bc_cert_trees.specs.Stacks.{Rooted}
+use Rattle.bc_cert_read.specs.Stacks.{Rooted}
 use Rattle.bc_cert_laws.specs.Judging.{right_of}
 use Rattle.bc_cert.specs.View.{IsDerived}
 

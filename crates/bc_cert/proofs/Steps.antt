@@ -6,12 +6,12 @@ use Rattle.std.proofs.lemmas.List.{take-append-drop, take-take}
 use Rattle.bc_cert_defs.specs.declared.check_fault.CheckFault.{CheckFault}
 use Rattle.bc_cert_defs.specs.declared.check_fault.CheckFault.TheVariants as faults
 use Rattle.bc_cert_defs.specs.Verdict.{Verdict}
-use Rattle.bc_cert_trees.specs.declared.position.Position.{Position}
-use Rattle.bc_cert_lines.specs.Fields.{Cut, cut, longer}
-use Rattle.bc_cert_trees.specs.Stacks.{◌>>=◌}
+use Rattle.bc_cert_read.specs.declared.position.Position.{Position}
+use Rattle.bc_cert_read.specs.Fields.{Cut, cut, longer}
+use Rattle.bc_cert_read.specs.Stacks.{◌>>=◌}
 use Rattle.bc_cert_defs.specs.declared.verdict.Verdict as code
 use Rattle.bc_cert_defs.specs.View.{verdict}
-use Rattle.bc_cert_trees.specs.View.{Fails, Gives}
+use Rattle.bc_cert_read.specs.TreeView.{Fails, Gives}
 use Rattle.bc_cert_laws.specs.Judging.{State, between, start, step_at, between_step, place_of, counted, line_step, byte_step, feed_from, finished, judged}
 use Rattle.bc_cert_laws.proofs.Whole.{judged_says, judged_lacks}
 use Rattle.bc_cert.specs.View.{whole_line}

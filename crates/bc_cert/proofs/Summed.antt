@@ -4,8 +4,8 @@ use Rattle.std.specs.Prelude.{IfOk}
 use Rattle.std.specs.Io.KnownBytes.{Consumes, IsAtEnd}
 use Rattle.bc_cert_defs.specs.declared.check_fault.CheckFault.{CheckFault}
 use Rattle.bc_cert_defs.specs.Verdict.{Judged, Verdict}
-use Rattle.bc_cert_trees.specs.Stacks.{◌>>=◌}
-use Rattle.bc_cert_trees.specs.View.{Fails, Gives}
+use Rattle.bc_cert_read.specs.Stacks.{◌>>=◌}
+use Rattle.bc_cert_read.specs.TreeView.{Fails, Gives}
 use Rattle.bc_cert_laws.specs.Judging.{State, Stage, the_header, between, nodes, code as code_stage, the_end, start, feed_from, finished, finished_at}
 use Rattle.bc_cert.specs.Answer.{IsFault, AreSaid, IsSumsAnswer}
 use Rattle.bc_cert.specs.declared.checker.Checker.{Checker}

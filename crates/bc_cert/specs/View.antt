@@ -5,9 +5,9 @@ use Rattle.bc_cert_defs.specs.Verdict.{Judged, Verdict}
 use Rattle.bc_rules_defs.specs.declared.rule.Table.{Table}
 use Rattle.bc_rules.specs.Fits.{root_fits}
 use Rattle.bc_cert_defs.specs.declared.check_fault.CheckFault.{CheckFault}
-use Rattle.bc_cert_trees.specs.Stacks.{◌>>=◌, Rooted}
+use Rattle.bc_cert_read.specs.Stacks.{◌>>=◌, Rooted}
 use Rattle.bc_cert_defs.specs.View.{judged}
-use Rattle.bc_cert_trees.specs.View.{stack, rooted}
+use Rattle.bc_cert_read.specs.TreeView.{stack, rooted}
 use Rattle.bc_cert.specs.declared.checker.Checker.{Checker}
 use Rattle.bc_cert.specs.declared.sums.Sums.{Sums}
 use Rattle.bc_cert.specs.declared.stage.Stage as code

@@ -2,8 +2,8 @@
 
 ghost use Rattle.std.specs.Prelude.{◌≡◌, ◌≤◌, ◌<◌, ◌+◌, ◌^◌, ◌++◌, map, length, [], Ok, OnOk, IfOk};
 ghost use Rattle.bc_cert_defs.specs.View.{judged as judged_of, verdict as verdict_of};
-ghost use Rattle.bc_cert_trees.specs.Stacks.{AreParallel};
-ghost use Rattle.bc_cert_trees.specs.View.{rooted as rooted_of, stack as stack_of, Gives, Steps};
+ghost use Rattle.bc_cert_read.specs.Stacks.{AreParallel};
+ghost use Rattle.bc_cert_read.specs.TreeView.{rooted as rooted_of, stack as stack_of, Gives, Steps};
 ghost use Rattle.bc_cert_laws.specs.Judging.{start, place_of, line_step, begin_step, between_step, within_step, code_step, feed_from, finished};
 ghost use Rattle.bc_cert.specs.View.{own, state, fed, verdict_so_far, table_alone, whole_line, summed, Kept};
 
@@ -12,8 +12,8 @@ use crate::ends::first_line;
 use crate::stage::Stage;
 use crate::sums::Sums;
 use bc_cert_defs::{CheckFault, Head, Judged, Verdict};
-use bc_cert_lines::{end_line, entry_line, header, node_line, root_line};
-use bc_cert_trees::{Position, Rooted, Stack};
+use bc_cert_read::{end_line, entry_line, header, node_line, root_line};
+use bc_cert_read::{Position, Rooted, Stack};
 use bc_rules_defs::Table;
 use bc_word::Memory;
 use std::alloc::Global;

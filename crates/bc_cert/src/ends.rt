@@ -1,8 +1,8 @@
 // The ends of lines.
 
 ghost use Rattle.std.specs.Prelude.{◌≡◌, ◌≤◌, ◌+◌, length, IfSome};
-ghost use Rattle.bc_cert_lines.specs.Fields.{cut as cut_of};
-ghost use Rattle.bc_cert_lines.specs.View.{cut as seen_cut};
+ghost use Rattle.bc_cert_read.specs.Fields.{cut as cut_of};
+ghost use Rattle.bc_cert_read.specs.View.{cut as seen_cut};
 
 /// The bytes up to the first end of a line, and those after it, if there is one.
 #[inline(always)]

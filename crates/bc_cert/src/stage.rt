@@ -1,5 +1,5 @@
 use bc_cert_defs::Head;
-use bc_cert_trees::Rooted;
+use bc_cert_read::Rooted;
 
 /// What may come next.
 #[derive(Drop)]

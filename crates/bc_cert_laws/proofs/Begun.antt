@@ -8,12 +8,12 @@ use Rattle.bc_rules_defs.specs.declared.rule.Rule.TheVariants.{V1}
 use Rattle.bc_rules_defs.specs.Rules.{Derives, v0, v1, j6, Tree, shape}
 use Rattle.bc_rules_defs.specs.Code.{cost}
 use Rattle.bc_select_defs.specs.Least.{first_rule}
-use Rattle.bc_cert_node.specs.declared.facts.Facts.{Facts}
-use Rattle.bc_cert_node.specs.declared.form.Form.{Form}
-use Rattle.bc_cert_node.specs.Node.{Node, recipe_by}
-use Rattle.bc_cert_node.specs.Recipe.{of_form}
-use Rattle.bc_cert_trees.specs.declared.mark.Mark.{Mark}
-use Rattle.bc_cert_trees.specs.Showing.{makes_by, makes}
+use Rattle.bc_cert_read.specs.declared.facts.Facts.{Facts}
+use Rattle.bc_cert_read.specs.declared.form.Form.{Form}
+use Rattle.bc_cert_read.specs.Node.{Node, recipe_by}
+use Rattle.bc_cert_read.specs.Recipe.{of_form}
+use Rattle.bc_cert_read.specs.declared.mark.Mark.{Mark}
+use Rattle.bc_cert_read.specs.Showing.{makes_by, makes}
 use Rattle.bc_cert_write.specs.Shown.{Shown, below}
 use Rattle.bc_cert_laws.specs.Standing.{IsFewest, Begins, begun}
 use Rattle.bc_cert_laws.proofs.Over.{Over, num, frame, glob, place, valof, load, neg, not, bin, choice, call}

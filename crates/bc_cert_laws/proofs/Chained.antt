@@ -15,21 +15,21 @@ use Rattle.bc_rules_defs.specs.Code.{cost}
 use Rattle.bc_select_defs.specs.Least.{first_rule}
 use Rattle.bc_rules_defs.specs.Names.{rule_number, rule_letter}
 use Rattle.bc_cert_defs.specs.declared.costs.Costs.{Costs}
-use Rattle.bc_cert_node.specs.declared.facts.Facts.{Facts}
-use Rattle.bc_cert_node.specs.declared.form.Form.{Form}
-use Rattle.bc_cert_node.specs.declared.recipe.Recipe.{Recipe}
-use Rattle.bc_cert_node.specs.Form.{is_plain}
-use Rattle.bc_cert_node.specs.Node.{Node}
-use Rattle.bc_cert_node.specs.Costs.{cost_of}
-use Rattle.bc_cert_node.specs.Parts.{AreLeast}
-use Rattle.bc_cert_lines.specs.declared.chain.Chain.{Chain}
-use Rattle.bc_cert_lines.specs.declared.chain.Rules.TheVariants.{Named}
-use Rattle.bc_cert_trees.specs.declared.mark.Mark.{Mark}
-use Rattle.bc_cert_trees.specs.declared.mark.Shown as marks
-use Rattle.bc_cert_trees.specs.Marks.{has_aim}
-use Rattle.bc_cert_trees.specs.Derived.{derived, over_if as made_over}
-use Rattle.bc_cert_trees.specs.Showing.{has_words, makes_by, makes, is_test, tested, tests, same_value, any_by, after_value, shown_by}
-use Rattle.bc_cert_trees.specs.Stacks.{second_zero}
+use Rattle.bc_cert_read.specs.declared.facts.Facts.{Facts}
+use Rattle.bc_cert_read.specs.declared.form.Form.{Form}
+use Rattle.bc_cert_read.specs.declared.recipe.Recipe.{Recipe}
+use Rattle.bc_cert_read.specs.Form.{is_plain}
+use Rattle.bc_cert_read.specs.Node.{Node}
+use Rattle.bc_cert_read.specs.Costs.{cost_of}
+use Rattle.bc_cert_read.specs.Parts.{AreLeast}
+use Rattle.bc_cert_read.specs.declared.chain.Chain.{Chain}
+use Rattle.bc_cert_read.specs.declared.chain.Rules.TheVariants.{Named}
+use Rattle.bc_cert_read.specs.declared.mark.Mark.{Mark}
+use Rattle.bc_cert_read.specs.declared.mark.Shown as marks
+use Rattle.bc_cert_read.specs.Marks.{has_aim}
+use Rattle.bc_cert_read.specs.Derived.{derived, over_if as made_over}
+use Rattle.bc_cert_read.specs.Showing.{has_words, makes_by, makes, is_test, tested, tests, same_value, any_by, after_value, shown_by}
+use Rattle.bc_cert_read.specs.Stacks.{second_zero}
 use Rattle.bc_cert_write.specs.Shown.{Shown, rules_of_value, rules_at, below, shown}
 use Rattle.bc_cert_laws.specs.Faults.{Grown, node}
 use Rattle.bc_cert_laws.specs.Standing.{over_if, chain_rules, IsChain, IsFewest, Shows, begun}

@@ -4,11 +4,11 @@ use Rattle.std.proofs.lemmas.Bool.{eqb-true, and_parts}
 use Rattle.bc_rules_defs.specs.declared.rule.Rule.{Rule}
 use Rattle.bc_rules_defs.specs.declared.rule.Rule.TheVariants.{V0, J6}
 use Rattle.bc_rules_defs.specs.Names.{rule_number, rule_letter, all_rules, found, rule_named}
-use Rattle.bc_cert_lines.specs.declared.chain.Chain.{Chain}
-use Rattle.bc_cert_lines.specs.declared.chain.Rules.TheVariants.{Named}
-use Rattle.bc_cert_lines.specs.declared.chain.Names.{Names}
-use Rattle.bc_cert_lines.specs.declared.chain.Names.TheVariants.{Nothing, Tested, Freed, Whole, Wrong}
-use Rattle.bc_cert_lines.specs.Chains.{whole, of_value, begun, after_test, after_free, longer, ended}
+use Rattle.bc_cert_read.specs.declared.chain.Chain.{Chain}
+use Rattle.bc_cert_read.specs.declared.chain.Rules.TheVariants.{Named}
+use Rattle.bc_cert_read.specs.declared.chain.Names.{Names}
+use Rattle.bc_cert_read.specs.declared.chain.Names.TheVariants.{Nothing, Tested, Freed, Whole, Wrong}
+use Rattle.bc_cert_read.specs.Chains.{whole, of_value, begun, after_test, after_free, longer, ended}
 use Rattle.bc_cert_laws.specs.Faults.{Name, name}
 use Rattle.bc_cert_laws.specs.Standing.{over_if, chain_rules, IsChain, AreNamed, named, wrong}
 use Rattle.bc_cert_laws.proofs.Numbers.{chosen}

@@ -28,9 +28,9 @@ use Rattle.bc_rules_defs.proofs.Words.{root_words}
 use Rattle.bc_rules.specs.Fits.{root_fits}
 use Rattle.bc_rules.proofs.Bridge.{root_shape_fits}
 use Rattle.bc_cert_defs.specs.declared.head.Head.{Head}
-use Rattle.bc_cert_lines.specs.Lines.{code_of_line}
-use Rattle.bc_cert_trees.specs.declared.position.Position.{Position}
-use Rattle.bc_cert_trees.specs.Stacks.{◌>>=◌, with_whole, Rooted}
+use Rattle.bc_cert_read.specs.Lines.{code_of_line}
+use Rattle.bc_cert_read.specs.declared.position.Position.{Position}
+use Rattle.bc_cert_read.specs.Stacks.{◌>>=◌, with_whole, Rooted}
 use Rattle.bc_cert_laws.specs.Entries.{PieceHasRoom, pieces_line, SamePiece}
 use Rattle.bc_cert_laws.specs.Faults.{code, judged, IsCode, LineFault, no_pieces, wrong_code, wrong_words}
 use Rattle.bc_cert_laws.specs.Judging.{State, between, same_item, same_piece, same_code, judged_with, against_right, right_of, code_fits, code_step}

@@ -4,7 +4,7 @@ use Rattle.std.specs.List.{AllByRecursion}
 use Rattle.std.proofs.lemmas.Bool.{eqb-true}
 use Rattle.std.proofs.lemmas.List.{append_cancel_right}
 use Rattle.bc_cert_write.specs.Lines.{line}
-use Rattle.bc_cert_lines.specs.Fields.{cut, longer, fields, put, field, field_of, following}
+use Rattle.bc_cert_read.specs.Fields.{cut, longer, fields, put, field, field_of, following}
 use Rattle.bc_cert_laws.specs.Faults.{lines}
 use Rattle.bc_cert_laws.proofs.Numbers.{passed}
 

@@ -8,10 +8,10 @@ use Rattle.bc_word.specs.declared.operator.Op.{Op}
 use Rattle.bc_word.specs.declared.operator.Op.TheVariants.{Multiply}
 use Rattle.bc_word.specs.Words.{number_of}
 use Rattle.bc_cert_write.specs.Lines.{words_field}
-use Rattle.bc_cert_node.specs.declared.form.Form.{Form}
-use Rattle.bc_cert_node.specs.declared.form.Form.TheVariants as forms
-use Rattle.bc_cert_lines.specs.Fields.{small}
-use Rattle.bc_cert_lines.specs.Lines.{operators, op_among, op_numbered, operator_form, sign, lettered, form}
+use Rattle.bc_cert_read.specs.declared.form.Form.{Form}
+use Rattle.bc_cert_read.specs.declared.form.Form.TheVariants as forms
+use Rattle.bc_cert_read.specs.Fields.{small}
+use Rattle.bc_cert_read.specs.Lines.{operators, op_among, op_numbered, operator_form, sign, lettered, form}
 use Rattle.bc_cert_laws.specs.Entries.{IsNumber, IsSmall}
 use Rattle.bc_cert_laws.specs.Standing.{form_text, FormIsSmall}
 use Rattle.bc_cert_laws.proofs.Numbers.{got, chosen, passed, decimal_digits, small_read, small_back}

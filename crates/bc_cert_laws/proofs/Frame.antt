@@ -15,9 +15,9 @@ use Rattle.bc_cert_defs.specs.Text.{header_line, end_line}
 use Rattle.bc_cert_defs.specs.Verdict.{Judged}
 use Rattle.bc_cert_write.specs.Lines.{node_line as line_of_node}
 use Rattle.bc_cert_defs.specs.declared.head.Head.{Head}
-use Rattle.bc_cert_lines.specs.Lines.{header as read_header, entry_line as read_entry, end_line as read_end}
-use Rattle.bc_cert_trees.specs.declared.position.Position.{Position}
-use Rattle.bc_cert_trees.specs.Stacks.{no_trees}
+use Rattle.bc_cert_read.specs.Lines.{header as read_header, entry_line as read_entry, end_line as read_end}
+use Rattle.bc_cert_read.specs.declared.position.Position.{Position}
+use Rattle.bc_cert_read.specs.Stacks.{no_trees}
 use Rattle.bc_cert_laws.specs.Entries.{IsNumber, NodeHasRoom, PieceHasRoom, pieces_line}
 use Rattle.bc_cert_laws.specs.Faults.{HeadHasRoom, head_line, Grown, all_shown, Ends, StandsBy, node, grown, IsCode, judged, RootOver, RootStands, Stage, the_header, between, nodes, code, the_end, Reaches, header, entry, node_line, root_line, code_line, last_line, lines, LineFault, no_header, no_entry, following}
 use Rattle.bc_cert_laws.specs.Judging.{State, counted, place_of, step_at, line_step, begun, ended, entered, within_step, code_step}

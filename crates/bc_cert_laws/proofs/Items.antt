@@ -13,8 +13,8 @@ use Rattle.bc_text_items.specs.declared.item.Function.{Function}
 use Rattle.bc_text_items.specs.declared.item.Function.TheVariants.{Load, Store, Add, Jump, JumpIfTrue, JumpIfFalse, Call, Execute}
 use Rattle.bc_text.specs.Letters.{letter, indirection, base_letter, operation_letters}
 use Rattle.bc_text.specs.Printed.{printed, IsItem}
-use Rattle.bc_cert_lines.specs.Fields.{small, is_digit, cut, Cut}
-use Rattle.bc_cert_lines.specs.Items.{label_of, plain_data_of, data_label_of, data_of, byte_of, global_with, global_at, global_of, function_of, numbered_of, addressed_of, operation_of, function_item, item}
+use Rattle.bc_cert_read.specs.Fields.{small, is_digit, cut, Cut}
+use Rattle.bc_cert_read.specs.Items.{label_of, plain_data_of, data_label_of, data_of, byte_of, global_with, global_at, global_of, function_of, numbered_of, addressed_of, operation_of, function_item, item}
 use Rattle.bc_cert_laws.specs.Entries.{IsSmall}
 use Rattle.bc_cert_laws.proofs.Numbers.{chosen, passed, Digits, is_digit_of, decimal_digits, small_read, small_back}
 use Rattle.bc_cert_laws.proofs.Fields.{Without, Above, each, each_of_two, cut_read, cut_back}

@@ -8,12 +8,12 @@ use Rattle.bc_rules_defs.specs.declared.rule.Rule.{Rule}
 use Rattle.bc_rules_defs.specs.Free as free
 use Rattle.bc_rules_defs.specs.Rules.{Tree}
 use Rattle.bc_select_defs.specs.Nodes.{in_order, all_in_order}
-use Rattle.bc_cert_node.specs.declared.facts.Facts.{Facts}
-use Rattle.bc_cert_node.specs.declared.form.Form.{Form}
-use Rattle.bc_cert_node.specs.Form.{calls_itself, is_plain}
-use Rattle.bc_cert_trees.specs.declared.mark.Mark.{Mark}
-use Rattle.bc_cert_trees.specs.Marks.{depth_from, depth_over, all_bare}
-use Rattle.bc_cert_trees.specs.Stacks.{any_calls}
+use Rattle.bc_cert_read.specs.declared.facts.Facts.{Facts}
+use Rattle.bc_cert_read.specs.declared.form.Form.{Form}
+use Rattle.bc_cert_read.specs.Form.{calls_itself, is_plain}
+use Rattle.bc_cert_read.specs.declared.mark.Mark.{Mark}
+use Rattle.bc_cert_read.specs.Marks.{depth_from, depth_over, all_bare}
+use Rattle.bc_cert_read.specs.Stacks.{any_calls}
 use Rattle.bc_cert_write.specs.Shown.{Shown, bare}
 use Rattle.bc_cert_write.proofs.Bare.{all_bare as all_bare_from, bare_parts}
 use Rattle.bc_cert_laws.specs.Entries.{nested, all_nested}

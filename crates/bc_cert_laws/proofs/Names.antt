@@ -4,12 +4,12 @@ use Rattle.std.specs.List.{AllByRecursion}
 use Rattle.std.proofs.lemmas.Bool.{eqb-true}
 use Rattle.std.proofs.lemmas.Bool.Decides.{nat_tests}
 use Rattle.bc_rules_defs.specs.declared.rule.Rule.{Rule}
-use Rattle.bc_cert_lines.specs.declared.chain.Rules.{Rules}
-use Rattle.bc_cert_lines.specs.declared.chain.Rules.TheVariants.{Taken}
-use Rattle.bc_cert_lines.specs.declared.chain.Names.{Names}
-use Rattle.bc_cert_lines.specs.declared.chain.Names.TheVariants.{Nothing}
-use Rattle.bc_cert_lines.specs.Fields.{small, fields}
-use Rattle.bc_cert_lines.specs.Chains.{with_number, rule_name, longer, ended, names_from, names, rules}
+use Rattle.bc_cert_read.specs.declared.chain.Rules.{Rules}
+use Rattle.bc_cert_read.specs.declared.chain.Rules.TheVariants.{Taken}
+use Rattle.bc_cert_read.specs.declared.chain.Names.{Names}
+use Rattle.bc_cert_read.specs.declared.chain.Names.TheVariants.{Nothing}
+use Rattle.bc_cert_read.specs.Fields.{small, fields}
+use Rattle.bc_cert_read.specs.Chains.{with_number, rule_name, longer, ended, names_from, names, rules}
 use Rattle.bc_rules_defs.specs.Names.{rule_named}
 use Rattle.bc_cert_laws.specs.Entries.{IsSmall}
 use Rattle.bc_cert_laws.specs.Faults.{Name, IsName, v, j, a, name_text, further_names, names_field}

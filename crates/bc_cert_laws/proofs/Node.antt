@@ -13,23 +13,23 @@ use Rattle.bc_rules_defs.specs.declared.rule.Rule.{Rule}
 use Rattle.bc_rules_defs.specs.declared.rule.Rule.TheVariants.{V0, J6}
 use Rattle.bc_rules_defs.specs.Rules.{Derives, Tree, shape}
 use Rattle.bc_cert_defs.specs.declared.costs.Costs.{Costs}
-use Rattle.bc_cert_node.specs.declared.facts.Facts.{Facts}
-use Rattle.bc_cert_node.specs.declared.form.Form.{Form}
-use Rattle.bc_cert_node.specs.Recipe.{facts_of}
-use Rattle.bc_cert_node.specs.Parts.{AreLeast}
-use Rattle.bc_cert_lines.specs.declared.chain.Chain.{Chain}
-use Rattle.bc_cert_lines.specs.declared.chain.Rules.{Rules}
-use Rattle.bc_cert_lines.specs.declared.chain.Rules.TheVariants.{Taken, Named}
-use Rattle.bc_cert_lines.specs.declared.lines.NodeLine.{NodeLine}
+use Rattle.bc_cert_read.specs.declared.facts.Facts.{Facts}
+use Rattle.bc_cert_read.specs.declared.form.Form.{Form}
+use Rattle.bc_cert_read.specs.Recipe.{facts_of}
+use Rattle.bc_cert_read.specs.Parts.{AreLeast}
+use Rattle.bc_cert_read.specs.declared.chain.Chain.{Chain}
+use Rattle.bc_cert_read.specs.declared.chain.Rules.{Rules}
+use Rattle.bc_cert_read.specs.declared.chain.Rules.TheVariants.{Taken, Named}
+use Rattle.bc_cert_read.specs.declared.lines.NodeLine.{NodeLine}
 use Rattle.bc_rules_defs.specs.Names.{rule_named}
-use Rattle.bc_cert_trees.specs.declared.mark.Mark.{Mark}
-use Rattle.bc_cert_trees.specs.declared.mark.Shown as marks
-use Rattle.bc_cert_trees.specs.declared.position.Position.{Position}
-use Rattle.bc_cert_trees.specs.Marks.{has_aim, is_some, levels_fit, depth_over, all_bare}
-use Rattle.bc_cert_trees.specs.Derived.{derived}
-use Rattle.bc_cert_trees.specs.Showing.{shown_by, nothing_shown, where_some, shown_with, shown_for}
-use Rattle.bc_cert_trees.specs.Stacks.{second_zero, is_taken, line_node, new_mark, new_facts}
-use Rattle.bc_cert_trees.specs.Wholes.{whole}
+use Rattle.bc_cert_read.specs.declared.mark.Mark.{Mark}
+use Rattle.bc_cert_read.specs.declared.mark.Shown as marks
+use Rattle.bc_cert_read.specs.declared.position.Position.{Position}
+use Rattle.bc_cert_read.specs.Marks.{has_aim, is_some, levels_fit, depth_over, all_bare}
+use Rattle.bc_cert_read.specs.Derived.{derived}
+use Rattle.bc_cert_read.specs.Showing.{shown_by, nothing_shown, where_some, shown_with, shown_for}
+use Rattle.bc_cert_read.specs.Stacks.{second_zero, is_taken, line_node, new_mark, new_facts}
+use Rattle.bc_cert_read.specs.Wholes.{whole}
 use Rattle.bc_cert_write.specs.Shown.{Shown, bare, rules_at, below, shown}
 use Rattle.bc_cert_write.proofs.Bare.{bare_parts, bare_is}
 use Rattle.bc_cert_laws.specs.Entries.{nested}

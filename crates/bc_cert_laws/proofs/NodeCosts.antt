@@ -12,15 +12,15 @@ use Rattle.bc_select_defs.specs.Choices.{choices, words_for}
 use Rattle.bc_select_defs.specs.Chosen.{some_value, some_test}
 use Rattle.bc_select_defs.proofs.Words.{choices_are_least}
 use Rattle.bc_cert_defs.specs.declared.costs.Costs.{Costs}
-use Rattle.bc_cert_node.specs.declared.facts.Facts.{Facts}
-use Rattle.bc_cert_node.specs.Costs.{cost_of, same_words, are_costs}
-use Rattle.bc_cert_node.specs.Node.{least_words_of}
-use Rattle.bc_cert_node.specs.Parts.{AreLeast, IsPart, AreCallParts, AreParts, node_over}
-use Rattle.bc_cert_node.specs.Recipe.{words_of_operand_of}
-use Rattle.bc_cert_node.proofs.Least.{least_is}
-use Rattle.bc_cert_lines.specs.declared.lines.NodeLine.{NodeLine}
-use Rattle.bc_cert_trees.specs.declared.mark.Mark.{Mark}
-use Rattle.bc_cert_trees.specs.Stacks.{line_node}
+use Rattle.bc_cert_read.specs.declared.facts.Facts.{Facts}
+use Rattle.bc_cert_read.specs.Costs.{cost_of, same_words, are_costs}
+use Rattle.bc_cert_read.specs.Node.{least_words_of}
+use Rattle.bc_cert_read.specs.Parts.{AreLeast, IsPart, AreCallParts, AreParts, node_over}
+use Rattle.bc_cert_read.specs.Recipe.{words_of_operand_of}
+use Rattle.bc_cert_read.proofs.Least.{least_is}
+use Rattle.bc_cert_read.specs.declared.lines.NodeLine.{NodeLine}
+use Rattle.bc_cert_read.specs.declared.mark.Mark.{Mark}
+use Rattle.bc_cert_read.specs.Stacks.{line_node}
 use Rattle.bc_cert_laws.specs.Faults.{Grown, all_parts, parts, AreLeastCosts}
 use Rattle.bc_cert_laws.proofs.Over.{some_same}
 use Rattle.bc_cert_laws.proofs.Results.{both_true, equal_true}

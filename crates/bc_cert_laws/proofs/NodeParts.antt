@@ -5,15 +5,15 @@ use Rattle.bc_core.specs.Tree.{Exp, Num, Frame, Glob, Place, Load, Neg, Not, Bin
 use Rattle.bc_word.specs.declared.operator.Op.{Op}
 use Rattle.bc_rules_defs.specs.declared.rule.Table.{Table}
 use Rattle.bc_rules_defs.specs.Rules.{Tree}
-use Rattle.bc_cert_node.specs.declared.facts.Facts.{Facts}
-use Rattle.bc_cert_node.specs.declared.form.Form.{Form}
-use Rattle.bc_cert_node.specs.declared.form.Form.TheVariants as forms
-use Rattle.bc_cert_node.specs.Form.{parts_of}
-use Rattle.bc_cert_node.specs.Parts.{form_of}
+use Rattle.bc_cert_read.specs.declared.facts.Facts.{Facts}
+use Rattle.bc_cert_read.specs.declared.form.Form.{Form}
+use Rattle.bc_cert_read.specs.declared.form.Form.TheVariants as forms
+use Rattle.bc_cert_read.specs.Form.{parts_of}
+use Rattle.bc_cert_read.specs.Parts.{form_of}
 use Rattle.bc_cert_write.specs.Lines.{form_field}
-use Rattle.bc_cert_trees.specs.declared.mark.Mark.{Mark}
-use Rattle.bc_cert_trees.specs.Marks.{first_level, levels_from}
-use Rattle.bc_cert_trees.specs.Wholes.{leaf, one_of, with_one, two_of, three_of, with_argument, called_of, whole}
+use Rattle.bc_cert_read.specs.declared.mark.Mark.{Mark}
+use Rattle.bc_cert_read.specs.Marks.{first_level, levels_from}
+use Rattle.bc_cert_read.specs.Wholes.{leaf, one_of, with_one, two_of, three_of, with_argument, called_of, whole}
 use Rattle.bc_cert_laws.specs.Entries.{HasSmallNumber}
 use Rattle.bc_cert_laws.specs.Faults.{Grown, all_parts, parts}
 use Rattle.bc_cert_laws.specs.Standing.{form_text, FormIsSmall}

@@ -8,20 +8,20 @@ use Rattle.bc_cert_defs.specs.declared.check_fault.CheckFault.TheVariants as fau
 use Rattle.bc_core.specs.Tree.{Exp}
 use Rattle.bc_rules_defs.specs.declared.rule.Table.{Table}
 use Rattle.bc_rules_defs.specs.declared.rule.Rule.{Rule}
-use Rattle.bc_cert_node.specs.declared.facts.Facts.{Facts}
-use Rattle.bc_cert_node.specs.Costs.{are_costs}
-use Rattle.bc_cert_node.specs.Form.{parts_of}
-use Rattle.bc_cert_node.specs.Node.{least_words_of}
-use Rattle.bc_cert_node.specs.Parts.{AreLeast}
-use Rattle.bc_cert_lines.specs.declared.lines.NodeLine.{NodeLine}
-use Rattle.bc_cert_lines.specs.declared.chain.Rules.{Rules}
-use Rattle.bc_cert_trees.specs.declared.mark.Mark.{Mark}
-use Rattle.bc_cert_trees.specs.declared.mark.Shown.{Shown}
-use Rattle.bc_cert_trees.specs.declared.position.Position.{Position}
-use Rattle.bc_cert_trees.specs.Marks.{levels_fit, depth_over}
-use Rattle.bc_cert_trees.specs.Showing.{shown_for, shown_with}
-use Rattle.bc_cert_trees.specs.Stacks.{◌>>=◌, Stack, line_node, with_whole, without_expressions, put_over, node_judged_over, node_whole, node_from, node_step}
-use Rattle.bc_cert_trees.specs.Wholes.{whole}
+use Rattle.bc_cert_read.specs.declared.facts.Facts.{Facts}
+use Rattle.bc_cert_read.specs.Costs.{are_costs}
+use Rattle.bc_cert_read.specs.Form.{parts_of}
+use Rattle.bc_cert_read.specs.Node.{least_words_of}
+use Rattle.bc_cert_read.specs.Parts.{AreLeast}
+use Rattle.bc_cert_read.specs.declared.lines.NodeLine.{NodeLine}
+use Rattle.bc_cert_read.specs.declared.chain.Rules.{Rules}
+use Rattle.bc_cert_read.specs.declared.mark.Mark.{Mark}
+use Rattle.bc_cert_read.specs.declared.mark.Shown.{Shown}
+use Rattle.bc_cert_read.specs.declared.position.Position.{Position}
+use Rattle.bc_cert_read.specs.Marks.{levels_fit, depth_over}
+use Rattle.bc_cert_read.specs.Showing.{shown_for, shown_with}
+use Rattle.bc_cert_read.specs.Stacks.{◌>>=◌, Stack, line_node, with_whole, without_expressions, put_over, node_judged_over, node_whole, node_from, node_step}
+use Rattle.bc_cert_read.specs.Wholes.{whole}
 use Rattle.bc_cert_laws.specs.Entries.{nested}
 use Rattle.bc_cert_laws.specs.Faults.{Grown, all_shown, parts, Ends, Name, name, StandsBy, node, grown}
 use Rattle.bc_cert_laws.specs.Standing.{AreNamed, no_name, named, wrong, chain_rules, IsOver, ShowsRules, no_rule, by_chain}

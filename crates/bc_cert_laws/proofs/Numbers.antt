@@ -10,7 +10,7 @@ use Rattle.std.proofs.lemmas.Fmt.{decimal_digit, decimal_nonempty, first_decimal
 use Rattle.std.proofs.lemmas.Str.Parse.{IsNumeralModel, numerals_by_fold}
 use Rattle.bc_text.specs.Numbers.{value_from}
 use Rattle.bc_cert_write.specs.Lines.{words_field}
-use Rattle.bc_cert_lines.specs.Fields.{◌>>=◌, is_digit, digits_from, number, up_to, small, level, some_number, number_or_none}
+use Rattle.bc_cert_read.specs.Fields.{◌>>=◌, is_digit, digits_from, number, up_to, small, level, some_number, number_or_none}
 use Rattle.bc_cert_laws.specs.Entries.{IsNumber, IsSmall, IsLevel}
 
 -- what was read by a step and one after it

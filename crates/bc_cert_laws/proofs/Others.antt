@@ -17,17 +17,17 @@ use Rattle.bc_rules_defs.specs.Rules.{Derives, v0, v1, v2, v3, v4, v20, v21, v22
 use Rattle.bc_rules_defs.specs.Code.{cost, all_cost}
 use Rattle.bc_select_defs.specs.Least.{first_rule}
 use Rattle.bc_select_defs.specs.Options.{sum}
-use Rattle.bc_cert_node.specs.declared.facts.Facts.{Facts}
-use Rattle.bc_cert_node.specs.declared.form.Form.{Form}
-use Rattle.bc_cert_node.specs.declared.form.Form.TheVariants as forms
+use Rattle.bc_cert_read.specs.declared.facts.Facts.{Facts}
+use Rattle.bc_cert_read.specs.declared.form.Form.{Form}
+use Rattle.bc_cert_read.specs.declared.form.Form.TheVariants as forms
 use Rattle.bc_rules_defs.specs.declared.takes.Takes.TheVariants as takes
-use Rattle.bc_cert_node.specs.Costs.{cost_of}
-use Rattle.bc_cert_node.specs.Node.{Node, more_words, words_from, no_parts}
-use Rattle.bc_cert_node.specs.Recipe.{words_of_operand, words_of_operand_of, of_operand, of_number, of_load, of_neg, of_not, of_cond, of_call, of_valof}
-use Rattle.bc_cert_trees.specs.declared.mark.Mark.{Mark}
-use Rattle.bc_cert_trees.specs.Marks.{all_bare}
-use Rattle.bc_cert_trees.specs.Showing.{has_words, agree, makes_by, makes}
-use Rattle.bc_cert_trees.specs.Derived.{trees}
+use Rattle.bc_cert_read.specs.Costs.{cost_of}
+use Rattle.bc_cert_read.specs.Node.{Node, more_words, words_from, no_parts}
+use Rattle.bc_cert_read.specs.Recipe.{words_of_operand, words_of_operand_of, of_operand, of_number, of_load, of_neg, of_not, of_cond, of_call, of_valof}
+use Rattle.bc_cert_read.specs.declared.mark.Mark.{Mark}
+use Rattle.bc_cert_read.specs.Marks.{all_bare}
+use Rattle.bc_cert_read.specs.Showing.{has_words, agree, makes_by, makes}
+use Rattle.bc_cert_read.specs.Derived.{trees}
 use Rattle.bc_cert_write.specs.Shown.{Shown, below_bare, rules_of_value, rules_at, below, all_shown, shown}
 use Rattle.bc_cert_write.proofs.Bare.{below_is}
 use Rattle.bc_cert_laws.specs.Standing.{IsFewest, Begins, begun}

@@ -5,13 +5,13 @@ use Rattle.bc_word.specs.declared.operator.Op.{Op}
 use Rattle.bc_core.specs.Tree.{Exp, Num, Frame, Glob, Place, Load, Neg, Not, Bin, Cond, Call, Valof, Args, no_argument, argument}
 use Rattle.bc_rules_defs.specs.declared.rule.Table.{Table}
 use Rattle.bc_rules_defs.specs.Rules.{Tree}
-use Rattle.bc_cert_node.specs.declared.facts.Facts.{Facts}
-use Rattle.bc_cert_node.specs.declared.form.Form.{Form}
-use Rattle.bc_cert_node.specs.declared.form.Form.TheVariants as forms
-use Rattle.bc_cert_lines.specs.declared.lines.NodeLine.{NodeLine}
-use Rattle.bc_cert_trees.specs.declared.mark.Mark.{Mark}
-use Rattle.bc_cert_trees.specs.Marks.{levels_from, levels_fit}
-use Rattle.bc_cert_trees.specs.Wholes.{leaf, one_of, with_one, two_of, three_of, with_argument, called_of, whole}
+use Rattle.bc_cert_read.specs.declared.facts.Facts.{Facts}
+use Rattle.bc_cert_read.specs.declared.form.Form.{Form}
+use Rattle.bc_cert_read.specs.declared.form.Form.TheVariants as forms
+use Rattle.bc_cert_read.specs.declared.lines.NodeLine.{NodeLine}
+use Rattle.bc_cert_read.specs.declared.mark.Mark.{Mark}
+use Rattle.bc_cert_read.specs.Marks.{levels_from, levels_fit}
+use Rattle.bc_cert_read.specs.Wholes.{leaf, one_of, with_one, two_of, three_of, with_argument, called_of, whole}
 use Rattle.bc_cert_write.specs.Shown.{Shown}
 use Rattle.bc_cert_laws.specs.Faults.{Grown, all_shown}
 use Rattle.bc_cert_laws.specs.Standing.{Stands, AllStand, IsOver}

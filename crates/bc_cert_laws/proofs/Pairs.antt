@@ -22,15 +22,15 @@ use Rattle.bc_rules_defs.specs.Code.{cost}
 use Rattle.bc_select_defs.specs.Least.{first_rule}
 use Rattle.bc_select_defs.specs.Choices.{zero_number, has_tests_of_zero}
 use Rattle.bc_select_defs.specs.Lower.{is_zero_is}
-use Rattle.bc_cert_node.specs.declared.facts.Facts.{Facts}
-use Rattle.bc_cert_node.specs.declared.form.Form.TheVariants as forms
+use Rattle.bc_cert_read.specs.declared.facts.Facts.{Facts}
+use Rattle.bc_cert_read.specs.declared.form.Form.TheVariants as forms
 use Rattle.bc_rules_defs.specs.declared.takes.Takes.TheVariants.{First, Second}
-use Rattle.bc_cert_node.specs.declared.recipe.Recipe.{Recipe}
-use Rattle.bc_cert_node.specs.Recipe.{recipe, value_of_two, test_of_two, without_zero, less_number, beside_zero, facts_of, where_so, words_of_operand_of}
-use Rattle.bc_cert_node.specs.Node.{Node}
-use Rattle.bc_cert_node.specs.Parts.{IsPart}
-use Rattle.bc_cert_trees.specs.declared.mark.Mark.{Mark}
-use Rattle.bc_cert_trees.specs.Showing.{makes}
+use Rattle.bc_cert_read.specs.declared.recipe.Recipe.{Recipe}
+use Rattle.bc_cert_read.specs.Recipe.{recipe, value_of_two, test_of_two, without_zero, less_number, beside_zero, facts_of, where_so, words_of_operand_of}
+use Rattle.bc_cert_read.specs.Node.{Node}
+use Rattle.bc_cert_read.specs.Parts.{IsPart}
+use Rattle.bc_cert_read.specs.declared.mark.Mark.{Mark}
+use Rattle.bc_cert_read.specs.Showing.{makes}
 use Rattle.bc_cert_write.specs.Shown.{Shown, rules_of_value, rules_at, shown, below, bare}
 use Rattle.bc_cert_laws.specs.Standing.{IsFewest, Begins, begun}
 use Rattle.bc_cert_laws.proofs.Over.{StandsAt}

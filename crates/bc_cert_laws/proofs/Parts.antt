@@ -12,12 +12,12 @@ use Rattle.bc_select_defs.specs.Least.{AreLeastWords}
 use Rattle.bc_select_defs.specs.Nodes.{in_order}
 use Rattle.bc_select_defs.proofs.Words.{choices_are_least}
 use Rattle.bc_cert_defs.specs.declared.costs.Costs.{Costs}
-use Rattle.bc_cert_node.specs.declared.facts.Facts.{Facts}
-use Rattle.bc_cert_node.specs.Costs.{cost_of}
-use Rattle.bc_cert_node.specs.Parts.{AreLeast}
-use Rattle.bc_cert_trees.specs.declared.mark.Mark.{Mark}
-use Rattle.bc_cert_trees.specs.Marks.{has_aim}
-use Rattle.bc_cert_trees.specs.Showing.{has_words}
+use Rattle.bc_cert_read.specs.declared.facts.Facts.{Facts}
+use Rattle.bc_cert_read.specs.Costs.{cost_of}
+use Rattle.bc_cert_read.specs.Parts.{AreLeast}
+use Rattle.bc_cert_read.specs.declared.mark.Mark.{Mark}
+use Rattle.bc_cert_read.specs.Marks.{has_aim}
+use Rattle.bc_cert_read.specs.Showing.{has_words}
 use Rattle.bc_cert_write.specs.Shown.{Shown, shown, below}
 use Rattle.bc_cert_write.proofs.Texts.{nodes_in_order}
 use Rattle.bc_cert_laws.specs.Standing.{IsFewest}

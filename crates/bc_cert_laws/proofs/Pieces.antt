@@ -6,9 +6,9 @@ use Rattle.bc_text_items.specs.declared.item.Item.{Item}
 use Rattle.bc_rules_defs.specs.declared.piece.Piece.{Piece}
 use Rattle.bc_rules_defs.specs.declared.piece.Piece.TheVariants as pieces
 use Rattle.bc_text.specs.Printed.{printed}
-use Rattle.bc_cert_lines.specs.Fields.{◌>>=◌, number, fields, following}
-use Rattle.bc_cert_lines.specs.Items.{item}
-use Rattle.bc_cert_lines.specs.Lines.{body_of, item_piece, piece, pieces_after, code_of_line}
+use Rattle.bc_cert_read.specs.Fields.{◌>>=◌, number, fields, following}
+use Rattle.bc_cert_read.specs.Items.{item}
+use Rattle.bc_cert_read.specs.Lines.{body_of, item_piece, piece, pieces_after, code_of_line}
 use Rattle.bc_cert_laws.specs.Entries.{piece_field, PieceHasRoom, pieces_line}
 use Rattle.bc_cert_laws.proofs.Numbers.{got, chosen, passed, number_read, number_back}
 use Rattle.bc_cert_laws.proofs.Fields.{Without, Above, each, lower, without, joined, after_read, parted, fields_back, line_from, line_to, IsOneLine, line_ends}

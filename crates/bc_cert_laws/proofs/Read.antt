@@ -10,13 +10,13 @@ use Rattle.bc_rules_defs.specs.declared.rule.Table.TheVariants.{One, Two}
 use Rattle.bc_cert_defs.specs.Text.{header_line, end_line as end_text}
 use Rattle.bc_cert_write.specs.Lines.{line, words_field}
 use Rattle.bc_cert_defs.specs.declared.costs.Costs.{Costs}
-use Rattle.bc_cert_node.specs.declared.form.Form.{Form}
+use Rattle.bc_cert_read.specs.declared.form.Form.{Form}
 use Rattle.bc_cert_defs.specs.declared.head.Head.{Head}
-use Rattle.bc_cert_lines.specs.declared.lines.NodeLine.{NodeLine}
-use Rattle.bc_cert_lines.specs.declared.lines.RootLine.{RootLine}
-use Rattle.bc_cert_lines.specs.Fields.{◌>>=◌, field, following, number, small, level, number_or_none}
-use Rattle.bc_cert_lines.specs.Chains.{rules}
-use Rattle.bc_cert_lines.specs.Lines.{table_of, after_byte, after_bytes, header, entry_line, end_line, form, node_line}
+use Rattle.bc_cert_read.specs.declared.lines.NodeLine.{NodeLine}
+use Rattle.bc_cert_read.specs.declared.lines.RootLine.{RootLine}
+use Rattle.bc_cert_read.specs.Fields.{◌>>=◌, field, following, number, small, level, number_or_none}
+use Rattle.bc_cert_read.specs.Chains.{rules}
+use Rattle.bc_cert_read.specs.Lines.{table_of, after_byte, after_bytes, header, entry_line, end_line, form, node_line}
 use Rattle.bc_cert_laws.specs.Entries.{IsNumber, IsLevel}
 use Rattle.bc_cert_laws.specs.Faults.{HeadHasRoom, head_line, Name, IsName, names_field, CostsHaveRoom}
 use Rattle.bc_cert_laws.specs.Standing.{AreNamed, form_text, FormIsSmall, root_text}

@@ -21,20 +21,20 @@ use Rattle.bc_rules_defs.specs.Rules.{Derives, RootDerives, value, test, a1, a2,
 use Rattle.bc_rules_defs.specs.Code.{cost, root_cost}
 use Rattle.bc_rules_defs.specs.Piece.{w, operand_words}
 use Rattle.bc_cert_defs.specs.declared.costs.Costs.{Costs}
-use Rattle.bc_cert_node.specs.declared.facts.Facts.{Facts}
-use Rattle.bc_cert_node.specs.Costs.{cost_of}
-use Rattle.bc_cert_node.specs.Parts.{AreLeast, IsPart}
-use Rattle.bc_cert_node.specs.Recipe.{words_of_operand, free}
+use Rattle.bc_cert_read.specs.declared.facts.Facts.{Facts}
+use Rattle.bc_cert_read.specs.Costs.{cost_of}
+use Rattle.bc_cert_read.specs.Parts.{AreLeast, IsPart}
+use Rattle.bc_cert_read.specs.Recipe.{words_of_operand, free}
 use Rattle.bc_select_defs.specs.Nodes.{in_order}
 use Rattle.bc_cert_write.specs.Shown.{Shown, shown, bare}
 use Rattle.bc_cert_write.specs.Lines.{line}
-use Rattle.bc_cert_lines.specs.declared.lines.RootLine.{RootLine}
-use Rattle.bc_cert_lines.specs.declared.lines.RootLine.TheVariants as lines
-use Rattle.bc_cert_trees.specs.declared.mark.Mark.{Mark}
-use Rattle.bc_cert_trees.specs.declared.position.Position.{Position}
-use Rattle.bc_cert_trees.specs.Marks.{has_aim}
-use Rattle.bc_cert_trees.specs.Sides.{words_at, words_by, least_of, same}
-use Rattle.bc_cert_trees.specs.Stacks.{◌>>=◌, Stack, with_whole, One, one_among, one_tree, two_among, two_trees, Rooted, wrong_rule, value_root, test_root, words_on, side, sides_show, assigned, with_least, assign_root, root_step}
+use Rattle.bc_cert_read.specs.declared.lines.RootLine.{RootLine}
+use Rattle.bc_cert_read.specs.declared.lines.RootLine.TheVariants as lines
+use Rattle.bc_cert_read.specs.declared.mark.Mark.{Mark}
+use Rattle.bc_cert_read.specs.declared.position.Position.{Position}
+use Rattle.bc_cert_read.specs.Marks.{has_aim}
+use Rattle.bc_cert_read.specs.Sides.{words_at, words_by, least_of, same}
+use Rattle.bc_cert_read.specs.Stacks.{◌>>=◌, Stack, with_whole, One, one_among, one_tree, two_among, two_trees, Rooted, wrong_rule, value_root, test_root, words_on, side, sides_show, assigned, with_least, assign_root, root_step}
 use Rattle.bc_cert_laws.specs.Entries.{IsLevel}
 use Rattle.bc_cert_laws.specs.Faults.{Grown, all_shown, IsAssignment, first, second, third, RootStands}
 use Rattle.bc_cert_laws.specs.Standing.{root_text, RootLineIsSmall, IsFewest, Stands}

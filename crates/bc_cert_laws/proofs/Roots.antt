@@ -9,10 +9,10 @@ use Rattle.bc_rules_defs.specs.declared.rule.Rule.{Rule}
 use Rattle.bc_rules_defs.specs.declared.rule.Rule.TheVariants.{A1, A2, A3}
 use Rattle.bc_rules_defs.specs.Names.{rule_number, rule_letter}
 use Rattle.bc_cert_write.specs.Lines.{line, rule_name, sense_field}
-use Rattle.bc_cert_lines.specs.declared.lines.RootLine.{RootLine}
-use Rattle.bc_cert_lines.specs.declared.lines.RootLine.TheVariants.{Value, Test, Assign}
-use Rattle.bc_cert_lines.specs.Fields.{following, level}
-use Rattle.bc_cert_lines.specs.Lines.{assigned, root_of, root_line}
+use Rattle.bc_cert_read.specs.declared.lines.RootLine.{RootLine}
+use Rattle.bc_cert_read.specs.declared.lines.RootLine.TheVariants.{Value, Test, Assign}
+use Rattle.bc_cert_read.specs.Fields.{following, level}
+use Rattle.bc_cert_read.specs.Lines.{assigned, root_of, root_line}
 use Rattle.bc_cert_laws.specs.Entries.{IsLevel}
 use Rattle.bc_cert_laws.specs.Faults.{Grown, IsAssignment, first, second, third, RootOver, value, test, assign}
 use Rattle.bc_cert_laws.specs.Standing.{root_text, RootLineIsSmall}

@@ -19,13 +19,13 @@ use Rattle.bc_select_defs.specs.Options.{plus, sum, given, words_of, candidate, 
 use Rattle.bc_select_defs.specs.Choices.{choices, words_for, node_of, free as free_nodes}
 use Rattle.bc_select_defs.specs.Chosen.{assign_choice, chosen, chosen_words, chosen_is_least}
 use Rattle.bc_cert_defs.specs.declared.costs.Costs.{Costs}
-use Rattle.bc_cert_node.specs.declared.facts.Facts.{Facts}
-use Rattle.bc_cert_node.specs.Node.{lesser}
-use Rattle.bc_cert_node.specs.Parts.{AreLeast, IsPart}
-use Rattle.bc_cert_node.specs.Recipe.{facts_of, words_of_operand, free}
-use Rattle.bc_cert_node.proofs.Minima.{better_words}
-use Rattle.bc_cert_trees.specs.Sides.{words_at, words_by, least_of}
-use Rattle.bc_cert_trees.specs.Stacks.{side}
+use Rattle.bc_cert_read.specs.declared.facts.Facts.{Facts}
+use Rattle.bc_cert_read.specs.Node.{lesser}
+use Rattle.bc_cert_read.specs.Parts.{AreLeast, IsPart}
+use Rattle.bc_cert_read.specs.Recipe.{facts_of, words_of_operand, free}
+use Rattle.bc_cert_read.proofs.Minima.{better_words}
+use Rattle.bc_cert_read.specs.Sides.{words_at, words_by, least_of}
+use Rattle.bc_cert_read.specs.Stacks.{side}
 
 abbrev least_at : Option ℕ → ℕ → Facts → Facts → Option ℕ
 least_at o s v a = lesser (words_at o s v a A1) (lesser (words_at o s v a A2) (words_at o s v a A3))

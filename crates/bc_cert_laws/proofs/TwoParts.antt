@@ -16,18 +16,18 @@ use Rattle.bc_rules_defs.specs.Rules.{Derives, Tree, Trees, one, shape}
 use Rattle.bc_rules_defs.specs.Code.{cost}
 use Rattle.bc_select_defs.specs.Options.{sum}
 use Rattle.bc_cert_defs.specs.declared.costs.Costs.{Costs}
-use Rattle.bc_cert_node.specs.declared.facts.Facts.{Facts}
-use Rattle.bc_cert_node.specs.declared.form.Form.TheVariants as forms
+use Rattle.bc_cert_read.specs.declared.facts.Facts.{Facts}
+use Rattle.bc_cert_read.specs.declared.form.Form.TheVariants as forms
 use Rattle.bc_rules_defs.specs.declared.takes.Takes.{Takes}
 use Rattle.bc_rules_defs.specs.Takes.{beside as beside_of}
 use Rattle.bc_rules_defs.specs.declared.takes.Takes.TheVariants.{First, Second, InOrder, Turned}
-use Rattle.bc_cert_node.specs.declared.recipe.Recipe.{Recipe}
-use Rattle.bc_cert_node.specs.Recipe.{facts_of, recipe, adding, where_so, only_at, words_of_operand, words_of_operand_of}
-use Rattle.bc_cert_node.specs.Node.{Node, more_words}
-use Rattle.bc_cert_lines.specs.Lines.{op_numbered}
-use Rattle.bc_cert_trees.specs.declared.mark.Mark.{Mark}
-use Rattle.bc_cert_trees.specs.Derived.{taken, trees}
-use Rattle.bc_cert_trees.specs.Showing.{has_words, makes_by}
+use Rattle.bc_cert_read.specs.declared.recipe.Recipe.{Recipe}
+use Rattle.bc_cert_read.specs.Recipe.{facts_of, recipe, adding, where_so, only_at, words_of_operand, words_of_operand_of}
+use Rattle.bc_cert_read.specs.Node.{Node, more_words}
+use Rattle.bc_cert_read.specs.Lines.{op_numbered}
+use Rattle.bc_cert_read.specs.declared.mark.Mark.{Mark}
+use Rattle.bc_cert_read.specs.Derived.{taken, trees}
+use Rattle.bc_cert_read.specs.Showing.{has_words, makes_by}
 use Rattle.bc_cert_write.specs.Shown.{Shown, shown, bare}
 use Rattle.bc_cert_laws.specs.Standing.{IsFewest}
 use Rattle.bc_cert_laws.proofs.Over.{StandsAt}

@@ -6,7 +6,7 @@ use Rattle.bc_cert_defs.specs.declared.check_fault.CheckFault.{CheckFault}
 use Rattle.bc_cert_defs.specs.declared.check_fault.CheckFault.TheVariants.{Truncated}
 use Rattle.bc_cert_defs.specs.Verdict.{Judged, Verdict}
 use Rattle.bc_cert_write.specs.Lines.{node_line as line_of_node}
-use Rattle.bc_cert_trees.specs.Stacks.{◌>>=◌}
+use Rattle.bc_cert_read.specs.Stacks.{◌>>=◌}
 use Rattle.bc_cert_laws.specs.Entries.{Says, pieces_line}
 use Rattle.bc_cert_laws.specs.Faults.{head_line, node, Stage, the_header, between, nodes, code, the_end, Reaches, nothing, header, entry, node_line, root_line, code_line, last_line, lines, Lacks, at_line, in_header, in_lines}
 use Rattle.bc_cert_defs.specs.Text.{header_line}

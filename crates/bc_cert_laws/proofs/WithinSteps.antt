@@ -12,16 +12,16 @@ use Rattle.bc_rules_defs.specs.declared.rule.Aim.TheVariants.{Gets, Jumps}
 use Rattle.bc_rules_defs.specs.declared.rule.Rule.{Rule}
 use Rattle.bc_rules_defs.specs.Rules.{RootDerives}
 use Rattle.bc_cert_defs.specs.declared.costs.Costs.{Costs}
-use Rattle.bc_cert_node.specs.Costs.{cost_of}
-use Rattle.bc_cert_node.specs.Parts.{AreLeast}
+use Rattle.bc_cert_read.specs.Costs.{cost_of}
+use Rattle.bc_cert_read.specs.Parts.{AreLeast}
 use Rattle.bc_cert_write.specs.Lines.{line, words_field, form_field, node_line as line_of_node}
 use Rattle.bc_cert_defs.specs.declared.head.Head.{Head}
-use Rattle.bc_cert_lines.specs.declared.lines.NodeLine.{NodeLine}
-use Rattle.bc_cert_lines.specs.declared.lines.RootLine.{RootLine}
-use Rattle.bc_cert_lines.specs.declared.lines.RootLine.TheVariants as lines
-use Rattle.bc_cert_lines.specs.Lines.{node_line, root_line}
-use Rattle.bc_cert_trees.specs.declared.position.Position.{Position}
-use Rattle.bc_cert_trees.specs.Stacks.{◌>>=◌, Stack, no_trees, Rooted, node_step, root_step}
+use Rattle.bc_cert_read.specs.declared.lines.NodeLine.{NodeLine}
+use Rattle.bc_cert_read.specs.declared.lines.RootLine.{RootLine}
+use Rattle.bc_cert_read.specs.declared.lines.RootLine.TheVariants as lines
+use Rattle.bc_cert_read.specs.Lines.{node_line, root_line}
+use Rattle.bc_cert_read.specs.declared.position.Position.{Position}
+use Rattle.bc_cert_read.specs.Stacks.{◌>>=◌, Stack, no_trees, Rooted, node_step, root_step}
 use Rattle.bc_cert_laws.specs.Entries.{IsNumber, nested, NodeHasRoom}
 use Rattle.bc_cert_laws.specs.Faults.{Grown, all_shown, Ends, Name, name, names_field, CostsHaveRoom, IsNodeLine, AreLeastCosts, StandsBy, RootOver, value, test, assign, RootStands, node, grown, nodes, LineFault, no_form, too_deep, wrong_cost, wrong_rule, wrong_root}
 use Rattle.bc_cert_laws.specs.Judging.{State, nodes as at_nodes, code as at_code, rooted, noded, within_step}

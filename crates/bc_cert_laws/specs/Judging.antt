@@ -13,11 +13,11 @@ use Rattle.bc_rules_defs.specs.ByShape.{root_code_by, root_labels_by}
 use Rattle.bc_rules_defs.specs.Piece.{words}
 use Rattle.bc_rules.specs.Fits.{root_fits}
 use Rattle.bc_cert_defs.specs.declared.head.Head.{Head}
-use Rattle.bc_cert_lines.specs.declared.lines.NodeLine.{NodeLine}
-use Rattle.bc_cert_lines.specs.declared.lines.RootLine.{RootLine}
-use Rattle.bc_cert_lines.specs.Lines.{header, entry_line, end_line, node_line, root_line, code_of_line}
-use Rattle.bc_cert_trees.specs.declared.position.Position.{Position}
-use Rattle.bc_cert_trees.specs.Stacks.{◌>>=◌, with_whole, Stack, no_trees, Rooted, node_step, root_step}
+use Rattle.bc_cert_read.specs.declared.lines.NodeLine.{NodeLine}
+use Rattle.bc_cert_read.specs.declared.lines.RootLine.{RootLine}
+use Rattle.bc_cert_read.specs.Lines.{header, entry_line, end_line, node_line, root_line, code_of_line}
+use Rattle.bc_cert_read.specs.declared.position.Position.{Position}
+use Rattle.bc_cert_read.specs.Stacks.{◌>>=◌, with_whole, Stack, no_trees, Rooted, node_step, root_step}
 
 -- what may come next
 pub data Stage : Type 0 where

@@ -13,22 +13,22 @@ use Rattle.bc_rules_defs.specs.Takes.{takes}
 use Rattle.bc_rules_defs.specs.Rules.{Derives, Tree, by, shape}
 use Rattle.bc_rules_defs.specs.Code.{cost}
 use Rattle.bc_select_defs.specs.Nodes.{in_order}
-use Rattle.bc_cert_node.specs.declared.facts.Facts.{Facts}
-use Rattle.bc_cert_node.specs.declared.form.Form.{Form}
-use Rattle.bc_cert_node.specs.declared.form.Form.TheVariants as forms
-use Rattle.bc_cert_node.specs.Parts.{AreLeast, IsPart}
-use Rattle.bc_cert_lines.specs.declared.chain.Chain.{Chain}
-use Rattle.bc_cert_lines.specs.declared.chain.Rules.{Rules}
-use Rattle.bc_cert_lines.specs.declared.chain.Rules.TheVariants.{Taken, Named, Wrong}
-use Rattle.bc_cert_lines.specs.declared.lines.NodeLine.{NodeLine}
-use Rattle.bc_cert_lines.specs.declared.lines.RootLine.{RootLine}
-use Rattle.bc_cert_lines.specs.declared.lines.RootLine.TheVariants as lines
+use Rattle.bc_cert_read.specs.declared.facts.Facts.{Facts}
+use Rattle.bc_cert_read.specs.declared.form.Form.{Form}
+use Rattle.bc_cert_read.specs.declared.form.Form.TheVariants as forms
+use Rattle.bc_cert_read.specs.Parts.{AreLeast, IsPart}
+use Rattle.bc_cert_read.specs.declared.chain.Chain.{Chain}
+use Rattle.bc_cert_read.specs.declared.chain.Rules.{Rules}
+use Rattle.bc_cert_read.specs.declared.chain.Rules.TheVariants.{Taken, Named, Wrong}
+use Rattle.bc_cert_read.specs.declared.lines.NodeLine.{NodeLine}
+use Rattle.bc_cert_read.specs.declared.lines.RootLine.{RootLine}
+use Rattle.bc_cert_read.specs.declared.lines.RootLine.TheVariants as lines
 use Rattle.bc_rules_defs.specs.Names.{rule_letter}
-use Rattle.bc_cert_trees.specs.declared.mark.Mark.{Mark}
-use Rattle.bc_cert_trees.specs.Marks.{has_aim, levels_fit}
-use Rattle.bc_cert_trees.specs.Wholes.{whole}
-use Rattle.bc_cert_trees.specs.Derived.{taken, trees}
-use Rattle.bc_cert_trees.specs.Stacks.{second_zero}
+use Rattle.bc_cert_read.specs.declared.mark.Mark.{Mark}
+use Rattle.bc_cert_read.specs.Marks.{has_aim, levels_fit}
+use Rattle.bc_cert_read.specs.Wholes.{whole}
+use Rattle.bc_cert_read.specs.Derived.{taken, trees}
+use Rattle.bc_cert_read.specs.Stacks.{second_zero}
 use Rattle.bc_cert_write.specs.Shown.{Shown, shown, bare, rules_at, below}
 use Rattle.bc_cert_write.specs.Lines.{line, rule_name, sense_field}
 use Rattle.bc_cert_laws.specs.Entries.{IsSmall, IsLevel, nested}

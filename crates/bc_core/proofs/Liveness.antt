@@ -1,4 +1,4 @@
--- Which cells are live after some were opened, closed or written.
+-- Which cells are live after some cells were opened, closed or written.
 use Rattle.std.proofs.Common.{◌≡◌, ◌≢◌, ◌⊎◌, inl, inr, ⊎_elim, ℕ, zero, suc, ◌+◌, ◌<◌, ◌≤◌, List, [], ◌∷◌, length, true, false, refl, sym, ap, ◌∙◌, subst, arith}
 use Rattle.std.proofs.lemmas.Bool.{cases_lt}
 use Rattle.std.proofs.lemmas.List.{get_or-set_same, get_or-set_other, length-set}
@@ -8,7 +8,7 @@ use Rattle.bc_core.specs.Store.{Cell, Dead, Unset, Set, cell_at, filled, closed}
 use Rattle.bc_core.specs.Meaning.{passed}
 use Rattle.bc_core.specs.Laws.{is_live, SameLive, DeadFrom}
 
--- outside of the cells from a to a + n
+-- outside the cells from a to a + n
 abbrev pub Outside : ℕ → ℕ → ℕ → Type 0
 Outside n a b = (b < a) ⊎ (a + n ≤ b)
 
@@ -25,7 +25,7 @@ filled_outside zero a cell cells b h = refl
 filled_outside (suc n) a cell cells b h =
     filled_outside n (a + 1) cell (slice_set cells a cell) b (outside_rest n a b h) ∙ get_or-set_other cells a b cell Dead (not_first n a b h)
 
--- a cell is dead once it was closed
+-- a cell isn't live after it was closed
 set_dead : (cells : List Cell) (a : ℕ) → cell_at (slice_set cells a Dead) a ≡ Dead
 set_dead cells a =
     ⊎_elim (λ lt. get_or-set_same cells a Dead Dead lt)
@@ -51,7 +51,7 @@ live_then c0 c1 c2 h k a = k a ∙ h a
 pub dead_then : (top : ℕ) (c0 c1 : List Cell) → SameLive c0 c1 → DeadFrom top c0 → DeadFrom top c1
 dead_then top c0 c1 h d a le = h a ∙ d a le
 
--- cells were opened above all live ones, a run kept what was live, and they were given back
+-- cells are opened above all live ones, a run keeps what is live, and the cells are given back
 pub given_back : (n top a : ℕ) (c0 c1 c2 : List Cell) → top ≤ a → ((b : ℕ) → Outside n a b → cell_at c1 b ≡ cell_at c0 b) → DeadFrom top c0 → SameLive c1 c2 → SameLive c0 (closed n a c2)
 given_back n top a c0 c1 c2 le same dead keeps b =
     ⊎_elim (λ before. outside (inl before))
@@ -60,11 +60,11 @@ given_back n top a c0 c1 c2 le same dead keeps b =
       outside : Outside n a b → is_live (cell_at (closed n a c2) b) ≡ is_live (cell_at c0 b)
       outside h = ap is_live (filled_outside n a Dead c2 b h) ∙ keeps b ∙ ap is_live (same b h)
 
--- and no cell above them is live while they are
+-- no cell above them is live during this
 pub dead_above : (n top a : ℕ) (c0 c1 : List Cell) → top ≤ a → ((b : ℕ) → Outside n a b → cell_at c1 b ≡ cell_at c0 b) → DeadFrom top c0 → DeadFrom (a + n) c1
 dead_above n top a c0 c1 le same dead b h = ap is_live (same b (inr h)) ∙ dead b (omega arith)
 
--- a live cell gets a word
+-- a live cell receives a word
 pub set_live : (cells : List Cell) (a w : ℕ) → is_live (cell_at cells a) ≡ true → SameLive cells (slice_set cells a (Set w))
 set_live cells a w live b =
     ⊎_elim (λ ne. ap is_live (get_or-set_other cells a b (Set w) Dead ne)) (λ here. at_a here) (differ b a) where

@@ -23,7 +23,7 @@ longer_then (x ∷ xs) (y ∷ ys) [] h k = absurd k
 abbrev written_of : List Output → List (List ℕ)
 written_of os = map (λ (o : Output). o.written) os
 
--- one output of the table gets another, which has more bytes
+-- one output in the table is replaced by another one that has more bytes
 one_longer : (os : List Output) (k : ℕ) (o new : Output) → slice_get os k ≡ Some o → ((more : List ℕ) × (new.written ≡ o.written ++ more)) → Longer (written_of os) (written_of (slice_set os k new))
 one_longer [] k o new h m = tt
 one_longer (p ∷ os) zero o new h m =

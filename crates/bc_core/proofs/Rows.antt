@@ -1,4 +1,5 @@
--- The elements of a `Vec` within a tree: a tree made of a `Vec` is seen as the list of its elements.
+-- A tree that contains a `Vec` appears as the list of its elements. Cite these lemmas where code takes such a tree
+-- apart or makes one.
 use Rattle.std.proofs.Common.{◌≡◌, ℕ, ◌+◌, ◌<◌, refl, ap, ◌∙◌, Vec, Box, Global, List, [], ◌∷◌, ◌++◌, length, get_or, take}
 use Rattle.std.proofs.lemmas.List.{take_more}
 use Rattle.bc_core.specs.declared.expression.CoreExp.{CoreExp, Row_of-CoreExp, end_of-CoreExp, more_of-CoreExp, items-the_row-CoreExp, items_hidden-the_row-CoreExp-0}
@@ -19,11 +20,11 @@ args_row : {n : _} (es : Row_of-CoreExp n) → args_of_row es ≡ args (items-th
 args_row end_of-CoreExp = refl
 args_row (more_of-CoreExp e es) = ap (argument (exp e)) (args_row es)
 
--- a call is seen with the list of its arguments
+-- the view of a call, by the list of its arguments
 pub call_view : (es : Vec CoreExp Global) (f : Box CoreExp Global) → exp (expressions.Call es f) ≡ tree.Call (args es.items) (exp f.value)
 call_view es f = ap (λ a. tree.Call a (exp f.value)) (args_row (hidden-the_row-CoreExp-0 es) ∙ ap args (items_hidden-the_row-CoreExp-0 es))
 
--- one argument more at the end
+-- one more argument at the end
 abbrev pub then_argument : Args → Exp → Args
 then_argument no_argument e = argument e no_argument
 then_argument (argument d es) e = argument d (then_argument es e)
@@ -42,7 +43,7 @@ items_row (more_of-ListItem i is) = ap (items_before i) (items_row is)
 items_hidden : (is : Vec ListItem Global) → items_of_row (hidden-the_row-ListItem-0 is) ≡ items is.items
 items_hidden is = items_row (hidden-the_row-ListItem-0 is) ∙ ap items (items_hidden-the_row-ListItem-0 is)
 
--- a command is seen with the blocks and the list that stand in it
+-- the view of a command, by the blocks and the list that it contains
 pub if_view : (c : Condition) (b : Block) → command (command_forms.If c b) ≡ commands.If c.sense (exp c.test) (block_of b)
 if_view c b = ap (λ is. commands.If c.sense (exp c.test) (commands.block (declarations b.declarations.items) is)) (items_hidden b.list)
 

@@ -1,4 +1,4 @@
--- Every run is tidy: outputs only grow, and what is live after it was live before it.
+-- Every run is tidy: outputs only grow, and what is live afterwards was live before.
 use Rattle.std.proofs.Common.{◌≡◌, ℕ, zero, suc, ◌+◌, ◌%◌, ◌≤◌, ◌==◌, ◌||◌, List, [], ◌∷◌, Bool, true, false, Option, Some, None, refl, sym, ap, subst, arith}
 use Rattle.std.specs.Prelude.{nat_le, cond}
 use Rattle.bc_word.specs.declared.operator.Op.{Op}
@@ -91,7 +91,7 @@ tidy_both {A = A} {B = B} {C = C} top calls first second f h k g = record { from
   sides st calls (Going streams) t = t
   sides st calls Wild t = tt
 
--- what is tidy above a higher address is tidy above this one
+-- a run that is tidy above a higher address is tidy above this one
 pub tidy_up : {A : Type 0} (top top1 : ℕ) (r : Run A) → top ≤ top1 → TidyRun top1 r → TidyRun top r
 tidy_up {A = A} top top1 r le h = record { from = λ st. lower st (r st) (h.from st) } where
   lower : (st : State) (o : Outcome A) → Tidy top1 st.cells st.streams o → Tidy top st.cells st.streams o
@@ -100,7 +100,7 @@ tidy_up {A = A} top top1 r le h = record { from = λ st. lower st (r st) (h.from
   lower st (Going streams) t = t
   lower st Wild t = tt
 
--- n cells from a on are opened somehow, and given back
+-- n cells from a on are opened in some way, and given back
 tidy_opened : {A : Type 0} (n top a : ℕ) (cells : List Cell) (st : State) (r : Run A) → top ≤ a → ((b : ℕ) → Outside n a b → cell_at cells b ≡ cell_at st.cells b) → TidyRun (a + n) r → Tidy top st.cells st.streams (left n a (r (record st { cells = cells })))
 tidy_opened {A = A} n top a cells st r le same h = after (r (record st { cells = cells })) (h.from (record st { cells = cells })) where
   after : (o : Outcome A) → Tidy (a + n) cells st.streams o → Tidy top st.cells st.streams (left n a o)
@@ -124,7 +124,7 @@ tidy_rounds {A = A} {B = B} top (suc n) f x h = tidy_then top (f x) (next_round 
 pub tidy_repeated : {A B : Type 0} (top : ℕ) (f : A → Run (Round A B)) (x : A) → ((y : A) → TidyRun top (f y)) → TidyRun top (repeated f x)
 tidy_repeated top f x h = record { from = λ st. (tidy_rounds top (suc st.turns) f x h).from st }
 
--- calls and VALOFs are tidy above the frame or the level at which they begin
+-- calls and VALOFs are tidy above the frame or level at which they begin
 record TidyContext (C : Context) : Type 0 where
   call : (r : ℕ) (vs : List ℕ) (f : ℕ) → TidyRun f (C.call r vs f)
   valof : (n p s : ℕ) → TidyRun (p + s) (C.valof n p s)
@@ -199,7 +199,7 @@ tidy_assign C t v a top p s le =
     let up : top ≤ p + s1 = omega (arith, no_lower (is_operand a) s) in
     tidy_both top (has_call v || has_call a) _ _ _ (tidy_value C t v top p s1 up) (tidy_value C t a top p s1 up) (λ w d. tidy_write top d w)
 
--- initialisers, and declarations round what follows them
+-- initialisers, and declarations around what follows them
 tidy_initialise_one : (C : Context) → TidyContext C → (v : Variable) (top p k s : ℕ) → top ≤ p + s → TidyRun top (initialise_one C v p k s)
 tidy_initialise_one C t (Initial e) top p k s le = tidy_assign C t e (Frame k) top p s le
 tidy_initialise_one C t (Vector n) top p k s le = tidy_assign C t (Frame (k + 1)) (Frame k) top p s le

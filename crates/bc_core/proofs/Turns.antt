@@ -1,4 +1,4 @@
--- With more turns a run does the same, and goes on where it had none left.
+-- With more turns a run does the same, and if it ran out of turns, it goes on from there.
 use Rattle.std.proofs.Common.{◌≡◌, ℕ, zero, suc, ◌+◌, ◌%◌, ◌≤◌, ◌==◌, ◌||◌, List, [], ◌∷◌, Bool, true, false, Option, Some, None, refl, sym, ap, subst, arith}
 use Rattle.std.specs.Prelude.{nat_le}
 use Rattle.bc_word.specs.declared.operator.Op.{Op}
@@ -31,7 +31,7 @@ use Rattle.bc_core.proofs.Tidiness.{TidyRun, tidy_done, tidy_ends, tidy_wild, ti
 abbrev pub later : ℕ → State → State
 later d st = record st { turns = st.turns + d }
 
--- what comes of a run whose output had come to this
+-- what may follow from a run whose output was this when it ran out of turns
 abbrev pub Beyond : {A : Type 0} → Content → Outcome A → Type 0
 Beyond streams (Done x st) = Longer (output_of streams) (output_of st.streams)
 Beyond streams (Ended e streams1) = Longer (output_of streams) (output_of streams1)
@@ -90,7 +90,7 @@ grow_rounds {A = A} {B = B} (suc n) f x h = grow_then (f x) (next_round (rounds 
   onwards again (Again y) = again y
   onwards again (Leave y) = record { from = λ st. longer_refl (output_of st.streams) }
 
--- r with d more turns is q
+-- the run r with d more turns is q
 pub record MoreRun {A : Type 0} (d : ℕ) (r q : Run A) : Type 0 where
   pub from : (st : State) → Goes d (r st) (q (later d st))
   pub grows : GrowingRun q
@@ -146,7 +146,7 @@ more_write d a w = record { from = λ st. of_cell st (cell_at st.cells a); grows
   of_cell st Unset = refl
   of_cell st (Set old) = refl
 
--- a second side without call and VALOF never runs out of turns
+-- if the second side has no call and no VALOF, it never runs out of turns
 more_both : {A B C : Type 0} (d : ℕ) (calls : Bool) (r1 q1 : Run A) (r2 q2 : Run B) (f g : A → B → Run C) → MoreRun d r1 q1 → MoreRun d r2 q2 → (calls ≡ false → CalmRun r2) → ((x : A) (y : B) → MoreRun d (f x y) (g x y)) → MoreRun d (both calls r1 r2 f) (both calls q1 q2 g)
 more_both {A = A} {B = B} {C = C} d calls r1 q1 r2 q2 f g h k quiet w = record {
   from = λ st. sides st calls quiet (r1 st) (q1 (later d st)) (h.from st);
@@ -456,7 +456,7 @@ more_enter d call call1 t (Some (OfLibrary q)) vs f =
     more_choose d (nat_le (f + primitive_frame) 65536) _ _ _ _
     (more_turn d _ _ (more_opened d 1 (f + 2) (passed 1 (f + 2) vs) _ _ (more_primitive d q f))) (more_wild ℕ d)
 
-more_calls : (d : ℕ) (program : List Placed) (n m : ℕ) → n ≤ m → MoreCall d (calls program n) (calls program m)
+pub more_calls : (d : ℕ) (program : List Placed) (n m : ℕ) → n ≤ m → MoreCall d (calls program n) (calls program m)
 more_calls d program zero m le a vs f =
     let g = of_tidy f (calls program m a vs f) (tidy_calls program m a vs f) in record { from = λ st. g.from (later d st); grows = g }
 more_calls d program (suc n) zero le a vs f = absurd (omega arith)
@@ -465,7 +465,7 @@ more_calls d program (suc n) (suc m) le a vs f =
     let h = more_enter d (calls program n) (calls program m) (more_calls d program n m le1) (callee program a) vs f in
     record { from = λ st. h.from st; grows = record { from = λ st. h.grows.from st } }
 
--- what is known of outcomes is known of results
+-- what holds of outcomes holds of results
 further : (d : ℕ) (o o1 : Outcome ℕ) → Goes d o o1 → Further (result_of o) (result_of o1)
 further d (Done x st) o1 e = ap result_of e
 further d (Ended e streams) o1 h = ap result_of h

@@ -1,4 +1,4 @@
--- What a command means: with the next free offset s, in the frame at p.
+-- What a command means, in the frame at p where s is the next free offset: a run that gives where control goes.
 use Rattle.std.specs.Prelude.{ℕ, ◌+◌, List, [], ◌∷◌}
 use Rattle.bc_word.specs.declared.operator.Op.TheVariants.{Add}
 use Rattle.bc_core.specs.Tree.{Exp, Num, Frame, Load, Bin}
@@ -11,26 +11,32 @@ use Rattle.bc_core.specs.Exit.{Exit, Past, Broke, Looped, LeftCases, Returned, R
 use Rattle.bc_core.specs.Lists.{Entry, Beginning, meets_case, meets_default, meets_label, met, from_entry, has_case, has_label, listed, switched}
 use Rattle.bc_core.specs.Loop.{agrees, while_loop, repeat_loop, repeat_while_loop, for_loop}
 
--- initialisers from offset k on, at level s
+-- The initialiser of a variable at the offset k, at the level s: its value, or the address of the vector right after
+-- it, is stored in the variable.
 abbrev pub initialise_one : Context → Variable → (p k s : ℕ) → Run (Unit {0})
 initialise_one C (Initial e) p k s = assign C e (Frame k) p s
 initialise_one C (Vector n) p k s = assign C (Frame (k + 1)) (Frame k) p s
 
+-- the initialisers of variables from the offset k on, in text order
 abbrev pub initialise : Context → List Variable → (p k s : ℕ) → Run (Unit {0})
 initialise C [] p k s = Done tt
 initialise C (v ∷ vs) p k s = then_do (initialise_one C v p k s) (λ u. initialise C vs p (k + cells_of v) s)
 
--- the declarations of a block, round what its list does: the cells of each are live to the block's end
+-- Declarations around `r`, which is what the block's list does. The cells of a declaration are live from there to the
+-- end of the block, and its initialisers are done before the next declaration.
 abbrev pub declare : Context → List (List Variable) → (p s : ℕ) → Run Exit → Run Exit
 declare C [] p s r = r
 declare C (vs ∷ ds) p s r =
     let n = cells_of_all vs in
     with_cells n (p + s) (then_do (initialise C vs p s (s + n)) (λ u. declare C ds p (s + n) r))
 
+-- what a FOR at the offset s assigns to its variable after each round
 abbrev pub step_of_for : ℕ → ℕ → Exp
 step_of_for by s = Bin Add (Load (Frame s)) (Num by)
 
 abbrev mutual
+  -- The meaning of a command. `value`, `truth` and `assign` come from Value, the loops from Loop, the lists from
+  -- Lists.
   pub perform : Context → Command → (p s : ℕ) → Run Exit
   perform C (commands.Call e) p s = then_do (value C e p s) (λ v. Done Past)
   perform C (commands.Assign v a) p s = then_do (assign C v a p s) past
@@ -39,7 +45,7 @@ abbrev mutual
   perform C (commands.While sense e b) p s = while_loop sense (truth C e p s) (perform_block C b p s)
   perform C (commands.Repeat b) p s = repeat_loop (perform_block C b p s)
   perform C (commands.RepeatWhile b sense e) p s = repeat_while_loop (perform_block C b p s) sense (truth C e p s)
-  -- the variable is a cell, the limit is held beside the store
+  -- FOR: only the variable is a cell; the limit is held beside the store
   perform C (commands.For start limit by b) p s =
       let s1 = level_in_for s in
       with_cells 1 (p + s) (for_loop by (assign C start (Frame s) p s1) (value C limit p s1) (value C (Load (Frame s)) p s1)
@@ -51,14 +57,15 @@ abbrev mutual
   perform C commands.Return p s = Done Returned
   perform C (commands.ResultIs e) p s = then_do (value C e p s) (λ v. Done (Resulted v))
   perform C commands.Finish p s = ends Finished
-  -- a GOTO is a turn
+  -- GOTO takes a turn
   perform C (commands.Goto l) p s = in_turn (Done (Jumped l))
   perform C (commands.Nested b) p s = perform_block C b p s
 
+  -- a block: its declarations around its list, which is entered at the beginning
   pub perform_block : Context → Block → (p s : ℕ) → Run Exit
   perform_block C (block ds is) p s = declare C ds p s (listed (has_label is) (perform_items C is p (s + cells_declared ds)) Beginning)
 
-  -- the items of a list from an entry on
+  -- The items of a list, done from the entry `at` on. Those before it are passed over.
   pub perform_items : Context → Items → (p s : ℕ) → Entry → Run Exit
   perform_items C no_item p s at = Done Past
   perform_items C (command c is) p s at = then_do (from_entry at (perform C c p s)) (onward (perform_items C is p s at))

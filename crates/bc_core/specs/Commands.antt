@@ -1,4 +1,4 @@
--- Resolved commands, routines and sections, without where they lie in memory.
+-- Resolved commands, routines and sections, as the definitions use them.
 use Rattle.std.specs.Prelude.{ℕ, Bool, List, Option}
 use Rattle.bc_core.specs.Tree.{Exp}
 
@@ -8,7 +8,7 @@ pub data Variable : Type 0 where
   Vector : ℕ → Variable
 
 mutual
-  -- a condition holds where the truth of its test is its sense: false for UNLESS and UNTIL
+  -- A command. `sense` is the truth of the test for which a condition holds: false for UNLESS and UNTIL.
   pub data Command : Type 0 where
     Call : Exp → Command
     Assign : (value address : Exp) → Command
@@ -28,11 +28,11 @@ mutual
     Goto : ℕ → Command
     Nested : Block → Command
 
-  -- the declarations of a block, each of variables declared at once, and its command list
+  -- a block: its declarations, each of which declares its variables at once, and its command list
   pub data Block : Type 0 where
     block : List (List Variable) → Items → Block
 
-  -- a command list: commands, and the entries CASE, DEFAULT and label
+  -- a command list: commands, and the places where it can be entered: CASE, DEFAULT and labels
   pub data Items : Type 0 where
     no_item : Items
     command : Command → Items → Items
@@ -40,31 +40,31 @@ mutual
     default : Items → Items
     label : ℕ → Items → Items
 
--- `F(..) = E` gives the value of E, `F(..) BE` does its commands
+-- the body of a routine: `F(..) = E` gives the value of E, `F(..) BE C` does C
 pub data Body : Type 0 where
   Gives : Exp → Body
   Does : Block → Body
 
+-- a routine
 pub record Routine : Type 0 where
-  -- the global that is set to the routine before the run
+  -- the global that is set to the routine's address before the run, if there is one
   pub global : Option ℕ
   pub parameters : ℕ
   pub body : Body
 
--- what a label of the section names
+-- what a label of a section denotes: a routine, the word of a static, the words of a table, or the bytes of a string
 pub data Place : Type 0 where
   Code : Routine → Place
   Static : ℕ → Place
   Table : List ℕ → Place
   Text : List ℕ → Place
 
--- the body of a VALOF, and the level at which the VALOF stands
+-- a VALOF: its level, and its body
 pub record Valof : Type 0 where
   pub level : ℕ
   pub body : Block
 
--- a resolved section: its places, labelled 1, 2, .. in text order, and its VALOFs, numbered 0, 1, .. in text
--- order
+-- A resolved section: its places, labelled 1, 2, .. in text order, and its VALOFs, numbered 0, 1, .. in text order.
 pub record Core : Type 0 where
   pub places : List Place
   pub valofs : List Valof

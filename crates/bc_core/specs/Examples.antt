@@ -1,4 +1,4 @@
--- Worked examples of the meaning. The expected values are from the language's rules.
+-- Worked examples of the meaning. The expected values follow from the rules in docs/language.md.
 use Rattle.std.specs.Prelude.{ℕ, Bool, ◌≡◌, ◌+◌, List, [], ◌∷◌, Option, Some, None, true, false}
 use Rattle.std.proofs.Common.{refl}
 use Rattle.bc_word.specs.declared.operator.Op.TheVariants.{Add, Subtract, Multiply, Divide, Remainder, Less, Equal, And, ShiftLeft}
@@ -18,8 +18,8 @@ use Rattle.bc_core.specs.Map.{placed, standing}
 use Rattle.bc_core.specs.Start.{cells_from}
 use Rattle.bc_core.specs.Meaning.{Result, Ended, Going, Wild, entered_at, meaning_over}
 
--- Expressions, in a frame at 0 whose cells at 2 and 3 hold 7 and 65,535, whose cell at 4 is unset, and with no
--- other live cell
+-- Expressions in a frame at 0. Its cells at 2 and 3 hold 7 and 65,535, its cell at 4 is unset, and no other cell is
+-- live.
 
 abbrev no_stream : Content
 no_stream = start_streams [] []
@@ -58,7 +58,7 @@ remainder = refl
 shifted_out : value_here (Bin ShiftLeft (Num 1) (Num 16)) ≡ Done 0 before
 shifted_out = refl
 
--- the address of the cell at 3, and what is there
+-- the address of the cell at 3, and its content
 address : value_here (Load (Bin Add (Frame 2) (Num 1))) ≡ Done 65535 before
 address = refl
 
@@ -69,7 +69,7 @@ assigned = refl
 divided_by_zero : value_here (Bin Divide (at 2) (Num 0)) ≡ outcomes.Ended ZeroDivide no_stream
 divided_by_zero = refl
 
--- wild reads: of a dead cell, of an unset cell, of a cell out of the frame
+-- wild reads: of a cell that isn't live, of an unset cell, and of a cell outside the frame
 reads_dead : value_here (at 1) ≡ outcomes.Wild
 reads_dead = refl
 
@@ -90,14 +90,14 @@ wild_on_the_right = refl
 wild_on_the_left : value_here (Bin Add (at 4) (Bin Divide (Num 1) (Num 0))) ≡ outcomes.Wild
 wild_on_the_left = refl
 
--- and between the two sides of an assignment; but `!0 := 1/0` never writes
+-- the same for the two sides of an assignment; but `!0 := 1/0` never writes
 wild_address : assign alone (Bin Divide (Num 1) (Num 0)) (Load (Frame 4)) 0 5 before ≡ outcomes.Wild
 wild_address = refl
 
 no_write : assign alone (Bin Divide (Num 1) (Num 0)) (Num 0) 0 5 before ≡ outcomes.Ended ZeroDivide no_stream
 no_write = refl
 
--- in a test `0 & !u` doesn't meet its right operand, elsewhere it does
+-- in a test position `0 & !u` doesn't evaluate its right operand; elsewhere it does
 test_of_and : truth alone (Bin And (Num 0) (at 4)) 0 5 before ≡ Done false before
 test_of_and = refl
 
@@ -107,14 +107,14 @@ value_of_and = refl
 test_that_ends : truth alone (Bin And (Bin Divide (Num 1) (Num 0)) (at 4)) 0 5 before ≡ outcomes.Ended ZeroDivide no_stream
 test_that_ends = refl
 
--- NOT 1 is false in a test, and -2 elsewhere
+-- NOT 1 is false in a test position, and -2 elsewhere
 test_of_not : truth alone (Not (Num 1)) 0 5 before ≡ Done false before
 test_of_not = refl
 
 value_of_not : value_here (Not (Num 1)) ≡ Done 65534 before
 value_of_not = refl
 
--- Programs: routines with the labels 1, 2, .. at 546, 547, .., of which the first is START, and one output
+-- Programs: routines with the labels 1, 2, .. at 546, 547, .., the first of which is START, and one output
 
 abbrev routine : Option ℕ → ℕ → Body → c.Place
 routine global parameters body = Code (record { global = global; parameters = parameters; body = body })
@@ -140,7 +140,7 @@ call f es = Call (arguments es) f where
 abbrev print : Exp → Command
 print e = c.Call (call (Load (Glob 14)) (e ∷ []))
 
--- the digit of a small number
+-- prints a small number as a digit
 abbrev print_digit : Exp → Command
 print_digit e = print (Bin Add (Num 48) e)
 
@@ -151,7 +151,7 @@ list (x ∷ xs) = command x (list xs)
 abbrev commands : List Command → Block
 commands xs = block [] (list xs)
 
--- LET variables; and then commands, from offset 2 on
+-- LET variables, followed by commands, from the offset 2 on
 abbrev let_in : List Variable → List Command → Block
 let_in vs xs = block (vs ∷ []) (list xs)
 
@@ -183,7 +183,7 @@ recursion :
     [] (commands (print_digit (call (Place 2) (Num 3 ∷ [])) ∷ [])) 100 ≡ printed (54 ∷ [])
 recursion = refl
 
--- a value that is no routine's address
+-- a value that isn't the address of a routine
 wild_call : run (commands (c.Call (call (Num 3) []) ∷ [])) ≡ Wild
 wild_call = refl
 
@@ -199,7 +199,7 @@ valof_in_loop :
     (let_in (Initial (Num 0) ∷ []) (print_digit (Valof 0) ∷ [])) 100 ≡ printed (51 ∷ [])
 valof_in_loop = refl
 
--- a VALOF without RESULTIS is 0
+-- a VALOF without RESULTIS has the value 0
 valof_without_result : run_with [] (record { level = 6; body = commands [] } ∷ []) (commands (print_digit (Valof 0) ∷ [])) 100 ≡ printed (48 ∷ [])
 valof_without_result = refl
 
@@ -228,7 +228,7 @@ for_downward = refl
 for_empty : for_loop 1 0 1 (print_digit (at 2) ∷ []) ≡ printed []
 for_empty = refl
 
--- the body adds 1 to the variable, too
+-- the body also adds 1 to the variable
 for_changed : for_loop 1 4 1 (print_digit (at 2) ∷ set_to 2 (Bin Add (at 2) (Num 1)) ∷ []) ≡ printed (49 ∷ 51 ∷ [])
 for_changed = refl
 
@@ -253,7 +253,7 @@ no_case = refl
 takes_default : switch_on 9 (default (command (print (Num 68)) no_item)) ≡ printed (68 ∷ [])
 takes_default = refl
 
--- the cell after V's own is V!0; in the second turn of the loop it is unset again
+-- the cell after V's own is V!0; in the second round of the loop it is unset again
 abbrev vector_twice : Command → Result
 vector_twice last = run (commands (c.For (Num 1) (Num 2) 1 (let_in (Vector 0 ∷ []) (c.Assign (Num 65) (at 4) ∷ last ∷ [])) ∷ []))
 
@@ -266,11 +266,11 @@ unset_anew :
     (let_in (Vector 0 ∷ []) (c.If true (Bin Equal (at 2) (Num 2)) (commands (print (Load (at 4)) ∷ [])) ∷ c.Assign (Num 65) (at 4) ∷ [])) ∷ [])) ≡ Wild
 unset_anew = refl
 
--- the cell of a block that was left is dead: `$( LET X = 1; P := @X $); print !P`
+-- the cell of a block that was left isn't live: `$( LET X = 1; P := @X $); print !P`
 left_block : run (let_in (Initial (Num 0) ∷ []) (c.Nested (let_in (Initial (Num 1) ∷ []) (set_to 2 (Frame 3) ∷ [])) ∷ print (Load (at 2)) ∷ [])) ≡ Wild
 left_block = refl
 
--- L: WRCH('A'); GOTO L in 6 turns: START's call takes one, each WRCH and each GOTO one
+-- L: WRCH('A'); GOTO L in 6 turns: the call of START takes one, and so does each WRCH and each GOTO
 goes_on : run_with [] [] (block [] (label 0 (command (print (Num 65)) (command (c.Goto 0) no_item)))) 6 ≡ Going ((65 ∷ 65 ∷ 65 ∷ []) ∷ [])
 goes_on = refl
 
@@ -281,7 +281,7 @@ goto_backward :
     ≡ printed (51 ∷ [])
 goto_backward = refl
 
--- WRCH(RDCH()) twice over the input `h`, and then at its end, where RDCH gives -1
+-- WRCH(RDCH()) twice with the input `h`: the second one is at its end, where RDCH gives -1
 abbrev echo : Command
 echo = print (call (Load (Glob 13)) [])
 
@@ -299,15 +299,15 @@ finds_output = refl
 finds_none : run_with (c.Text (80 ∷ []) ∷ []) [] (commands (print_digit (call (Load (Glob 16)) (Place 2 ∷ [])) ∷ [])) 100 ≡ printed (48 ∷ [])
 finds_none = refl
 
--- FINISH in a routine that is called
+-- FINISH in a routine that was called
 finish : run_with (routine None 0 (Does (commands (c.Finish ∷ []))) ∷ []) [] (commands (c.Call (call (Place 2) []) ∷ print (Num 65) ∷ [])) 100 ≡ printed []
 finish = refl
 
--- no turn is left for START itself
+-- no turn remains for START itself
 no_turns : run_with [] [] (commands []) 0 ≡ Going ([] ∷ [])
 no_turns = refl
 
--- Frames, data and what is well formed
+-- Frames, data, and what is well formed
 
 -- `LET A,B = 1,2; A := A+B`: the frame has 6 cells
 frame_of_sum : frame_size [] (record {
@@ -325,7 +325,7 @@ frame_of_for : frame_size [] (record {
 }) ≡ 7
 frame_of_for = refl
 
--- `LET V = VEC 32764` just fits
+-- `LET V = VEC 32764` fits exactly
 greatest_frame : frame_size [] (record { global = None; parameters = 0; body = Does (let_in (Vector 32764 ∷ []) []) }) ≡ 32768
 greatest_frame = refl
 
@@ -345,7 +345,7 @@ break_in_loop = refl
 break_alone : fits (commands (c.Break ∷ [])) ≡ false
 break_alone = refl
 
--- a GOTO into a nested block
+-- a GOTO into a nested block isn't well formed
 goto_inwards : fits (block [] (command (c.Nested (block [] (label 0 no_item))) (command (c.Goto 0) no_item))) ≡ false
 goto_inwards = refl
 

@@ -1,8 +1,8 @@
--- Where control goes from a command.
+-- Where control goes after a command.
 use Rattle.std.specs.Prelude.{ℕ}
 use Rattle.bc_core.specs.Outcome.{Done, Run}
 
--- past it, or to where BREAK, LOOP, ENDCASE, RETURN, RESULTIS or GOTO sends it
+-- past the command, or where BREAK, LOOP, ENDCASE, RETURN, RESULTIS or GOTO sends it
 pub data Exit : Type 0 where
   Past : Exit
   Broke : Exit
@@ -12,10 +12,11 @@ pub data Exit : Type 0 where
   Resulted : ℕ → Exit
   Jumped : ℕ → Exit
 
+-- control goes past
 abbrev pub past : Unit {0} → Run Exit
 past u = Done Past
 
--- the commands that follow are done where control goes past
+-- the rest is done if control goes past; any other exit stays
 abbrev pub onward : Run Exit → Exit → Run Exit
 onward rest Past = rest
 onward rest x = Done x

@@ -1,3 +1,4 @@
+-- The definitions of resolved trees and their meaning, the laws, and worked examples.
 pub mod Tree
 pub mod Commands
 pub mod View

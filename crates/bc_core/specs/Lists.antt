@@ -11,6 +11,7 @@ pub data Entry : Type 0 where
   AtDefault : Entry
   AtLabel : ℕ → Entry
 
+-- whether a list has a CASE with the value v
 abbrev pub has_case : Items → ℕ → Bool
 has_case no_item v = false
 has_case (command c is) v = has_case is v
@@ -18,6 +19,7 @@ has_case (case k is) v = k == v || has_case is v
 has_case (default is) v = has_case is v
 has_case (label l is) v = has_case is v
 
+-- whether a list has the label l
 abbrev pub has_label : Items → ℕ → Bool
 has_label no_item l = false
 has_label (command c is) l = has_label is l
@@ -25,23 +27,26 @@ has_label (case k is) l = has_label is l
 has_label (default is) l = has_label is l
 has_label (label k is) l = k == l || has_label is l
 
--- SWITCHON goes to the CASE with its value, else to DEFAULT, else past its list
+-- SWITCHON enters its list at the CASE with its value, else at DEFAULT, else nowhere, so that control goes past it
 abbrev pub entry_of : (has_case : ℕ → Bool) → ℕ → Entry
 entry_of has_case v = cond (has_case v) (AtCase v) AtDefault
 
+-- whether a CASE is where the list is entered
 abbrev pub meets_case : ℕ → Entry → Bool
 meets_case k (AtCase v) = k == v
 meets_case k _ = false
 
+-- whether DEFAULT is where the list is entered
 abbrev pub meets_default : Entry → Bool
 meets_default AtDefault = true
 meets_default _ = false
 
+-- whether a label is where the list is entered
 abbrev pub meets_label : ℕ → Entry → Bool
 meets_label k (AtLabel l) = k == l
 meets_label k _ = false
 
--- from where it is met on, a list is done as from its beginning
+-- once the entry is met, the rest of the list is done as from a beginning
 abbrev pub met : Bool → Entry → Entry
 met true at = Beginning
 met false at = at
@@ -51,18 +56,20 @@ abbrev pub from_entry : Entry → Run Exit → Run Exit
 from_entry Beginning r = r
 from_entry _ r = Done Past
 
--- a jump to a label of this list enters it there, every other exit leaves it
+-- after a list: a jump to a label of the list enters it there, any other exit leaves it
 abbrev pub after_list : (has_label : ℕ → Bool) → Exit → Run (Round Entry Exit)
 after_list has_label (Jumped l) = Done (cond (has_label l) (Again (AtLabel l)) (Leave (Jumped l)))
 after_list has_label x = Done (Leave x)
 
--- a list from an entry on, over what its items do from each entry on
+-- a list from an entry on, with its jumps, given what its items do from each entry on
 abbrev pub listed : (has_label : ℕ → Bool) → (Entry → Run Exit) → Entry → Run Exit
 listed has_label items at = repeated (λ at1. then_do (items at1) (after_list has_label)) at
 
+-- after the list of a SWITCHON: ENDCASE goes past it
 abbrev pub after_cases : Exit → Run Exit
 after_cases LeftCases = Done Past
 after_cases x = Done x
 
+-- SWITCHON: its value, then its list from the entry for that value
 abbrev pub switched : Run ℕ → (has_case has_label : ℕ → Bool) → (Entry → Run Exit) → Run Exit
 switched value has_case has_label items = then_do value (λ v. then_do (listed has_label items (entry_of has_case v)) after_cases)

@@ -1,11 +1,13 @@
--- Resolved expressions and roots, without where they lie in memory.
+-- Resolved expressions and roots, as the definitions use them.
 use Rattle.std.specs.Prelude.{ℕ, ◌+◌, Bool}
 use Rattle.bc_word.specs.declared.operator.Op.{Op}
 
 mutual
+  -- an expression; every value is a word
   pub data Exp : Type 0 where
     Num : ℕ → Exp
-    -- the addresses of a cell of the frame, of a global, and of the place with this label
+    -- the address of the cell at this offset of the frame, of the global with this number, and of the place with this
+    -- label
     Frame : ℕ → Exp
     Glob : ℕ → Exp
     Place : ℕ → Exp
@@ -20,17 +22,19 @@ mutual
     -- the VALOF with this number
     Valof : ℕ → Exp
 
+  -- the arguments of a call, in order
   pub data Args : Type 0 where
     no_argument : Args
     argument : Exp → Args → Args
 
+-- how many arguments there are
 abbrev pub count : Args → ℕ
 count no_argument = 0
 count (argument e es) = 1 + count es
 
--- what gets code as a whole, with its level
+-- a whole expression, test or assignment, for which code is chosen, with its level
 pub data Root : Type 0 where
   Value : (level : ℕ) → Exp → Root
-  -- a jump where the truth is this sense
+  -- a jump if the truth is `sense`
   Test : (level : ℕ) → (sense : Bool) → Exp → Root
   Assign : (level : ℕ) → (value address : Exp) → Root

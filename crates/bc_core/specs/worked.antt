@@ -1,5 +1,5 @@
--- Worked examples of what resolved trees mean, form by form, of the order of work, of turns and primitives, of maps, and of what each
--- section keeps. They are lemmas that compute, in `specs`.
+-- Worked examples of what resolved trees mean: form by form, the order of evaluation, turns, primitives, maps, and
+-- what each section keeps. They are lemmas whose proof is a computation.
 pub mod Written
 pub mod Loops
 pub mod Programs

@@ -1,3 +1,4 @@
+//! Copies of trees.
 ghost use Rattle.std.specs.Prelude.{◌≡◌, IfOk};
 ghost use Rattle.bc_core.specs.View.{exp, args, root};
 
@@ -5,9 +6,7 @@ use crate::expression::{CoreExp, Root};
 use bc_word::Memory;
 use std::alloc::Global;
 
-/// A root equal to this one: the same form, level, sense and trees.
-///
-/// `Memory` comes where an allocation was refused.
+/// A copy of a root, with the same form, level, sense and trees. Returns `Memory` if an allocation fails.
 pub fn copy(alloc: Global, from: &Root) -> Result<Root, Memory>
     ensures { IfOk result (λ new. root new ≡ root from.now) }
 {
@@ -40,6 +39,7 @@ pub fn copy(alloc: Global, from: &Root) -> Result<Root, Memory>
     }
 }
 
+/// A copy of an expression, in a box.
 #[cycle(copying)]
 fn boxed(alloc: Global, from: &CoreExp) -> Result<Box<CoreExp>, Memory>
     ensures { IfOk result (λ new. exp new.value ≡ exp from.now) }
@@ -48,9 +48,7 @@ fn boxed(alloc: Global, from: &CoreExp) -> Result<Box<CoreExp>, Memory>
     Ok(Box::new(alloc, new)?)
 }
 
-/// An expression equal to this one.
-///
-/// `Memory` comes where an allocation was refused.
+/// A copy of an expression. Returns `Memory` if an allocation fails.
 #[cycle(copying)]
 #[tactic(auto, using(crate::proofs::Rows::call_view))]
 pub fn copy_expression(alloc: Global, from: &CoreExp) -> Result<CoreExp, Memory>
@@ -81,6 +79,7 @@ pub fn copy_expression(alloc: Global, from: &CoreExp) -> Result<CoreExp, Memory>
     }
 }
 
+/// Copies of expressions, in their order.
 #[cycle(copying)]
 #[tactic(auto, using(crate::proofs::Rows::args_append, crate::proofs::Rows::args_take))]
 fn copy_all(alloc: Global, from: &[CoreExp]) -> Result<Vec<CoreExp>, Memory>

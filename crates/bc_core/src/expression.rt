@@ -1,50 +1,49 @@
+//! Resolved expressions, and the roots that code is chosen for.
 use bc_word::{Op, Word};
 
-/// An expression whose names are resolved.
-///
-/// A node has no type of its own: every value is a word.
+/// An expression whose names are resolved. There is one type of value, the word.
 #[derive(Debug, Drop, PartialEq, Eq)]
 pub enum CoreExp {
     /// A number.
     Num(Word),
-    /// The address of the cell at this offset of the frame.
+    /// The address of the cell at this offset of the routine's frame.
     Frame(u16),
     /// The address of the global with this number.
     Glob(u16),
-    /// The address of the place with this label: a routine, a static, a table or a string.
+    /// The address of the place with this label: a routine, a static, a table, or a string.
     Place(u16),
     /// The content of the cell at this address.
     Load(Box<CoreExp>),
-    /// The negation, wrapped.
+    /// The negative, modulo 65,536.
     Neg(Box<CoreExp>),
-    /// NOT: bit by bit, in a test position the opposite truth.
+    /// NOT: as a value every bit is inverted, in a test position the truth is.
     Not(Box<CoreExp>),
-    /// `left op right`.
+    /// An operator, the left operand, and the right operand.
     Bin(Op, Box<CoreExp>, Box<CoreExp>),
-    /// `condition -> this, that`.
+    /// `condition -> this, that`, in this order.
     Cond(Box<CoreExp>, Box<CoreExp>, Box<CoreExp>),
-    /// A call: its arguments, and the routine's value.
+    /// A call: its arguments, and the routine, whose value is an address.
     Call(Vec<CoreExp>, Box<CoreExp>),
-    /// The VALOF with this number.
+    /// The VALOF with this number, counted from 0 in text order.
     Valof(u16),
 }
 
-/// An expression, a test or an assignment as it gets its code, with its level: the first offset of
-/// the frame above all that lives when its work begins.
+/// A whole expression, test or assignment, for which code is chosen, with its level. The level is the first offset of
+/// the frame above everything that is held when the work on it begins.
 #[derive(Debug, Drop, PartialEq, Eq)]
 pub enum Root {
-    /// The value of an expression.
+    /// An expression whose value is needed.
     Value {
         level: u16,
         expression: CoreExp,
     },
-    /// A jump where the truth of an expression is this sense.
+    /// A test: a jump if its truth is `sense`.
     Test {
         level: u16,
         sense: bool,
         expression: CoreExp,
     },
-    /// The cell at an address gets a value.
+    /// An assignment: stores a value in the cell at an address.
     Assign {
         level: u16,
         value: CoreExp,

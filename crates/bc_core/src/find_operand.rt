@@ -1,3 +1,4 @@
+//! Which expressions one instruction can take as its operand.
 ghost use Rattle.std.specs.Prelude.{◌≡◌};
 ghost use Rattle.bc_core.specs.View.{exp};
 ghost use Rattle.bc_core.specs.Operand.{operand_of, constant_of, moved as moved_of, sum_operand, content_of, direct as direct_of};
@@ -7,6 +8,7 @@ use crate::operands::Operand;
 use bc_text_items::Base;
 use bc_word::{Op, Word};
 
+/// The operand that is a number or an address itself.
 fn direct(base: Base, n: Word) -> Operand
     ensures { result ≡ direct_of base n }
 {
@@ -17,7 +19,7 @@ fn direct(base: Base, n: Word) -> Operand
     }
 }
 
-/// The number that an expression is, if it is a number.
+/// The number, if the expression is one.
 pub fn constant(e: &CoreExp) -> Option<Word>
     ensures { result ≡ constant_of (exp e.now) }
 {
@@ -36,7 +38,7 @@ pub fn constant(e: &CoreExp) -> Option<Word>
     }
 }
 
-/// A variable's address and a number.
+/// The address of a variable plus a number, if `e` is such an address and `by` a number.
 fn moved(e: &CoreExp, by: Option<Word>) -> Option<Operand>
     ensures { result ≡ moved_of (exp e.now) by }
 {
@@ -56,6 +58,7 @@ fn moved(e: &CoreExp, by: Option<Word>) -> Option<Operand>
     }
 }
 
+/// The address of a variable plus a number, with the operands in either order.
 fn sum(left: &CoreExp, right: &CoreExp) -> Option<Operand>
     ensures { result ≡ sum_operand (exp left.now) (exp right.now) }
 {
@@ -65,7 +68,7 @@ fn sum(left: &CoreExp, right: &CoreExp) -> Option<Operand>
     }
 }
 
-/// The content of the cell at an operand, if one instruction can take it.
+/// The content of the cell at an operand, if one instruction can take that.
 pub fn content(operand: Option<Operand>) -> Option<Operand>
     ensures { result ≡ content_of operand }
 {
@@ -81,8 +84,8 @@ pub fn content(operand: Option<Operand>) -> Option<Operand>
     }
 }
 
-/// The operand that one instruction can take for an expression, if there is one: a number, the
-/// address of a cell or a place, a variable's address and a number, or the content of the cell
+/// The operand that one instruction can take for an expression, if there is one. That is a number; the address of a
+/// variable of the frame or of a global, also with a number added; the address of a place; or the content of the cell
 /// at one of these.
 pub fn operand(e: &CoreExp) -> Option<Operand>
     ensures { result ≡ operand_of (exp e.now) }

@@ -1,4 +1,7 @@
-//! Resolved trees, and what they mean.
+//! Resolved trees, where names have become offsets, labels and numbers, and what they mean.
+//!
+//! The types are in the code; the meaning is a definition, in `specs/`, which users must believe. The laws say what
+//! holds of the meaning of every program.
 #![tactic(auto)]
 
 mod command;

@@ -1,3 +1,4 @@
+//! A resolved section as a whole, with what always holds of it.
 ghost use Rattle.std.specs.Prelude.{◌≡◌, IsTrue};
 ghost use Rattle.bc_core.specs.View.{section};
 ghost use Rattle.bc_core.specs.WellFormed.{is_core};
@@ -5,12 +6,11 @@ ghost use Rattle.bc_core.specs.WellFormed.{is_core};
 use crate::command::{Place, Valof};
 use std::marker::Model;
 
-/// A resolved section: its places, labelled 1, 2, .. in text order, and its VALOFs, numbered 0, 1, ..
-/// in text order.
+/// A resolved section: its places, labelled 1, 2, .. in text order, and its VALOFs, numbered 0, 1, .. in text order.
 ///
-/// Contracts see it as the pair of these two lists. Its labels, numbers and jump targets exist, each
-/// VALOF has the level at which it stands, no frame has more than 32,768 cells, and no root more than
-/// 2^20 nodes.
+/// Contracts see it as the pair of these two lists. It is always well formed: its labels, numbers and jump targets
+/// exist, each VALOF has its level, no frame has more than 32,768 cells, and no root has more than 2^20 nodes.
+/// `is_core` is the exact definition.
 #[derive(Debug, Drop)]
 pub struct Core {
     places: Vec<Place>,
@@ -38,7 +38,7 @@ impl Model for Core {
 }
 
 impl Core {
-    /// The section of these places and VALOFs, which the caller has made to fit.
+    /// The section with these places and VALOFs. The caller must prove that they are well formed.
     pub fn new(places: Vec<Place>, valofs: Vec<Valof>) -> Core
         requires { IsTrue (is_core (section (places.items, valofs.items))) }
         ensures { result ≡ (places.items, valofs.items) }
@@ -46,7 +46,7 @@ impl Core {
         Core { places, valofs }
     }
 
-    /// The places in the order of their labels: the first has the label 1.
+    /// The places, by their labels; the first has the label 1.
     pub fn places(&self) -> &[Place]
         ensures places { result.now ≡ self.now.0 }
         ensures fits { IsTrue (is_core (section self.now)) }
@@ -54,7 +54,7 @@ impl Core {
         self.places.as_slice()
     }
 
-    /// The VALOFs in the order of their numbers: the first has the number 0.
+    /// The VALOFs, by their numbers; the first has the number 0.
     pub fn valofs(&self) -> &[Valof]
         ensures valofs { result.now ≡ self.now.1 }
         ensures fits { IsTrue (is_core (section self.now)) }

@@ -1,4 +1,4 @@
--- For proofs: the addresses of labels, by label.
+-- For proofs: the addresses of labels, indexed by label.
 use Rattle.std.specs.Prelude.{ℕ, ◌≡◌, List, map, slice_index_or}
 use Rattle.std.specs.Global.{Vec}
 use Rattle.bc_machine_defs.specs.declared.image.SegmentPlace.{SegmentPlace}

@@ -1,5 +1,6 @@
--- For proofs: what an expression without call and VALOF comes to, and a machine that works it out. It reads cells and changes
--- nothing, and a zero divisor ends it only where no wild cell is read beside it. What fails says by which access: the first one.
+-- For proofs: the worth of a pure expression (one with no call and no VALOF), and a small machine that computes it. A pure
+-- expression reads cells and changes nothing. A zero divisor in a first operand ends it only if the second operand reads no wild cell.
+-- A failure names the first wild access.
 use Rattle.bc_interpret_defs.specs.Weight.{weight_of}
 use Rattle.bc_interpret_defs.specs.Causes.{Cause, Malformed}
 use Rattle.bc_interpret_defs.specs.Causes as causes
@@ -14,6 +15,7 @@ use Rattle.bc_core.specs.Value.{is_true, has_call, value, truth}
 use Rattle.bc_core.specs.Meaning.{context}
 use Rattle.bc_core.specs.Meaning.{Call as Calling}
 
+-- a result, a zero divisor, or the cause of a wild access
 pub data Worth (A : Type 0) : Type 0 where
   Is : A → Worth A
   Divides : Worth A
@@ -34,13 +36,13 @@ beside (Is x) = Divides
 beside Divides = Divides
 beside (Fails c) = Fails c
 
--- a wild second side outweighs a zero divisor in the first
+-- a wild access in the second operand takes precedence over a zero divisor in the first
 abbrev pub paired : {A B C : Type 0} → Worth A → Worth B → (A → B → Worth C) → Worth C
 paired (Is x) w f = chained w (f x)
 paired Divides w f = beside w
 paired (Fails c) w f = Fails c
 
--- what is read at an address where this cell is
+-- the result of reading address a, which holds this cell
 abbrev pub found : ℕ → Cell → Worth ℕ
 found a Dead = Fails (causes.Dead a)
 found a Unset = Fails (causes.Unset a)
@@ -50,7 +52,7 @@ abbrev pub quotient : Option ℕ → Worth ℕ
 quotient None = Divides
 quotient (Some v) = Is v
 
--- what is read: the cells, the labels' addresses, and the frame
+-- all that a pure expression depends on: the cells, the addresses of labels, and the frame
 pub record Sight : Type 0 where
   pub cells : List Cell
   pub address : ℕ → ℕ
@@ -78,6 +80,7 @@ abbrev pub operator_worths : Op → Worths → Worths → Worths
 operator_worths op a b =
     let v = paired a.value b.value (combined op) in record { value = v; truth = operator_worth op a b v }
 
+-- the worth of a pure expression, as a number and as a truth
 abbrev pub worth : Sight → Exp → Worths
 worth S (Num n) = by_worth (Is n)
 worth S (Frame k) = by_worth (Is ((S.frame + k) % 65536))
@@ -93,7 +96,7 @@ worth S (Bin op a b) = operator_worths op (worth S a) (worth S b)
 worth S (Cond c x y) = by_worth (chained (worth S c).truth (λ t. cond t (worth S x).value (worth S y).value))
 worth S _ = by_worth (Fails Malformed)
 
--- the machine: what is done next, and what is left to do with an answer
+-- the machine: its answers, its current work, and its continuation frames
 pub data QuietAnswer : Type 0 where
   Number : ℕ → QuietAnswer
   Verdict : Bool → QuietAnswer
@@ -102,7 +105,7 @@ pub data QuietWork : Type 0 where
   Evaluate : Exp → QuietWork
   Decide : Exp → QuietWork
   Give : QuietAnswer → QuietWork
-  -- a zero divisor was met
+  -- a zero divisor has occurred
   Divided : QuietWork
 
 pub data QuietRest : Type 0 where
@@ -113,7 +116,7 @@ pub data QuietRest : Type 0 where
   Tests : QuietRest
   Operates : Op → Exp → QuietRest
   Operated : Op → ℕ → QuietRest
-  -- the second side beside a zero divisor in the first
+  -- the second operand is evaluated although the first had a zero divisor
   Beside : QuietRest
   Conjoins : Exp → QuietRest
   Disjoins : Exp → QuietRest
@@ -123,7 +126,7 @@ pub record QuietAt : Type 0 where
   pub work : QuietWork
   pub rests : List QuietRest
 
--- what is to be done then, or the wild access
+-- a step: the next state, or the wild access that stops the machine
 pub data QuietStep : Type 0 where
   On : QuietAt → QuietStep
   Stops : Cause → QuietStep
@@ -197,7 +200,7 @@ abbrev pub divided_given : List QuietRest → QuietStep
 divided_given [] = on Divided []
 divided_given (r ∷ rs) = divided r rs
 
--- one step; where nothing is left to do it stays
+-- one step; where the continuation is empty the state doesn't change
 abbrev pub quiet_step : Sight → QuietWork → List QuietRest → QuietStep
 quiet_step S (Evaluate e) rs = evaluates S e rs
 quiet_step S (Decide e) rs = decides e rs
@@ -205,7 +208,7 @@ quiet_step S (Give (Number v)) rs = number_given S v rs
 quiet_step S (Give (Verdict t)) rs = verdict_given t rs
 quiet_step S Divided rs = divided_given rs
 
--- what it means
+-- the meaning of the work and of the frames, as a worth
 abbrev pub for_number : {A : Type 0} → (ℕ → Worth A) → QuietAnswer → Worth A
 for_number f (Number v) = f v
 for_number f (Verdict t) = Fails Malformed
@@ -250,7 +253,7 @@ abbrev pub quiet_after : Sight → QuietStep → Worth QuietAnswer
 quiet_after S (Stops c) = Fails c
 quiet_after S (On at) = quiet_meant S at.work at.rests
 
--- a number that each quiet step lessens
+-- a number that each step of this machine decreases
 abbrev pub quiet_weight_of : Exp → ℕ
 quiet_weight_of e = weight_of (λ n. 1) e
 
@@ -277,7 +280,7 @@ abbrev pub IsLighter : ℕ → QuietStep → Type 0
 IsLighter m (Stops c) = Unit {0}
 IsLighter m (On at) = quiet_weight at.work at.rests < m
 
--- something is left to do
+-- the machine isn't finished: something is left to do
 abbrev pub QuietMoves : QuietWork → List QuietRest → Type 0
 QuietMoves (Give a) [] = ⊥
 QuietMoves Divided [] = ⊥

@@ -1,4 +1,4 @@
--- Parts that wait.
+-- The waiting parts: what expanding a part into none, one, two or three sub-parts does to their greatest extent and weight.
 use Rattle.std.proofs.Common.{◌≡◌, ℕ, ◌+◌, ◌<◌, max, List, [], ◌∷◌, ◌++◌, length, refl, ap, ◌∙◌, arith}
 use Rattle.bc_core.specs.declared.expression.CoreExp.{CoreExp}
 use Rattle.bc_core.specs.Tree.{count}
@@ -18,7 +18,7 @@ pub count_args : (es : List CoreExp) → count (args es) ≡ length es
 count_args [] = refl
 count_args (e ∷ es) = let h = count_args es in omega arith
 
--- the greatest of what waits, with one part more
+-- the greatest extent of the waiting parts and one more
 pub grown : (x c g l n : ℕ) → l ≡ max x g → n ≡ max c l → n ≡ max (max x c) g
 grown x c g l n e f = omega arith
 

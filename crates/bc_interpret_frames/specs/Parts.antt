@@ -1,4 +1,4 @@
--- For proofs: the cells that parts of a routine take of its frame, and a number that looking at a part lessens.
+-- For proofs: how far parts of a routine extend its frame, and a weight that expanding a part decreases.
 use Rattle.std.specs.Prelude.{ℕ, ◌≡◌, ◌+◌, ◌<◌, max, List, [], ◌∷◌, map, Result, IfOk}
 use Rattle.bc_core.specs.Layout.{Bodies, cells_of_exp, cells_of_args, cells_of_command, cells_of_block, cells_of_items, cells_of_declarations, cells_of_initials, cells_of_valofs}
 use Rattle.bc_core.specs.Commands as commands
@@ -46,12 +46,12 @@ abbrev pub weight_of_all : List Part → ℕ
 weight_of_all [] = 0
 weight_of_all (x ∷ xs) = weight_of_part x + 1 + weight_of_all xs
 
--- a part that takes so many cells was looked at: this many of them are its own, and its parts wait
+-- a part that needs this many cells was expanded: its own extent is `own`, and its sub-parts wait
 pub record Expanded (own cells weight : ℕ) (old new : List Part) : Type 0 where
   pub greatest_is : max own (greatest new) ≡ max cells (greatest old)
   pub lighter : weight_of_all new < weight + 1 + weight_of_all old
 
--- the same of what a call answers, if memory sufficed
+-- the same of the result of a call, unless memory ran out
 abbrev pub ExpandedTo : {E : Type 0} → (cells weight : ℕ) → Result ℕ E → (old new : List Part) → Type 0
 ExpandedTo cells weight result old new = IfOk result (λ own. Expanded own cells weight old new)
 

@@ -1,4 +1,8 @@
-// A part is looked at, and its parts wait.
+//! Expanding one part of a routine: returns how far the part itself extends the frame, and pushes its sub-parts, each with its level,
+//! onto the list of waiting parts.
+//!
+//! In this file `s` is the level of a part: the first free offset of the frame. Results are counted in cells from the start of the
+//! frame. Every function returns `Memory` if an allocation fails.
 
 ghost use Rattle.std.specs.Prelude.{◌≡◌, ◌∷◌, map, IfOk};
 ghost use Rattle.bc_core.specs.Level.{cells_of as cells_of_variable, cells_of_all as cells_of_variables, cells_declared as cells_of_declarations};
@@ -11,7 +15,7 @@ use crate::part::{Part, Within, above, put, put_both};
 use bc_core::{Block, Command, CoreExp, Declaration, ListItem, Variable, operand};
 use bc_word::Memory;
 
-/// An expression.
+/// Expands an expression.
 #[tactic(auto, using(bc_core::proofs::Rows::call_view, crate::proofs::Waits::count_args))]
 fn expression<'c>(
     within: Within<'c>,
@@ -50,7 +54,7 @@ fn expression<'c>(
     }
 }
 
-/// The body of the VALOF with this number.
+/// Expands the VALOF with this number to its body; one that isn't within this part takes no cells.
 fn valof<'c>(
     within: Within<'c>,
     number: usize,
@@ -74,7 +78,7 @@ fn valof<'c>(
     Ok(0)
 }
 
-/// Arguments, the first at this level.
+/// Expands a list of arguments, the first at level `s` and each further one a cell higher.
 fn arguments<'c>(
     within: Within<'c>,
     all: &'c [CoreExp],
@@ -90,7 +94,7 @@ fn arguments<'c>(
     Ok(0)
 }
 
-/// An assignment.
+/// Expands an assignment.
 fn assignment<'c>(
     within: Within<'c>,
     value: &'c CoreExp,
@@ -111,7 +115,7 @@ fn assignment<'c>(
     above(s, 2)
 }
 
-/// A command.
+/// Expands a command.
 fn command<'c>(
     within: Within<'c>,
     command: &'c Command,
@@ -169,7 +173,7 @@ fn command<'c>(
     }
 }
 
-/// How many cells a variable takes: its own, and those of its vector.
+/// The cells of one variable: its own, and those of its vector.
 fn cells_of_one(declared: &Variable) -> usize
     ensures { result ≡ cells_of_variable (variable declared.now) }
 {
@@ -179,7 +183,7 @@ fn cells_of_one(declared: &Variable) -> usize
     }
 }
 
-/// How many cells variables take.
+/// The cells of all these variables.
 fn cells_of_all(variables: &[Variable]) -> Result<usize, Memory>
     ensures { IfOk result (λ cells. cells ≡ cells_of_variables (map variable variables.now)) }
 {
@@ -192,7 +196,7 @@ fn cells_of_all(variables: &[Variable]) -> Result<usize, Memory>
     Ok(cells)
 }
 
-/// How many cells declarations take.
+/// The cells of all these declarations.
 fn cells_declared(declarations: &[Declaration]) -> Result<usize, Memory>
     ensures { IfOk result (λ cells. cells ≡ cells_of_declarations (declarations_view declarations.now)) }
 {
@@ -205,7 +209,7 @@ fn cells_declared(declarations: &[Declaration]) -> Result<usize, Memory>
     Ok(cells)
 }
 
-/// A block.
+/// Expands a block.
 fn block<'c>(
     within: Within<'c>,
     block: &'c Block,
@@ -220,7 +224,7 @@ fn block<'c>(
     Ok(0)
 }
 
-/// Declarations.
+/// Expands a list of declarations.
 fn declarations<'c>(
     within: Within<'c>,
     all: &'c [Declaration],
@@ -240,7 +244,7 @@ fn declarations<'c>(
     }
 }
 
-/// Variables of which this is the first, at the level after them.
+/// Expands a list of variables that begins with this one. `s` is the level after all of them.
 fn first_variable<'c>(
     within: Within<'c>,
     first: &'c Variable,
@@ -266,7 +270,7 @@ fn first_variable<'c>(
     }
 }
 
-/// Variables, at the level after them.
+/// Expands a list of variables. `s` is the level after all of them.
 fn variables<'c>(
     within: Within<'c>,
     all: &'c [Variable],
@@ -281,7 +285,7 @@ fn variables<'c>(
     }
 }
 
-/// Items.
+/// Expands a list of items.
 fn items<'c>(
     within: Within<'c>,
     all: &'c [ListItem],
@@ -312,7 +316,7 @@ fn items<'c>(
     }
 }
 
-/// A part is looked at, and its parts wait: how many cells are its own.
+/// Expands a part: pushes its sub-parts onto `waiting`, and returns how far the part itself extends the frame.
 pub(crate) fn expand<'c>(part: Part<'c>, waiting: &mut Vec<Part<'c>>) -> Result<usize, Memory>
     ensures { IsExpanded part.entry result waiting.old.items waiting.new.items }
 {

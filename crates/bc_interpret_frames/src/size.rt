@@ -1,4 +1,4 @@
-// The size of a routine's frame.
+//! The public call: the size of a routine's frame.
 
 ghost use Rattle.std.specs.Prelude.{◌≡◌, map, IfOk};
 ghost use Rattle.bc_core.specs.View.{valof_of, routine_of, body_of};
@@ -11,7 +11,7 @@ use bc_core::{Body, Routine, Valof};
 use bc_word::Memory;
 use std::alloc::Global;
 
-/// The most cells that one of these parts, or a part of them, takes.
+/// The greatest extent of the frame that one of the waiting parts or their sub-parts needs, in cells.
 #[tactic(auto, using(crate::proofs::Waits::greatest_more, crate::proofs::Waits::weight_more))]
 fn most<'c>(waiting: &mut Vec<Part<'c>>) -> Result<usize, Memory>
     ensures { IfOk result (λ most. most ≡ greatest waiting.old.items) }
@@ -26,7 +26,7 @@ fn most<'c>(waiting: &mut Vec<Part<'c>>) -> Result<usize, Memory>
     Ok(most)
 }
 
-/// The whole body of a routine.
+/// The body of a routine as a part.
 fn whole<'c>(within: Within<'c>, body: &'c Body, level: usize) -> Part<'c>
     ensures { cells_of result ≡ cells_of_body (bodies within.entry) (body_of body.now) level }
 {
@@ -36,10 +36,10 @@ fn whole<'c>(within: Within<'c>, body: &'c Body, level: usize) -> Part<'c>
     }
 }
 
-/// How many cells the frame of a routine takes in a section with these VALOFs: its links, its parameters, its variables, and what its
-/// expressions hold. No native stack is taken for the depth of the tree.
+/// The number of cells in the frame of a routine, in a section with these VALOFs: its links, its parameters, its variables and its
+/// temporary values. Uses no native stack for the depth of the tree.
 ///
-/// `Memory` comes where an allocation was refused.
+/// `Memory` if an allocation fails.
 pub fn frame_size(alloc: Global, valofs: &[Valof], routine: &Routine) -> Result<usize, Memory>
     ensures { IfOk result (λ size. size ≡ size_of_frame (map valof_of valofs.now) (routine_of routine.now)) }
 {

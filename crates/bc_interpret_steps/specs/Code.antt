@@ -1,4 +1,4 @@
--- What the interpreter's values mean.
+-- The views of the interpreter's types: its work and continuation frames as those of the machine. A rest is a continuation frame.
 use Rattle.std.specs.Prelude.{◌≡◌, ℕ, Bool, true, false, List, [], ◌∷◌, ◌++◌, map, drop, reverse, slice_index_or, Option, Some, None}
 use Rattle.bc_core.specs.View.{exp, args, items, variable, declarations, command, block_of, valof_of}
 use Rattle.bc_core.specs.Commands as commands
@@ -50,12 +50,12 @@ entry_of (entries.AtCase v) = lists.AtCase v
 entry_of entries.AtDefault = lists.AtDefault
 entry_of (entries.AtLabel l) = lists.AtLabel l
 
--- the arguments that are given: none yet, or these
+-- the arguments given so far: none if the call is fresh, else these
 abbrev pub given_for : (fresh : Bool) → List ℕ → List ℕ
 given_for true vs = []
 given_for false vs = vs
 
--- with the arguments that are given where it stands
+-- the work as the machine's, with the arguments given so far
 abbrev pub work_of : List ℕ → Work → machine.Work
 work_of vs (works.Evaluate E e s) = machine.Evaluate (spot_of E) (exp e.now) s
 work_of vs (works.Decide E e s) = machine.Decide (spot_of E) (exp e.now) s
@@ -120,7 +120,7 @@ exit_rest exit_rests.Cases = machine.Cases
 exit_rest (exit_rests.Follows E is s) = machine.Follows (spot_of E) (items is.now) s
 exit_rest (exit_rests.Listed E is s) = machine.Listed (spot_of E) (items is.now) s
 
--- what is left to do with one more in front, where these arguments are given
+-- the continuation with one more frame pushed, after these given arguments
 abbrev pub stacked : List machine.Rest → List ℕ → Rest → List machine.Rest
 stacked rs vs (rests.Number r) = number_rest vs r ∷ rs
 stacked rs vs (rests.Value r) = value_rest r ∷ rs
@@ -131,7 +131,7 @@ stacked rs vs (rests.Exit r) = exit_rest r ∷ rs
 stacked rs vs (rests.Closes n a) = machine.Closes n a ∷ rs
 stacked rs vs (rests.Given v first) = rs
 
--- the arguments that are given then
+-- the given arguments after that
 abbrev pub then_given : List ℕ → Rest → List ℕ
 then_given vs (rests.Number r) = []
 then_given vs (rests.Value r) = []
@@ -142,7 +142,7 @@ then_given vs (rests.Exit r) = []
 then_given vs (rests.Closes n a) = []
 then_given vs (rests.Given v first) = given_for first vs ++ v ∷ []
 
--- the last one put is the first one to be done
+-- the continuation as a list: the last frame pushed comes first
 abbrev pub stack_on : List machine.Rest → List ℕ → List Rest → List machine.Rest
 stack_on rs vs [] = rs
 stack_on rs vs (x ∷ xs) = stack_on (stacked rs vs x) (then_given vs x) xs
@@ -151,33 +151,35 @@ abbrev pub given_on : List ℕ → List Rest → List ℕ
 given_on vs [] = vs
 given_on vs (x ∷ xs) = given_on (then_given vs x) xs
 
+-- the continuation that the vector of frames represents
 abbrev pub stack : List Rest → List machine.Rest
 stack xs = stack_on [] [] xs
 
+-- the arguments that are given at the end of the vector of frames
 abbrev pub given : List Rest → List ℕ
 given xs = given_on [] xs
 
--- what was taken of what is left to do, which is no argument
+-- the frame that was popped, which is no argument
 abbrev pub Taken : Option Rest → (old new : List Rest) → Type 0
 Taken None old new = stack old ≡ []
 Taken (Some (rests.Given v first)) old new = ⊥
 Taken (Some r) old new = stack old ≡ stacked (stack new) (given new) r
 
--- the argument that this is, and whether it is the first one; or it is none, and ends those that are given
+-- the argument that this entry is, and whether it is the first one; or the entry is a frame, and ends the given arguments
 abbrev pub IsGiven : Option (ℕ × Bool) → Rest → Type 0
 IsGiven None r = (vs : List ℕ) → then_given vs r ≡ []
 IsGiven (Some g) r = r ≡ rests.Given g.0 g.1
 
--- the arguments that were given are here, the last one first, and the rest is left
+-- the given arguments were gathered, the last one first, and the frames are unchanged
 abbrev pub Gathered : (fresh : Bool) → (old new : List Rest) → (arguments : List ℕ) → Type 0
 Gathered fresh old new arguments = (stack new ≡ stack old) × (reverse arguments ≡ given_for fresh (given old))
 
--- For proofs: of the arguments that are wanted the last ones are here already, and the others are still given, or there are none.
+-- the last of the wanted arguments have been gathered; the others are still among the frames, or there are no others
 abbrev pub Gathering : (more : Bool) → (wanted : List ℕ) → (left : List Rest) → (arguments : List ℕ) → Type 0
 Gathering true wanted left arguments = wanted ≡ given left ++ reverse arguments
 Gathering false wanted left arguments = wanted ≡ reverse arguments
 
--- the argument that is given last was taken, if one was given; and there may be more
+-- the last given argument was popped, if there was one; there may be more
 abbrev pub TakesGiven : (more : Bool) → (old new : List Rest) → (before after : List ℕ) → Type 0
 TakesGiven more old new before after =
     (stack new ≡ stack old) × ((wanted : List ℕ) → Gathering true wanted old before → Gathering more wanted new after)

@@ -1,4 +1,4 @@
--- What is read is what the definition of a source's tokens says: the tokens, or the first fault.
+-- From the reader to the definition: what is read of a source are its tokens by definition, or its first fault.
 use Rattle.std.proofs.Common.{◌≡◌, ◌≢◌, ◌∙◌, refl, sym, ap, subst, arith, ℕ, zero, suc, ◌+◌, ◌-◌, ◌≤◌, ◌<◌, inl, inr, Bool, true, false, ◌||◌, List, [], ◌∷◌, ◌++◌, length, take, drop, drop-drop, length-drop, Option, Some, None, Result, Ok, Err, cond, nat_eq, nat_lt, append_assoc}
 use Rattle.std.specs.Prelude.{codes}
 use Rattle.std.proofs.lemmas.Bool.{eqb-true, eqb-false, ltb-true, ltb-false}
@@ -32,11 +32,11 @@ use Rattle.bc_lex.proofs.Shapes.{Shape, Letters, One, Two, shape, get_spelled}
 use Rattle.bc_lex.proofs.Lexemic.{LexemeRead, Found as LexemeFound, Faulty as LexemeFaulty, lexeme_reads}
 use Rattle.bc_lex.proofs.Naming.{Names, string_names, source_some, source_none}
 
--- after a front
+-- what follows a first part
 pub drop_after : (text front rest : List ℕ) (at n : ℕ) → drop at text ≡ front ++ rest → n ≡ length front → drop (at + n) text ≡ rest
 drop_after text front rest at n e n_is = sym (drop-drop n at text) ∙ ap (drop n) e ∙ ap (λ k. drop k (front ++ rest)) n_is ∙ drop-front front rest
 
--- the part of a text from a place on
+-- the first part, by its offsets
 pub part_is : (text front rest : List ℕ) (from to : ℕ) → drop from text ≡ front ++ rest → to ≡ from + length front → part text from to ≡ front
 part_is text front rest from to e to_is =
     let n : to - from ≡ length front = omega arith in
@@ -121,7 +121,7 @@ target_reads : (files : List File) (file : ℕ) (text : List ℕ) (start end : �
 unfolding target_of
 target_reads files file text start end after there end_is ends = target_by files file text start end after (skipped file text end) there end_is ends (skip_reads file text end)
 
--- what comes first after a place
+-- what comes next in a file
 
 pub data ItemRead (files : List File) (file at : ℕ) (line : Bool) (bytes : List ℕ) : Result Found LexError → Type 0 where
   AtEnd : IsGap bytes [] → ItemRead files file at line bytes (Ok lexing.End)
@@ -129,7 +129,7 @@ pub data ItemRead (files : List File) (file at : ℕ) (line : Bool) (bytes : Lis
   AGet : (gap space string after name : List ℕ) (start named following : ℕ) → bytes ≡ gap ++ (codes "GET" ++ (space ++ (string ++ after))) → IsGap gap (codes "GET" ++ (space ++ (string ++ after))) → IsGet space string after name → IsFirstNamed files name named → start ≡ at + length gap → following ≡ at + length gap + 3 + length space + length string → ItemRead files file at line bytes (Ok (lexing.Get start named following))
   Wrong : (e : LexError) → ((levels before : ℕ) → Reads files levels file before at line bytes [] (Faulty e)) → ItemRead files file at line bytes (Err e)
 
--- a GET's text and what follows it
+-- the text of a GET, and what follows it
 get_word : (text after : List ℕ) (kind : Kind) → IsLexeme text after kind → kind ≡ Sign symbol.Get → (text ≡ codes "GET") × Ends is_name_byte after
 get_word text after kind (Word word rest s name end spelled) e =
     let s_is : s ≡ symbol.Get = cc in
@@ -226,13 +226,13 @@ item_reads : (files : List File) (file : ℕ) (place : Place) → place.at ≤ l
 unfolding item_of
 item_reads files file place within = item_start files file (text_of files file) place (skipped file (text_of files file) place.at) within (skip_reads file (text_of files file) place.at)
 
--- the rest of a file
+-- the rest of a file, from some offset
 
 pub data RestRead (files : List File) (levels file : ℕ) (before : List Lexeme) (at : ℕ) (line : Bool) (bytes : List ℕ) : Result (List Lexeme) LexError → Type 0 where
   All : (tokens all : List Lexeme) → all ≡ before ++ tokens → Reads files levels file (length before) at line bytes tokens Whole → RestRead files levels file before at line bytes (Ok all)
   Fails : (tokens : List Lexeme) (e : LexError) → Reads files levels file (length before) at line bytes tokens (Faulty e) → RestRead files levels file before at line bytes (Err e)
 
--- the reading of a deeper file
+-- reading the file that a GET names
 pub data DeepRead (files : List File) (levels file start named : ℕ) (before : List Lexeme) : Result (List Lexeme) LexError → Type 0 where
   TooDeep : levels ≡ 0 → DeepRead files levels file start named before (Err (errors.GetTooDeep file start))
   Deeper' : (l : ℕ) (read : Result (List Lexeme) LexError) → levels ≡ suc l → RestRead files l named before 0 true (text_of files named) read → DeepRead files levels file start named before read
@@ -240,7 +240,7 @@ pub data DeepRead (files : List File) (levels file start named : ℕ) (before : 
 abbrev Deep : List File → ℕ → Type 0
 Deep files levels = (file start named : ℕ) (before : List Lexeme) → DeepRead files levels file start named before (deeper_of files levels file start named before)
 
--- the rest of a file after any place of it, once it is read in fewer turns
+-- the rest of a file from any offset, if it is right for fewer iterations
 abbrev Again : List File → ℕ → ℕ → (Place → List Lexeme → Result (List Lexeme) LexError) → ℕ → Type 0
 Again files levels file again k = (place : Place) (before : List Lexeme) → place.at ≤ length (text_of files file) → length (drop place.at (text_of files file)) ≤ k → RestRead files levels file before place.at place.line (drop place.at (text_of files file)) (again place before)
 
@@ -305,7 +305,7 @@ no_bytes : (xs : List ℕ) → length xs ≤ 0 → xs ≡ []
 no_bytes [] h = refl
 no_bytes (x ∷ xs) h = absurd (omega arith)
 
--- what an item needs to be read: its place in the file
+-- the offset of an item in the file
 record Stands (files : List File) (file k : ℕ) (place : Place) (bytes : List ℕ) : Type 0 where
   there : drop place.at (text_of files file) ≡ bytes
   sum : place.at + length bytes ≡ length (text_of files file)
@@ -375,7 +375,7 @@ unfolding deeper_of
 deep_reads files zero file start named before = TooDeep refl
 deep_reads files (suc l) file start named before = Deeper' l _ refl (file_reads files l (deep_reads files l) named true before)
 
--- what is read of a source
+-- a whole source
 pub data SourceRead (files : List File) (main : ℕ) : Result (List Lexeme) LexError → Type 0 where
   HasAll : (tokens : List Lexeme) → HasTokens files main tokens → SourceRead files main (Ok tokens)
   HasFirst : (e : LexError) → HasFault files main e → SourceRead files main (Err e)

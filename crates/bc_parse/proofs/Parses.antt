@@ -1,4 +1,4 @@
--- What parsing answers, from closing and reading.
+-- What `parse` returns, from closing and reading.
 use Rattle.std.proofs.Common.{◌≡◌, ◌∙◌, ℕ, ◌≤◌, List, length, Result, Ok, Err, refl, sym, ap, subst, arith}
 use Rattle.bc_lex_tokens.specs.Token.{Lexeme}
 use Rattle.bc_parse_tree.specs.Parts.{Part}
@@ -18,7 +18,7 @@ use Rattle.bc_parse.specs.Parsing.{TokensSpell, parsed, placed, placed_fault, re
 use Rattle.bc_parse.specs.declared.error.ParseError.{ParseError}
 use Rattle.bc_parse.specs.declared.error.ParseError.TheVariants as errors
 
--- a closed list, as it was before its places were put apart
+-- a closed list, before its parts and places were separated
 pub record Zipped (r : Result (List Placed) closing.Fault) (c : Lists) : Type 0 where
   pub placed_parts : List Placed
   pub was : r ≡ Ok placed_parts
@@ -50,7 +50,7 @@ unclosed ts e = go (closed_list ts) e
     go (Err (closing.NotOpen m)) e = absurd cc
     go (Err closing.Unclosed) e = refl
 
--- what holds of an answered section
+-- what holds of a section that is returned
 pub record Parsed (ts : List Lexeme) (ds : Declarations) : Type 0 where
   pub spelled : TokensSpell ts ds
   pub nests : declarations_height ds ≤ 200

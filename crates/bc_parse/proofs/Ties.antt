@@ -1,4 +1,4 @@
--- A reader that nests, by the readers of what may stand within it.
+-- A reader that nests, by the readers of what may be within it.
 use Rattle.std.proofs.Common.{◌≡◌, ℕ, zero, suc, ◌-◌, ◌<◌, List, length, refl, arith}
 use Rattle.std.proofs.lemmas.Bool.{lt-ltb}
 use Rattle.bc_parse_tree.specs.Parts.{Part}

@@ -1,4 +1,4 @@
--- The turns of the parser's loops.
+-- The loops of the parser: a turn that goes on, one that is the last, one that fails, and no turn left.
 use Rattle.std.proofs.Common.{◌≡◌, ℕ, suc, ◌-◌, ◌+◌, ◌<◌, ◌≤◌, Bool, true, false, List, length, max, None, Result, Ok, Err, refl, sym, ap, subst, ◌∙◌, arith}
 use Rattle.std.proofs.lemmas.Bool.{lt-ltb}
 use Rattle.bc_lex_tokens.specs.declared.symbol.Symbol.TheVariants as sign
@@ -22,7 +22,7 @@ module _ {X : Type 0} (step : Piece X → Result (Piece X × Bool) Fault) (n i :
   unfolding turns
   turns_done t last lt is is_last = let k : n - i ≡ suc (n - (i + 1)) = omega arith in sym so_far ∙ rw (k, is, is_last) refl
 
-  -- the same of a turn as the code answers it
+  -- the same for a turn as the code returns it
   pub turns_more : {T : Type 0} (view : T → X) (v : Turn T) (r : Read T) → i < n → Takes view (Ok v) (step s) → v ≡ turn.More r → turns step (n - (i + 1)) (read_view view r) ≡ total
   turns_more view v r lt took is = turns_next (read_view view r) false lt (took ∙ ap (λ (w : Turn _). Ok (turn_view view w)) is) refl
 
@@ -52,7 +52,7 @@ pub turns_at_once : {X : Type 0} (step : Piece X → Result (Piece X × Bool) Fa
 unfolding turns
 turns_at_once step n s is = let k : n + 1 ≡ suc n = omega arith in rw (k, is) refl
 
--- no REPEAT word after a command
+-- no repetition after a command
 pub repeats_none : (E : Reader) (nest round : ℕ) (s : Piece Command) → None ≡ word_in repeat_word_of s.rest → repeats_read E nest round s ≡ Ok s
 unfolding repeats_read repeat_turn
 repeats_none E nest round s is = turns_at_once (repeat_turn E nest round) (length s.rest) s (once is)
@@ -63,7 +63,7 @@ repeats_none E nest round s is = turns_at_once (repeat_turn E nest round) (lengt
 pub ok_is : {X : Type 0} (x y : X) (r : Result X Fault) → r ≡ Ok x → r ≡ Ok y → x ≡ y
 ok_is x y r is_x is_y = cc
 
--- a choice whose first two parts are read
+-- a choice whose test and first value are read
 pub choice_is : (E : Reader) (nest round begin height high place most : ℕ) (left test this : Exp) (ts rest : List Part) → height < nest → E (nest - 1) round 1 ts ≡ Ok (piece this high rest) → left ≡ test → most ≡ max height high
     → suffix_read E nest round begin (Choice ts) left height place ≡ ((expect_of sign.Comma rest >>= λ remaining. E (nest - 1) round 1 remaining >>= λ that. Ok (piece (tree.Condition test this that.tree) (max most that.height + 1) that.rest)) >>= λ p. Ok (piece (p.tree, 1) p.height p.rest))
 unfolding suffix_read with_choice

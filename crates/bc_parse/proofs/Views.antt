@@ -1,4 +1,4 @@
--- What labels, constants and commands mean as they are made.
+-- The views of labels, constants and commands, as they are constructed.
 use Rattle.std.proofs.Common.{◌≡◌, ◌∙◌, ℕ, List, Vec, sym, ap}
 use Rattle.std.specs.Borrow.{Bor}
 use Rattle.std.specs.declared.alloc.Global.{Global}

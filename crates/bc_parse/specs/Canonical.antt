@@ -1,4 +1,4 @@
--- Tokens that are the canonical spelling of a section, within the bounds of a reader.
+-- Tokens that are the canonical spelling of a section, within the parser's bounds.
 use Rattle.std.specs.Prelude.{◌≤◌, List}
 use Rattle.bc_lex_tokens.specs.Token.{Lexeme}
 use Rattle.bc_parse_tree.specs.Parts.{Part}
@@ -10,8 +10,9 @@ use Rattle.bc_parse_laws.specs.Open.{most_open}
 use Rattle.bc_parse_laws.specs.Repeated.{RepeatsNoValof}
 use Rattle.bc_parse_laws.specs.Tokens.{IsSpelling}
 
--- The grammar has some spelling for the section, these tokens are the canonical one, with no line break and no tag, it
--- nests at most 200 deep, at most 400 round brackets are open at once, and no VALOF's body stands before a REPEAT word.
+-- The grammar has a spelling for the section, and these tokens are the canonical one, without line breaks and tags.
+-- The section nests at most 200 deep, at most 400 parentheses are open at once, and no VALOF's body precedes a REPEAT
+-- word.
 pub record IsCanonical (ds : Declarations) (ts : List Lexeme) : Type 0 where
   pub some_spelling : List Part
   pub is_spelled : SpellsSection ds some_spelling

@@ -1,3 +1,4 @@
+-- What the parser returns: the definitions for its contracts.
 pub mod Seen
 pub mod SeenFollow
 pub mod Names

@@ -1,4 +1,4 @@
--- For proofs: what functions of the parser gave, without where it lies in memory.
+-- For proofs: what the functions of the parser take and return, as the definitions see it.
 use Rattle.std.specs.Prelude.{◌≡◌, ◌≤◌, ℕ, Bool, true, false, List, Vec, Option, Some, None, Result, Ok, Err, IfOk}
 use Rattle.std.specs.declared.alloc.Global.{Global}
 use Rattle.std.specs.declared.boxed.Box.{Box}
@@ -16,6 +16,7 @@ use Rattle.bc_parse.specs.declared.read.Turn.TheVariants as turn
 use Rattle.bc_parse.specs.declared.expressions.Levelled.{Levelled}
 use Rattle.bc_parse.specs.declared.blocks.Parts.{Parts}
 
+-- a fault of the code is the definition's fault, or memory ran out
 abbrev pub Fails : {Y : Type 0} → ReadFault → Result Y Fault → Type 0
 Fails faults.Memory read = Unit {0}
 Fails (faults.Expected n) read = read ≡ Err (Expected n)
@@ -26,64 +27,68 @@ infixl 10 ◌~>◌
 abbrev pub ◌~>◌ : {A B : Type 0} → Result A Fault → (A → Result B Fault) → Result B Fault
 r ~> next = r >>= next
 
--- what was returned is what reading gives, unless memory ran out
+-- the code returned what the definition gives, unless memory ran out
 abbrev pub Gives : {X Y : Type 0} → (X → Y) → Result X ReadFault → Result Y Fault → Type 0
 Gives view (Ok x) read = read ≡ Ok (view x)
 Gives view (Err e) read = Fails e read
 
--- the parts of a rest
+-- the remaining parts
 abbrev pub seen : Rest → List Part
 seen rest = parts rest.parts.now
 
--- what a box and what a list mean
+-- views of a box and of a list
 abbrev pub box_view : {X Y : Type 0} → (X → Y) → Box X Global → Y
 box_view view b = view b.value
 
 abbrev pub list_view : {X Y : Type 0} → (List X → Y) → Vec X Global → Y
 list_view view list = view list.items
 
--- what was read, with its tree as what it means
+-- the view of what was read
 abbrev pub read_view : {X Y : Type 0} → (X → Y) → Read X → Piece Y
 read_view view r = piece (view r.tree) r.height (seen r.rest)
 
+-- the code read what the definition gives, unless memory ran out
 abbrev pub Reads : {X Y : Type 0} → (X → Y) → Result (Read X) ReadFault → Result (Piece Y) Fault → Type 0
 Reads view = Gives (read_view view)
 
--- the same of a turn of a loop, and whether it was the last
+-- the view of a turn, and whether it was the last
 abbrev pub turn_view : {X Y : Type 0} → (X → Y) → code_turn.Turn X → Piece Y × Bool
 turn_view view (turn.More r) = (read_view view r, false)
 turn_view view (turn.Last r) = (read_view view r, true)
 
+-- the code took the turn that the definition gives, unless memory ran out
 abbrev pub Takes : {X Y : Type 0} → (X → Y) → Result (code_turn.Turn X) ReadFault → Result (Piece Y × Bool) Fault → Type 0
 Takes view = Gives (turn_view view)
 
+-- how deep nests what was read in a turn
 abbrev pub turn_height : {X : Type 0} → code_turn.Turn X → ℕ
 turn_height (turn.More r) = r.height
 turn_height (turn.Last r) = r.height
 
--- what an expression is so far, with its level
+-- the view of an expression as far as it was read, with its level
 abbrev pub levelled_view : Levelled → Exp × ℕ
 levelled_view o = (exp_view o.exp, o.level)
 
--- declarations and items
+-- the view of declarations and items
 abbrev pub parts_view : Parts → Declarations × Items
 parts_view p = (declarations_view p.declarations.items, items_view p.items.items)
 
+-- the view of a step that may be missing
 abbrev pub exp_option : Option (Box code.Exp Global) → Option Exp
 exp_option None = None
 exp_option (Some e) = Some (exp_view e.value)
 
--- what was made of a part: whatever reading gives the part, going on like this gives the whole
+-- what a constructor makes: whatever reading gives the last part, continuing by `next` gives the whole
 abbrev pub Made : {X Y A B : Type 0} → (X → Y) → Result (Read X) ReadFault → (A → B) → Result (Read A) ReadFault → (Piece Y → Result (Piece B) Fault) → Type 0
 Made view part whole_view whole next = (r : Result (Piece _) Fault) → Reads view part r → Reads whole_view whole (r ~> next)
 
--- the same of an operand, with the level that it has
+-- the same for an operand, with its level
 abbrev pub MadeOperand : {X Y : Type 0} → (X → Y) → Result (Read X) ReadFault → Result (Read Levelled) ReadFault
     → (Piece Y → Result (Piece Exp) Fault) → ℕ → Type 0
 MadeOperand view part whole next level = (r : Result (Piece _) Fault) → Reads view part r
     → Reads levelled_view whole ((r ~> next) ~> λ p. Ok (piece (p.tree, level) p.height p.rest))
 
--- the same of a turn
+-- the same for a turn
 abbrev pub MadeTurn : {X Y A B : Type 0} → (X → Y) → Result (Read X) ReadFault → (A → B) → Result (code_turn.Turn A) ReadFault
     → (Piece Y → Result (Piece B × Bool) Fault) → Type 0
 MadeTurn view part whole_view whole next = (r : Result (Piece _) Fault) → Reads view part r → Takes whole_view whole (r ~> next)
@@ -92,5 +97,6 @@ MadeTurn view part whole_view whole next = (r : Result (Piece _) Fault) → Read
 abbrev pub Nests : {X : Type 0} → Result (Read X) ReadFault → ℕ → Type 0
 Nests read most = IfOk read (λ x. x.height ≤ most)
 
+-- the same for a turn
 abbrev pub NestsTurn : {X : Type 0} → Result (code_turn.Turn X) ReadFault → ℕ → Type 0
 NestsTurn read most = IfOk read (λ x. turn_height x ≤ most)

@@ -1,4 +1,4 @@
--- For proofs: what stands in front, without where it lies in memory.
+-- For proofs: what the functions of `cursor.rt` and `blocks.rt` find, as the definitions see it.
 use Rattle.std.specs.Prelude.{Bool, true, false, List}
 use Rattle.bc_parse_tree.specs.Parts.{Part}
 use Rattle.bc_parse_defs.specs.Reading.{Following, LabelStart, Shape}
@@ -13,23 +13,27 @@ use Rattle.bc_parse.specs.declared.cursor.LabelAt.TheVariants as label_at
 use Rattle.bc_parse.specs.declared.cursor.ShapeAt as code_shape
 use Rattle.bc_parse.specs.declared.cursor.ShapeAt.TheVariants as shape_at
 
+-- what follows an operand
 abbrev pub follow_view : code_follow.Follow → Following
 follow_view follow.Ends = reading.Ends
 follow_view (follow.Operator o ts) = reading.Operator o (seen ts)
 follow_view (follow.Arguments ts) = reading.Arguments (seen ts)
 follow_view (follow.Choice ts) = reading.Choice (seen ts)
 
+-- what begins a label
 abbrev pub label_at_view : code_label.LabelAt → LabelStart
 label_at_view label_at.No = reading.NoLabel
 label_at_view (label_at.Case ts) = reading.CaseLabel (seen ts)
 label_at_view (label_at.Default ts) = reading.DefaultLabel (seen ts)
 label_at_view (label_at.Name n ts) = reading.NameLabel n.now (seen ts)
 
+-- what follows the first name of a definition
 abbrev pub shape_view : code_shape.ShapeAt → Shape
 shape_view (shape_at.Parameters ts) = reading.Parameters (seen ts)
 shape_view (shape_at.Size ts) = reading.Size (seen ts)
 shape_view shape_at.Values = reading.Values
 
+-- what follows an element of a list, and whether the list ends there
 abbrev pub end_view : code_end.PlaceEnd → List Part × Bool
 end_view (place_end.More ts) = (seen ts, false)
 end_view (place_end.Last ts) = (seen ts, true)

@@ -1,4 +1,4 @@
-//! Blocks and bodies: declarations and items, what ends them, and the section that they make.
+//! The readers of blocks, bodies and sections: lists of declarations and items, and what ends them.
 ghost use Rattle.std.specs.Prelude.{◌≡◌, ◌+◌, ◌≤◌, ℕ, length, max, option_map, if◌then◌else◌, Ok, Err, IfOk};
 ghost use Rattle.bc_parse_tree.specs.Spelling.{add_item};
 ghost use Rattle.bc_parse_tree.specs.Tree.{Labels_alone};
@@ -26,14 +26,16 @@ use bc_parse_defs::words::{DeclarationWord, Places};
 use bc_parse_tree::{Block, Command, Declaration, Item, Label, Section};
 use std::alloc::Global;
 
-/// The declarations and the items of a list of places.
+/// The declarations and items of a list.
 #[derive(Drop)]
 pub struct Parts<'s> {
+    /// The declarations, which come first.
     pub declarations: Vec<Declaration<'s>>,
+    /// The items.
     pub items: Vec<Item<'s>>,
 }
 
-/// What is in a block, after its bracket.
+/// A block, after `$(`.
 #[cycle(parser)]
 #[tactic(auto, unfolding(bc_parse_defs::specs::Reading::block_read))]
 pub fn block<'s, 't>(room: Room, rest: Rest<'s, 't>) -> Answer<'s, 't, Block<'s>>
@@ -44,7 +46,7 @@ pub fn block<'s, 't>(room: Room, rest: Rest<'s, 't>) -> Answer<'s, 't, Block<'s>
     construction::block_from(room, places(room, Places::Block, rest))
 }
 
-/// A block that is a body, unless a REPEAT word follows it.
+/// A block as a body. If a repetition follows, the body is the block of the repeated command.
 #[cycle(parser)]
 #[tactic(auto, unfolding(bc_parse_defs::specs::Reading::body_of_block))]
 fn block_body<'s, 't>(room: Room, inner: Read<'s, 't, Block<'s>>) -> Answer<'s, 't, Block<'s>>
@@ -67,7 +69,7 @@ fn block_body<'s, 't>(room: Room, inner: Read<'s, 't, Block<'s>>) -> Answer<'s, 
     construction::body_of(room, repeats(room, first))
 }
 
-/// A block, or one command as the block that it is.
+/// A body: a block, or the block of one command.
 #[cycle(parser)]
 #[tactic(auto, unfolding(bc_parse_defs::specs::Reading::body_read))]
 pub fn body<'s, 't>(room: Room, rest: Rest<'s, 't>) -> Answer<'s, 't, Block<'s>>
@@ -82,7 +84,7 @@ pub fn body<'s, 't>(room: Room, rest: Rest<'s, 't>) -> Answer<'s, 't, Block<'s>>
     construction::body_of(room, command(room, rest))
 }
 
-/// A body after a line break and DO, which may be left out.
+/// A body that a line break and DO may precede.
 #[cycle(parser)]
 #[tactic(auto, unfolding(bc_parse_defs::specs::Reading::do_read))]
 pub fn do_body<'s, 't>(room: Room, rest: Rest<'s, 't>) -> Answer<'s, 't, Block<'s>>
@@ -93,7 +95,7 @@ pub fn do_body<'s, 't>(room: Room, rest: Rest<'s, 't>) -> Answer<'s, 't, Block<'
     body(room, cursor::skip_do(rest))
 }
 
-/// A command as the body that it is, and how deep that nests.
+/// A command as a body, and how deep that nests.
 pub fn body_from<'s, 't>(
     alloc: Global,
     whole: Read<'s, 't, Command<'s>>,
@@ -116,7 +118,7 @@ pub fn body_from<'s, 't>(
     }
 }
 
-/// The labels before a command.
+/// The labels of an item.
 #[cycle(parser)]
 #[tactic(auto, unfolding(bc_parse_defs::specs::Reading::labels_read))]
 fn labels<'s, 't>(room: Room, rest: Rest<'s, 't>) -> Answer<'s, 't, Vec<Label<'s>>>
@@ -138,6 +140,7 @@ fn labels<'s, 't>(room: Room, rest: Rest<'s, 't>) -> Answer<'s, 't, Vec<Label<'s
     Err(boxes::spent(found))
 }
 
+/// One label, if one follows.
 #[cycle(parser)]
 #[tactic(auto, unfolding(bc_parse_defs::specs::Reading::label_read))]
 fn label_step<'s, 't>(
@@ -178,7 +181,7 @@ fn default_label<'s, 't>(
     }))
 }
 
-/// `name:`.
+/// `name:`, after its colon.
 #[tactic(auto, unfolding(bc_parse_defs::specs::Reading::label_read))]
 fn name_label<'s, 't>(
     list: Read<'s, 't, Vec<Label<'s>>>,
@@ -198,7 +201,7 @@ fn name_label<'s, 't>(
     }))
 }
 
-/// One more item of a list of places, where one may stand.
+/// One more item, if lists of this kind have items.
 #[cycle(parser)]
 #[tactic(auto, unfolding(bc_parse_defs::specs::Reading::item_read))]
 fn item_part<'s, 't>(
@@ -226,7 +229,7 @@ fn item_part<'s, 't>(
     construction::command_item(room, command(room, found.rest), list, found)
 }
 
-/// One more item, of these labels alone.
+/// One more item that has only these labels.
 fn labels_part<'s, 't>(
     list: Read<'s, 't, Parts<'s>>,
     found: Read<'s, 't, Vec<Label<'s>>>,
@@ -254,7 +257,7 @@ fn labels_part<'s, 't>(
     })
 }
 
-/// One more declaration or item of a list of places.
+/// One more declaration or item.
 #[cycle(parser)]
 #[tactic(auto, unfolding(bc_parse_defs::specs::Reading::part_read))]
 fn part_of<'s, 't>(
@@ -274,6 +277,7 @@ fn part_of<'s, 't>(
     }
 }
 
+/// One element of a list: its end, an empty place, or a declaration or item.
 #[cycle(parser)]
 #[tactic(auto, unfolding(bc_parse_defs::specs::Reading::place_turn))]
 fn place_step<'s, 't>(
@@ -297,7 +301,7 @@ fn place_step<'s, 't>(
     ended(mode, found)
 }
 
-/// What was read as a turn: the last one where the list ends after it.
+/// A turn, which is the last if the list ends after what was read.
 fn ended<'s, 't>(
     mode: Places,
     found: Read<'s, 't, Parts<'s>>,
@@ -312,7 +316,7 @@ fn ended<'s, 't>(
     })
 }
 
-/// Declarations and items with semicolons between them, and what ends them.
+/// Declarations and items, separated by semicolons, up to and including the end of the list.
 #[cycle(parser)]
 #[tactic(auto, unfolding(bc_parse_defs::specs::Reading::places_read))]
 pub fn places<'s, 't>(room: Room, mode: Places, rest: Rest<'s, 't>) -> Answer<'s, 't, Parts<'s>>
@@ -339,7 +343,7 @@ pub fn places<'s, 't>(room: Room, mode: Places, rest: Rest<'s, 't>) -> Answer<'s
     Err(boxes::spent(found))
 }
 
-/// Whether there is a label.
+/// Whether the list has a label.
 #[tactic(auto, using(crate::proofs::Lists::some_label_view))]
 fn has_label(list: &Vec<Label<'_>>) -> bool
     ensures { result ≡ some_label (labels_view list.now.items) }
@@ -347,7 +351,7 @@ fn has_label(list: &Vec<Label<'_>>) -> bool
     !list.is_empty()
 }
 
-/// Whether there is no item yet.
+/// Whether the list has no item.
 #[tactic(auto, using(crate::proofs::Lists::no_item_view))]
 fn has_no_item(list: &Vec<Item<'_>>) -> bool
     ensures { result ≡ no_item_yet (items_view list.now.items) }
@@ -355,7 +359,7 @@ fn has_no_item(list: &Vec<Item<'_>>) -> bool
     list.is_empty()
 }
 
-/// Whether items may stand in a list of places.
+/// Whether lists of this kind may have items.
 fn has_items(mode: Places) -> bool
     ensures { result ≡ may_command mode }
 {
@@ -366,7 +370,7 @@ fn has_items(mode: Places) -> bool
     }
 }
 
-/// The word of a declaration, where one may stand.
+/// The first word of a declaration, if it comes first and a declaration may be here.
 fn declared<'s, 't>(
     mode: Places,
     is_first: bool,
@@ -384,14 +388,16 @@ fn declared<'s, 't>(
     }
 }
 
-/// What stands after an element of a list of places: a separator, or the end of the list.
+/// What follows an element of a list.
 #[derive(Clone, Copy)]
 pub enum PlaceEnd<'s, 't> {
+    /// A separator; the list goes on.
     More(Rest<'s, 't>),
+    /// The end of the list.
     Last(Rest<'s, 't>),
 }
 
-/// The parts after an element of a list of places, and whether the list ends there.
+/// What follows an element of a list of this kind. Anything but a separator and the end is a fault.
 pub fn place_end_at<'s, 't>(mode: Places, rest: Rest<'s, 't>) -> Result<PlaceEnd<'s, 't>, ReadFault>
     ensures { Gives end_view result (place_end mode (seen rest.entry)) }
 {
@@ -404,7 +410,7 @@ pub fn place_end_at<'s, 't>(mode: Places, rest: Rest<'s, 't>) -> Result<PlaceEnd
     }
 }
 
-/// The section that the parts spell.
+/// A section: its tree nests at most 200 deep, and at most 400 parentheses are open at once.
 #[tactic(auto, unfolding(bc_parse_defs::specs::Reading::section_of))]
 pub fn section_in<'s, 't>(alloc: Global, rest: Rest<'s, 't>) -> Result<Section<'s>, ReadFault>
     ensures read { Gives (λ x. declarations_view x.declarations.items) result (section_of (seen rest.entry)) }

@@ -1,4 +1,7 @@
-//! Trees in boxes, and lists with one more element. What is here alone has a tree in its hands that it may have to let go.
+//! Trees in boxes, and lists with one more element.
+//!
+//! These are the only functions that may have to drop a tree, after a failed allocation or a fault. Drops are
+//! expensive to prove, so they are kept here, and those of trees by value are in generic functions.
 ghost use Rattle.std.specs.Prelude.{◌≡◌, ◌∷◌, [], ◌++◌, IfOk, IfErr, Ok, length};
 ghost use Rattle.bc_parse_tree.specs.Tree as tree;
 ghost use Rattle.bc_parse_tree.specs.Spelling.{add_exp, add_entry, add_definition, add_declaration, add_label};
@@ -17,7 +20,7 @@ use bc_lex_tokens::Symbol;
 use bc_parse_tree::{Block, Command, Constant, Declaration, Definition, Exp, Item, Label};
 use std::alloc::Global;
 
-/// A value in memory of its own.
+/// A value in a box.
 fn boxed<T: Drop>(alloc: Global, value: T) -> Result<Box<T>, ReadFault>
     ensures value { IfOk result (λ x. x.value ≡ value) }
     ensures memory { IfErr result (λ e. e ≡ Memory) }
@@ -35,7 +38,7 @@ fn pushed<T: Drop>(list: Vec<T>, element: T) -> Result<Vec<T>, ReadFault>
     Ok(longer)
 }
 
-/// What was read, with this symbol after it.
+/// What was read, if this symbol follows it.
 pub fn closed<'s, 't, T: Drop>(wanted: Symbol, found: Read<'s, 't, T>) -> Answer<'s, 't, T>
     ensures tree { IfOk result (λ x. x.tree ≡ found.entry.tree) }
     ensures height { IfOk result (λ x. x.height ≡ found.entry.height) }
@@ -45,42 +48,42 @@ pub fn closed<'s, 't, T: Drop>(wanted: Symbol, found: Read<'s, 't, T>) -> Answer
     Ok(Read { rest, ..found })
 }
 
-/// The fault of a loop that has no turn left.
+/// The fault of a loop whose turns are used up, as in the definition.
 pub fn spent<'s, 't, T: Drop>(found: Read<'s, 't, T>) -> ReadFault
     ensures { result ≡ Expected (length (seen found.entry.rest)) }
 {
     ReadFault::Expected(found.rest.parts.len())
 }
 
-/// The fault of what would nest too deep here.
+/// The fault of exceeding a bound at the part after what was read.
 pub fn too_deep<'s, 't, T: Drop>(found: Read<'s, 't, T>) -> ReadFault
     ensures { result ≡ TooDeep (length (seen found.entry.rest)) }
 {
     ReadFault::TooDeep(found.rest.parts.len())
 }
 
-/// The fault of what would nest too deep at this place.
+/// The fault of exceeding a bound at this place.
 pub fn too_deep_at<'s, 't, T: Drop>(place: usize, _found: Read<'s, 't, T>) -> ReadFault
     ensures { result ≡ TooDeep place }
 {
     ReadFault::TooDeep(place)
 }
 
-/// An expression in memory of its own.
+/// An expression in a box.
 pub fn exp<'s>(alloc: Global, tree: Exp<'s>) -> Result<Box<Exp<'s>>, ReadFault>
     ensures { Gives (box_view exp_view) result (Ok (exp_view tree.entry)) }
 {
     Ok(boxed(alloc, tree)?)
 }
 
-/// A command in memory of its own.
+/// A command in a box.
 pub fn command<'s>(alloc: Global, tree: Command<'s>) -> Result<Box<Command<'s>>, ReadFault>
     ensures { Gives (box_view command_view) result (Ok (command_view tree.entry)) }
 {
     Ok(boxed(alloc, tree)?)
 }
 
-/// Expressions with one more.
+/// Expressions, and one more.
 #[tactic(auto, using(crate::proofs::Lists::exps_view_push))]
 pub fn exp_added<'s>(list: Vec<Exp<'s>>, tree: Exp<'s>) -> Result<Vec<Exp<'s>>, ReadFault>
     ensures { Gives (list_view exps_view) result (Ok (add_exp (exps_view list.entry.items) (exp_view tree.entry))) }
@@ -88,7 +91,7 @@ pub fn exp_added<'s>(list: Vec<Exp<'s>>, tree: Exp<'s>) -> Result<Vec<Exp<'s>>, 
     Ok(pushed(list, tree)?)
 }
 
-/// Definitions with one more.
+/// Definitions, and one more.
 #[tactic(auto, using(crate::proofs::Lists::definitions_view_push))]
 pub fn definition_added<'s>(
     list: Vec<Definition<'s>>,
@@ -99,7 +102,7 @@ pub fn definition_added<'s>(
     Ok(pushed(list, tree)?)
 }
 
-/// Declarations with one more.
+/// Declarations, and one more.
 #[tactic(auto, using(crate::proofs::Lists::declarations_view_push))]
 pub fn declaration_added<'s>(
     list: Vec<Declaration<'s>>,
@@ -110,7 +113,7 @@ pub fn declaration_added<'s>(
     Ok(pushed(list, tree)?)
 }
 
-/// Constants with one more.
+/// Constants, and one more.
 #[tactic(auto, using(crate::proofs::Lists::entries_view_push))]
 pub fn constant_added<'s>(
     list: Vec<Constant<'s>>,
@@ -122,7 +125,7 @@ pub fn constant_added<'s>(
     Ok(pushed(list, Constant { name, value })?)
 }
 
-/// Labels with `CASE value:` after them.
+/// Labels, and `CASE value:`.
 #[tactic(auto, using(crate::proofs::Views::case_view))]
 pub fn case_added<'s>(
     list: Vec<Label<'s>>,
@@ -133,7 +136,7 @@ pub fn case_added<'s>(
     label_added(list, Label::Case(Box::into_inner(value)))
 }
 
-/// Labels with `DEFAULT:` after them.
+/// Labels, and `DEFAULT:`.
 #[tactic(auto, using(crate::proofs::Views::default_view))]
 pub fn default_added<'s>(list: Vec<Label<'s>>) -> Result<Vec<Label<'s>>, ReadFault>
     ensures { Gives (list_view labels_view) result (Ok (add_label (labels_view list.entry.items) tree.Default)) }
@@ -141,7 +144,7 @@ pub fn default_added<'s>(list: Vec<Label<'s>>) -> Result<Vec<Label<'s>>, ReadFau
     label_added(list, Label::Default)
 }
 
-/// Labels with `name:` after them.
+/// Labels, and `name:`.
 #[tactic(auto, using(crate::proofs::Views::named_view))]
 pub fn name_added<'s>(list: Vec<Label<'s>>, name: &'s [u8]) -> Result<Vec<Label<'s>>, ReadFault>
     ensures { Gives (list_view labels_view) result (Ok (add_label (labels_view list.entry.items) (tree.Named name.entry.now))) }
@@ -149,7 +152,7 @@ pub fn name_added<'s>(list: Vec<Label<'s>>, name: &'s [u8]) -> Result<Vec<Label<
     label_added(list, Label::Name(name))
 }
 
-/// Labels with one more.
+/// Labels, and one more.
 #[tactic(auto, using(crate::proofs::Lists::labels_view_push))]
 fn label_added<'s>(list: Vec<Label<'s>>, tree: Label<'s>) -> Result<Vec<Label<'s>>, ReadFault>
     ensures { Gives (list_view labels_view) result (Ok (add_label (labels_view list.entry.items) (label_view tree.entry))) }
@@ -157,7 +160,7 @@ fn label_added<'s>(list: Vec<Label<'s>>, tree: Label<'s>) -> Result<Vec<Label<'s
     Ok(pushed(list, tree)?)
 }
 
-/// Items with one more.
+/// Items, and one more.
 #[tactic(auto, using(crate::proofs::Lists::items_view_push))]
 fn item_added<'s>(list: Vec<Item<'s>>, tree: Item<'s>) -> Result<Vec<Item<'s>>, ReadFault>
     ensures { Gives (list_view items_view) result (Ok (add_item (items_view list.entry.items) (item_view tree.entry))) }
@@ -165,7 +168,7 @@ fn item_added<'s>(list: Vec<Item<'s>>, tree: Item<'s>) -> Result<Vec<Item<'s>>, 
     Ok(pushed(list, tree)?)
 }
 
-/// Items with one more, of labels and a command.
+/// Items, and one more with these labels and this command.
 pub fn command_added<'s>(
     list: Vec<Item<'s>>,
     labels: Vec<Label<'s>>,
@@ -178,7 +181,7 @@ pub fn command_added<'s>(
     item_added(list, Item { labels, command })
 }
 
-/// Items with one more, of labels alone.
+/// Items, and one more that has only these labels.
 pub fn labels_added<'s>(
     list: Vec<Item<'s>>,
     labels: Vec<Label<'s>>,

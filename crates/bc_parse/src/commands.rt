@@ -1,4 +1,7 @@
-//! Commands.
+//! The readers of commands.
+//!
+//! One construct is often read by several functions. Each member of the cycle is expensive to prove, and more so the
+//! more trees it holds by value, so a function reads little, and a tree that waits for another one is in a box.
 ghost use Rattle.std.specs.Prelude.{◌≡◌, ◌+◌, ◌-◌, ◌<◌, ◌≤◌, ◌==◌, if◌then◌else◌, ℕ, length, max, Ok, Err, IfOk};
 ghost use Rattle.std.specs.Prelude.{option_map};
 ghost use Rattle.bc_parse_tree.specs.View.{exp_view, exps_view, command_view, block_view, items_view, for_from};
@@ -26,7 +29,7 @@ use bc_parse_defs::words;
 use bc_parse_defs::words::{CommandWord, Places, RepeatWord, SimpleWord, Tested};
 use bc_parse_tree::{Block, Command, Exp};
 
-/// A command.
+/// A command, unless it would nest too deep.
 #[cycle(parser)]
 #[tactic(auto, unfolding(bc_parse_defs::specs::Reading::command_of))]
 pub fn command<'s, 't>(room: Room, rest: Rest<'s, 't>) -> Answer<'s, 't, Command<'s>>
@@ -39,6 +42,7 @@ pub fn command<'s, 't>(room: Room, rest: Rest<'s, 't>) -> Answer<'s, 't, Command
     worded(room, rest)
 }
 
+/// A command, by its first word.
 #[cycle(parser)]
 #[tactic(auto, unfolding(bc_parse_defs::specs::Reading::command_read))]
 fn worded<'s, 't>(room: Room, rest: Rest<'s, 't>) -> Answer<'s, 't, Command<'s>>
@@ -53,6 +57,7 @@ fn worded<'s, 't>(room: Room, rest: Rest<'s, 't>) -> Answer<'s, 't, Command<'s>>
     }
 }
 
+/// A command that REPEAT can follow, with its repetitions.
 #[cycle(parser)]
 #[tactic(auto, unfolding(bc_parse_defs::specs::Reading::repeatable_read))]
 fn repeatable<'s, 't>(room: Room, rest: Rest<'s, 't>) -> Answer<'s, 't, Command<'s>>
@@ -65,7 +70,7 @@ fn repeatable<'s, 't>(room: Room, rest: Rest<'s, 't>) -> Answer<'s, 't, Command<
     repeats(room, first)
 }
 
-/// A command that a REPEAT word may follow, without it.
+/// A command that REPEAT can follow, without its repetitions.
 #[cycle(parser)]
 fn unrepeated<'s, 't>(room: Room, rest: Rest<'s, 't>) -> Answer<'s, 't, Command<'s>>
     requires { 0 < room.nest }
@@ -81,7 +86,7 @@ fn unrepeated<'s, 't>(room: Room, rest: Rest<'s, 't>) -> Answer<'s, 't, Command<
     }
 }
 
-/// A command with the REPEAT words after it.
+/// A command with the repetitions that follow it.
 #[cycle(parser)]
 pub fn repeats<'s, 't>(room: Room, first: Read<'s, 't, Command<'s>>) -> Answer<'s, 't, Command<'s>>
     requires { first.height ≤ room.nest }
@@ -95,7 +100,7 @@ pub fn repeats<'s, 't>(room: Room, first: Read<'s, 't, Command<'s>>) -> Answer<'
     }
 }
 
-/// The same where a REPEAT word stands after the command.
+/// The same if there is a repetition, which needs the command in a box.
 #[cycle(parser)]
 fn repeats_apart<'s, 't>(
     room: Room,
@@ -117,7 +122,7 @@ fn repeats_apart<'s, 't>(
     })
 }
 
-/// The same of a command in memory of its own, as each REPEAT word wants it.
+/// The same for a command in a box.
 #[cycle(parser)]
 #[tactic(auto, unfolding(bc_parse_defs::specs::Reading::repeats_read))]
 fn repeats_from<'s, 't>(
@@ -140,6 +145,7 @@ fn repeats_from<'s, 't>(
     Err(ReadFault::Expected(whole.rest.parts.len()))
 }
 
+/// One repetition, if one follows.
 #[cycle(parser)]
 #[tactic(auto, unfolding(bc_parse_defs::specs::Reading::repeat_turn))]
 fn repeat_step<'s, 't>(
@@ -162,6 +168,7 @@ fn repeat_step<'s, 't>(
     }
 }
 
+/// A repetition, after its word.
 #[cycle(parser)]
 #[tactic(auto, unfolding(bc_parse_defs::specs::Reading::repeated))]
 fn repeat_by<'s, 't>(
@@ -187,6 +194,7 @@ fn repeat_by<'s, 't>(
     }
 }
 
+/// A command with REPEAT.
 #[tactic(auto, unfolding(bc_parse_defs::specs::Reading::repeated))]
 fn repeat_always<'s, 't>(
     room: Room,
@@ -230,7 +238,7 @@ fn assigned<'s, 't>(room: Room, rest: Rest<'s, 't>) -> Answer<'s, 't, Command<'s
     }
 }
 
-/// What stands before an `:=` that is not there: one call.
+/// A command without `:=`: one call, or a fault.
 #[tactic(auto, using(crate::proofs::Views::call_view))]
 fn call_of<'s, 't>(room: Room, found: Read<'s, 't, Vec<Exp<'s>>>) -> Answer<'s, 't, Command<'s>>
     requires { found.height < room.nest }
@@ -249,7 +257,7 @@ fn call_of<'s, 't>(room: Room, found: Read<'s, 't, Vec<Exp<'s>>>) -> Answer<'s, 
     }
 }
 
-/// A list of one expression that is a call.
+/// The routine and the arguments, if the list is one call.
 fn one_call<'s>(list: Vec<Exp<'s>>) -> Option<(Box<Exp<'s>>, Vec<Exp<'s>>)>
     ensures { option_map (λ x. (exp_view x.0.value, exps_view x.1.items)) result ≡ call_in (exps_view list.entry.items) }
 {
@@ -263,6 +271,7 @@ fn one_call<'s>(list: Vec<Exp<'s>>) -> Option<(Box<Exp<'s>>, Vec<Exp<'s>>)>
     }
 }
 
+/// A command that REPEAT can follow, after its first word.
 #[cycle(parser)]
 #[tactic(auto, unfolding(bc_parse_defs::specs::Reading::simple_read))]
 fn simple<'s, 't>(room: Room, word: SimpleWord, rest: Rest<'s, 't>) -> Answer<'s, 't, Command<'s>>
@@ -287,7 +296,7 @@ fn simple<'s, 't>(room: Room, word: SimpleWord, rest: Rest<'s, 't>) -> Answer<'s
     }
 }
 
-/// A command in which no other tree stands.
+/// A command without further trees.
 fn alone<'s, 't>(tree: Command<'s>, rest: Rest<'s, 't>) -> Read<'s, 't, Command<'s>>
     ensures read { read_view command_view result ≡ piece (command_view tree.entry) 1 (seen rest.entry) }
     ensures height { result.height ≡ 1 }
@@ -299,6 +308,7 @@ fn alone<'s, 't>(tree: Command<'s>, rest: Rest<'s, 't>) -> Read<'s, 't, Command<
     }
 }
 
+/// GOTO, after its word.
 fn goto<'s, 't>(rest: Rest<'s, 't>) -> Answer<'s, 't, Command<'s>>
     ensures read { Reads command_view result (name_of (seen rest.entry) ~> λ n. Ok (piece (tree.Goto n.0) 1 n.1)) }
     ensures low { (m : ℕ) → 0 < m → IfOk result (λ x. x.height ≤ m) }
@@ -307,6 +317,7 @@ fn goto<'s, 't>(rest: Rest<'s, 't>) -> Answer<'s, 't, Command<'s>>
     Ok(alone(Command::Goto(name), rest))
 }
 
+/// A command that REPEAT can't follow, after its first word.
 #[cycle(parser)]
 #[tactic(auto, unfolding(bc_parse_defs::specs::Reading::compound_read))]
 fn compound<'s, 't>(
@@ -327,6 +338,7 @@ fn compound<'s, 't>(
     }
 }
 
+/// IF, UNLESS, WHILE or UNTIL, after its word.
 #[cycle(parser)]
 #[tactic(auto, unfolding(bc_parse_defs::specs::Reading::tested_read))]
 fn tested<'s, 't>(room: Room, word: Tested, rest: Rest<'s, 't>) -> Answer<'s, 't, Command<'s>>
@@ -344,7 +356,7 @@ fn tested<'s, 't>(room: Room, word: Tested, rest: Rest<'s, 't>) -> Answer<'s, 't
     construction::tested(room, word, test, do_body(inner, remaining))
 }
 
-/// IF, UNLESS, WHILE or UNTIL.
+/// IF, UNLESS, WHILE or UNTIL, as a tree.
 pub fn tested_of<'s>(word: Tested, test: Box<Exp<'s>>, body: Block<'s>) -> Command<'s>
     ensures { command_view result ≡ tested_command word (exp_view test.entry.value) (block_view body.entry) }
 {
@@ -357,6 +369,7 @@ pub fn tested_of<'s>(word: Tested, test: Box<Exp<'s>>, body: Block<'s>) -> Comma
     }
 }
 
+/// TEST, after its word.
 #[cycle(parser)]
 #[tactic(auto, unfolding(bc_parse_defs::specs::Reading::test_read))]
 fn test<'s, 't>(room: Room, rest: Rest<'s, 't>) -> Answer<'s, 't, Command<'s>>
@@ -374,7 +387,7 @@ fn test<'s, 't>(room: Room, rest: Rest<'s, 't>) -> Answer<'s, 't, Command<'s>>
     test_else(room, test, this)
 }
 
-/// The other body of a TEST.
+/// ELSE and the second body of a TEST.
 #[cycle(parser)]
 fn test_else<'s, 't>(
     room: Room,
@@ -398,12 +411,14 @@ fn test_else<'s, 't>(
     construction::test(room, test, this, body(inner, rest))
 }
 
+/// TEST, as a tree.
 pub fn test_of<'s>(test: Box<Exp<'s>>, this: Block<'s>, that: Block<'s>) -> Command<'s>
     ensures { command_view result ≡ tree.Test (exp_view test.entry.value) (block_view this.entry) (block_view that.entry) }
 {
     Command::Test { test, this, that }
 }
 
+/// The step of a FOR: BY and its constant, which may be missing.
 #[cycle(parser)]
 #[tactic(auto, unfolding(bc_parse_defs::specs::Reading::step_read))]
 fn step<'s, 't>(room: Room, rest: Rest<'s, 't>) -> Answer<'s, 't, Option<Box<Exp<'s>>>>
@@ -428,6 +443,7 @@ fn step<'s, 't>(room: Room, rest: Rest<'s, 't>) -> Answer<'s, 't, Option<Box<Exp
     }
 }
 
+/// FOR, after its word.
 #[cycle(parser)]
 #[tactic(auto, unfolding(bc_parse_defs::specs::Reading::for_read))]
 fn for_command<'s, 't>(room: Room, rest: Rest<'s, 't>) -> Answer<'s, 't, Command<'s>>
@@ -446,7 +462,7 @@ fn for_command<'s, 't>(room: Room, rest: Rest<'s, 't>) -> Answer<'s, 't, Command
     for_to(room, variable, start)
 }
 
-/// A FOR from its TO on.
+/// The rest of a FOR from TO on.
 #[cycle(parser)]
 fn for_to<'s, 't>(
     room: Room,
@@ -472,7 +488,7 @@ fn for_to<'s, 't>(
     for_by(room, variable, start, limit)
 }
 
-/// A FOR from its step on.
+/// The rest of a FOR from BY on.
 #[cycle(parser)]
 fn for_by<'s, 't>(
     room: Room,
@@ -511,6 +527,7 @@ fn for_by<'s, 't>(
     })
 }
 
+/// SWITCHON, after its word.
 #[cycle(parser)]
 #[tactic(auto, unfolding(bc_parse_defs::specs::Reading::switch_read))]
 fn switch_on<'s, 't>(room: Room, rest: Rest<'s, 't>) -> Answer<'s, 't, Command<'s>>
@@ -528,7 +545,7 @@ fn switch_on<'s, 't>(room: Room, rest: Rest<'s, 't>) -> Answer<'s, 't, Command<'
     switch_cases(room, value, rest)
 }
 
-/// The cases of a SWITCHON, with the section bracket before them.
+/// The items of a SWITCHON, from `$(` on.
 #[cycle(parser)]
 fn switch_cases<'s, 't>(
     room: Room,
@@ -550,6 +567,7 @@ fn switch_cases<'s, 't>(
     construction::switch(room, value, places(inner, Places::Cases, rest))
 }
 
+/// SWITCHON, as a tree.
 pub fn switch_of<'s>(value: Box<Exp<'s>>, found: Parts<'s>) -> Command<'s>
     ensures { command_view result ≡ tree.SwitchOn (exp_view value.entry.value) (items_view found.entry.items.items) }
 {

@@ -1,5 +1,7 @@
-//! What is made of a part that was just read. Each function takes the part's answer as it comes, and hands on its fault. So it calls
-//! no reader, and is proved by itself, and the readers, which call one another and have one proof, hold few trees.
+//! The constructors of the parser's trees. Each takes the result of reading the last part, and passes on its fault.
+//!
+//! They call no reader, so they are outside the cycle of readers and each is proved by itself. This keeps the cycle's
+//! proof small.
 ghost use Rattle.std.specs.Prelude.{◌≡◌, ◌+◌, ◌-◌, ◌<◌, ◌≤◌, ◌==◌, if◌then◌else◌, true, false, length, max, Result, Ok, Err};
 ghost use Rattle.bc_lex_tokens.specs.declared.symbol.Symbol.TheVariants as sign;
 ghost use Rattle.bc_parse_tree.specs.Operators.{own_level, level_of};
@@ -28,7 +30,7 @@ use bc_parse_tree::{
     Block, Command, Constant, Declaration, Definition, Dyadic, Exp, Label, Monadic, Storage,
 };
 
-/// An expression in memory of its own.
+/// Puts an expression into a box.
 pub fn exp_kept<'s, 't>(room: Room, found: Answer<'s, 't, Exp<'s>>) -> Answer<'s, 't, Box<Exp<'s>>>
     requires { Nests found room.nest }
     ensures read { (r : Result (Piece tree.Exp) Fault) → Reads exp_view found.entry r → Reads (box_view exp_view) result r }
@@ -43,7 +45,7 @@ pub fn exp_kept<'s, 't>(room: Room, found: Answer<'s, 't, Exp<'s>>) -> Answer<'s
     })
 }
 
-/// An operand of this level.
+/// An operand with its level.
 fn operand<'s, 't>(
     exp: Exp<'s>,
     level: usize,
@@ -57,7 +59,7 @@ fn operand<'s, 't>(
     Read { tree, height, rest }
 }
 
-/// TABLE with its constants.
+/// A TABLE.
 pub fn table_of<'s, 't>(
     room: Room,
     found: Answer<'s, 't, Vec<Exp<'s>>>,
@@ -71,7 +73,7 @@ pub fn table_of<'s, 't>(
     Ok(operand(Exp::Table(found.tree), 12, found.height + 1, found.rest))
 }
 
-/// VALOF with its body.
+/// A VALOF.
 pub fn valof_of<'s, 't>(
     room: Room,
     found: Answer<'s, 't, Block<'s>>,
@@ -85,7 +87,7 @@ pub fn valof_of<'s, 't>(
     Ok(operand(Exp::Valof(found.tree), 12, found.height + 1, found.rest))
 }
 
-/// An operator with its one operand.
+/// A monadic operator and its operand.
 pub fn monadic_of<'s, 't>(
     room: Room,
     op: Monadic,
@@ -101,7 +103,7 @@ pub fn monadic_of<'s, 't>(
     Ok(operand(exp, words::monadic_level(op), found.height + 1, found.rest))
 }
 
-/// An expression with the round bracket after it.
+/// An expression in parentheses, whose `)` is read here.
 pub fn bracket_of<'s, 't>(
     room: Room,
     found: Answer<'s, 't, Exp<'s>>,
@@ -115,7 +117,7 @@ pub fn bracket_of<'s, 't>(
     Ok(operand(found.tree, 12, found.height, found.rest))
 }
 
-/// An operator between two operands, of which the left one nests so deep.
+/// A dyadic operator and its operands. `height` is how deep the left one nests.
 pub fn dyadic_of<'s, 't>(
     room: Room,
     op: Dyadic,
@@ -139,7 +141,7 @@ pub fn dyadic_of<'s, 't>(
     ))
 }
 
-/// A call of a routine that nests so deep.
+/// A call. `height` is how deep the routine nests.
 pub fn call_from<'s, 't>(
     room: Room,
     height: usize,
@@ -157,7 +159,7 @@ pub fn call_from<'s, 't>(
     Ok(operand(exp, 12, height.max(found.height) + 1, found.rest))
 }
 
-/// A choice whose first two parts nest so deep.
+/// A choice. `height` is how deep the test and the first value nest.
 pub fn condition_of<'s, 't>(
     room: Room,
     height: usize,
@@ -177,7 +179,7 @@ pub fn condition_of<'s, 't>(
     Ok(operand(exp, 1, height.max(found.height) + 1, found.rest))
 }
 
-/// A longer operand, after which another one may stand.
+/// A longer operand, which may be continued.
 pub fn grown<'s, 't>(
     room: Room,
     next: Answer<'s, 't, Levelled<'s>>,
@@ -189,7 +191,7 @@ pub fn grown<'s, 't>(
     Ok(Turn::More(next?))
 }
 
-/// Expressions with one more, and whether it is the last.
+/// Expressions with one more. It is the last if there are `limit` of them, or if no comma follows.
 pub fn exps_more<'s, 't>(
     room: Room,
     limit: usize,
@@ -257,7 +259,7 @@ pub fn until_of<'s, 't>(
     }))
 }
 
-/// An assignment, of as many values as there are targets.
+/// An assignment. Expected, if there are fewer values than targets.
 #[tactic(auto, using(crate::proofs::Views::assign_view))]
 pub fn assignment<'s, 't>(
     room: Room,
@@ -298,7 +300,7 @@ pub fn compound<'s, 't>(room: Room, inner: Answer<'s, 't, Block<'s>>) -> Answer<
     })
 }
 
-/// RESULTIS with its value.
+/// RESULTIS and its value.
 pub fn result_of<'s, 't>(room: Room, value: Answer<'s, 't, Exp<'s>>) -> Answer<'s, 't, Command<'s>>
     requires room { 0 < room.nest }
     requires value { Nests value (room.nest - 1) }
@@ -334,7 +336,7 @@ pub fn tested<'s, 't>(
     })
 }
 
-/// TEST with its two bodies.
+/// TEST with its test and both bodies.
 pub fn test<'s, 't>(
     room: Room,
     test: Read<'s, 't, Box<Exp<'s>>>,
@@ -357,7 +359,7 @@ pub fn test<'s, 't>(
     })
 }
 
-/// SWITCHON with its value and its cases.
+/// SWITCHON with its value and its items.
 pub fn switch<'s, 't>(
     room: Room,
     value: Read<'s, 't, Box<Exp<'s>>>,
@@ -377,7 +379,7 @@ pub fn switch<'s, 't>(
     })
 }
 
-/// A block, of what stands in it.
+/// A block of these declarations and items.
 pub fn block_from<'s, 't>(room: Room, found: Answer<'s, 't, Parts<'s>>) -> Answer<'s, 't, Block<'s>>
     requires { Nests found room.nest }
     ensures read { Made parts_view found.entry block_view result (λ p. Ok (piece (tree.block p.tree.0 p.tree.1) p.height p.rest)) }
@@ -399,7 +401,7 @@ pub fn block_from<'s, 't>(room: Room, found: Answer<'s, 't, Parts<'s>>) -> Answe
     })
 }
 
-/// A command as the body that it is.
+/// A command as a body.
 pub fn body_of<'s, 't>(room: Room, whole: Answer<'s, 't, Command<'s>>) -> Answer<'s, 't, Block<'s>>
     requires { Nests whole room.nest }
     ensures read { Made command_view whole.entry block_view result (λ c. Ok
@@ -409,7 +411,7 @@ pub fn body_of<'s, 't>(room: Room, whole: Answer<'s, 't, Command<'s>>) -> Answer
     body_from(room.alloc, whole?)
 }
 
-/// Labels with `CASE value:` after them.
+/// Labels with one more, `CASE value:`, whose colon is read here.
 pub fn case_of<'s, 't>(
     room: Room,
     value: Answer<'s, 't, Box<Exp<'s>>>,
@@ -431,7 +433,7 @@ pub fn case_of<'s, 't>(
     }))
 }
 
-/// One more item, of these labels and the command after them.
+/// One more item, with these labels and this command.
 pub fn command_item<'s, 't>(
     room: Room,
     remaining: Answer<'s, 't, Command<'s>>,
@@ -465,7 +467,7 @@ pub fn command_item<'s, 't>(
     })
 }
 
-/// One more declaration of a list of places.
+/// One more declaration.
 pub fn declared<'s, 't>(
     room: Room,
     found: Answer<'s, 't, Declaration<'s>>,
@@ -495,7 +497,7 @@ pub fn declared<'s, 't>(
     })
 }
 
-/// LET with its definitions.
+/// A LET.
 pub fn let_of<'s, 't>(
     room: Room,
     found: Answer<'s, 't, Vec<Definition<'s>>>,
@@ -512,7 +514,7 @@ pub fn let_of<'s, 't>(
     })
 }
 
-/// Constants of this storage.
+/// A list of constants of this storage.
 pub fn constants<'s, 't>(
     room: Room,
     storage: Storage,
@@ -530,7 +532,7 @@ pub fn constants<'s, 't>(
     })
 }
 
-/// Constants with one more, of this name.
+/// One more constant, with this name.
 pub fn constant<'s, 't>(
     room: Room,
     name: &'s [u8],
@@ -552,7 +554,7 @@ pub fn constant<'s, 't>(
     })
 }
 
-/// Definitions with one more, and whether it is the last.
+/// Definitions with one more. It is the last if no AND follows.
 pub fn definitions_more<'s, 't>(
     room: Room,
     next: Answer<'s, 't, Definition<'s>>,
@@ -576,7 +578,7 @@ pub fn definitions_more<'s, 't>(
     })
 }
 
-/// A vector of this name.
+/// A vector with this name.
 pub fn vector<'s, 't>(
     room: Room,
     name: &'s [u8],
@@ -595,7 +597,7 @@ pub fn vector<'s, 't>(
     })
 }
 
-/// Variables with their values, as many as there are names.
+/// Variables and their initialisers. Expected, if there are fewer initialisers than names.
 pub fn variables<'s, 't>(
     room: Room,
     found: Vec<&'s [u8]>,
@@ -620,7 +622,7 @@ pub fn variables<'s, 't>(
     })
 }
 
-/// A function of this name and these parameters.
+/// A function with this name and these parameters.
 pub fn function<'s, 't>(
     room: Room,
     name: &'s [u8],
@@ -641,7 +643,7 @@ pub fn function<'s, 't>(
     })
 }
 
-/// A routine of this name and these parameters.
+/// A routine with this name and these parameters.
 pub fn routine<'s, 't>(
     room: Room,
     name: &'s [u8],

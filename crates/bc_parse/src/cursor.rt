@@ -1,3 +1,5 @@
+//! The position of the parser in the closed list, and what the first parts there are. No function here needs a proof
+//! file.
 ghost use Rattle.std.specs.Prelude.{◌≡◌, ◌||◌, ℕ, [], ◌∷◌, length, option_map, Some, None, MatchOption};
 ghost use Rattle.bc_parse_tree.specs.Parts.{part};
 ghost use Rattle.bc_parse_tree.specs.View.{exp_view};
@@ -12,13 +14,14 @@ use bc_parse_defs::words::{CommandWord, DeclarationWord, Places, RepeatWord, Sim
 use bc_parse_tree::{Dyadic, Exp, Part};
 use bc_word::Word;
 
-/// The parts from a place to the end.
+/// The remaining parts.
 #[derive(Clone, Copy)]
 pub struct Rest<'s, 't> {
+    /// The parts from here to the end.
     pub parts: &'t [Part<'s>],
 }
 
-/// The first part, and those after it.
+/// The first part, and the parts after it; None at the end.
 fn first<'s, 't>(rest: Rest<'s, 't>) -> Option<(&'t Part<'s>, Rest<'s, 't>)>
     ensures { MatchOption result (seen rest.entry ≡ []) (λ x. seen rest.entry ≡ part x.0.now ∷ seen x.1) }
 {
@@ -26,7 +29,7 @@ fn first<'s, 't>(rest: Rest<'s, 't>) -> Option<(&'t Part<'s>, Rest<'s, 't>)>
     Some((part, Rest { parts }))
 }
 
-/// The symbol in front, and the parts after it.
+/// The symbol that comes first, and the parts after it.
 fn symbol<'s, 't>(rest: Rest<'s, 't>) -> Option<(Symbol, Rest<'s, 't>)>
     ensures { option_map (λ x. (x.0, seen x.1)) result ≡ word_in Some (seen rest.entry) }
 {
@@ -36,7 +39,7 @@ fn symbol<'s, 't>(rest: Rest<'s, 't>) -> Option<(Symbol, Rest<'s, 't>)>
     }
 }
 
-/// The parts after this symbol, where it stands in front.
+/// The parts after this symbol, if it comes first.
 pub fn after<'s, 't>(wanted: Symbol, rest: Rest<'s, 't>) -> Option<Rest<'s, 't>>
     ensures { option_map (λ x. seen x) result ≡ after_of wanted (seen rest.entry) }
 {
@@ -50,7 +53,7 @@ pub fn after<'s, 't>(wanted: Symbol, rest: Rest<'s, 't>) -> Option<Rest<'s, 't>>
     }
 }
 
-/// The parts after a semicolon, or after a line break that means one.
+/// The parts after a semicolon, or after a line break that counts as one, if it comes first.
 pub fn separator<'s, 't>(rest: Rest<'s, 't>) -> Option<Rest<'s, 't>>
     ensures { option_map (λ x. seen x) result ≡ separator_of (seen rest.entry) }
 {
@@ -60,7 +63,7 @@ pub fn separator<'s, 't>(rest: Rest<'s, 't>) -> Option<Rest<'s, 't>>
     }
 }
 
-/// The parts after this symbol, which has to stand in front.
+/// The parts after this symbol, which must come first.
 pub fn expect<'s, 't>(wanted: Symbol, rest: Rest<'s, 't>) -> Result<Rest<'s, 't>, ReadFault>
     ensures { Gives (λ x. seen x) result (expect_of wanted (seen rest.entry)) }
 {
@@ -70,7 +73,7 @@ pub fn expect<'s, 't>(wanted: Symbol, rest: Rest<'s, 't>) -> Result<Rest<'s, 't>
     }
 }
 
-/// The name in front, which has to be one, and the parts after it.
+/// The name that comes first, and the parts after it; anything else is a fault.
 pub fn name<'s, 't>(rest: Rest<'s, 't>) -> Result<(&'s [u8], Rest<'s, 't>), ReadFault>
     ensures { Gives (λ x. (x.0.now, seen x.1)) result (name_of (seen rest.entry)) }
 {
@@ -80,7 +83,7 @@ pub fn name<'s, 't>(rest: Rest<'s, 't>) -> Result<(&'s [u8], Rest<'s, 't>), Read
     }
 }
 
-/// The expression of one part in front, and the parts after it.
+/// The expression of one part that comes first, and the parts after it; None if there is none.
 pub fn leaf<'s, 't>(rest: Rest<'s, 't>) -> Option<(Exp<'s>, Rest<'s, 't>)>
     ensures { option_map (λ x. (exp_view x.0, seen x.1)) result ≡ leaf_of (seen rest.entry) }
 {
@@ -98,6 +101,7 @@ pub fn leaf<'s, 't>(rest: Rest<'s, 't>) -> Option<(Exp<'s>, Rest<'s, 't>)>
     }
 }
 
+/// The beginning of an operand of more than one part, if it comes first, and the parts after it.
 pub fn start_word<'s, 't>(rest: Rest<'s, 't>) -> Option<(Start, Rest<'s, 't>)>
     ensures { option_map (λ x. (x.0, seen x.1)) result ≡ word_in start_of (seen rest.entry) }
 {
@@ -105,6 +109,7 @@ pub fn start_word<'s, 't>(rest: Rest<'s, 't>) -> Option<(Start, Rest<'s, 't>)>
     Some((words::start_word(symbol)?, remaining))
 }
 
+/// The first word of a command that REPEAT can't follow, if it comes first, and the parts after it.
 pub fn command_word<'s, 't>(rest: Rest<'s, 't>) -> Option<(CommandWord, Rest<'s, 't>)>
     ensures { option_map (λ x. (x.0, seen x.1)) result ≡ word_in command_word_of (seen rest.entry) }
 {
@@ -112,6 +117,7 @@ pub fn command_word<'s, 't>(rest: Rest<'s, 't>) -> Option<(CommandWord, Rest<'s,
     Some((words::command_word(symbol)?, remaining))
 }
 
+/// The first word of a command that REPEAT can follow, if it comes first, and the parts after it.
 pub fn simple_word<'s, 't>(rest: Rest<'s, 't>) -> Option<(SimpleWord, Rest<'s, 't>)>
     ensures { option_map (λ x. (x.0, seen x.1)) result ≡ word_in simple_word_of (seen rest.entry) }
 {
@@ -119,6 +125,7 @@ pub fn simple_word<'s, 't>(rest: Rest<'s, 't>) -> Option<(SimpleWord, Rest<'s, '
     Some((words::simple_word(symbol)?, remaining))
 }
 
+/// REPEAT, REPEATWHILE or REPEATUNTIL, if it comes first, and the parts after it.
 pub fn repeat_word<'s, 't>(rest: Rest<'s, 't>) -> Option<(RepeatWord, Rest<'s, 't>)>
     ensures { option_map (λ x. (x.0, seen x.1)) result ≡ word_in repeat_word_of (seen rest.entry) }
 {
@@ -126,6 +133,7 @@ pub fn repeat_word<'s, 't>(rest: Rest<'s, 't>) -> Option<(RepeatWord, Rest<'s, '
     Some((words::repeat_word(symbol)?, remaining))
 }
 
+/// The first word of a declaration, if it comes first, and the parts after it.
 pub fn declaration_word<'s, 't>(rest: Rest<'s, 't>) -> Option<(DeclarationWord, Rest<'s, 't>)>
     ensures { option_map (λ x. (x.0, seen x.1)) result ≡ word_in declaration_word_of (seen rest.entry) }
 {
@@ -133,16 +141,20 @@ pub fn declaration_word<'s, 't>(rest: Rest<'s, 't>) -> Option<(DeclarationWord, 
     Some((words::declaration_word(symbol)?, remaining))
 }
 
-/// What goes on after an operand.
+/// What follows an operand in an expression.
 #[derive(Clone, Copy)]
 pub enum Follow<'s, 't> {
+    /// Nothing that belongs to the expression.
     Ends,
+    /// A dyadic operator; the remaining parts begin with its right operand.
     Operator(Dyadic, Rest<'s, 't>),
+    /// `(`; the remaining parts begin with the arguments of a call.
     Arguments(Rest<'s, 't>),
+    /// `->`; the remaining parts begin with the value for a true test.
     Choice(Rest<'s, 't>),
 }
 
-/// What goes on after an operand of the level `top`, in an expression of this level.
+/// What follows an operand of the level `top` in an expression of the level `level`.
 pub fn following_at<'s, 't>(level: usize, top: usize, rest: Rest<'s, 't>) -> Follow<'s, 't>
     ensures { follow_view result ≡ following level top (seen rest.entry) }
 {
@@ -169,6 +181,7 @@ pub fn following_at<'s, 't>(level: usize, top: usize, rest: Rest<'s, 't>) -> Fol
     }
 }
 
+/// What an operator at this place is: part of the expression, or its end.
 fn operator<'s, 't>(level: usize, top: usize, op: Dyadic, rest: Rest<'s, 't>) -> Follow<'s, 't>
     ensures { follow_view result ≡ operator_of level top (seen rest.entry) (Some op) }
 {
@@ -182,12 +195,17 @@ fn operator<'s, 't>(level: usize, top: usize, op: Dyadic, rest: Rest<'s, 't>) ->
 /// What begins a label.
 #[derive(Clone, Copy)]
 pub enum LabelAt<'s, 't> {
+    /// No label begins here.
     No,
+    /// CASE; the remaining parts begin with its constant.
     Case(Rest<'s, 't>),
+    /// DEFAULT; the remaining parts begin with the colon.
     Default(Rest<'s, 't>),
+    /// A name and a colon.
     Name(&'s [u8], Rest<'s, 't>),
 }
 
+/// The label that begins here, if any.
 pub fn label_at<'s, 't>(rest: Rest<'s, 't>) -> LabelAt<'s, 't>
     ensures { label_at_view result ≡ label_start (seen rest.entry) }
 {
@@ -202,14 +220,18 @@ pub fn label_at<'s, 't>(rest: Rest<'s, 't>) -> LabelAt<'s, 't>
     }
 }
 
-/// What the name of a definition is followed by.
+/// What follows the first name of a definition.
 #[derive(Clone, Copy)]
 pub enum ShapeAt<'s, 't> {
+    /// `(`; the remaining parts begin with the parameters.
     Parameters(Rest<'s, 't>),
+    /// `= VEC`; the remaining parts begin with the constant.
     Size(Rest<'s, 't>),
+    /// Anything else: the names of variables may go on, or `=` follows.
     Values,
 }
 
+/// The shape of a definition, by the parts after its first name.
 pub fn shape_at<'s, 't>(rest: Rest<'s, 't>) -> ShapeAt<'s, 't>
     ensures { shape_view result ≡ shape_of (seen rest.entry) }
 {
@@ -225,7 +247,7 @@ pub fn shape_at<'s, 't>(rest: Rest<'s, 't>) -> ShapeAt<'s, 't>
     }
 }
 
-/// The parts after a line break and DO, which may be left out.
+/// The parts after a line break and DO. Each may be missing.
 pub fn skip_do<'s, 't>(rest: Rest<'s, 't>) -> Rest<'s, 't>
     ensures { seen result ≡ past_do (seen rest.entry) }
 {
@@ -236,6 +258,7 @@ pub fn skip_do<'s, 't>(rest: Rest<'s, 't>) -> Rest<'s, 't>
     }
 }
 
+/// The parts after a line break, which may be missing.
 fn skip_line<'s, 't>(rest: Rest<'s, 't>) -> Rest<'s, 't>
     ensures { seen result ≡ past_line (seen rest.entry) }
 {
@@ -245,7 +268,7 @@ fn skip_line<'s, 't>(rest: Rest<'s, 't>) -> Rest<'s, 't>
     }
 }
 
-/// The parts after the end of a list of places, where it stands in front.
+/// The parts after the end of such a list, if it ends here.
 pub fn end<'s, 't>(places: Places, rest: Rest<'s, 't>) -> Option<Rest<'s, 't>>
     ensures { option_map (λ x. seen x) result ≡ end_of places (seen rest.entry) }
 {
@@ -259,14 +282,14 @@ pub fn end<'s, 't>(places: Places, rest: Rest<'s, 't>) -> Option<Rest<'s, 't>>
     }
 }
 
-/// Whether an item ends here.
+/// Whether an item ends here: a semicolon or `$)` comes first.
 pub fn is_place_end_at(rest: Rest<'_, '_>) -> bool
     ensures { result ≡ is_place_end (seen rest.entry) }
 {
     separator(rest).is_some() || after(Symbol::CloseSection, rest).is_some()
 }
 
-/// The parts after `=` or `:`, one of which has to stand in front.
+/// The parts after `=` or `:`, one of which must come first.
 pub fn constant_sign<'s, 't>(rest: Rest<'s, 't>) -> Result<Rest<'s, 't>, ReadFault>
     ensures { Gives (λ x. seen x) result (constant_sign_of (seen rest.entry)) }
 {

@@ -1,4 +1,4 @@
-//! Declarations and definitions.
+//! The readers of declarations and definitions.
 ghost use Rattle.std.specs.Prelude.{◌+◌, ◌-◌, ◌<◌, ◌≤◌, ◌==◌, ℕ, Ok, Err, IfOk};
 ghost use Rattle.bc_lex_tokens.specs.declared.symbol.Symbol.TheVariants as sign;
 ghost use Rattle.bc_parse_tree.specs.Tree as tree;
@@ -23,7 +23,7 @@ use bc_lex_tokens::Symbol;
 use bc_parse_defs::words::{DeclarationWord, Places};
 use bc_parse_tree::{Constant, Declaration, Definition, Storage};
 
-/// A declaration, after its word.
+/// A declaration, after its first word.
 #[cycle(parser)]
 #[tactic(auto, unfolding(bc_parse_defs::specs::Reading::declaration_read))]
 pub fn declaration<'s, 't>(
@@ -41,7 +41,7 @@ pub fn declaration<'s, 't>(
     }
 }
 
-/// Constants of this storage.
+/// A list of constants of this storage, from its `$(` on.
 #[cycle(parser)]
 #[tactic(auto, unfolding(bc_parse_defs::specs::Reading::declaration_read))]
 fn constants<'s, 't>(
@@ -58,7 +58,7 @@ fn constants<'s, 't>(
     construction::constants(room, storage, entries(room, rest))
 }
 
-/// Names with their constants, up to the section bracket.
+/// Names with their constants, up to and including `$)`.
 #[cycle(parser)]
 #[tactic(auto, unfolding(bc_parse_defs::specs::Reading::entries_read))]
 fn entries<'s, 't>(room: Room, rest: Rest<'s, 't>) -> Answer<'s, 't, Vec<Constant<'s>>>
@@ -80,6 +80,7 @@ fn entries<'s, 't>(room: Room, rest: Rest<'s, 't>) -> Answer<'s, 't, Vec<Constan
     Err(boxes::spent(found))
 }
 
+/// One element of a list of constants: its end, an empty place, or a name and its constant.
 #[cycle(parser)]
 #[tactic(auto, unfolding(bc_parse_defs::specs::Reading::entry_turn))]
 fn entry_step<'s, 't>(
@@ -101,7 +102,7 @@ fn entry_step<'s, 't>(
     ended(found)
 }
 
-/// What was read as a turn: the last one where the list ends after it.
+/// A turn, which is the last if the list ends after what was read.
 fn ended<'s, 't>(
     found: Read<'s, 't, Vec<Constant<'s>>>,
 ) -> Result<Turn<'s, 't, Vec<Constant<'s>>>, ReadFault>
@@ -115,6 +116,7 @@ fn ended<'s, 't>(
     })
 }
 
+/// A name and its constant, appended to the list.
 #[cycle(parser)]
 #[tactic(auto, unfolding(bc_parse_defs::specs::Reading::entry_read))]
 fn entry<'s, 't>(
@@ -131,7 +133,7 @@ fn entry<'s, 't>(
     construction::constant(room, name, exp(room, 2, rest), list)
 }
 
-/// The definitions of a LET, which AND joins.
+/// The definitions of a LET, separated by AND.
 #[cycle(parser)]
 #[tactic(auto, unfolding(bc_parse_defs::specs::Reading::definitions_read))]
 fn definitions<'s, 't>(room: Room, rest: Rest<'s, 't>) -> Answer<'s, 't, Vec<Definition<'s>>>
@@ -153,7 +155,7 @@ fn definitions<'s, 't>(room: Room, rest: Rest<'s, 't>) -> Answer<'s, 't, Vec<Def
     Err(boxes::spent(found))
 }
 
-/// A definition.
+/// A definition, unless it would nest too deep.
 #[cycle(parser)]
 #[tactic(auto, unfolding(bc_parse_defs::specs::Reading::definition_of))]
 fn definition<'s, 't>(room: Room, rest: Rest<'s, 't>) -> Answer<'s, 't, Definition<'s>>
@@ -166,6 +168,7 @@ fn definition<'s, 't>(room: Room, rest: Rest<'s, 't>) -> Answer<'s, 't, Definiti
     defined(room, rest)
 }
 
+/// A definition, by what follows its first name.
 #[cycle(parser)]
 #[tactic(auto, unfolding(bc_parse_defs::specs::Reading::defined_read, bc_parse_defs::specs::Reading::shaped_read, bc_parse_defs::specs::Reading::vector_read))]
 fn defined<'s, 't>(room: Room, rest: Rest<'s, 't>) -> Answer<'s, 't, Definition<'s>>
@@ -186,6 +189,7 @@ fn defined<'s, 't>(room: Room, rest: Rest<'s, 't>) -> Answer<'s, 't, Definition<
     }
 }
 
+/// A definition of variables: their names, `=`, and as many initialisers.
 #[cycle(parser)]
 #[tactic(auto, unfolding(bc_parse_defs::specs::Reading::variables_read))]
 fn variables<'s, 't>(room: Room, rest: Rest<'s, 't>) -> Answer<'s, 't, Definition<'s>>
@@ -204,6 +208,7 @@ fn variables<'s, 't>(room: Room, rest: Rest<'s, 't>) -> Answer<'s, 't, Definitio
     construction::variables(room, found.tree, exps(inner, 1, limit, rest))
 }
 
+/// A function or a routine, after its `(`, whose place is `place`.
 #[cycle(parser)]
 #[tactic(auto, unfolding(bc_parse_defs::specs::Reading::routine_read))]
 fn routine<'s, 't>(
@@ -232,7 +237,7 @@ fn routine<'s, 't>(
     }
 }
 
-/// The body of a routine, with BE before it.
+/// BE and the body of a routine.
 #[cycle(parser)]
 fn procedure<'s, 't>(
     room: Room,

@@ -1,22 +1,23 @@
+//! The error of `parse`.
 use thiserror::Error;
 
-/// Why tokens are no section. A token is named by its index; the number of tokens means the end.
+/// Why tokens are no section. A token is named by its index; the number of tokens represents the end.
 #[derive(Clone, Copy, Debug, PartialEq, Eq, Error)]
 pub enum ParseError {
-    /// Another token is wanted here.
+    /// This token can't continue what is being read.
     #[error("another token is wanted at token {0}")]
     Expected(usize),
-    /// A section bracket is open at the end.
+    /// A section bracket is still open at the end.
     #[error("a section is not closed")]
     Unclosed,
     /// This `$)` closes no section.
     #[error("no such section is open at token {0}")]
     NotOpen(usize),
-    /// Here more than 200 definitions, commands and expressions stand one within another, or more
-    /// than 400 round brackets are open.
+    /// Here definitions, commands and expressions would nest more than 200 deep, or more than 400 parentheses would
+    /// be open at once.
     #[error("too deep at token {0}")]
     TooDeep(usize),
-    /// An allocation was refused.
+    /// An allocation failed.
     #[error("out of memory")]
     Memory,
 }

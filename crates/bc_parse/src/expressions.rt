@@ -1,4 +1,4 @@
-//! Expressions.
+//! The readers of expressions.
 ghost use Rattle.std.specs.Prelude.{◌≡◌, ◌+◌, ◌-◌, ◌<◌, ◌≤◌, ℕ, length, max, Ok, IfOk};
 ghost use Rattle.bc_lex_tokens.specs.declared.symbol.Symbol.TheVariants as sign;
 ghost use Rattle.bc_parse_tree.specs.Spelling.{count};
@@ -21,10 +21,12 @@ use bc_parse_defs::words;
 use bc_parse_defs::words::Start;
 use bc_parse_tree::{Dyadic, Exp, Monadic};
 
-/// An expression so far, and the level that it has.
+/// An expression as far as it was read, with its level.
 #[derive(Drop)]
 pub struct Levelled<'s> {
+    /// The expression.
     pub exp: Exp<'s>,
+    /// Its level, from 1 to 12.
     pub level: usize,
 }
 
@@ -42,7 +44,7 @@ pub fn exp<'s, 't>(room: Room, level: usize, rest: Rest<'s, 't>) -> Answer<'s, '
     grow(room, level, rest.parts.len(), first)
 }
 
-/// An expression of at least this level, in memory of its own.
+/// An expression of at least this level, in a box.
 #[cycle(parser)]
 pub fn exp_apart<'s, 't>(
     room: Room,
@@ -78,6 +80,7 @@ fn operand<'s, 't>(room: Room, rest: Rest<'s, 't>) -> Answer<'s, 't, Levelled<'s
     }
 }
 
+/// An operand, after its first part, whose place is `place`.
 #[cycle(parser)]
 #[tactic(auto, unfolding(bc_parse_defs::specs::Reading::started_read, bc_parse_defs::specs::Reading::table_read, bc_parse_defs::specs::Reading::valof_read, bc_parse_defs::specs::Reading::monadic_read))]
 fn started<'s, 't>(
@@ -105,6 +108,7 @@ fn started<'s, 't>(
     }
 }
 
+/// An expression in parentheses, after its `(`, whose place is `place`.
 #[cycle(parser)]
 #[tactic(auto, unfolding(bc_parse_defs::specs::Reading::started_read, bc_parse_defs::specs::Reading::bracket_read))]
 fn bracket<'s, 't>(room: Room, place: usize, rest: Rest<'s, 't>) -> Answer<'s, 't, Levelled<'s>>
@@ -122,7 +126,8 @@ fn bracket<'s, 't>(room: Room, place: usize, rest: Rest<'s, 't>) -> Answer<'s, '
     construction::bracket_of(room, exp(inner, 1, rest))
 }
 
-/// An expression from its first operand on: operators, calls and choices after it.
+/// An expression from its first operand on: the operators, calls and choices that follow. `begin` is the place where
+/// it begins.
 #[cycle(parser)]
 #[tactic(auto, unfolding(bc_parse_defs::specs::Reading::grow_read))]
 fn grow<'s, 't>(
@@ -153,6 +158,7 @@ fn grow<'s, 't>(
     Err(boxes::spent(left))
 }
 
+/// One step of an expression: its end, or one operator, call or choice.
 #[cycle(parser)]
 #[tactic(auto, unfolding(bc_parse_defs::specs::Reading::grow_turn))]
 fn grow_step<'s, 't>(
@@ -174,6 +180,7 @@ fn grow_step<'s, 't>(
     }
 }
 
+/// The operand `left`, with a dyadic operator and its right operand.
 #[cycle(parser)]
 #[tactic(auto, unfolding(bc_parse_defs::specs::Reading::suffix_read, bc_parse_defs::specs::Reading::with_operator))]
 fn operated<'s, 't>(
@@ -200,6 +207,7 @@ fn operated<'s, 't>(
     construction::dyadic_of(room, op, height, left, exp_apart(inner, level + 1, rest))
 }
 
+/// A call of the routine `left`.
 #[cycle(parser)]
 #[tactic(auto, unfolding(bc_parse_defs::specs::Reading::suffix_read, bc_parse_defs::specs::Reading::with_arguments))]
 fn called<'s, 't>(
@@ -225,6 +233,7 @@ fn called<'s, 't>(
     construction::call_from(room, height, routine, arguments(inner, rest))
 }
 
+/// A choice with the test `left`.
 #[cycle(parser)]
 #[tactic(auto, unfolding(bc_parse_defs::specs::Reading::suffix_read, bc_parse_defs::specs::Reading::with_choice))]
 fn chosen<'s, 't>(
@@ -251,7 +260,7 @@ fn chosen<'s, 't>(
     otherwise(room, height.max(this.height), test, this)
 }
 
-/// The other part of a choice, where what is before it nests so deep.
+/// The second value of a choice, after its comma. `height` is how deep the test and the first value nest.
 #[cycle(parser)]
 fn otherwise<'s, 't>(
     room: Room,
@@ -275,6 +284,7 @@ fn otherwise<'s, 't>(
     construction::condition_of(room, height, test, this.tree, exp_apart(inner, 1, rest))
 }
 
+/// The arguments of a call, after `(`. The `)` is read too.
 #[cycle(parser)]
 #[tactic(auto, unfolding(bc_parse_defs::specs::Reading::arguments_read))]
 fn arguments<'s, 't>(room: Room, rest: Rest<'s, 't>) -> Answer<'s, 't, Vec<Exp<'s>>>
@@ -295,7 +305,7 @@ fn arguments<'s, 't>(room: Room, rest: Rest<'s, 't>) -> Answer<'s, 't, Vec<Exp<'
     Ok(Read { rest, ..found })
 }
 
-/// Expressions of at least this level, at most so many, with commas between them.
+/// One or more expressions of at least this level, but at most `limit`, separated by commas.
 #[cycle(parser)]
 #[tactic(auto, unfolding(bc_parse_defs::specs::Reading::exps_read))]
 pub fn exps<'s, 't>(
@@ -322,7 +332,7 @@ pub fn exps<'s, 't>(
     Err(boxes::spent(found))
 }
 
-/// How many expressions a list has.
+/// The number of expressions in a list.
 #[tactic(auto, using(crate::proofs::Lists::count_exps_view))]
 pub fn exp_count(list: &Vec<Exp<'_>>) -> usize
     ensures { result ≡ count (exps_view list.now.items) }

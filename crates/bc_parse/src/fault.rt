@@ -1,13 +1,17 @@
+//! The fault of reading a closed list.
 ghost use Rattle.std.specs.Prelude.{◌≡◌};
 ghost use Rattle.bc_parse.specs.declared.fault.ReadFault.TheVariants.{Memory};
 
 use std::alloc::{AllocError, AllocFailed};
 
-/// Why a closed list is no section. A place is the number of parts from it to the end.
+/// Why a closed list is no section. A place is given by the number of parts from there to the end.
 #[derive(Clone, Copy, Debug, PartialEq, Eq)]
 pub enum ReadFault {
+    /// The part at this place can't continue what is being read.
     Expected(usize),
+    /// At this place a bound on nesting is exceeded.
     TooDeep(usize),
+    /// An allocation failed.
     Memory,
 }
 

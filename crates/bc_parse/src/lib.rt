@@ -1,4 +1,5 @@
-//! From tokens to trees, and back by `bc_parse_spell`.
+//! The parser: from the tokens of a section to its syntax tree. `spell` and `render`, which go back, come from
+//! `bc_parse_tree`.
 #![tactic(auto)]
 
 mod blocks;

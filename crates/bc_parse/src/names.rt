@@ -11,7 +11,7 @@ use crate::read::{Answer, Read, Turn};
 use bc_lex_tokens::Symbol;
 use std::alloc::Global;
 
-/// One more name, and whether it is the last.
+/// Reads one more name, and finds out whether it is the last.
 #[tactic(auto, unfolding(bc_parse_defs::specs::Reading::name_turn), using(crate::proofs::Lists::names_view_push))]
 fn name_step<'s, 't>(
     list: Read<'s, 't, Vec<&'s [u8]>>,
@@ -28,7 +28,7 @@ fn name_step<'s, 't>(
     })
 }
 
-/// Names with commas between them.
+/// One or more names, separated by commas.
 #[tactic(auto, unfolding(bc_parse_defs::specs::Reading::names_read))]
 pub fn names<'s, 't>(alloc: Global, rest: Rest<'s, 't>) -> Answer<'s, 't, Vec<&'s [u8]>>
     ensures { Reads (list_view names_view) result (names_read (seen rest.entry)) }
@@ -47,7 +47,7 @@ pub fn names<'s, 't>(alloc: Global, rest: Rest<'s, 't>) -> Answer<'s, 't, Vec<&'
     Err(ReadFault::Expected(found.rest.parts.len()))
 }
 
-/// The parameters of a routine, after the first bracket, and the parts after the other.
+/// The parameters of a routine, after `(`. The `)` is read too.
 #[tactic(auto, unfolding(bc_parse_defs::specs::Reading::parameters_read))]
 pub fn parameters<'s, 't>(alloc: Global, rest: Rest<'s, 't>) -> Answer<'s, 't, Vec<&'s [u8]>>
     ensures { Reads (list_view names_view) result (parameters_read (seen rest.entry)) }
@@ -68,7 +68,7 @@ pub fn parameters<'s, 't>(alloc: Global, rest: Rest<'s, 't>) -> Answer<'s, 't, V
     })
 }
 
-/// How many names a list has.
+/// The number of names in a list.
 #[tactic(auto, using(crate::proofs::Lists::length_names_view))]
 pub fn name_count(list: &Vec<&[u8]>) -> usize
     ensures { result ≡ length (names_view list.now.items) }

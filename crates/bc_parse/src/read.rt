@@ -1,32 +1,38 @@
-//! What the functions of the parser are handed, and what they answer.
+//! What the functions of the parser take and return.
 use crate::cursor::Rest;
 use crate::fault::ReadFault;
 use std::alloc::Global;
 
-/// How much may still be open, and where trees are kept.
+/// The bounds for what is read, and the allocator for its tree.
 #[derive(Clone, Copy)]
 pub struct Room {
+    /// Where trees are allocated.
     pub alloc: Global,
-    /// How deep what is read may nest.
+    /// How deep the tree may nest.
     pub nest: usize,
-    /// How many round brackets may be open.
+    /// How many more parentheses may be open at once.
     pub round: usize,
 }
 
-/// What was read, how deep it nests, and the parts after it.
+/// A tree that was read, how deep it nests, and the remaining parts.
 #[derive(Drop)]
 pub struct Read<'s, 't, T> {
+    /// What was read.
     pub tree: T,
+    /// How deep it nests.
     pub height: usize,
+    /// The parts after it.
     pub rest: Rest<'s, 't>,
 }
 
-/// What was read, or the fault that was met.
+/// What was read, or the fault.
 pub type Answer<'s, 't, T> = Result<Read<'s, 't, T>, ReadFault>;
 
-/// What one turn of a loop has read, and whether it was the last.
+/// The result of one turn of a loop.
 #[derive(Drop)]
 pub enum Turn<'s, 't, T> {
+    /// What was read up to here; another turn follows.
     More(Read<'s, 't, T>),
+    /// What was read in all; this was the last turn.
     Last(Read<'s, 't, T>),
 }

@@ -1,3 +1,4 @@
+//! The public call `parse`, which closes the token list, reads it, and names the token of a fault.
 ghost use Rattle.std.specs.Prelude.{◌≡◌, ℕ, ◌≤◌, ◌-◌, length, IfOk, Ok};
 ghost use Rattle.bc_lex_tokens.specs.Token.{lexemes_of};
 ghost use Rattle.bc_parse_tree.specs.View.{section_view};
@@ -16,7 +17,8 @@ use bc_parse_defs::CloseFault;
 use bc_parse_tree::Section;
 use std::alloc::Global;
 
-/// The index of the token of a part, by the number of parts from it to the end.
+/// The index of the token of a part. `left` is the number of parts from that part to the end; `end` is the number of
+/// tokens, which represents the end.
 fn place(places: &[usize], left: usize, end: usize) -> usize
     ensures { result ≡ place_of places.now left end }
 {
@@ -26,7 +28,7 @@ fn place(places: &[usize], left: usize, end: usize) -> usize
         .unwrap_or(end)
 }
 
-/// What the tokens are read as.
+/// `parse` without the clause on canonical spellings, which is proved by itself.
 fn read<'s>(alloc: Global, tokens: &[Token<'s>]) -> Result<Section<'s>, ParseError>
     ensures spelled { IfOk result (λ s. TokensSpell (lexemes_of tokens.now) (section_view s)) }
     ensures nests { IfOk result (λ s. declarations_height (section_view s) ≤ 200) }
@@ -62,20 +64,23 @@ fn read<'s>(alloc: Global, tokens: &[Token<'s>]) -> Result<Section<'s>, ParseErr
     }
 }
 
-/// The section that the tokens spell. The caller hands in at most 60,000 tokens.
+/// The section that the tokens spell. Callers pass at most 60,000 tokens, which is the lexer's limit.
 ///
-/// `NotOpen`, then `Unclosed` come before all other faults. `Expected` names the token at which
-/// reading from left to right finds none that may stand there, and `TooDeep` the token at which more
-/// than 200 definitions, commands and expressions would stand one within another or more than 400
-/// round brackets would be open. `Memory` comes where an allocation was refused.
+/// Errors, each with the index of a token where it names one:
+///
+/// - `NotOpen` and `Unclosed`: the section brackets don't match. They come before all others.
+/// - `Expected`: the first token, from the left, that can't continue what is being read.
+/// - `TooDeep`: at this token definitions, commands and expressions would nest more than 200 deep, or more than 400
+///   parentheses would be open at once.
+/// - `Memory`: an allocation failed.
 pub fn parse<'s>(alloc: Global, tokens: &[Token<'s>]) -> Result<Section<'s>, ParseError>
-    // What is answered is spelled by the tokens, all of them.
+    // All of the tokens spell the section that is returned.
     ensures spelled { IfOk result (λ s. TokensSpell (lexemes_of tokens.now) (section_view s)) }
     ensures nests { IfOk result (λ s. declarations_height (section_view s) ≤ 200) }
     ensures size { IfOk result (λ s. declarations_size (section_view s) ≤ length tokens.now) }
-    // Which section or fault it is.
+    // Exactly this section or error, unless memory ran out.
     ensures exact { Answers (λ s. section_view s) result (parsed (lexemes_of tokens.now)) }
-    // Whatever has a canonical spelling within the bounds is read back from it.
+    // A section with a canonical spelling within these bounds is read back from it.
     ensures canonical { (ds : Declarations) → IsCanonical ds (lexemes_of tokens.now) → Answers (λ s. section_view s) result (Ok ds) }
 {
     bc_parse_laws::laws::spelling_is_read();

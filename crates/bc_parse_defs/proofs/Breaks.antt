@@ -1,21 +1,22 @@
--- Where line breaks stand among parts.
+-- Where the line breaks are: they are inserted into the parts that have none, which makes "due" and "present" an
+-- induction.
 use Rattle.std.proofs.Common.{◌≡◌, ◌∙◌, ℕ, Bool, true, false, ◌&&◌, cond, List, [], ◌∷◌, ◌++◌, refl, ap, sym, slice_get}
 use Rattle.bc_lex_tokens.specs.Token.{Lexeme}
 use Rattle.bc_parse_tree.specs.Parts.{NewLine}
 use Rattle.bc_parse_defs.specs.Closing.{Placed, begins_command, ends_command, broken}
 use Rattle.bc_parse_defs.specs.Lawful.{is_break, without_breaks, line_before, IsOwed, IsBetween}
 
--- the parts with their line breaks, after a part that can end a command or not
+-- the parts with their line breaks, where `ends` says whether the part before them can end a command
 abbrev pub with_breaks : (ℕ → Bool) → Bool → List Placed → List Placed
 with_breaks line ends [] = []
 with_breaks line ends (q ∷ qs) = broken ends (line q.1) q.0 q.1 ++ with_breaks line (ends_command q.0) qs
 
--- no line break is among the parts
+-- no part is a line break
 abbrev pub Plain : List Placed → Type 0
 Plain [] = Unit {0}
 Plain (q ∷ qs) = (is_break q.0 ≡ false) × Plain qs
 
--- whether a line break lies before the token of an index
+-- whether a line break precedes the token with this index
 abbrev pub lines_of : List Lexeme → ℕ → Bool
 lines_of ts at = line_before (slice_get ts at)
 
@@ -43,7 +44,7 @@ none_owed ts false x q left right rest after is e o =
     (sym (ap (λ (z : Placed). begins_command z.0) second) ∙ o.begins) in
     let no : false ≡ true = sym is ∙ yes in cc
 
--- after a first part, no line break is owed between two neighbours
+-- after a first part, no line break is missing between two neighbours
 pub stands_where : (ts : List Lexeme) (before : List Placed) (x : Placed) (qs after : List Placed) (left right : Placed)
     → before ++ left ∷ right ∷ after ≡ x ∷ with_breaks (lines_of ts) (ends_command x.0) qs → IsOwed ts left right → ⊥
 stands_where ts [] x [] after left right e o = absurd cc
@@ -79,7 +80,7 @@ first_break ts false x q rest after at is plain e =
 more_front : (ts : List Lexeme) (x : Placed) (before : List Placed) (at : ℕ) (after : List Placed) → IsBetween ts before at after → IsBetween ts (x ∷ before) at after
 more_front ts x before at after b = record { left = b.left; right = b.right; front = x ∷ b.front; back = b.back; left_is = ap (λ r. x ∷ r) b.left_is; right_is = b.right_is; index = b.index; owed = b.owed }
 
--- a line break stands after a first part between two parts where it is owed
+-- each line break after a first part is between two parts where it is due
 pub stands_only : (ts : List Lexeme) (before : List Placed) (x : Placed) (qs after : List Placed) (at : ℕ) → Plain qs
     → before ++ (NewLine, at) ∷ after ≡ with_breaks (lines_of ts) (ends_command x.0) qs → IsBetween ts (x ∷ before) at after
 stands_only ts [] x [] after at plain e = absurd cc
@@ -109,7 +110,7 @@ without_them line ends (q ∷ qs) plain = go (ends && line q.1 && begins_command
     go true rest = rw plain.0 (ap (λ r. q ∷ r) rest)
     go false rest = rw plain.0 (ap (λ r. q ∷ r) rest)
 
--- a line break before all ends no command
+-- a first line break would follow no command, so there is none
 pub without_first : (ts : List Lexeme) (before : List Placed) (at : ℕ) (after : List Placed) → IsBetween ts ((NewLine, 0) ∷ before) at after → IsBetween ts before at after
 without_first ts before at after b = go b.front b.left_is
   where

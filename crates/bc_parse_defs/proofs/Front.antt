@@ -1,4 +1,4 @@
--- What stands in front, and what follows from it.
+-- What the first parts of a list are, by each function that inspects them.
 use Rattle.std.proofs.Common.{◌≡◌, ℕ, ◌≤◌, Bool, true, false, ◌||◌, cond, ltb, eqb, List, [], ◌∷◌, get_or, Option, Some, None, Ok, refl, sym, ap, subst, ◌∙◌}
 use Rattle.std.proofs.lemmas.Bool.{eqb-true, ltb-false}
 use Rattle.bc_lex_tokens.specs.declared.symbol.Symbol.{Symbol}
@@ -30,7 +30,7 @@ use Rattle.bc_parse_defs.specs.declared.words.DeclarationWord.TheVariants as dec
 use Rattle.bc_parse_defs.specs.Reading.{after_of, separator_of, wanted, expect_of, name_in, name_of, word_in, with_rest, leaf_of, start_of, command_word_of, simple_word_of, repeat_word_of, declaration_word_of, Following, Ends, Operator, Arguments, Choice, following, operator_of, LabelStart, NoLabel, CaseLabel, DefaultLabel, NameLabel, label_start, named_start, Shape, Parameters, Size, Values, shape_of, vector_shape, past_do, or_else, constant_sign_of, on}
 use Rattle.bc_parse_defs.proofs.Yields.{Yields}
 
--- ---- symbols are one where their numbers are
+-- ---- two symbols are the same if their numbers are
 
 abbrev all_symbols : List Symbol
 all_symbols = sign.And ∷ sign.Be ∷ sign.Break ∷ sign.By ∷ sign.Case ∷ sign.Default ∷ sign.Do ∷ sign.Else ∷ sign.EndCase ∷ sign.Equivalent ∷ sign.False ∷ sign.Finish ∷ sign.For ∷ sign.Get ∷ sign.Global ∷ sign.Goto ∷ sign.If ∷ sign.Into ∷ sign.Let ∷ sign.Loop ∷ sign.Manifest ∷ sign.NotEquivalent ∷ sign.Not ∷ sign.Remainder ∷ sign.Repeat ∷ sign.RepeatUntil ∷ sign.RepeatWhile ∷ sign.ResultIs ∷ sign.Return ∷ sign.Static ∷ sign.SwitchOn ∷ sign.Table ∷ sign.Test ∷ sign.To ∷ sign.True ∷ sign.Unless ∷ sign.Until ∷ sign.ValueOf ∷ sign.Vector ∷ sign.While ∷ sign.Assign ∷ sign.NotEqual ∷ sign.LessEqual ∷ sign.GreaterEqual ∷ sign.ShiftLeft ∷ sign.ShiftRight ∷ sign.Arrow ∷ sign.OpenSection ∷ sign.CloseSection ∷ sign.OpenBracket ∷ sign.CloseBracket ∷ sign.Comma ∷ sign.Semicolon ∷ sign.Colon ∷ sign.Indirection ∷ sign.AddressOf ∷ sign.Plus ∷ sign.Minus ∷ sign.Multiply ∷ sign.Divide ∷ sign.Equal ∷ sign.Less ∷ sign.Greater ∷ sign.LogicalAnd ∷ sign.LogicalOr ∷ []
@@ -154,7 +154,7 @@ name_is (NewLine ∷ ts) x e = absurd cc
 pub name_yields : (ts : List Part) → Yields (name_of ts) (λ n. ts ≡ Name n.0 ∷ n.1)
 name_yields ts = wanted_yields ts (name_in ts) (λ n. ts ≡ Name n.0 ∷ n.1) (name_is ts)
 
--- a word in front
+-- a reserved word or sign that comes first
 pub record Worded {W : Type 0} (f : Symbol → Option W) (ts : List Part) (w : W) (rest : List Part) : Type 0 where
   pub symbol : Symbol
   pub split : ts ≡ A symbol ∷ rest
@@ -395,7 +395,7 @@ shapes (NewLine ∷ ts) = tt
 shapes (A sign.OpenBracket ∷ ts) = refl
 shapes (A s ∷ ts) = vector_shapes (A s ∷ ts)
 
--- a line break and DO, which may be left out
+-- a line break and DO, each of which may be missing
 pub record DoFront (ts rest : List Part) : Type 0 where
   pub line : Bool
   pub word : Bool

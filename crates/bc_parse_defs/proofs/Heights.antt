@@ -1,4 +1,5 @@
--- What is read nests as deep as reading says, and no deeper than it may.
+-- The height that a reader gives is that of the tree, and at most the bound. One lemma per reader, along the reader's
+-- text.
 use Rattle.std.proofs.Common.{◌≡◌, ℕ, zero, suc, ◌-◌, ◌+◌, ◌<◌, ◌≤◌, Bool, true, false, ◌&&◌, cond, ltb, eqb, List, [], ◌∷◌, length, max, Option, Some, None, Result, Ok, Err, refl, sym, ap, subst, arith}
 use Rattle.std.proofs.lemmas.Bool.{ltb-true}
 use Rattle.bc_lex_tokens.specs.declared.symbol.Symbol.TheVariants as sign
@@ -53,7 +54,7 @@ height_add_item : (is : Items) (i : Item) → items_height (add_item is i) ≡ m
 height_add_item no_items i = omega arith
 height_add_item (item j is) i = omega (arith, height_add_item is i)
 
--- a height is that of the tree, and at most a bound
+-- the height is that of the tree, and at most a bound
 pub record High (height tree_height nest : ℕ) : Type 0 where
   pub is : height ≡ tree_height
   pub low : height ≤ nest
@@ -218,7 +219,7 @@ module _ (E : Reader) (exp_high : (nest round level : ℕ) (ts : List Part) → 
   unfolding entries_read
   entries_high nest round ts = looped (entry_turn E nest round) (HighEntries nest) (HighEntries nest) (entry_turn_high nest round) (length ts + 1) (piece no_entries 0 ts) (record { is = refl; low = omega arith })
 
--- a command as a body nests as deep as the body
+-- a command as a body nests at most as deep as the command
 as_body_high : (c : Command) (h nest : ℕ) → High h (command_height c) nest → High (as_body c h).1 (block_height (as_body c h).0) nest
 as_body_high (tree.Compound b) h nest g = record { is = omega arith; low = omega arith }
 as_body_high (tree.Assign xs es) h nest g = record { is = omega arith; low = g.low }

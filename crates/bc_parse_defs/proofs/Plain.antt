@@ -1,4 +1,5 @@
--- What closing answers, in plain words.
+-- A closed list is what `Lawful` says. One token is taken after another; each step keeps the parts without line
+-- breaks, the repetition of closing brackets, and the balance.
 use Rattle.std.proofs.Common.{◌≡◌, ◌∙◌, ℕ, zero, suc, ◌+◌, Bool, true, false, ◌&&◌, cond, List, [], ◌∷◌, ◌++◌, length, Option, Some, None, Ok, refl, ap, sym, subst, arith, slice_get, append_assoc, length-append}
 use Rattle.std.specs.Prelude.{replicate}
 use Rattle.bc_lex_tokens.specs.declared.symbol.Symbol.TheVariants as sign
@@ -11,12 +12,12 @@ use Rattle.bc_parse_defs.specs.Lawful as lawful
 use Rattle.bc_parse_defs.proofs.Weights.{Yields, then, from_yields}
 use Rattle.bc_parse_defs.proofs.Breaks.{with_breaks, Plain, lines_of, stands_where, stands_only, without_them, without_first}
 
--- the tokens from an index on have these line breaks before them
+-- the list has a line break before the tokens for which these say so
 abbrev Lines : (ℕ → Bool) → ℕ → List Lexeme → Type 0
 Lines line at [] = Unit {0}
 Lines line at (t ∷ ts) = (line at ≡ t.line_before) × Lines line (at + 1) ts
 
--- the list with the parts that it is made of
+-- the list, with the parts that it consists of
 record IsMade (line : ℕ → Bool) (at n : ℕ) (ends : Bool) (ts : List Lexeme) (ps : List Placed) : Type 0 where
   qs : List Placed
   breaks : ps ≡ with_breaks line ends qs
@@ -24,7 +25,7 @@ record IsMade (line : ℕ → Bool) (at n : ℕ) (ends : Bool) (ts : List Lexeme
   tokens : RepeatsClosings (placed_from at ts) qs
   brackets : Balanced n (parts_in ps)
 
--- a kind of token that is no bracket of a section, and each of the two that are
+-- a kind of token that is no section bracket, and each of the two that are
 data Case : Kind → Type 0 where
   opening : Case (token.Sign sign.OpenSection)
   closer : Case (token.Sign sign.CloseSection)
@@ -39,13 +40,13 @@ case_of (token.Number n) = other refl refl refl
 case_of (token.Character n) = other refl refl refl
 case_of (token.String n) = other refl refl refl
 
--- what one part puts before a balanced list
+-- what one part contributes before a balanced list
 balanced_after : (b : Bool) (n : ℕ) (p : Part) (at : ℕ) (rest : List Placed) → Balanced n (parts_in ((p, at) ∷ rest))
     → Balanced n (parts_in (cond b ((NewLine, at) ∷ (p, at) ∷ []) ((p, at) ∷ []) ++ rest))
 balanced_after true n p at rest h = passes n NewLine (p ∷ parts_in rest) refl h
 balanced_after false n p at rest h = h
 
--- one part more
+-- one more part
 part_put : (line : ℕ → Bool) (at n m : ℕ) (ends : Bool) (p : Part) (t : Lexeme) (ts : List Lexeme) (rest : List Placed) → line at ≡ t.line_before → kind_part t.kind ≡ p → is_break p ≡ false
     → ((r : List Part) → Balanced m r → Balanced n (p ∷ r)) → IsMade line (at + 1) m (ends_command p) ts rest
     → IsMade line at n ends (t ∷ ts) (broken ends t.line_before p at ++ rest)
@@ -57,7 +58,7 @@ part_put line at n m ends p t ts rest same is plain balance made = record {
   brackets = balanced_after (ends && t.line_before && begins_command p) n p at rest (balance (parts_in rest) made.brackets);
 }
 
--- closing brackets more
+-- more closing brackets
 abbrev closers : ℕ → ℕ → List Placed
 closers n at = replicate n (A sign.CloseSection, at)
 
@@ -84,7 +85,7 @@ closers_balance : (n m at : ℕ) (ps : List Placed) → Balanced m (parts_in ps)
 closers_balance zero m at ps h = let e : 0 + m ≡ m = omega arith in rw e h
 closers_balance (suc n) m at ps h = let e : suc n + m ≡ n + m + 1 = omega arith in rw e (lawful.closes (n + m) (parts_in (closers n at ++ ps)) (closers_balance n m at ps h))
 
--- how many sections are closed: one or more, and the others stay open
+-- how many sections are closed: one or more; the others stay open
 record Closed (opened left : List (List ℕ)) (n : ℕ) : Type 0 where
   before : ℕ
   count : n ≡ suc before
@@ -107,7 +108,7 @@ closes_some tag (t ∷ opened) c e = go (is_matched tag t) (closes tag opened) (
         subst (λ (x : ℕ × List (List ℕ)). Closed (t ∷ opened) x.1 x.0) same (record { before = 0; count = refl; others = omega arith })
     go false o inner h = more o inner h
 
--- what a step makes of any rest
+-- what a step adds before any remaining list
 abbrev Made : (ℕ → Bool) → ℕ → List (List ℕ) → Bool → Lexeme → Step → Type 0
 Made line at opened ends t s = (ts : List Lexeme) (rest : List Placed) → line at ≡ t.line_before → IsMade line (at + 1) (length s.opened) s.ends ts rest → IsMade line at (length opened) ends (t ∷ ts) (s.out ++ rest)
 

@@ -1,4 +1,4 @@
--- What is read is spelled so.
+-- What is read is spelled by the parts that were taken. One lemma per reader, along the reader's text.
 use Rattle.std.proofs.Common.{◌≡◌, ◌≢◌, ℕ, zero, suc, ◌-◌, ◌+◌, ◌<◌, ◌≤◌, Bool, true, false, ◌&&◌, cond, ltb, eqb, List, [], ◌∷◌, ◌++◌, length, max, Option, Some, None, Result, Ok, Err, refl, sym, ap, subst, ◌∙◌, append_assoc, arith}
 use Rattle.std.proofs.lemmas.List.{append-nil, length-append}
 use Rattle.std.proofs.lemmas.Bool.{eqb-true}
@@ -31,7 +31,7 @@ use Rattle.bc_parse_defs.specs.Reading.{Fault, Piece, piece, moved, turns, on, e
 use Rattle.bc_parse_defs.proofs.Yields.{Yields, then, guard, branch, choice, from_yields, looped}
 use Rattle.bc_parse_defs.proofs.Front.{after_is, expect_yields, separator_is, name_yields, Worded, word_is, repeat_sign, repeat_is, simple_sign, simple_is, command_sign, command_is, start_sign, start_is, declaration_sign, declaration_is, start_monadic, declaration_constants, leaf_is, IsFollowing, follows, IsLabelStart, labels, IsShape, shapes, do_front, constant_sign_yields}
 
--- ---- what was taken from the front
+-- ---- the parts that were taken
 
 pub record Taken (P : List Part → Type 0) (ts rest : List Part) : Type 0 where
   pub used : List Part
@@ -53,7 +53,7 @@ join_by ts x mid y after rest p a b c = join ts x mid (p ∷ y) rest a (b ∙ ap
 join_end : (ts x mid rest : List Part) (p : Part) → ts ≡ x ++ mid → mid ≡ p ∷ rest → ts ≡ (x ++ p ∷ []) ++ rest
 join_end ts x mid rest p a b = join ts x mid (p ∷ []) rest a b
 
--- a part in front
+-- a first part
 front : (ts after y rest : List Part) (p : Part) → ts ≡ p ∷ after → after ≡ y ++ rest → ts ≡ (p ∷ y) ++ rest
 front ts after y rest p a b = a ∙ ap (λ (r : List Part). p ∷ r) b
 
@@ -79,7 +79,7 @@ named_more [] n h = absurd (omega arith)
 named_more (m ∷ []) n h = refl
 named_more (m ∷ k ∷ ns) n h = ap (λ (r : List Part). Name m ∷ A sign.Comma ∷ r) (named_more (k ∷ ns) n (omega arith))
 
--- the names so far, and a comma after them
+-- the names up to here, and a comma after them
 pub record NamesSoFar (ts : List Part) (s : Piece (List (List ℕ))) : Type 0 where
   pub used : List Part
   pub split : ts ≡ used ++ s.rest
@@ -117,11 +117,11 @@ parameters_sound ts =
 abbrev pub SoundExp : ℕ → List Part → Piece Exp → Type 0
 SoundExp level ts p = Taken (Spells level p.tree) ts p.rest
 
--- an operand, with the level that it has
+-- an operand, with its level
 abbrev pub SoundOperand : List Part → Piece (Exp × ℕ) → Type 0
 SoundOperand ts p = Taken (λ used. IsOfLevel p.tree.1 p.tree.0 used × ((level : ℕ) → Spells level p.tree.0 used)) ts p.rest
 
--- an expression that has grown so far
+-- an expression as far as it has been read
 abbrev pub Grown : ℕ → List Part → Piece (Exp × ℕ) → Type 0
 Grown level ts p = Taken (λ used. IsOfLevel p.tree.1 p.tree.0 used × Spells level p.tree.0 used) ts p.rest
 
@@ -312,7 +312,7 @@ module _ (E : Reader) (exp_sound : (nest round level : ℕ) (ts : List Part) →
       looped (λ s. label_read E nest round s (label_start s.rest)) (λ p. Taken (SpellsLabels p.tree) ts p.rest) (λ p. Taken (SpellsLabels p.tree) ts p.rest) (λ s so_far. label_turn_sound nest round ts s (label_start s.rest) (labels s.rest) so_far) (length ts + 1) (piece no_labels 0 ts)
       (record { used = []; split = refl; spelled = no_more })
 
-  -- a list of places that has come to its end
+  -- a list of declarations and items that has come to its end
   pub record Closed (P : List Part → Type 0) (ts rest : List Part) : Type 0 where
     pub used : List Part
     pub split : ts ≡ used ++ A sign.CloseSection ∷ rest
@@ -368,12 +368,12 @@ some_exp : {level : ℕ} {es : Exps} {used : List Part} → SpellsExps level es 
 some_exp (one s) = omega arith
 some_exp (next {e = e} {es = es} s t) = omega (arith, count_add es e)
 
--- a list of one expression is spelled as it is
+-- a list of one expression is spelled like that expression
 single : {level : ℕ} {es : Exps} {used : List Part} (f : Exp) → SpellsExps level es used → es ≡ more f none → Spells level f used
 single {level = level} {used = used} f (one {e = d} s) e = let h : d ≡ f = cc in subst (λ (x : Exp). Spells level x used) h s
 single f (next {e = d} {es = es} s t) e = absurd (omega (arith, count_add es d, some_exp s, ap count e))
 
--- ---- lists of places, with their three readers
+-- ---- lists of declarations and items, of three kinds
 
 abbrev pub SoundCommand : List Part → Piece Command → Type 0
 SoundCommand ts p = Taken (SpellsCommand p.tree) ts p.rest
@@ -396,13 +396,13 @@ no_item_is : (is : Items) → no_item_yet is ≡ true → is ≡ no_items
 no_item_is no_items e = refl
 no_item_is (item i is) e = absurd cc
 
--- which lists a mode allows
+-- which lists a kind allows
 abbrev pub Fits : Places → Declarations → Items → Type 0
 Fits places.Section ds is = is ≡ no_items
 Fits places.Block ds is = Unit {0}
 Fits places.Cases ds is = ds ≡ no_declarations
 
--- after the last place
+-- after the last element
 abbrev pub AtEnd : Places → List Part → List Part → Type 0
 AtEnd places.Section ts rest = (ts ≡ []) × (rest ≡ [])
 AtEnd places.Block ts rest = ts ≡ A sign.CloseSection ∷ rest
@@ -417,7 +417,7 @@ end_is places.Section ts us e = no_parts_is ts us e
 end_is places.Block ts us e = after_is sign.CloseSection ts us e
 end_is places.Cases ts us e = after_is sign.CloseSection ts us e
 
--- the places of a list so far, and all of them
+-- the elements up to here, and all of them
 pub record PlacesSoFar (mode : Places) (ts : List Part) (s : Piece (Declarations × Items)) : Type 0 where
   pub used : List Part
   pub split : ts ≡ used ++ s.rest
@@ -432,7 +432,7 @@ pub record AllPlaces (mode : Places) (ts : List Part) (s : Piece (Declarations �
   pub spelled : SpellsPlaces s.tree.0 s.tree.1 used
   pub fits : Fits mode s.tree.0 s.tree.1
 
--- an element more, which may be the last
+-- one more element, which may be the last
 pub record PlacesMore (mode : Places) (ts : List Part) (s : Piece (Declarations × Items)) : Type 0 where
   pub used : List Part
   pub split : ts ≡ used ++ s.rest
@@ -740,7 +740,7 @@ module _ (E : Reader) (C : CommandReader) (D : DefinitionReader)
         spelled = spell.test test.spelled first.spelled second.spelled;
       }))))
 
-  -- a step and what is before the body
+  -- a FOR's step and what precedes the body
   abbrev Stepped : List Part → Piece (Option Exp) → Type 0
   Stepped ts p = elim p.tree as (λ _. Type 0) [ None ↦ ts ≡ p.rest | Some k ↦ Taken (λ used. (ws : List Part) × (used ≡ A sign.By ∷ ws) × Spells 2 k ws) ts p.rest ]
 

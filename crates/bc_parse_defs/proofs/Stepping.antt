@@ -1,4 +1,4 @@
--- One token more.
+-- What one token adds to the closed list: the code's step is the definition's.
 use Rattle.std.proofs.Common.{◌≡◌, ◌∙◌, ℕ, ◌+◌, Bool, List, [], ◌∷◌, ◌++◌, length, Result, Ok, Err, refl, sym, ap, append_assoc}
 use Rattle.std.proofs.Common.{◌<◌, get_or, drop, add-one, drop-cons}
 use Rattle.bc_lex_tokens.specs.Token.{Lexeme, lexeme_of, lexemes_of}
@@ -9,7 +9,7 @@ use Rattle.bc_parse_defs.specs.Seen.{Fails, Lists, with_placed, State, after_tok
 use Rattle.bc_parse_defs.specs.declared.fault.CloseFault.{CloseFault}
 use Rattle.bc_parse_defs.specs.declared.fault.CloseFault.TheVariants as faults
 
--- a list, and what closing gives after it
+-- the list up to here, and what closing gives after it
 abbrev pub remaining : Lists → Result (List Placed) Fault → Result Lists Fault
 remaining c r = r >>= λ ps. Ok (with_placed c ps)
 

@@ -1,4 +1,4 @@
--- Closing sections one by one, from the innermost on.
+-- The code closes sections one by one, from the innermost outwards; this is the count of the definition.
 use Rattle.std.proofs.Common.{◌≡◌, ◌∙◌, ℕ, ◌+◌, Bool, true, false, cond, List, [], ◌∷◌, ◌++◌, map, Option, Some, None, Result, Ok, Err, refl, ap, append_assoc, add-one}
 use Rattle.std.specs.Prelude.{replicate}
 use Rattle.bc_lex_tokens.specs.declared.symbol.Symbol.TheVariants as sign
@@ -9,7 +9,7 @@ use Rattle.std.specs.Borrow.{Bor}
 use Rattle.std.proofs.Common.{reverse}
 use Rattle.std.proofs.lemmas.List.{map_push, reverse-append}
 
--- one section closed
+-- one more section is closed
 abbrev pub one_closed : ℕ → Lists → Lists
 one_closed at c = with_placed c ((A sign.CloseSection, at) ∷ [])
 

@@ -1,4 +1,5 @@
--- Closing adds only section brackets and line breaks.
+-- Closing adds only closing section brackets and line breaks, so the weight of the list is at most the number of
+-- tokens.
 use Rattle.std.proofs.Common.{◌≡◌, ℕ, zero, suc, ◌+◌, ◌≤◌, Bool, true, false, ◌&&◌, cond, List, [], ◌∷◌, ◌++◌, length, Option, Some, None, Result, Ok, Err, refl, subst, arith}
 use Rattle.std.specs.Prelude.{replicate}
 use Rattle.bc_lex_tokens.specs.declared.symbol.Symbol.TheVariants as sign

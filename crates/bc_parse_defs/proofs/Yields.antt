@@ -1,4 +1,5 @@
--- What a reading yields, if it yields anything.
+-- `Yields r P`: P holds of what a reading gives, if it gives anything. There is a lemma for each way to combine
+-- readings, so a proof follows the text of the reader.
 use Rattle.std.proofs.Common.{◌≡◌, ℕ, zero, suc, Bool, true, false, cond, Option, Some, None, Result, Ok, Err, refl, subst}
 use Rattle.bc_parse_defs.specs.Reading.{Fault, ◌>>=◌, Piece, turns, on}
 
@@ -26,7 +27,7 @@ pub from_yields : {X : Type 0} (r : Result X Fault) (x : X) (Q : X → Type 0) �
 from_yields (Ok y) x Q p e = let same : y ≡ x = cc in subst Q same p
 from_yields (Err d) x Q p e = absurd cc
 
--- an invariant of a loop's turns
+-- an invariant of a loop
 module _ {X : Type 0} (step : Piece X → Result (Piece X × Bool) Fault) (I Q : Piece X → Type 0) (each : (s : Piece X) → I s → Yields (step s) (λ t. cond t.1 (Q t.0) (I t.0))) where
   ended : (k : ℕ) → ((t : Piece X) → I t → Yields (turns step k t) Q) → (last : Bool) (t : Piece X) → cond last (Q t) (I t) → Yields (cond last (Ok t) (turns step k t)) Q
   ended k again true t h = h

@@ -1,4 +1,4 @@
--- What holds of every reading.
+-- The laws about reading that `bc_parse_defs::laws` proves.
 use Rattle.std.specs.Prelude.{◌≡◌, ◌≤◌, List, Ok}
 use Rattle.bc_parse_tree.specs.Parts.{Part}
 use Rattle.bc_parse_tree.specs.Tree.{Declarations}
@@ -6,10 +6,10 @@ use Rattle.bc_parse_tree.specs.Height.{declarations_height}
 use Rattle.bc_parse_tree.specs.Spelling.{SpellsSection}
 use Rattle.bc_parse_defs.specs.Reading.{section_of}
 
--- what is read as a section is spelled by all of the parts
+-- a list that is read as a section spells the tree that was read
 abbrev pub ReadIsSpelled : Type 0
 ReadIsSpelled = (ts : List Part) (ds : Declarations) → section_of ts ≡ Ok ds → SpellsSection ds ts
 
--- what is read as a section nests at most 200 deep
+-- a tree that is read as a section nests at most 200 deep
 abbrev pub ReadNestsLittle : Type 0
 ReadNestsLittle = (ts : List Part) (ds : Declarations) → section_of ts ≡ Ok ds → declarations_height ds ≤ 200

@@ -1,3 +1,4 @@
+-- The definitions of closed lists and of reading, with laws and worked examples.
 pub mod Reading
 pub mod Laws
 pub mod Closing

@@ -1,4 +1,5 @@
--- Worked examples of the grammar: what is read and what is refused, and how deep trees may nest. They are lemmas that compute, in `specs`.
+-- Worked examples: what is read, what is refused, and how deep trees may nest. They are lemmas whose proof is a
+-- computation.
 pub mod Written
 pub mod Readings
 pub mod Depths

@@ -1,3 +1,4 @@
+//! Closed lists: the tags of section brackets are gone, and line breaks that count as semicolons are explicit.
 ghost use Rattle.std.specs.Prelude.{◌≡◌, ◌&&◌, ◌+◌, ℕ, [], ◌∷◌, ◌++◌, false, length, drop, Ok, Err, Some, None, if◌then◌else◌};
 ghost use Rattle.bc_lex_tokens.specs.Token.{Kind, lexeme_of, lexemes_of, kind_of};
 ghost use Rattle.bc_parse_tree.specs.Parts.{part};
@@ -9,14 +10,17 @@ use bc_lex_tokens::{Symbol, Token, TokenKind};
 use bc_parse_tree::Part;
 use std::alloc::Global;
 
-/// Parts, and beside each the index of its token.
+/// The parts of a closed list, and for each the index of its token. An inserted part has the index of the token that
+/// it was inserted for.
 #[derive(Drop)]
 pub struct ClosedList<'s> {
+    /// The parts, in order.
     pub parts: Vec<Part<'s>>,
+    /// The index of the token of each part.
     pub places: Vec<usize>,
 }
 
-/// Whether a word or sign can end a command.
+/// Whether a command can end with this symbol.
 pub fn is_symbol_end(symbol: Symbol) -> bool
     ensures { result ≡ symbol_ends symbol }
 {
@@ -35,7 +39,7 @@ pub fn is_symbol_end(symbol: Symbol) -> bool
     }
 }
 
-/// Whether a word or sign can begin a command.
+/// Whether a command can begin with this symbol.
 pub fn is_symbol_beginning(symbol: Symbol) -> bool
     ensures { result ≡ symbol_begins symbol }
 {
@@ -67,7 +71,7 @@ pub fn is_symbol_beginning(symbol: Symbol) -> bool
     }
 }
 
-/// Whether a part can end a command.
+/// Whether a command can end with this part.
 fn is_end(front: &Part<'_>) -> bool
     ensures { result ≡ ends_command (part front.now) }
 {
@@ -78,7 +82,7 @@ fn is_end(front: &Part<'_>) -> bool
     }
 }
 
-/// Whether a part can begin a command.
+/// Whether a command can begin with this part.
 fn is_beginning(front: &Part<'_>) -> bool
     ensures { result ≡ begins_command (part front.now) }
 {
@@ -89,7 +93,7 @@ fn is_beginning(front: &Part<'_>) -> bool
     }
 }
 
-/// The part that a token's kind is.
+/// The kind of a token as a part.
 fn part_from<'s>(kind: &TokenKind<'s>) -> Part<'s>
     ensures { part result ≡ kind_part (kind_of kind.now) }
 {
@@ -102,7 +106,7 @@ fn part_from<'s>(kind: &TokenKind<'s>) -> Part<'s>
     }
 }
 
-/// A part more, with a line break before it where it means a semicolon.
+/// Appends a part, preceded by a line break if that counts as a semicolon here.
 fn put<'s>(
     list: &mut ClosedList<'s>,
     is_after_end: bool,
@@ -121,7 +125,7 @@ fn put<'s>(
     Ok(())
 }
 
-/// The tag of a bracket: its text after the two signs.
+/// The tag of a section bracket: its text after `$(` or `$)`.
 fn tag<'s>(text: &'s [u8]) -> &'s [u8]
     ensures { result.now ≡ drop 2 text.entry.now }
 {
@@ -131,14 +135,14 @@ fn tag<'s>(text: &'s [u8]) -> &'s [u8]
     }
 }
 
-/// Whether a closing bracket with the tag belongs to this opening one: an untagged one closes any.
+/// Whether a closing bracket with this tag closes this opening one. A bracket without a tag closes any.
 fn is_match(tag: &[u8], opening: &[u8]) -> bool
     ensures { result ≡ is_matched tag.now opening.now }
 {
     tag.is_empty() || opening == tag
 }
 
-/// Closes sections from the innermost on, up to the first with the tag; without a tag, the innermost.
+/// Closes sections from the innermost outwards, up to the first with the tag; without a tag, only the innermost.
 fn unwind<'s>(
     list: &mut ClosedList<'s>,
     opened: &mut Vec<&'s [u8]>,
@@ -157,7 +161,7 @@ fn unwind<'s>(
     Err(CloseFault::NotOpen(at))
 }
 
-/// One token more; gives whether the last part can end a command.
+/// Appends what one token becomes. Returns whether a command can end with the last part.
 fn put_token<'s>(
     list: &mut ClosedList<'s>,
     opened: &mut Vec<&'s [u8]>,
@@ -188,14 +192,14 @@ fn put_token<'s>(
     }
 }
 
-/// The closed list of tokens.
+/// The closed list of the tokens.
 ///
-/// Each `$)` with a tag closes the sections up to the innermost open one with that tag, and an
-/// untagged one closes the innermost; a line break becomes a semicolon where the token before it
-/// can end a command and the one after it can begin one.
+/// A `$)` with a tag closes all sections up to the innermost open one with that tag, and a `$)` without one closes
+/// the innermost. A line break counts as a semicolon if the token before it can end a command and the token after it
+/// can begin one.
 ///
-/// `NotOpen` names the first `$)` that closes no section; `Unclosed` comes where no such token
-/// stands and a section is open at the end; `Memory` where an allocation was refused.
+/// Errors: `NotOpen` with the index of the first `$)` that closes no section; otherwise `Unclosed` if a section is
+/// still open at the end; `Memory` if an allocation fails.
 pub fn close<'s>(alloc: Global, tokens: &[Token<'s>]) -> Result<ClosedList<'s>, CloseFault>
     ensures { Gives (λ x. lists x) result (all_unzipped (closed_list (lexemes_of tokens.now))) }
 {

@@ -1,14 +1,15 @@
-//! What holds of every closed list.
+//! The theorems about closed lists.
 ghost use Rattle.bc_parse_defs.specs.ClosingLaws.{ClosedIsShort, ClosedIsLawful};
 
-/// A closed list has no more parts than tokens, section brackets that close and line breaks not counted.
+/// A closed list has at most as many parts as there are tokens. Closing section brackets and line breaks aren't
+/// counted.
 pub fn closed_is_short()
     ensures { ClosedIsShort }
 {}
 
-/// In a closed list a line break stands between two neighbours just where the left one can end a command, the right one
-/// can begin one, and a line break lies between. Without line breaks the list is the tokens, each closing bracket of a
-/// section once or more, and the brackets of sections balance.
+/// A closed list has a line break between two neighbouring parts exactly if the left one can end a command, the right
+/// one can begin one, and the source has a line break between them. Without line breaks the list is the tokens, with
+/// each closing section bracket once or more, and the section brackets balance.
 pub fn closed_is_lawful()
     ensures { ClosedIsLawful }
 {}

@@ -1,3 +1,4 @@
+//! The errors of `close`.
 ghost use Rattle.std.specs.Prelude.{◌≡◌};
 ghost use Rattle.bc_parse_defs.specs.declared.fault.CloseFault.TheVariants.{Memory};
 
@@ -6,10 +7,11 @@ use std::alloc::{AllocError, AllocFailed};
 /// Why tokens have no closed list.
 #[derive(Clone, Copy, Debug, PartialEq, Eq)]
 pub enum CloseFault {
-    /// The `$)` at this index closes no section.
+    /// The `$)` with this index among the tokens closes no section.
     NotOpen(usize),
-    /// A section is open at the end.
+    /// A section is still open at the end.
     Unclosed,
+    /// Memory ran out.
     Memory,
 }
 

@@ -1,6 +1,10 @@
-//! How a section is read from left to right, as a definition, and what holds of all that is read.
+//! How the tokens of a section are parsed, as definitions: first into a closed list, where section brackets have no
+//! tags and line breaks that count as semicolons are explicit; then from left to right into a tree, or to the first
+//! fault.
 //!
-//! Closed lists: section brackets lose their tags, and line breaks become semicolons.
+//! The code has only the small parts: `close`, and the tables of symbols in `words`. The parser itself is `bc_parse`.
+//! The laws say that a closed list is what its tokens imply, and that a tree that is read is spelled by the parts it
+//! was read from.
 #![tactic(auto)]
 
 mod closing;

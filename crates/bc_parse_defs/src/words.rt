@@ -1,3 +1,4 @@
+//! Which symbols begin which construct, and the levels of operators. The parser decides by these tables.
 ghost use Rattle.std.specs.Prelude.{◌≡◌};
 ghost use Rattle.bc_parse_defs.specs.Reading.{start_of, command_word_of, simple_word_of, repeat_word_of, declaration_word_of, dyadic_of};
 ghost use Rattle.bc_parse_tree.specs.Operators.{level_of, left_level, own_level, operand_level};
@@ -8,69 +9,95 @@ use bc_parse_tree::{Dyadic, Monadic, Storage};
 /// What begins an operand of more than one part.
 #[derive(Clone, Copy)]
 pub enum Start {
+    /// `(`
     Bracket,
+    /// TABLE
     Table,
+    /// VALOF
     Valof,
+    /// A monadic operator.
     Monadic(Monadic),
 }
 
-/// A command of a test and a body.
+/// A command with a test and one body.
 #[derive(Clone, Copy)]
 pub enum Tested {
+    /// IF
     If,
+    /// UNLESS
     Unless,
+    /// WHILE
     While,
+    /// UNTIL
     Until,
 }
 
-/// What begins a command that no REPEAT may follow.
+/// What begins a command that REPEAT can't follow.
 #[derive(Clone, Copy)]
 pub enum CommandWord {
+    /// IF, UNLESS, WHILE or UNTIL.
     Tested(Tested),
+    /// TEST
     Test,
+    /// FOR
     For,
+    /// SWITCHON
     SwitchOn,
 }
 
-/// What begins a command that REPEAT may follow, and that is no assignment and no call.
+/// What begins a command that REPEAT can follow, other than an assignment or a call.
 #[derive(Clone, Copy)]
 pub enum SimpleWord {
+    /// `$(`
     Block,
+    /// BREAK
     Break,
+    /// LOOP
     Loop,
+    /// ENDCASE
     EndCase,
+    /// RETURN
     Return,
+    /// FINISH
     Finish,
+    /// RESULTIS
     ResultIs,
+    /// GOTO
     Goto,
 }
 
 /// What repeats the command before it.
 #[derive(Clone, Copy)]
 pub enum RepeatWord {
+    /// REPEAT
     Repeat,
+    /// REPEATWHILE
     While,
+    /// REPEATUNTIL
     Until,
 }
 
 /// What begins a declaration.
 #[derive(Clone, Copy)]
 pub enum DeclarationWord {
+    /// LET
     Let,
+    /// MANIFEST, STATIC or GLOBAL.
     Constants(Storage),
 }
 
-/// A list of places with semicolons between them.
+/// A kind of list whose elements are separated by semicolons.
 #[derive(Clone, Copy)]
 pub enum Places {
-    /// Declarations, up to the end of the parts.
+    /// Declarations, up to the end of all parts.
     Section,
-    /// Declarations, then items.
+    /// Declarations, then items, up to `$)`.
     Block,
-    /// Items.
+    /// Items, up to `$)`.
     Cases,
 }
 
+/// The operand that this symbol begins, if it begins one of more than one part.
 pub fn start_word(symbol: Symbol) -> Option<Start>
     ensures { result ≡ start_of symbol }
 {
@@ -86,6 +113,7 @@ pub fn start_word(symbol: Symbol) -> Option<Start>
     }
 }
 
+/// The command that this symbol begins, if it begins one that REPEAT can't follow.
 pub fn command_word(symbol: Symbol) -> Option<CommandWord>
     ensures { result ≡ command_word_of symbol }
 {
@@ -101,6 +129,7 @@ pub fn command_word(symbol: Symbol) -> Option<CommandWord>
     }
 }
 
+/// The command that this symbol begins, if it begins one that REPEAT can follow.
 pub fn simple_word(symbol: Symbol) -> Option<SimpleWord>
     ensures { result ≡ simple_word_of symbol }
 {
@@ -117,6 +146,7 @@ pub fn simple_word(symbol: Symbol) -> Option<SimpleWord>
     }
 }
 
+/// The repetition that this symbol is, if it is one.
 pub fn repeat_word(symbol: Symbol) -> Option<RepeatWord>
     ensures { result ≡ repeat_word_of symbol }
 {
@@ -128,6 +158,7 @@ pub fn repeat_word(symbol: Symbol) -> Option<RepeatWord>
     }
 }
 
+/// The declaration that this symbol begins, if it begins one.
 pub fn declaration_word(symbol: Symbol) -> Option<DeclarationWord>
     ensures { result ≡ declaration_word_of symbol }
 {
@@ -140,6 +171,7 @@ pub fn declaration_word(symbol: Symbol) -> Option<DeclarationWord>
     }
 }
 
+/// The dyadic operator that this symbol is, if it is one.
 pub fn dyadic(symbol: Symbol) -> Option<Dyadic>
     ensures { result ≡ dyadic_of symbol }
 {
@@ -166,7 +198,7 @@ pub fn dyadic(symbol: Symbol) -> Option<Dyadic>
     }
 }
 
-/// The level of an expression of this operator.
+/// The level of an expression with this operator, from 2 to 11.
 pub fn level(op: Dyadic) -> usize
     ensures { result ≡ level_of op }
 {
@@ -187,7 +219,7 @@ pub fn level(op: Dyadic) -> usize
     }
 }
 
-/// The level of the operand before this operator: relations don't group.
+/// The least level of the left operand: that of the operator, except that relations don't group.
 pub fn level_before(op: Dyadic) -> usize
     ensures { result ≡ left_level op }
 {
@@ -202,7 +234,7 @@ pub fn level_before(op: Dyadic) -> usize
     }
 }
 
-/// The level of an expression of this monadic operator.
+/// The level of an expression with this monadic operator.
 pub fn monadic_level(op: Monadic) -> usize
     ensures { result ≡ own_level op }
 {
@@ -213,7 +245,7 @@ pub fn monadic_level(op: Monadic) -> usize
     }
 }
 
-/// The level of the operand after this monadic operator.
+/// The least level of the operand of this monadic operator.
 pub fn level_after(op: Monadic) -> usize
     ensures { result ≡ operand_level op }
 {

@@ -1,4 +1,4 @@
--- The canonical spelling of a tree opens as many round brackets at once as the tree says, and closes all brackets.
+-- The canonical spelling of a tree opens as many parentheses at once as `Rounds` says, and closes all brackets.
 use Rattle.std.proofs.Common.{◌≡◌, ℕ, zero, suc, ◌-◌, ◌+◌, ◌≤◌, Bool, true, false, Option, Some, None, ◌∙◌, List, [], ◌∷◌, ◌++◌, max, refl, sym, ap, append_assoc, arith}
 use Rattle.std.proofs.lemmas.List.{append-nil}
 use Rattle.bc_lex_tokens.specs.declared.symbol.Symbol.TheVariants as sign
@@ -30,7 +30,7 @@ at_least k (A sign.OpenBracket ∷ ts) = omega (arith, at_least (k + 1) ts)
 at_least k (A sign.CloseBracket ∷ ts) = omega arith
 at_least k (A _ ∷ ts) = at_least k ts
 
--- how many sections are open after these parts, where so many are open in front
+-- how many sections are open after these parts, if `k` are open before them
 abbrev pub left_open : List Part → ℕ → Option ℕ
 left_open [] k = Some k
 left_open (A sign.OpenSection ∷ ts) k = left_open ts (suc k)
@@ -38,7 +38,7 @@ left_open (A sign.CloseSection ∷ ts) zero = None
 left_open (A sign.CloseSection ∷ ts) (suc k) = left_open ts k
 left_open (p ∷ ts) k = left_open ts k
 
--- these parts open so many round brackets at once, or more, and close all brackets that they open
+-- these parts open at least `r` parentheses at once, and close all brackets that they open
 pub record Opens (xs : List Part) (r : ℕ) : Type 0 where
   pub reach : (k : ℕ) (ts : List Part) → k + r ≤ most_open k (xs ++ ts)
   pub remaining : (k : ℕ) (ts : List Part) → most_open k ts ≤ most_open k (xs ++ ts)

@@ -1,4 +1,4 @@
--- Bodies and commands that are spelled canonically are read again.
+-- Canonical spellings of bodies and commands are read back.
 use Rattle.std.proofs.Common.{◌≡◌, ℕ, zero, suc, ◌-◌, ◌+◌, ◌<◌, ◌≤◌, List, [], ◌∷◌, ◌++◌, max, Result, Ok, refl, ap, ◌∙◌, append_assoc, arith}
 use Rattle.std.proofs.lemmas.Bool.{lt-ltb}
 use Rattle.bc_lex_tokens.specs.declared.symbol.Symbol.TheVariants as sign
@@ -15,7 +15,7 @@ use Rattle.bc_parse_laws.proofs.Rounds.{part_rounds, exp_rounds, block_rounds, i
 use Rattle.bc_parse_laws.proofs.Ends.{NoRepeat, After, unrepeated}
 use Rattle.bc_parse_laws.proofs.Expressions.{WholeAgain, PartAgain, Operand, operand_alone}
 
--- nothing goes on here, and nothing is repeated
+-- here nothing continues a command, and nothing is repeated
 pub record Quiet (ts : List Part) : Type 0 where
   pub remaining : After ts
   pub no_repeat : NoRepeat ts
@@ -25,7 +25,7 @@ word_after ts = record { stops = refl; no_comma = refl; no_assign = refl }
 
 -- ---- bodies
 
--- what stands in a block, and its last bracket
+-- what is in a block, and its last bracket
 abbrev pub inside : Block → List Part
 inside (block ds is) = after_first (declarations_spelling ds ++ items_spelling is) ++ A sign.CloseSection ∷ []
 

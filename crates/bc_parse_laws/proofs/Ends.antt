@@ -1,4 +1,4 @@
--- What ends an expression or a command, and how a loop of turns goes.
+-- What ends an expression or a command, what an item or an expression begins with, and how a loop goes on.
 use Rattle.std.proofs.Common.{◌≡◌, ℕ, suc, Bool, true, false, List, [], ◌∷◌, ◌++◌, None, Result, Ok, refl, sym, subst, append_assoc}
 use Rattle.bc_lex_tokens.specs.declared.symbol.Symbol.TheVariants as sign
 use Rattle.bc_parse_tree.specs.Parts.{Part, A, Name, Number, Character, String, NewLine}
@@ -19,16 +19,16 @@ module _ {X : Type 0} (step : Piece X → Result (Piece X × Bool) Fault) where
   unfolding turns
   turn_next k s t e = rw e refl
 
--- ---- what stands after
+-- ---- what follows
 
--- nothing goes on with an expression here
+-- here nothing continues an expression
 abbrev pub Stops : List Part → Type 0
 Stops ts = ends (following 0 12 ts) ≡ true
 
 abbrev pub NoRepeat : List Part → Type 0
 NoRepeat ts = word_in repeat_word_of ts ≡ None
 
--- nothing goes on with an expression or a list of them here
+-- here nothing continues an expression or a list of them
 pub record After (ts : List Part) : Type 0 where
   pub stops : Stops ts
   pub no_comma : after_of sign.Comma ts ≡ None
@@ -82,9 +82,9 @@ stops_here level top (A sign.Remainder ∷ ts) e = absurd cc
 stops_here level top (A sign.Indirection ∷ ts) e = absurd cc
 stops_here level top (A _ ∷ ts) e = refl
 
--- ---- what stands in front
+-- ---- what comes first
 
--- before an expression that is part of another, or in a list
+-- at an expression that is part of another one or of a list
 pub record ExpHead (ts : List Part) : Type 0 where
   pub no_close : after_of sign.CloseBracket ts ≡ None
   pub no_vector : after_of sign.Vector ts ≡ None
@@ -125,13 +125,13 @@ routine_head (tree.Dyadic o l r) ts = bracket_head _
 routine_head (tree.Condition c x y) ts = bracket_head _
 routine_head (tree.Call f es) ts = bracket_head _
 
--- before an item
+-- at an item
 pub record ItemHead (ts : List Part) : Type 0 where
   pub no_separator : separator_of ts ≡ None
   pub no_close : after_of sign.CloseSection ts ≡ None
   pub no_declaration : word_in declaration_word_of ts ≡ None
 
--- before a command
+-- at a command
 pub record CommandHead (ts : List Part) : Type 0 where
   pub no_separator : separator_of ts ≡ None
   pub no_close : after_of sign.CloseSection ts ≡ None

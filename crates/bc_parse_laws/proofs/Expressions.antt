@@ -1,4 +1,4 @@
--- Expressions that are spelled canonically are read again.
+-- Canonical spellings of expressions are read back.
 use Rattle.std.proofs.Common.{◌≡◌, ℕ, zero, suc, ◌-◌, ◌+◌, ◌<◌, ◌≤◌, Bool, true, false, cond, eqb, List, [], ◌∷◌, ◌++◌, length, max, None, Result, Ok, refl, ap, ◌∙◌, append_assoc, arith}
 use Rattle.std.proofs.Math.Numerals.{add-one}
 use Rattle.std.proofs.lemmas.Bool.{lt-ltb, eqb-true}
@@ -41,7 +41,7 @@ module _ (E : Reader) (nest round begin : ℕ) where
   unfolding grow_turn
   last_turn level s stop = rw (stops_here level s.tree.1 s.rest stop) refl
 
-  -- nothing goes on
+  -- nothing follows
   pub grow_ends : (level : ℕ) (s : Piece (Exp × ℕ)) → Stops s.rest → grow_read E nest round begin level s ≡ Ok (piece s.tree.0 s.height s.rest)
   unfolding grow_read
   grow_ends level s stop = rw (add-one (length s.rest), turn_last (grow_turn E nest round begin level) (length s.rest) s s (last_turn level s stop)) refl
@@ -51,7 +51,7 @@ module _ (E : Reader) (nest round begin : ℕ) where
   unfolding grow_turn
   one_turn s f t is goes_on read = rw (is, goes_on, read) refl
 
-  -- one thing goes on
+  -- one thing follows
   pub grow_once : (s : Piece (Exp × ℕ)) (p : Part) (ts : List Part) (f : Following) (t : Piece (Exp × ℕ)) → s.rest ≡ p ∷ ts → following 1 s.tree.1 s.rest ≡ f → ends f ≡ false
       → suffix_read E nest round begin f s.tree.0 s.height (length s.rest) ≡ Ok t → Stops t.rest → grow_read E nest round begin 1 s ≡ Ok (piece t.tree.0 t.height t.rest)
   unfolding grow_read
@@ -63,11 +63,11 @@ module _ (E : Reader) (nest round begin : ℕ) where
 
 -- ---- expressions
 
--- the whole of it is read again, where nothing goes on with it
+-- the whole expression is read back, if nothing after it continues it
 abbrev pub WholeAgain : Exp → Type 0
 WholeAgain e = (n nest round : ℕ) (rest : List Part) → exp_height e ≤ nest → exp_rounds e ≤ round → nest + round ≤ n → After rest → Unrepeated e rest → exp_of n nest round 1 (whole e ++ rest) ≡ Ok (piece e (exp_height e) rest)
 
--- the same where it is part of another expression or in a list
+-- the same for an expression that is part of another one or of a list
 abbrev pub PartAgain : Exp → Type 0
 PartAgain e = (n nest round level : ℕ) (rest : List Part) → exp_height e ≤ nest → part_rounds e (exp_rounds e) ≤ round → nest + round ≤ n → Stops rest → exp_of n nest round level (part_of e (whole e) ++ rest) ≡ Ok (piece e (exp_height e) rest)
 
@@ -78,7 +78,7 @@ PartsAgain (more e es) = PartAgain e × PartsAgain es
 abbrev pub Operand : ℕ → ℕ → ℕ → List Part → Result (Piece (Exp × ℕ)) Fault
 Operand m nest round ts = operand_read (exp_of m) (command_of m) (definition_of m) nest round ts
 
--- an expression is an operand, and what goes on with it
+-- an expression is an operand, and what continues it
 pub exp_runs : (n nest round level : ℕ) (ts : List Part) (r : Result (Piece Exp) Fault) → 0 < nest → nest + round ≤ n
     → ((m : ℕ) → nest + round ≤ m + 1 → (Operand m nest round ts >>= λ p. grow_read (exp_of m) nest round (length ts) level p) ≡ r) → exp_of n nest round level ts ≡ r
 unfolding exp_of
@@ -210,7 +210,7 @@ elements_again (more d es) again e first n (suc k) nest round level limit found 
     ∙ elements_again es again.1 d again.0 n k nest round level limit (add_exp found e) (max h (exp_height e)) rest (omega arith) (omega (arith, count_add found e)) (omega arith) (omega arith) (omega arith) (omega arith) enough stop no_comma
     ∙ rw (append_more found e (more d es), m) refl
 
--- a list of expressions is read again
+-- a list of expressions is read back
 pub exps_again : (es : Exps) → SomeExps es → PartsAgain es → (n nest round level limit : ℕ) (rest : List Part) → count es ≤ limit
     → exps_height es ≤ nest → exps_rounds es ≤ round → nest + round ≤ n → Stops rest → after_of sign.Comma rest ≡ None
     → exps_read (exp_of n) nest round level limit (after_first (after_commas es) ++ rest) ≡ Ok (piece es (exps_height es) rest)
@@ -292,7 +292,7 @@ pub monadic_again : (o : code_monadic.Monadic) (e : Exp) → PartAgain e → Who
 monadic_again o e again n nest round rest high deep enough end quiet =
     operand_alone n nest round 1 _ rest (tree.Monadic o e) (own_level o) (exp_height e + 1) (omega arith) enough end.stops (λ m le. monadic_operand o e again m nest round rest high deep le end)
 
--- an operand, and one thing that goes on with it
+-- an operand, and one thing that continues it
 two_parts : (n nest round : ℕ) (ts more_ts rest : List Part) (p : Part) (f : Following) (l e : Exp) (h height top : ℕ) → 0 < nest → nest + round ≤ n → Stops rest
     → following 1 12 (p ∷ more_ts) ≡ f → ends f ≡ false
     → ((m : ℕ) → nest + round ≤ m + 1 → Operand m nest round ts ≡ Ok (piece (l, 12) h (p ∷ more_ts)))

@@ -1,4 +1,5 @@
--- What a tree is like that the grammar has a spelling for, and that is read from its canonical spelling.
+-- What is known of a tree that the grammar has a spelling for: no list is empty that mustn't be, and there are as
+-- many values as names. What a repeated command must be like is left open, as a parameter.
 use Rattle.std.proofs.Common.{◌≡◌, length}
 use Rattle.bc_parse_tree.specs.Tree.{Exp, Exps, none, more, Block, block, Declaration, Declarations, no_declarations, declaration, Entries, no_entries, entry, Definition, Definitions, no_definitions, definition, Item, Labelled, Labels_alone, Items, no_items, item, Label, Labels, no_labels, label, Command}
 use Rattle.bc_parse_tree.specs.Tree as tree
@@ -16,7 +17,7 @@ abbrev pub SomeLabels : Labels → Type 0
 SomeLabels no_labels = ⊥
 SomeLabels (label l ls) = Unit {0}
 
--- a command that REPEAT may follow
+-- a command that REPEAT can follow
 abbrev pub IsSimple : Command → Type 0
 IsSimple (tree.If e b) = ⊥
 IsSimple (tree.Unless e b) = ⊥
@@ -39,7 +40,7 @@ EndsInNoValof (tree.RepeatWhile c e) = IsNoValof e
 EndsInNoValof (tree.RepeatUntil c e) = IsNoValof e
 EndsInNoValof _ = Unit {0}
 
--- what a command before a REPEAT word is to be like, beside simple, is left open
+-- what a command before a REPEAT word must be like, other than simple, is left open
 module _ (Repeated : Command → Type 0) where
   abbrev mutual
     pub FormedExp : Exp → Type 0

@@ -1,4 +1,4 @@
--- Where no REPEAT word stands after a VALOF's body, no repeated command ends with one.
+-- If no REPEAT word follows a VALOF's body, no repeated command ends with one.
 use Rattle.std.proofs.Common.{List, [], ◌∷◌, ◌++◌, refl, sym, ap, subst, ◌∙◌, append_assoc}
 use Rattle.bc_lex_tokens.specs.declared.symbol.Symbol.{Symbol}
 use Rattle.bc_lex_tokens.specs.declared.symbol.Symbol.TheVariants as sign

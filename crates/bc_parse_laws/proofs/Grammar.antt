@@ -1,4 +1,4 @@
--- What the grammar has a spelling for is formed as a tree that is read, but for VALOF before REPEAT.
+-- A tree that the grammar has a spelling for is `Formed`, except that a VALOF may precede REPEAT.
 use Rattle.std.proofs.Common.{◌≢◌, ℕ, List, refl}
 use Rattle.bc_parse_tree.specs.Parts.{Part}
 use Rattle.bc_parse_tree.specs.Tree.{Exp, Exps, none, more, Block, block, Declaration, Declarations, no_declarations, declaration, Entries, no_entries, entry, Definition, Definitions, no_definitions, definition, Item, Labelled, Labels_alone, Items, no_items, item, Label, Labels, no_labels, label, Command}
@@ -10,7 +10,7 @@ use Rattle.bc_parse_laws.proofs.Formed.{SomeExps, SomeDefinitions, SomeLabels, I
 abbrev pub Any : Command → Type 0
 Any c = Unit {0}
 
--- ---- one more at the end of a list
+-- ---- a list with one more element at its end
 
 some_add_exp : (es : Exps) (e : Exp) → SomeExps (add_exp es e)
 some_add_exp none e = tt

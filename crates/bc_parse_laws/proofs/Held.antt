@@ -1,4 +1,4 @@
--- A canonical spelling has at most one operator in each pair of round brackets, and in each expression that stands alone.
+-- A canonical spelling has at most one operator in each pair of parentheses, and in each expression that needs none.
 use Rattle.std.proofs.Common.{◌≡◌, ℕ, ◌+◌, ◌≤◌, List, [], ◌∷◌, ◌++◌, max, refl, ap, append_assoc, arith}
 use Rattle.std.proofs.lemmas.List.{append-nil}
 use Rattle.bc_lex_tokens.specs.declared.symbol.Symbol.{Symbol}
@@ -63,7 +63,7 @@ counts_one (Character n) plain held ts = refl
 counts_one (String n) plain held ts = refl
 counts_one NewLine plain held ts = refl
 
--- each pair of round brackets in these parts holds at most one operator, and so many stand outside brackets
+-- each pair of parentheses in these parts holds at most one operator, and `n` operators are outside parentheses
 pub record Holds (xs : List Part) (n : ℕ) : Type 0 where
   pub at_most : (held : List ℕ) (ts : List Part) → most_held held (xs ++ ts) ≤ max 1 (most_held (add_to n held) ts)
 
@@ -103,7 +103,7 @@ names [] = nothing
 names (n ∷ []) = before refl nothing
 names (n ∷ m ∷ ns) = before refl (before refl (names (m ∷ ns)))
 
--- the same, where at most one operator stands outside brackets
+-- the same, with at most one operator outside
 pub record HoldsFew (xs : List Part) : Type 0 where
   pub count : ℕ
   pub is_few : count ≤ 1
@@ -115,7 +115,7 @@ no_operator f = record { count = 0; is_few = omega arith; holds = f }
 bracketed : {xs : List Part} → HoldsFew xs → Holds (in_round xs) 0
 bracketed f = round f.is_few f.holds
 
--- the same, where any number does
+-- the same, with any number outside
 pub record HoldsAny (xs : List Part) : Type 0 where
   pub count : ℕ
   pub holds : Holds xs count
@@ -162,7 +162,7 @@ routine_holds (tree.Dyadic o l r) f = bracketed f
 routine_holds (tree.Condition c x y) f = bracketed f
 routine_holds (tree.Call g es) f = bracketed f
 
--- expressions, each after a comma, and the same without the first comma
+-- expressions, each preceded by a comma, and the same without the first comma
 record ListHolds (es : Exps) : Type 0 where
   with_first : Holds (after_commas es) 0
   without_first : Holds (after_first (after_commas es)) 0
@@ -282,7 +282,7 @@ mutual
 
 -- ---- the whole
 
--- an expression that stands alone holds at most one, as if it were in brackets
+-- an expression that needs no parentheses holds at most one operator, as if it were in parentheses
 pub whole_few : (e : Exp) → most_held [] (in_round (whole e)) ≤ 1
 whole_few e = rw (← append-nil (in_round (whole e))) (omega (arith, (bracketed (whole_holds e)).at_most [] []))
 

@@ -1,4 +1,4 @@
--- Names, labels and constants that are spelled canonically are read again.
+-- Canonical spellings of names, labels and constants are read back.
 use Rattle.std.proofs.Common.{◌≡◌, ℕ, zero, suc, ◌+◌, ◌<◌, ◌≤◌, true, false, List, [], ◌∷◌, ◌++◌, length, max, None, Ok, refl, ap, ◌∙◌, append_assoc, arith}
 use Rattle.std.proofs.Math.Numerals.{add-one}
 use Rattle.std.proofs.lemmas.List.{length-append}

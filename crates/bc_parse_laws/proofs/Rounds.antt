@@ -1,9 +1,9 @@
--- How many round brackets are open at once in the canonical spelling of a tree.
+-- How many parentheses are open at once in the canonical spelling of a tree.
 use Rattle.std.proofs.Common.{ℕ, ◌+◌, max}
 use Rattle.bc_parse_tree.specs.Tree.{Exp, Exps, none, more, Block, block, Declaration, Declarations, no_declarations, declaration, Entries, no_entries, entry, Definition, Definitions, no_definitions, definition, Item, Labelled, Labels_alone, Items, no_items, item, Label, Labels, no_labels, label, Command}
 use Rattle.bc_parse_tree.specs.Tree as tree
 
--- one more where it stands as a part
+-- one more if it is a part of another one
 abbrev pub part_rounds : Exp → ℕ → ℕ
 part_rounds (tree.Name s) k = 0
 part_rounds (tree.Number n) k = 0

@@ -1,4 +1,5 @@
--- Sections that are spelled canonically are read again, by induction on their trees.
+-- Canonical spellings of sections are read back, by induction on their trees. One line per form of the tree ties the
+-- lemmas of the other files together.
 use Rattle.std.proofs.Common.{◌≡◌, ℕ, suc, ◌-◌, ◌+◌, ◌≤◌, true, List, [], ◌++◌, length, max, Ok, refl, sym, ap, ◌∙◌, arith}
 use Rattle.std.proofs.lemmas.List.{length-append, append-nil}
 use Rattle.bc_parse_tree.specs.Parts.{Part}

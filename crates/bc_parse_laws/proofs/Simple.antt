@@ -1,4 +1,5 @@
--- Commands that REPEAT may follow, and the same with REPEAT after them.
+-- Canonical spellings of commands that REPEAT can follow are read back, with their REPEAT words. What is read first
+-- is a command without them; then each turn of a loop reads one.
 use Rattle.std.proofs.Common.{◌≡◌, ℕ, suc, ◌-◌, ◌+◌, ◌<◌, ◌≤◌, true, false, List, [], ◌∷◌, ◌++◌, length, max, None, Result, Ok, refl, sym, ap, subst, ◌∙◌, append_assoc, arith}
 use Rattle.std.proofs.Math.Numerals.{add-one}
 use Rattle.std.proofs.lemmas.Bool.{lt-ltb, eq-eqb}
@@ -38,14 +39,14 @@ no_valof (tree.Dyadic o l r) ts h = tt
 no_valof (tree.Condition c x y) ts h = tt
 no_valof (tree.Call f es) ts h = tt
 
--- where it doesn't end with one
+-- if it doesn't end with one
 pub no_valof_end : (c : Command) (ts : List Part) → EndsInNoValof c → UnrepeatedEnd c ts
 no_valof_end (tree.ResultIs e) ts h = no_valof e ts h
 no_valof_end (tree.RepeatWhile c e) ts h = no_valof e ts h
 no_valof_end (tree.RepeatUntil c e) ts h = no_valof e ts h
 no_valof_end _ ts h = tt
 
--- where no REPEAT follows
+-- if no REPEAT follows
 pub quiet_end : (c : Command) (ts : List Part) → NoRepeat ts → UnrepeatedEnd c ts
 quiet_end (tree.ResultIs e) ts h = unrepeated e ts h
 quiet_end (tree.RepeatWhile c e) ts h = unrepeated e ts h

@@ -1,4 +1,4 @@
--- The closed list of tokens without line breaks and tags is these tokens, where each section is closed.
+-- The closed list of tokens without line breaks and tags is these tokens, if each section is closed.
 use Rattle.std.proofs.Common.{◌≡◌, ℕ, ◌+◌, Bool, true, false, List, [], ◌∷◌, length, map, Some, Ok, refl, sym, ap, ◌∙◌, All}
 use Rattle.std.proofs.lemmas.List.Elements.{All-head, All-tail}
 use Rattle.bc_lex_tokens.specs.declared.symbol.Symbol.TheVariants as sign

@@ -1,4 +1,4 @@
--- Worked examples of canonical spellings.
+-- Worked examples of canonical spellings, and of one that is read as another section.
 use Rattle.std.specs.Prelude.{ℕ, ◌≡◌, List, [], ◌∷◌, Ok}
 use Rattle.std.proofs.Common.{refl}
 use Rattle.bc_lex_tokens.specs.declared.symbol.Symbol.TheVariants as sign
@@ -60,7 +60,7 @@ tested : command_spelling (tree.If (tree.Dyadic dyadic.Equal a b) (only (tree.Do
     ∷ A sign.CloseBracket ∷ A sign.CloseSection ∷ []
 tested = refl
 
--- brackets
+-- how many parentheses are open at once
 three_open : most_open 0 (command_spelling (assigned (tree.Dyadic dyadic.And a (tree.Monadic monadic.Not (tree.Dyadic dyadic.Equal b c))))) ≡ 3
 three_open = refl
 
@@ -68,8 +68,8 @@ three_open = refl
 abbrev routine : Block → Declarations
 routine d = declaration (tree.Let (definition (tree.Routine x [] d) no_definitions)) no_declarations
 
--- A VALOF's body takes a REPEAT word after it: RESULTIS VALOF $( A() $) REPEAT, where the RESULTIS is meant to be repeated,
--- is read with that body repeated.
+-- A VALOF's body takes a REPEAT after it as its own. In RESULTIS VALOF $( A() $) REPEAT the RESULTIS was meant to be
+-- repeated, but the body is.
 meant_repeated : Declarations
 meant_repeated = routine (only (tree.Repeat (tree.ResultIs (tree.Valof (only (tree.Do a none))))))
 

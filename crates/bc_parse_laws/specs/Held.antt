@@ -1,9 +1,9 @@
--- Operators in round brackets.
+-- How many operators a pair of parentheses holds.
 use Rattle.std.specs.Prelude.{ℕ, ◌+◌, List, [], ◌∷◌, max}
 use Rattle.bc_lex_tokens.specs.declared.symbol.Symbol.TheVariants as sign
 use Rattle.bc_parse_tree.specs.Parts.{Part, A}
 
--- 1 for an operator, 0 for any other part; the `,` of `->` is none
+-- 1 for an operator, 0 for any other part; the `,` of `->` isn't counted
 abbrev pub operators : Part → ℕ
 operators (A sign.Arrow) = 1
 operators (A sign.Equivalent) = 1
@@ -28,20 +28,22 @@ operators (A sign.Indirection) = 1
 operators (A sign.AddressOf) = 1
 operators _ = 0
 
--- how many operators each open bracket holds so far, the innermost bracket first
+-- How many operators each open bracket holds up to here, the innermost bracket first. Adds some to the innermost.
 abbrev pub add_to : ℕ → List ℕ → List ℕ
 add_to n [] = []
 add_to n (k ∷ held) = (k + n) ∷ held
 
+-- how many the innermost bracket holds
 abbrev pub innermost : List ℕ → ℕ
 innermost [] = 0
 innermost (k ∷ held) = k
 
+-- the brackets around the innermost
 abbrev pub others : List ℕ → List ℕ
 others [] = []
 others (k ∷ held) = held
 
--- the most operators that a pair of round brackets holds, those in brackets within it not counted
+-- the most operators that a pair of parentheses holds, without those in its inner brackets
 abbrev pub most_held : List ℕ → List Part → ℕ
 most_held held [] = 0
 most_held held (A sign.OpenBracket ∷ ts) = most_held (0 ∷ held) ts

@@ -1,4 +1,4 @@
--- What holds of every canonical spelling.
+-- The laws about canonical spellings that `bc_parse_laws::laws` proves.
 use Rattle.std.specs.Prelude.{◌≡◌, ◌≤◌, List, [], Ok}
 use Rattle.bc_parse_tree.specs.Parts.{Part}
 use Rattle.bc_parse_tree.specs.Tree.{Exp, Declarations}
@@ -13,25 +13,26 @@ use Rattle.bc_parse_laws.specs.Held.{most_held}
 use Rattle.bc_parse_laws.specs.Repeated.{RepeatsNoValof}
 use Rattle.bc_parse_laws.specs.Tokens.{IsSpelling}
 
--- the canonical spelling of a section that the grammar has a spelling for is one of its spellings
+-- if the grammar has a spelling for a section, the canonical spelling is one of its spellings
 abbrev pub SpellingIsSpelled : Type 0
 SpellingIsSpelled = (ds : Declarations) (ts : List Part) → SpellsSection ds ts → SpellsSection ds (section_spelling ds)
 
--- the canonical spelling of a section that the grammar has a spelling for is read as that section, if it nests at most 200 deep, opens
--- at most 400 round brackets at once, and has no REPEAT word after a VALOF's body
+-- The canonical spelling of a section is read as that section. The section must have a spelling by the grammar and
+-- nest at most 200 deep. Its canonical spelling must open at most 400 parentheses at once, and have no REPEAT word
+-- after a VALOF's body.
 abbrev pub SpellingIsRead : Type 0
 SpellingIsRead = (ds : Declarations) (ts : List Part) → SpellsSection ds ts → declarations_height ds ≤ 200 → most_open 0 (section_spelling ds) ≤ 400
     → RepeatsNoValof (section_spelling ds) → section_of (section_spelling ds) ≡ Ok ds
 
--- the closed list of a canonical spelling's tokens is that spelling
+-- the tokens of a canonical spelling have that spelling as their closed list
 abbrev pub SpellingIsClosed : Type 0
 SpellingIsClosed = (ds : Declarations) (ts : List Lexeme) → IsSpelling ds ts → (ps : List Placed) × (closed_list ts ≡ Ok ps)
     × (parts_in ps ≡ section_spelling ds)
 
--- each pair of round brackets of a canonical spelling holds at most one operator outside its inner brackets
+-- each pair of parentheses of a canonical spelling holds at most one operator outside its inner parentheses
 abbrev pub BracketsHoldOne : Type 0
 BracketsHoldOne = (ds : Declarations) → most_held [] (section_spelling ds) ≤ 1
 
--- so does the spelling of an expression that stands alone, as if brackets stood round it
+-- so does the spelling of an expression in a place that needs no parentheses, as if parentheses were around it
 abbrev pub WholeHoldsOne : Type 0
 WholeHoldsOne = (e : Exp) → most_held [] (in_round (whole e)) ≤ 1

@@ -1,3 +1,4 @@
+-- The laws of canonical spellings, and the definitions that state them.
 pub mod Open
 pub mod Repeated
 pub mod Held

@@ -7,12 +7,12 @@ use Rattle.bc_parse_tree.specs.Tree.{Declarations}
 use Rattle.bc_parse_tree.specs.Canonical.{section_spelling}
 use Rattle.bc_parse_defs.specs.Closing.{kind_part, tag_of}
 
--- no line break stands before the token, and no tag after it if it closes a section
+-- no line break precedes the token, and it has no tag if it closes a section
 pub record IsBare (t : Lexeme) : Type 0 where
   pub no_line : t.line_before ≡ false
   pub no_tag : t.kind ≡ token.Sign sign.CloseSection → tag_of t ≡ []
 
--- these parts, with no line break and no tag
+-- the tokens are those of the canonical spelling, without line breaks and tags
 pub record IsSpelling (ds : Declarations) (ts : List Lexeme) : Type 0 where
   pub parts : map (λ t. kind_part t.kind) ts ≡ section_spelling ds
   pub bare : All IsBare ts

@@ -1,4 +1,4 @@
-//! That the canonical spelling of every section is read back as that section.
+//! Theorems about canonical spellings, above all that a section is read back from its canonical spelling.
 #![tactic(auto)]
 
 pub mod laws;

@@ -1,4 +1,4 @@
--- A character constant is read back as its character.
+-- A character constant is read back as its character. One computed test goes over all 256 bytes.
 use Rattle.std.proofs.Common.{◌≡◌, ℕ, ◌<◌, Bool, true, false, not, ◌&&◌, List, [], ◌∷◌, Option, Some, None, eqb, refl, ap}
 use Rattle.std.proofs.lemmas.Bool.{and_parts, eqb-true, eqb-false, not-true, lt-ltb}
 use Rattle.bc_lex_tokens.specs.Token.{Character}

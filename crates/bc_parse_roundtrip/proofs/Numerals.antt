@@ -1,4 +1,4 @@
--- Decimal digits are read back as their number.
+-- Decimal digits are read back as their number, by the digits from the left.
 use Rattle.std.proofs.Common.{◌≡◌, ◌≢◌, ◌∙◌, ℕ, zero, suc, ◌+◌, ◌*◌, ◌<◌, ◌≤◌, ◌/◌, ◌%◌, Bool, true, ◌&&◌, inl, inr, List, [], ◌∷◌, ◌++◌, length, eqb, refl, ap, subst, arith, length-append}
 use Rattle.std.specs.Prelude.{unwrap_or}
 use Rattle.std.specs.List.{list_all}
@@ -34,7 +34,7 @@ digit_read d lt =
     let p = and_parts (is_digit_of 10 (48 + d)) (eqb (unwrap_or (digit_of 10 (48 + d)) 0) d) (below_holds 10 digit_test refl d lt) in
     (p.0, eqb-true (unwrap_or (digit_of 10 (48 + d)) 0) d p.1)
 
--- digits that are there, and their value
+-- digits up to here, and their value
 pub record AreDigits (n : ℕ) (ds : List ℕ) : Type 0 where
   pub digits : list_all (is_digit_of 10) ds ≡ true
   pub value : value_after 10 0 ds ≡ n

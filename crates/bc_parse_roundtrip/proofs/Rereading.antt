@@ -1,4 +1,4 @@
--- A text of tokens with a blank between each two is read as these tokens, one after another.
+-- A text of tokens with one blank between neighbours is read as these tokens, one after another.
 use Rattle.std.proofs.Common.{◌≡◌, ◌≢◌, ℕ, ◌+◌, ◌≤◌, ◌<◌, false, List, [], ◌∷◌, ◌++◌, length, map, All, Bool, refl, arith, lit<}
 use Rattle.std.specs.List.{AllByRecursion, flat_map}
 use Rattle.std.proofs.lemmas.List.Elements.{All-nil, All-cons}
@@ -59,7 +59,7 @@ no_tag (Character c) h file start line e = absurd cc
 no_tag (String s) h file start line e = absurd cc
 no_tag NewLine h file start line e = absurd h
 
--- tokens, each after a blank
+-- tokens, each preceded by a blank
 abbrev after_blanks : List Part → List ℕ
 after_blanks = flat_map (λ t. 32 ∷ text_of t)
 
@@ -67,14 +67,14 @@ spaced : (ts : List Part) → Spaced (after_blanks ts)
 spaced [] = nothing
 spaced (t ∷ ts) = blank
 
--- what is left of a file has these tokens, where so many come before it
+-- the remaining text of a file has these tokens, after some others
 record AreLeft (files : List File) (before at : ℕ) (bytes : List ℕ) (ts : List Part) : Type 0 where
   tokens : List Lexeme
   read : Reads files 8 0 before at false bytes tokens Whole
   same : map (λ t. kind_part t.kind) tokens ≡ ts
   bare : All IsBare tokens
 
--- one token more, after this gap
+-- one more token, after this gap
 one_more : (files : List File) (before at : ℕ) (gap : List ℕ) (t : Part) (ts : List Part) → IsToken t → before < 60000 → IsGap gap (text_of t ++ after_blanks ts) → breaks gap ≡ false
     → AreLeft files (before + 1) (at + length gap + length (text_of t)) (after_blanks ts) ts
     → AreLeft files before at (gap ++ (text_of t ++ after_blanks ts)) (t ∷ ts)

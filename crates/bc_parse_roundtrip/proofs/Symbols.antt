@@ -1,4 +1,4 @@
--- The spelling of each symbol, with a blank after it or nothing, is read as that symbol.
+-- The spelling of each symbol, followed by a blank or by nothing, is read as that symbol.
 use Rattle.std.proofs.Common.{◌≡◌, ◌≢◌, ℕ, Bool, true, false, not, List, [], ◌∷◌, ◌++◌, Option, Some, None, eqb, refl, sym}
 use Rattle.std.specs.List.{list_all}
 use Rattle.std.proofs.lemmas.Bool.{and_parts}
@@ -14,7 +14,7 @@ use Rattle.bc_lex.specs.Tags.{has_tag}
 use Rattle.bc_lex_tokens.proofs.Symbols.{symbol_of-spelling_of}
 use Rattle.bc_lex.proofs.Shapes.{table_test}
 
--- nothing, or a blank in front
+-- nothing, or a blank
 pub data Spaced : List ℕ → Type 0 where
   nothing : Spaced []
   blank : {bs : List ℕ} → Spaced (32 ∷ bs)
@@ -39,7 +39,7 @@ no_symbol : (text bs : List ℕ) (o : Option Symbol) → symbol_of (text ++ 32 �
 no_symbol text bs None e = refl
 no_symbol text bs (Some s) e = absurd (blank_within text bs (spelled_without_blank (text ++ 32 ∷ bs) s e))
 
--- so none goes on after a blank
+-- so none continues after a blank
 longest : (text after : List ℕ) → Spaced after → (more rest : List ℕ) → more ≢ [] → after ≡ more ++ rest → symbol_of (text ++ more) ≡ None
 longest text after sp [] rest ne e = absurd (ne refl)
 longest text [] nothing (b ∷ bs) rest ne e = let h : [] ≡ b ∷ (bs ++ rest) = e in cc

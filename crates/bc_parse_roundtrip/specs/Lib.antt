@@ -1,1 +1,2 @@
+-- The laws of reading text back.
 pub mod Rereads

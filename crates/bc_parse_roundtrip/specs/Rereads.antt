@@ -1,4 +1,4 @@
--- Tokens that are written as text are read back from it.
+-- The laws about text that is written from tokens: what is read back from it.
 use Rattle.std.specs.Prelude.{◌≡◌, ◌≢◌, ℕ, ◌<◌, ◌≤◌, List, [], ◌∷◌, ◌++◌, length, map, All, None, Ok}
 use Rattle.std.specs.List.{AllByRecursion}
 use Rattle.bc_lex_tokens.specs.declared.symbol.Symbol.TheVariants as sign
@@ -19,11 +19,11 @@ use Rattle.bc_lex.specs.Quotes.{Spells}
 use Rattle.bc_lex.specs.Tokens.{HasTokens}
 use Rattle.bc_parse_tree.specs.Rendered.{rendered}
 
--- a string with its signs, of fewer than 256 characters
+-- a string with its quotes, of fewer than 256 characters
 pub data IsString : List ℕ → Type 0 where
   quoted : (text cs : List ℕ) → Spells 34 text cs → length cs < 256 → IsString (34 ∷ (text ++ 34 ∷ []))
 
--- a part that is a token of some source
+-- a part that some source can have as a token
 abbrev pub IsToken : Part → Type 0
 IsToken (A s) = s ≢ sign.Get
 IsToken (Name n) = IsName n × (symbol_of n ≡ None)
@@ -32,7 +32,7 @@ IsToken (Character c) = c < 256
 IsToken (String s) = IsString s
 IsToken NewLine = ⊥
 
--- a file with the text of the parts has these parts as its tokens, none after a line break, and no tag after a `$)`
+-- the text of the parts, as a file, has these parts as its tokens, none after a line break, and no `$)` with a tag
 pub record IsReread (name : List ℕ) (ts : List Part) : Type 0 where
   pub tokens : List Lexeme
   pub read : HasTokens (record { name = name; text = rendered ts } ∷ []) 0 tokens
@@ -43,9 +43,9 @@ pub record IsReread (name : List ℕ) (ts : List Part) : Type 0 where
 abbrev pub AreReread : Type 0
 AreReread = (name : List ℕ) (ts : List Part) → AllByRecursion IsToken ts → length ts ≤ 60000 → IsReread name ts
 
--- A section that the grammar has a spelling for, whose canonical spelling can be read back: it nests at most 200 deep, and its
--- canonical spelling has at most 60,000 tokens, each one of some source, opens at most 400 round brackets at once, and has no
--- REPEAT word after a VALOF's body.
+-- A section whose canonical spelling can be read back. The grammar has a spelling for it, and it nests at most 200
+-- deep. Its canonical spelling has at most 60,000 tokens, each of which some source can have, opens at most 400
+-- parentheses at once, and has no REPEAT word after a VALOF's body.
 pub record IsReadable (ds : Declarations) : Type 0 where
   pub some_spelling : List Part
   pub is_spelled : SpellsSection ds some_spelling
@@ -55,10 +55,10 @@ pub record IsReadable (ds : Declarations) : Type 0 where
   pub brackets : most_open 0 (section_spelling ds) ≤ 400
   pub repeats : RepeatsNoValof (section_spelling ds)
 
--- a file with the text of the section's canonical spelling has tokens that are parsed as the section
+-- the text of the section's canonical spelling, as a file, has tokens that are parsed as the section
 abbrev pub ComesBack : List ℕ → Declarations → Type 0
 ComesBack name ds = (tokens : List Lexeme) × HasTokens (record { name = name; text = rendered (section_spelling ds) } ∷ []) 0 tokens × (parsed tokens ≡ Ok ds)
 
--- spelled, written, lexed and parsed, a section is the same
+-- a section is the same after it was spelled, written, lexed and parsed
 abbrev pub SectionsComeBack : Type 0
 SectionsComeBack = (name : List ℕ) (ds : Declarations) → IsReadable ds → ComesBack name ds

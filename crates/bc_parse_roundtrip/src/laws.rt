@@ -1,15 +1,16 @@
-//! What holds of every text of tokens.
+//! The theorems about tokens that are written as text.
 ghost use Rattle.bc_parse_roundtrip.specs.Rereads.{AreReread, SectionsComeBack};
 
-/// A file with the text of at most 60,000 tokens has these tokens, none after a line break, and no tag after
-/// a `$)`.
+/// The text of at most 60,000 tokens, as a file, has these tokens. None of them follows a line break, and no `$)` has
+/// a tag.
 pub fn renderings_are_reread()
     ensures { AreReread }
 {}
 
-/// A file with the text of a section's canonical spelling has tokens that are parsed as the section, if the grammar has a
-/// spelling for the section, it nests at most 200 deep, and its canonical spelling has at most 60,000 tokens, each one of
-/// some source, opens at most 400 round brackets at once, and has no VALOF's body before REPEAT, REPEATWHILE or REPEATUNTIL.
+/// The text of a section's canonical spelling, as a file, has tokens that are parsed as the section. The grammar must
+/// have a spelling for the section, and it must nest at most 200 deep. Its canonical spelling must have at most
+/// 60,000 tokens, each of which some source can have, must open at most 400 parentheses at once, and must have no
+/// VALOF's body before REPEAT, REPEATWHILE or REPEATUNTIL.
 pub fn sections_come_back()
     ensures { SectionsComeBack }
 {

@@ -1,4 +1,4 @@
-//! Text that is written from tokens is read back as these tokens.
+//! Theorems: what is written from tokens or from a section as text is read back as the same.
 #![tactic(auto)]
 
 pub mod laws;

@@ -1,4 +1,4 @@
--- Lists, spelled one element after another.
+-- Lists whose elements each have a separator before them, as the loops of `spelling.rt` build them.
 use Rattle.std.proofs.Common.{◌≡◌, ℕ, Result, Ok, Err, IfOk, append_assoc, Bool, true, false, List, [], ◌∷◌, ◌++◌, length, eqb, suc, refl, ap, arith}
 use Rattle.std.proofs.lemmas.Bool.{eqb-true}
 use Rattle.bc_lex_tokens.specs.declared.symbol.Symbol.TheVariants as sign
@@ -13,7 +13,7 @@ use Rattle.bc_parse_tree.specs.Spelling.{named}
 use Rattle.bc_parse_tree.specs.View.{declarations_view, items_view, block_view, command_step, declaration_step, definition_step, exp_step, label_step, block_step, constant_step, item_step}
 use Rattle.bc_parse_tree.specs.Adds.{joined}
 
--- names, each after a comma
+-- names, each preceded by a comma
 abbrev pub after_commas_named : List (List ℕ) → List Part
 after_commas_named [] = []
 after_commas_named (n ∷ ns) = A sign.Comma ∷ Name n ∷ after_commas_named ns
@@ -27,7 +27,7 @@ not_zero : (n : ℕ) (b : Bool) → eqb (suc n) 0 ≡ b → b ≡ false
 not_zero n true e = absurd (omega (arith, eqb-true (suc n) 0 e))
 not_zero n false e = refl
 
--- a block's items stand after a semicolon, unless it has no declarations
+-- a block's items are preceded by a semicolon, unless the block has no declarations
 pub declared_then_placed : (ds : List code_declaration.Declaration) (is : List Part)
     → after_first (declarations_spelling (declarations_view ds) ++ is) ≡ after_first (declarations_spelling (declarations_view ds)) ++ joined (eqb (length ds) 0) is
 declared_then_placed [] is = refl
@@ -36,7 +36,7 @@ declared_then_placed (d ∷ ds) is = rw (not_zero (length ds) (eqb (suc (length 
 pub block_seen : (b : code_block.Block) → block_view b ≡ block (declarations_view (code_block.out-Block b).declarations.items) (items_view (code_block.out-Block b).items.items)
 block_seen b = fold_out-Block tree.Command tree.Declaration tree.Definition tree.Exp tree.Label tree.Block (List ℕ × tree.Exp) tree.Item command_step declaration_step definition_step exp_step label_step block_step constant_step item_step b
 
--- a block's tokens are those of its parts, one after another
+-- the tokens of a block are those of its pieces, one after another
 pub block_spelled : {X E : Type 0} (r : Result X E) (b : code_block.Block) (first : Bool) (k0 k1 k2 k3 k4 : List Part)
     → first ≡ eqb (length (code_block.out-Block b).declarations.items) 0
     → k1 ≡ k0 ++ A sign.OpenSection ∷ []

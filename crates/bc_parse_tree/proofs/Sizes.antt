@@ -1,4 +1,5 @@
--- A tree has no more definitions, commands and expressions than its spelling has parts.
+-- A tree has at most as many definitions, commands and expressions as its spelling has parts that count. By induction
+-- on the grammar, with one line per constructor.
 use Rattle.std.proofs.Common.{◌≡◌, ℕ, ◌+◌, ◌≤◌, true, false, List, [], ◌∷◌, ◌++◌, refl, arith}
 use Rattle.bc_lex_tokens.specs.declared.symbol.Symbol.TheVariants as sign
 use Rattle.bc_parse_tree.specs.declared.tree.Dyadic as code_dyadic
@@ -90,7 +91,7 @@ size_body (tree.For n a z b) = omega arith
 size_body (tree.ForBy n a z k b) = omega arith
 size_body (tree.SwitchOn e is) = omega arith
 
--- a call has brackets, which mean the command that it may be
+-- a call is counted with one part to spare, for the command that it may be; the parentheses provide it
 abbrev extra : Exp → ℕ
 extra (tree.Call f es) = 1
 extra _ = 0

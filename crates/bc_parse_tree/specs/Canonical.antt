@@ -1,6 +1,7 @@
--- The one canonical spelling of a tree: round brackets round every expression but names, numbers, characters,
--- strings, TRUE and FALSE, unless it stands alone in its place, and round each routine of a call that is no name;
--- every body in section brackets, DO written out, `;` between all parts, `=` in MANIFEST and STATIC, `:` in GLOBAL.
+-- The canonical spelling of a tree. An expression that is a part of another one or of a list is in parentheses,
+-- unless it is a name, a number, a character, a string, TRUE or FALSE. The routine of a call is in parentheses unless
+-- it is a name. Every body is in section brackets, and DO is written out. Semicolons separate all parts. MANIFEST and
+-- STATIC have `=`, GLOBAL has `:`.
 use Rattle.std.specs.Prelude.{List, [], ◌∷◌, ◌++◌}
 use Rattle.bc_lex_tokens.specs.declared.symbol.Symbol.{Symbol}
 use Rattle.bc_lex_tokens.specs.declared.symbol.Symbol.TheVariants as sign
@@ -12,7 +13,7 @@ use Rattle.bc_parse_tree.specs.Tree as tree
 use Rattle.bc_parse_tree.specs.Operators.{dyadic_sign, monadic_sign, storage_sign}
 use Rattle.bc_parse_tree.specs.Spelling.{in_round, named}
 
--- the tokens of an expression where it is part of another, or in a list
+-- the tokens of an expression that is a part of another one or of a list, given those without parentheses
 abbrev pub part_of : Exp → List Part → List Part
 part_of (tree.Name s) ts = ts
 part_of (tree.Number n) ts = ts
@@ -22,22 +23,24 @@ part_of tree.True ts = ts
 part_of tree.False ts = ts
 part_of _ ts = in_round ts
 
--- the tokens of a routine that is called
+-- the tokens of the routine of a call, given those without parentheses
 abbrev pub routine_of : Exp → List Part → List Part
 routine_of (tree.Name s) ts = ts
 routine_of _ ts = in_round ts
 
+-- the sign between a constant's name and its value
 abbrev pub entry_sign : Storage → Symbol
 entry_sign storage.Manifest = sign.Equal
 entry_sign storage.Static = sign.Equal
 entry_sign storage.Global = sign.Colon
 
--- a list whose elements each have a separator before them, without the first separator
+-- the elements of a list, given with a separator before each: the first separator is dropped
 abbrev pub after_first : List Part → List Part
 after_first [] = []
 after_first (p ∷ ts) = ts
 
 abbrev mutual
+  -- the tokens of an expression in a place where it needs no parentheses
   pub whole : Exp → List Part
   whole (tree.Name s) = Name s ∷ []
   whole (tree.Number n) = Number n ∷ []
@@ -52,58 +55,65 @@ abbrev mutual
   whole (tree.Condition c x y) = part_of c (whole c) ++ A sign.Arrow ∷ (part_of x (whole x) ++ A sign.Comma ∷ part_of y (whole y))
   whole (tree.Call f es) = routine_of f (whole f) ++ in_round (after_first (after_commas es))
 
-  -- expressions, each after a comma
+  -- the tokens of expressions, each preceded by a comma
   pub after_commas : Exps → List Part
   after_commas none = []
   after_commas (more e es) = A sign.Comma ∷ (part_of e (whole e) ++ after_commas es)
 
+  -- the tokens of a block: declarations, then items, separated by semicolons, in section brackets
   pub block_spelling : Block → List Part
   block_spelling (block ds is) = A sign.OpenSection ∷ (after_first (declarations_spelling ds ++ items_spelling is) ++ A sign.CloseSection ∷ [])
 
-  -- declarations, each after a semicolon
+  -- the tokens of declarations, each preceded by a semicolon
   pub declarations_spelling : Declarations → List Part
   declarations_spelling no_declarations = []
   declarations_spelling (declaration d ds) = A sign.Semicolon ∷ (declaration_spelling d ++ declarations_spelling ds)
 
+  -- the tokens of a declaration
   pub declaration_spelling : Declaration → List Part
   declaration_spelling (tree.Constants s es) = A (storage_sign s) ∷ A sign.OpenSection
       ∷ (after_first (entries_spelling (entry_sign s) es) ++ A sign.CloseSection ∷ [])
   declaration_spelling (tree.Let ds) = A sign.Let ∷ after_first (definitions_spelling ds)
 
-  -- names with their constants, each after a semicolon
+  -- the tokens of names with their constants, each preceded by a semicolon; `s` is the sign after the name
   pub entries_spelling : Symbol → Entries → List Part
   entries_spelling s no_entries = []
   entries_spelling s (entry n k es) = A sign.Semicolon ∷ Name n ∷ A s ∷ (part_of k (whole k) ++ entries_spelling s es)
 
-  -- definitions, each after AND
+  -- the tokens of definitions, each preceded by AND
   pub definitions_spelling : Definitions → List Part
   definitions_spelling no_definitions = []
   definitions_spelling (definition d ds) = A sign.And ∷ (definition_spelling d ++ definitions_spelling ds)
 
+  -- the tokens of a definition
   pub definition_spelling : Definition → List Part
   definition_spelling (tree.Variables ns es) = named ns ++ A sign.Equal ∷ after_first (after_commas es)
   definition_spelling (tree.Vector n k) = Name n ∷ A sign.Equal ∷ A sign.Vector ∷ part_of k (whole k)
   definition_spelling (tree.Function n ps e) = Name n ∷ (in_round (named ps) ++ A sign.Equal ∷ whole e)
   definition_spelling (tree.Routine n ps b) = Name n ∷ (in_round (named ps) ++ A sign.Be ∷ block_spelling b)
 
-  -- items, each after a semicolon
+  -- the tokens of items, each preceded by a semicolon
   pub items_spelling : Items → List Part
   items_spelling no_items = []
   items_spelling (item i is) = A sign.Semicolon ∷ (item_spelling i ++ items_spelling is)
 
+  -- the tokens of an item: its labels, then its command if it has one
   pub item_spelling : Item → List Part
   item_spelling (Labelled ls c) = labels_spelling ls ++ command_spelling c
   item_spelling (Labels_alone ls) = labels_spelling ls
 
+  -- the tokens of labels, one after another
   pub labels_spelling : Labels → List Part
   labels_spelling no_labels = []
   labels_spelling (label l ls) = label_spelling l ++ labels_spelling ls
 
+  -- the tokens of a label, with its colon
   pub label_spelling : Label → List Part
   label_spelling (tree.Case k) = A sign.Case ∷ (part_of k (whole k) ++ A sign.Colon ∷ [])
   label_spelling tree.Default = A sign.Default ∷ A sign.Colon ∷ []
   label_spelling (tree.Named n) = Name n ∷ A sign.Colon ∷ []
 
+  -- the tokens of a command
   pub command_spelling : Command → List Part
   command_spelling (tree.Assign xs es) = after_first (after_commas xs) ++ A sign.Assign ∷ after_first (after_commas es)
   command_spelling (tree.Do f es) = routine_of f (whole f) ++ in_round (after_first (after_commas es))
@@ -129,6 +139,6 @@ abbrev mutual
   command_spelling (tree.SwitchOn e is) = A sign.SwitchOn
       ∷ (whole e ++ A sign.Into ∷ A sign.OpenSection ∷ (after_first (items_spelling is) ++ A sign.CloseSection ∷ []))
 
--- a section's canonical spelling
+-- the canonical spelling of a section: its declarations, separated by semicolons
 abbrev pub section_spelling : Declarations → List Part
 section_spelling ds = after_first (declarations_spelling ds)

@@ -1,4 +1,4 @@
--- Worked examples of the grammar and of canonical spellings, from the language's rules.
+-- Worked examples of the grammar and of canonical spellings, from docs/language.md.
 use Rattle.std.specs.Prelude.{◌≡◌, [], ◌∷◌, codes, false}
 use Rattle.std.proofs.Common.{refl, lit≤}
 use Rattle.bc_lex_tokens.specs.declared.symbol.Symbol.TheVariants as sign
@@ -37,7 +37,8 @@ difference_canonical : command_spelling (assigned difference)
     ∷ A sign.Minus ∷ Name (codes "C") ∷ A sign.CloseBracket ∷ []
 difference_canonical = refl
 
--- ---- `X := A * - B * C`: a monadic operator may stand where an operand begins, and takes what its own level allows
+-- ---- `X := A * - B * C`: a monadic operator may begin an operand, and its own operand extends as far as its level
+-- allows
 
 abbrev product : Exp
 product = tree.Dyadic dyadics.Multiply a (tree.Monadic monadics.Negate (tree.Dyadic dyadics.Multiply b c))
@@ -50,7 +51,7 @@ product_canonical : command_spelling (assigned product)
     ∷ Name (codes "B") ∷ A sign.Multiply ∷ Name (codes "C") ∷ A sign.CloseBracket ∷ A sign.CloseBracket ∷ A sign.CloseBracket ∷ []
 product_canonical = refl
 
--- ---- `IF A = B C()`: a body that is one command is the block of that command; a condition stands alone in its place
+-- ---- `IF A = B C()`: a body of one command is the block of that command, and the condition needs no parentheses
 
 abbrev choice : Command
 choice = tree.If (tree.Dyadic dyadics.Equal a b) (block no_declarations (item (Labelled no_labels (tree.Do c none)) no_items))
@@ -65,7 +66,7 @@ choice_canonical : command_spelling choice
     ∷ A sign.CloseBracket ∷ A sign.CloseSection ∷ []
 choice_canonical = refl
 
--- ---- labels without a command are kept, and a constant is no expression that stands alone
+-- ---- labels without a command are kept, and a constant that isn't one token is in parentheses
 
 cases_canonical : command_spelling
     (tree.SwitchOn a (item (Labels_alone (label (tree.Case (tree.Monadic monadics.Negate (tree.Number 1))) (label tree.Default no_labels))) no_items))

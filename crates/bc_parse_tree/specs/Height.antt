@@ -1,5 +1,6 @@
--- How deep a tree nests: definitions, commands and expressions one within another. A body's block, labels, LET and
--- the entries of MANIFEST, STATIC and GLOBAL add nothing; a call command is a command and an expression.
+-- How deep a tree nests: definitions, commands and expressions within one another. A body's block, labels, LET and
+-- the entries of MANIFEST, STATIC and GLOBAL add nothing. A call that is a command counts twice, as a command and as
+-- an expression.
 use Rattle.std.specs.Prelude.{ℕ, ◌+◌, max}
 use Rattle.bc_parse_tree.specs.Tree.{Exp, Exps, none, more, Block, block, Declaration, Declarations, no_declarations, declaration, Entries, no_entries, entry, Definition, Definitions, no_definitions, definition, Item, Labelled, Labels_alone, Items, no_items, item, Label, Labels, no_labels, label, Command}
 use Rattle.bc_parse_tree.specs.Tree as tree

@@ -1,3 +1,4 @@
+-- The definitions of the syntax tree, the grammar and the canonical spelling.
 pub mod Parts
 pub mod Tree
 pub mod View

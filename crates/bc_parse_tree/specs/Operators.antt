@@ -1,4 +1,4 @@
--- The levels of operators, loosest first, and their signs.
+-- The levels of operators, where a lower number binds less tightly, and the signs they are written with.
 use Rattle.std.specs.Prelude.{ℕ}
 use Rattle.bc_lex_tokens.specs.declared.symbol.Symbol.{Symbol}
 use Rattle.bc_lex_tokens.specs.declared.symbol.Symbol.TheVariants as sign
@@ -9,6 +9,7 @@ use Rattle.bc_parse_tree.specs.declared.tree.Monadic.TheVariants as monadic
 use Rattle.bc_parse_tree.specs.declared.tree.Storage.{Storage}
 use Rattle.bc_parse_tree.specs.declared.tree.Storage.TheVariants as storage
 
+-- the level of an expression with this operator
 abbrev pub level_of : Dyadic → ℕ
 level_of dyadic.Equivalent = 2
 level_of dyadic.NotEquivalent = 2
@@ -29,7 +30,8 @@ level_of dyadic.Divide = 9
 level_of dyadic.Remainder = 9
 level_of dyadic.Index = 11
 
--- Operators group to the left, so a left operand may have the operator's own level; relations don't group.
+-- The level that the left operand must have. It is the operator's own level, since operators group to the left.
+-- Relations don't group, so their left operand must have the next level.
 abbrev pub left_level : Dyadic → ℕ
 left_level dyadic.Equivalent = 2
 left_level dyadic.NotEquivalent = 2
@@ -50,19 +52,21 @@ left_level dyadic.Divide = 9
 left_level dyadic.Remainder = 9
 left_level dyadic.Index = 11
 
--- the level of a monadic expression, and the one of its operand
+-- the level of an expression with this monadic operator
 abbrev pub own_level : Monadic → ℕ
 own_level monadic.Not = 5
 own_level monadic.Negate = 8
 own_level monadic.Load = 10
 own_level monadic.Address = 10
 
+-- the level that the operand of a monadic operator must have
 abbrev pub operand_level : Monadic → ℕ
 operand_level monadic.Not = 6
 operand_level monadic.Negate = 9
 operand_level monadic.Load = 10
 operand_level monadic.Address = 10
 
+-- the sign of a dyadic operator
 abbrev pub dyadic_sign : Dyadic → Symbol
 dyadic_sign dyadic.Equivalent = sign.Equivalent
 dyadic_sign dyadic.NotEquivalent = sign.NotEquivalent
@@ -83,12 +87,14 @@ dyadic_sign dyadic.Divide = sign.Divide
 dyadic_sign dyadic.Remainder = sign.Remainder
 dyadic_sign dyadic.Index = sign.Indirection
 
+-- the sign of a monadic operator
 abbrev pub monadic_sign : Monadic → Symbol
 monadic_sign monadic.Not = sign.Not
 monadic_sign monadic.Negate = sign.Minus
 monadic_sign monadic.Load = sign.Indirection
 monadic_sign monadic.Address = sign.AddressOf
 
+-- the reserved word that begins a list of constants
 abbrev pub storage_sign : Storage → Symbol
 storage_sign storage.Manifest = sign.Manifest
 storage_sign storage.Static = sign.Static

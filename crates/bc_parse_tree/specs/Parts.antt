@@ -1,4 +1,4 @@
--- The parts of a closed list, without where they lie in memory.
+-- What the grammar is about: tokens without their place and tag, and line breaks that count as semicolons.
 use Rattle.std.specs.Prelude.{ℕ, List, map}
 use Rattle.bc_lex_tokens.specs.declared.symbol.Symbol.{Symbol}
 use Rattle.bc_lex_tokens.specs.declared.token.TokenKind.{TokenKind}
@@ -6,7 +6,7 @@ use Rattle.bc_lex_tokens.specs.declared.token.TokenKind.TheVariants as kind
 use Rattle.bc_parse_tree.specs.declared.part.Part as code
 use Rattle.bc_parse_tree.specs.declared.part.Part.TheVariants as variant
 
--- a token's kind, or a line break that means a semicolon
+-- an element of a closed list: the kind of a token, or a line break that counts as a semicolon
 pub data Part : Type 0 where
   A : Symbol → Part
   Name : List ℕ → Part
@@ -15,6 +15,7 @@ pub data Part : Type 0 where
   String : List ℕ → Part
   NewLine : Part
 
+-- the program's `Part` as an element of a closed list
 abbrev pub part : code.Part → Part
 part (variant.Symbol s) = A s
 part (variant.Name s) = Name s.now
@@ -23,10 +24,11 @@ part (variant.Character n) = Character n
 part (variant.String s) = String s.now
 part variant.NewLine = NewLine
 
+-- the same for a list
 abbrev pub parts : List code.Part → List Part
 parts ts = map part ts
 
--- the part that a token's kind is
+-- the kind of a token as an element of a closed list
 abbrev pub kind_part : TokenKind → Part
 kind_part (kind.Symbol s) = A s
 kind_part (kind.Name s) = Name s.now
@@ -34,5 +36,6 @@ kind_part (kind.Number n) = Number n
 kind_part (kind.Character n) = Character n
 kind_part (kind.String s) = String s.now
 
+-- the same for a list
 abbrev pub kind_parts : List TokenKind → List Part
 kind_parts ts = map kind_part ts

@@ -1,4 +1,4 @@
--- How many definitions, commands and expressions a tree has, and how many parts of a list can mean them.
+-- How many definitions, commands and expressions a tree has, and how many parts of a list can give rise to them.
 use Rattle.std.specs.Prelude.{ℕ, ◌+◌, List, [], ◌∷◌}
 use Rattle.bc_lex_tokens.specs.declared.symbol.Symbol.TheVariants as sign
 use Rattle.bc_parse_tree.specs.Parts.{Part, A, NewLine}
@@ -89,12 +89,13 @@ abbrev mutual
   command_size (tree.ForBy n a z k b) = exp_size a + exp_size z + exp_size k + block_size b + 1
   command_size (tree.SwitchOn e is) = exp_size e + items_size is + 1
 
--- 1 for each part but section brackets that close and line breaks, of which a token may give several or none
+-- how much a part counts: 1, except for closing section brackets and line breaks, since closing can insert these
 abbrev pub weight_of : Part → ℕ
 weight_of (A sign.CloseSection) = 0
 weight_of NewLine = 0
 weight_of _ = 1
 
+-- the sum over a list
 abbrev pub weight : List Part → ℕ
 weight [] = 0
 weight (p ∷ ts) = weight_of p + weight ts

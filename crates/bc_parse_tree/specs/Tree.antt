@@ -1,10 +1,12 @@
--- Trees without where they lie in memory.
+-- Syntax trees as the definitions use them: the types of `src/tree.rt` without pointers. Names and strings are lists
+-- of bytes, a string with its quotes.
 use Rattle.std.specs.Prelude.{ℕ, List}
 use Rattle.bc_parse_tree.specs.declared.tree.Storage.{Storage}
 use Rattle.bc_parse_tree.specs.declared.tree.Monadic as monadic
 use Rattle.bc_parse_tree.specs.declared.tree.Dyadic as dyadic
 
 mutual
+  -- an expression
   pub data Exp : Type 0 where
     Name : List ℕ → Exp
     Number : ℕ → Exp
@@ -19,6 +21,7 @@ mutual
     Condition : Exp → Exp → Exp → Exp
     Call : Exp → Exps → Exp
 
+  -- a list of expressions
   pub data Exps : Type 0 where
     none : Exps
     more : Exp → Exps → Exps
@@ -27,10 +30,12 @@ mutual
   pub data Block : Type 0 where
     block : Declarations → Items → Block
 
+  -- a declaration: a list of constants, or a LET with its definitions
   pub data Declaration : Type 0 where
     Constants : Storage → Entries → Declaration
     Let : Definitions → Declaration
 
+  -- a list of declarations
   pub data Declarations : Type 0 where
     no_declarations : Declarations
     declaration : Declaration → Declarations → Declarations
@@ -40,40 +45,45 @@ mutual
     no_entries : Entries
     entry : List ℕ → Exp → Entries → Entries
 
-  -- the names come first, and a routine's parameters next
+  -- what the LET defines comes first: names of variables, or a name; a routine's parameters come next
   pub data Definition : Type 0 where
     Variables : List (List ℕ) → Exps → Definition
     Vector : List ℕ → Exp → Definition
     Function : List ℕ → List (List ℕ) → Exp → Definition
     Routine : List ℕ → List (List ℕ) → Block → Definition
 
+  -- the definitions of a LET
   pub data Definitions : Type 0 where
     no_definitions : Definitions
     definition : Definition → Definitions → Definitions
 
-  -- labels with a command, or labels alone
+  -- labels with a command, or only labels
   pub data Item : Type 0 where
     Labelled : Labels → Command → Item
     Labels_alone : Labels → Item
 
+  -- a list of items
   pub data Items : Type 0 where
     no_items : Items
     item : Item → Items → Items
 
+  -- a label: `CASE K:`, `DEFAULT:`, or `N:`
   pub data Label : Type 0 where
     Case : Exp → Label
     Default : Label
     Named : List ℕ → Label
 
+  -- the labels of an item
   pub data Labels : Type 0 where
     no_labels : Labels
     label : Label → Labels → Labels
 
+  -- a command
   pub data Command : Type 0 where
     Assign : Exps → Exps → Command
-    -- a call that is a command
+    -- a call as a command
     Do : Exp → Exps → Command
-    -- a block that is a command
+    -- a block as a command
     Compound : Block → Command
     Break : Command
     Loop : Command
@@ -91,6 +101,6 @@ mutual
     Until : Exp → Block → Command
     Test : Exp → Block → Block → Command
     For : List ℕ → Exp → Exp → Block → Command
-    -- with BY
+    -- a FOR with BY and its step
     ForBy : List ℕ → Exp → Exp → Exp → Block → Command
     SwitchOn : Exp → Items → Command

@@ -1,10 +1,11 @@
+//! The tokens that are leaves of the tree, and how to find the one with a given number.
 ghost use Rattle.std.specs.Prelude.{◌<◌, length, IfSome};
 
 use bc_lex_tokens::{Symbol, Token, TokenKind};
 use bc_word::Memory;
 use std::alloc::Global;
 
-/// Whether a word is met by a walk over trees in text order. Other words and signs are not.
+/// Whether a walk over the tree in text order meets this reserved word. It meets no other symbols.
 fn is_word(symbol: Symbol) -> bool {
     matches!(
         symbol,
@@ -25,8 +26,8 @@ fn is_word(symbol: Symbol) -> bool {
     )
 }
 
-/// Whether a token is a leaf: a name, a number, a character, a string, or one of BREAK, CASE, DEFAULT, ENDCASE, FALSE,
-/// FINISH, GOTO, LOOP, RESULTIS, RETURN, TABLE, TRUE, VALOF and VEC.
+/// Whether a token is a leaf: a name, a number, a character constant, a string, or one of BREAK, CASE, DEFAULT,
+/// ENDCASE, FALSE, FINISH, GOTO, LOOP, RESULTIS, RETURN, TABLE, TRUE, VALOF and VEC.
 pub fn is_leaf(kind: TokenKind<'_>) -> bool {
     match kind {
         TokenKind::Name(_)
@@ -37,7 +38,7 @@ pub fn is_leaf(kind: TokenKind<'_>) -> bool {
     }
 }
 
-/// The index of the token that is this leaf, if there are as many.
+/// The index in `tokens` of the leaf with the number `leaf`, counted from 0. None if there are fewer leaves.
 pub fn token_at(tokens: &[Token<'_>], leaf: u64) -> Option<usize>
     ensures within { IfSome result (λ i. i < length tokens.now) }
 {
@@ -53,7 +54,7 @@ pub fn token_at(tokens: &[Token<'_>], leaf: u64) -> Option<usize>
     None
 }
 
-/// The tokens that are leaves, in their order.
+/// The tokens that are leaves, in the order of `tokens`. Returns `Memory` if an allocation fails.
 pub fn leaves_of<'s>(alloc: Global, tokens: &[Token<'s>]) -> Result<Vec<Token<'s>>, Memory> {
     let mut leaves = Vec::new(alloc);
     for token in tokens {

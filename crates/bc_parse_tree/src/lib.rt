@@ -1,8 +1,7 @@
-//! The trees of sections, the symbols that spell them, and the canonical spelling.
+//! The syntax tree of a section, the grammar that says which tokens spell it, and its canonical spelling.
 //!
-//! Leaves: the tokens that a walk over the trees of a section in text order meets one by one, so that one can be counted by the other.
-//!
-//! The canonical spelling of a section: its tokens, and their text.
+//! The leaves of a token list are the tokens that a walk over the tree in text order meets one by one. A caller that
+//! counts leaves on such a walk finds the token, and so the place in the source, by `token_at`.
 #![tactic(auto)]
 
 pub mod laws;

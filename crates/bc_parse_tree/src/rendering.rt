@@ -1,4 +1,4 @@
-//! The text of tokens.
+//! Tokens as text.
 ghost use Rattle.std.specs.Prelude.{◌≡◌, IfOk};
 ghost use Rattle.std.specs.Fmt.{decimal};
 ghost use Rattle.bc_parse_tree.specs.Parts.{kind_part, kind_parts};
@@ -10,12 +10,11 @@ use bc_word::Memory;
 use itoa::Buffer;
 use std::alloc::Global;
 
-/// The text of tokens, a blank between each two.
+/// The text of tokens, with one blank between neighbours.
 ///
-/// Names and strings are written as they stand in their source, numbers in decimal digits. A
-/// character constant has its byte, or an escape where the byte may not mean itself or can't be
-/// seen; a character that is no byte, which no source gives, is written as a number. `Memory` comes
-/// where an allocation was refused.
+/// Names and strings are copied from the source. Numbers are written in decimal. A character constant is written as
+/// its byte, or as an escape if the byte can't be used unescaped or isn't visible. A character over 255, which no
+/// source gives, is written as a number. Returns `Memory` if an allocation fails.
 pub fn render(alloc: Global, kinds: &[TokenKind<'_>]) -> Result<Vec<u8>, Memory>
     ensures { IfOk result (λ text. text.items ≡ rendered (kind_parts kinds.now)) }
 {
@@ -31,6 +30,7 @@ pub fn render(alloc: Global, kinds: &[TokenKind<'_>]) -> Result<Vec<u8>, Memory>
     Ok(text)
 }
 
+/// Appends the text of one token.
 fn put_token(text: &mut Vec<u8>, kind: &TokenKind<'_>) -> Result<(), Memory>
     ensures { AddsText result text.old text.new (text_of (kind_part kind.now)) }
 {
@@ -43,12 +43,14 @@ fn put_token(text: &mut Vec<u8>, kind: &TokenKind<'_>) -> Result<(), Memory>
     }
 }
 
+/// Appends bytes.
 fn put(text: &mut Vec<u8>, bytes: &[u8]) -> Result<(), Memory>
     ensures { AddsText result text.old text.new bytes.now }
 {
     Ok(text.extend_from_slice(bytes)?)
 }
 
+/// Appends a number in decimal.
 fn put_number(text: &mut Vec<u8>, number: u16) -> Result<(), Memory>
     ensures { AddsText result text.old text.new (decimal number) }
 {
@@ -56,6 +58,7 @@ fn put_number(text: &mut Vec<u8>, number: u16) -> Result<(), Memory>
     put(text, buffer.format(number).as_bytes())
 }
 
+/// Appends a character constant.
 fn put_character(text: &mut Vec<u8>, code: u16) -> Result<(), Memory>
     ensures { AddsText result text.old text.new (character_text code) }
 {
@@ -68,7 +71,7 @@ fn put_character(text: &mut Vec<u8>, code: u16) -> Result<(), Memory>
     }
 }
 
-/// What stands after `*` for a byte that is written as an escape.
+/// The letter after `*` if a byte is written as an escape.
 fn escape(byte: u8) -> Option<u8>
     ensures { result ≡ escape_of byte }
 {

@@ -6,6 +6,7 @@ ghost use Rattle.bc_parse_tree.specs.Operators.{dyadic_sign, monadic_sign, stora
 use crate::{Dyadic, Monadic, Storage};
 use bc_lex_tokens::Symbol;
 
+/// The sign of an operator with two operands.
 pub(crate) fn dyadic(operator: Dyadic) -> Symbol
     ensures { result ≡ dyadic_sign operator }
 {
@@ -31,6 +32,7 @@ pub(crate) fn dyadic(operator: Dyadic) -> Symbol
     }
 }
 
+/// The sign of an operator with one operand.
 pub(crate) fn monadic(operator: Monadic) -> Symbol
     ensures { result ≡ monadic_sign operator }
 {
@@ -42,7 +44,7 @@ pub(crate) fn monadic(operator: Monadic) -> Symbol
     }
 }
 
-/// The word that begins a list of constants.
+/// The reserved word that begins a list of constants.
 pub(crate) fn storage(storage: Storage) -> Symbol
     ensures { result ≡ storage_sign storage }
 {
@@ -53,7 +55,7 @@ pub(crate) fn storage(storage: Storage) -> Symbol
     }
 }
 
-/// What stands between a constant's name and its value.
+/// The sign between a constant's name and its value.
 pub(crate) fn entry(storage: Storage) -> Symbol
     ensures { result ≡ entry_sign storage }
 {

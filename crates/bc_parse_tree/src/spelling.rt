@@ -1,4 +1,5 @@
-//! One function for each type of tree: it puts the tree's tokens after those that are there.
+//! The canonical spelling of a tree. There is one function for each type of tree, which appends the tree's tokens to
+//! a list.
 ghost use Rattle.std.specs.Prelude.{◌≡◌, ◌∷◌, [], ◌++◌, map, IfOk};
 ghost use Rattle.bc_parse_tree.specs.Canonical.{whole, part_of, routine_of, after_first, after_commas, block_spelling, declarations_spelling, declaration_spelling, entries_spelling, definitions_spelling, definition_spelling, items_spelling, item_spelling, labels_spelling, label_spelling, command_spelling, section_spelling};
 ghost use Rattle.bc_parse_tree.specs.Parts.{A, Name, kind_part, kind_parts};
@@ -14,7 +15,7 @@ use std::alloc::Global;
 
 /// The canonical spelling of a section, as the kinds of its tokens.
 ///
-/// Names and strings are slices of the sources. `Memory` comes where an allocation was refused.
+/// Names and strings are slices of the source. Returns `Memory` if an allocation fails.
 pub fn spell<'s>(alloc: Global, section: &Section<'s>) -> Result<Vec<TokenKind<'s>>, Memory>
     ensures { IfOk result (λ kinds. kind_parts kinds.items ≡ section_spelling (section_view section.now)) }
 {
@@ -23,26 +24,28 @@ pub fn spell<'s>(alloc: Global, section: &Section<'s>) -> Result<Vec<TokenKind<'
     Ok(out)
 }
 
-/// One token more.
+/// Appends one token.
 fn put<'s>(out: &mut Vec<TokenKind<'s>>, kind: TokenKind<'s>) -> Result<(), Memory>
     ensures { Adds result out.old out.new (kind_part kind.entry ∷ []) }
 {
     Ok(out.push(kind)?)
 }
 
+/// Appends a symbol.
 fn sign<'s>(out: &mut Vec<TokenKind<'s>>, symbol: Symbol) -> Result<(), Memory>
     ensures { Adds result out.old out.new (A symbol ∷ []) }
 {
     put(out, TokenKind::Symbol(symbol))
 }
 
+/// Appends a name.
 fn name<'s>(out: &mut Vec<TokenKind<'s>>, name: &'s [u8]) -> Result<(), Memory>
     ensures { Adds result out.old out.new (Name name.entry.now ∷ []) }
 {
     put(out, TokenKind::Name(name))
 }
 
-/// A word, and the name after it.
+/// A reserved word and a name.
 fn worded_name<'s>(out: &mut Vec<TokenKind<'s>>, word: Symbol, text: &'s [u8]) -> Result<(), Memory>
     ensures { Adds result out.old out.new (A word ∷ Name text.entry.now ∷ []) }
 {
@@ -50,7 +53,7 @@ fn worded_name<'s>(out: &mut Vec<TokenKind<'s>>, word: Symbol, text: &'s [u8]) -
     name(out, text)
 }
 
-/// A word, and the section bracket after it.
+/// A reserved word and an opening section bracket.
 fn opened<'s>(out: &mut Vec<TokenKind<'s>>, word: Symbol) -> Result<(), Memory>
     ensures { Adds result out.old out.new (A word ∷ A sign.OpenSection ∷ []) }
 {
@@ -58,14 +61,14 @@ fn opened<'s>(out: &mut Vec<TokenKind<'s>>, word: Symbol) -> Result<(), Memory>
     sign(out, Symbol::OpenSection)
 }
 
-/// What stands before an element of a list: nothing before the first.
+/// The separator before an element of a list, which the first element doesn't have.
 fn separate<'s>(out: &mut Vec<TokenKind<'s>>, is_first: bool, symbol: Symbol) -> Result<(), Memory>
     ensures { Adds result out.old out.new (separator is_first symbol) }
 {
     if is_first { Ok(()) } else { sign(out, symbol) }
 }
 
-/// Names with commas between them.
+/// Names separated by commas.
 #[tactic(auto, using(crate::proofs::Lists::named_is))]
 fn names<'s>(out: &mut Vec<TokenKind<'s>>, names: &[&'s [u8]]) -> Result<(), Memory>
     ensures { Adds result out.old out.new (named (map (λ n. n.now) names.now)) }
@@ -79,7 +82,7 @@ fn names<'s>(out: &mut Vec<TokenKind<'s>>, names: &[&'s [u8]]) -> Result<(), Mem
     Ok(())
 }
 
-/// Names with commas between them, in round brackets.
+/// Names separated by commas, in parentheses.
 fn parameters<'s>(out: &mut Vec<TokenKind<'s>>, found: &[&'s [u8]]) -> Result<(), Memory>
     ensures { Adds result out.old out.new (in_round (named (map (λ n. n.now) found.now))) }
 {
@@ -100,7 +103,7 @@ fn heading<'s>(
     parameters(out, found)
 }
 
-/// A name, and the `=` after it.
+/// A name and `=`.
 fn equated<'s>(out: &mut Vec<TokenKind<'s>>, text: &'s [u8]) -> Result<(), Memory>
     ensures { Adds result out.old out.new (Name text.entry.now ∷ A sign.Equal ∷ []) }
 {
@@ -108,7 +111,7 @@ fn equated<'s>(out: &mut Vec<TokenKind<'s>>, text: &'s [u8]) -> Result<(), Memor
     sign(out, Symbol::Equal)
 }
 
-/// An expression that stands alone in its place.
+/// An expression in a place where it needs no parentheses.
 #[cycle(spelling)]
 fn whole<'s>(out: &mut Vec<TokenKind<'s>>, tree: &Exp<'s>) -> Result<(), Memory>
     ensures { Adds result out.old out.new (whole (exp_view tree.now)) }
@@ -139,7 +142,7 @@ fn whole<'s>(out: &mut Vec<TokenKind<'s>>, tree: &Exp<'s>) -> Result<(), Memory>
     }
 }
 
-/// An expression that is part of another, or of a list: in round brackets, unless it is one token.
+/// An expression as part of another one or of a list: in parentheses unless it is one token.
 #[cycle(spelling)]
 fn part<'s>(out: &mut Vec<TokenKind<'s>>, tree: &Exp<'s>) -> Result<(), Memory>
     ensures { Adds result out.old out.new (part_of (exp_view tree.now) (whole (exp_view tree.now))) }
@@ -155,7 +158,7 @@ fn part<'s>(out: &mut Vec<TokenKind<'s>>, tree: &Exp<'s>) -> Result<(), Memory>
     }
 }
 
-/// A routine that is called: in round brackets, unless it is a name.
+/// A routine that is called: in parentheses unless it is a name.
 #[cycle(spelling)]
 fn routine<'s>(out: &mut Vec<TokenKind<'s>>, tree: &Exp<'s>) -> Result<(), Memory>
     ensures { Adds result out.old out.new (routine_of (exp_view tree.now) (whole (exp_view tree.now))) }
@@ -166,6 +169,7 @@ fn routine<'s>(out: &mut Vec<TokenKind<'s>>, tree: &Exp<'s>) -> Result<(), Memor
     }
 }
 
+/// An expression in parentheses.
 #[cycle(spelling)]
 fn bracketed<'s>(out: &mut Vec<TokenKind<'s>>, tree: &Exp<'s>) -> Result<(), Memory>
     ensures { Adds result out.old out.new (in_round (whole (exp_view tree.now))) }
@@ -175,7 +179,7 @@ fn bracketed<'s>(out: &mut Vec<TokenKind<'s>>, tree: &Exp<'s>) -> Result<(), Mem
     sign(out, Symbol::CloseBracket)
 }
 
-/// Expressions with commas between them.
+/// Expressions separated by commas.
 #[cycle(spelling)]
 fn expressions<'s>(out: &mut Vec<TokenKind<'s>>, list: &[Exp<'s>]) -> Result<(), Memory>
     ensures { Adds result out.old out.new (after_first (after_commas (exps_view list.now))) }
@@ -189,6 +193,7 @@ fn expressions<'s>(out: &mut Vec<TokenKind<'s>>, list: &[Exp<'s>]) -> Result<(),
     Ok(())
 }
 
+/// The arguments of a call, in parentheses.
 #[cycle(spelling)]
 fn arguments<'s>(out: &mut Vec<TokenKind<'s>>, list: &[Exp<'s>]) -> Result<(), Memory>
     ensures { Adds result out.old out.new (in_round (after_first (after_commas (exps_view list.now)))) }
@@ -210,7 +215,7 @@ fn block<'s>(out: &mut Vec<TokenKind<'s>>, body: &Block<'s>) -> Result<(), Memor
     sign(out, Symbol::CloseSection)
 }
 
-/// Declarations with semicolons between them.
+/// Declarations separated by semicolons.
 #[cycle(spelling)]
 fn declarations<'s>(out: &mut Vec<TokenKind<'s>>, list: &[Declaration<'s>]) -> Result<(), Memory>
     ensures { Adds result out.old out.new (after_first (declarations_spelling (declarations_view list.now))) }
@@ -224,6 +229,7 @@ fn declarations<'s>(out: &mut Vec<TokenKind<'s>>, list: &[Declaration<'s>]) -> R
     Ok(())
 }
 
+/// A declaration: a list of constants, or a LET.
 #[cycle(spelling)]
 fn declaration<'s>(out: &mut Vec<TokenKind<'s>>, tree: &Declaration<'s>) -> Result<(), Memory>
     ensures { Adds result out.old out.new (declaration_spelling (declaration_view tree.now)) }
@@ -241,7 +247,7 @@ fn declaration<'s>(out: &mut Vec<TokenKind<'s>>, tree: &Declaration<'s>) -> Resu
     }
 }
 
-/// Names with their constants, a sign between each two, and semicolons between all.
+/// Names with their constants, separated by semicolons; `symbol` is written between name and constant.
 #[cycle(spelling)]
 fn entries<'s>(
     out: &mut Vec<TokenKind<'s>>,
@@ -261,7 +267,7 @@ fn entries<'s>(
     Ok(())
 }
 
-/// Definitions with AND between them.
+/// Definitions separated by AND.
 #[cycle(spelling)]
 fn definitions<'s>(out: &mut Vec<TokenKind<'s>>, list: &[Definition<'s>]) -> Result<(), Memory>
     ensures { Adds result out.old out.new (after_first (definitions_spelling (definitions_view list.now))) }
@@ -275,6 +281,7 @@ fn definitions<'s>(out: &mut Vec<TokenKind<'s>>, list: &[Definition<'s>]) -> Res
     Ok(())
 }
 
+/// One definition of a LET.
 #[cycle(spelling)]
 fn definition<'s>(out: &mut Vec<TokenKind<'s>>, tree: &Definition<'s>) -> Result<(), Memory>
     ensures { Adds result out.old out.new (definition_spelling (definition_view tree.now)) }
@@ -299,7 +306,7 @@ fn definition<'s>(out: &mut Vec<TokenKind<'s>>, tree: &Definition<'s>) -> Result
     }
 }
 
-/// Items with semicolons between them; where they aren't the first of their block, one before them too.
+/// Items separated by semicolons. If something precedes them in their block, they begin with a semicolon too.
 #[cycle(spelling)]
 fn items<'s>(
     out: &mut Vec<TokenKind<'s>>,
@@ -317,6 +324,7 @@ fn items<'s>(
     Ok(())
 }
 
+/// The labels of an item, and its command if it has one.
 #[cycle(spelling)]
 fn item<'s>(out: &mut Vec<TokenKind<'s>>, tree: &Item<'s>) -> Result<(), Memory>
     ensures { Adds result out.old out.new (item_spelling (item_view tree.now)) }
@@ -328,6 +336,7 @@ fn item<'s>(out: &mut Vec<TokenKind<'s>>, tree: &Item<'s>) -> Result<(), Memory>
     }
 }
 
+/// Labels, each with its colon.
 #[cycle(spelling)]
 fn labels<'s>(out: &mut Vec<TokenKind<'s>>, list: &[Label<'s>]) -> Result<(), Memory>
     ensures { Adds result out.old out.new (labels_spelling (labels_view list.now)) }
@@ -338,6 +347,7 @@ fn labels<'s>(out: &mut Vec<TokenKind<'s>>, list: &[Label<'s>]) -> Result<(), Me
     Ok(())
 }
 
+/// A label and its colon.
 #[cycle(spelling)]
 fn label<'s>(out: &mut Vec<TokenKind<'s>>, tree: &Label<'s>) -> Result<(), Memory>
     ensures { Adds result out.old out.new (label_spelling (label_view tree.now)) }
@@ -350,7 +360,7 @@ fn label<'s>(out: &mut Vec<TokenKind<'s>>, tree: &Label<'s>) -> Result<(), Memor
     sign(out, Symbol::Colon)
 }
 
-/// A word, and the expression after it.
+/// A reserved word and an expression that needs no parentheses.
 #[cycle(spelling)]
 fn worded<'s>(out: &mut Vec<TokenKind<'s>>, word: Symbol, tree: &Exp<'s>) -> Result<(), Memory>
     ensures { Adds result out.old out.new (A word ∷ whole (exp_view tree.now)) }
@@ -359,7 +369,7 @@ fn worded<'s>(out: &mut Vec<TokenKind<'s>>, word: Symbol, tree: &Exp<'s>) -> Res
     whole(out, tree)
 }
 
-/// A word or a sign, and the part of an expression after it.
+/// A symbol and an expression, in parentheses unless it is one token.
 #[cycle(spelling)]
 fn parted<'s>(out: &mut Vec<TokenKind<'s>>, word: Symbol, tree: &Exp<'s>) -> Result<(), Memory>
     ensures { Adds result out.old out.new (A word ∷ part_of (exp_view tree.now) (whole (exp_view tree.now))) }
@@ -368,7 +378,7 @@ fn parted<'s>(out: &mut Vec<TokenKind<'s>>, word: Symbol, tree: &Exp<'s>) -> Res
     part(out, tree)
 }
 
-/// A word or a sign, and the expressions after it.
+/// A symbol and a list of expressions.
 #[cycle(spelling)]
 fn listed<'s>(out: &mut Vec<TokenKind<'s>>, word: Symbol, list: &[Exp<'s>]) -> Result<(), Memory>
     ensures { Adds result out.old out.new (A word ∷ after_first (after_commas (exps_view list.now))) }
@@ -377,7 +387,7 @@ fn listed<'s>(out: &mut Vec<TokenKind<'s>>, word: Symbol, list: &[Exp<'s>]) -> R
     expressions(out, list)
 }
 
-/// A word, and the block after it.
+/// A reserved word and a block.
 #[cycle(spelling)]
 fn bodied<'s>(out: &mut Vec<TokenKind<'s>>, word: Symbol, body: &Block<'s>) -> Result<(), Memory>
     ensures { Adds result out.old out.new (A word ∷ block_spelling (block_view body.now)) }
@@ -386,7 +396,7 @@ fn bodied<'s>(out: &mut Vec<TokenKind<'s>>, word: Symbol, body: &Block<'s>) -> R
     block(out, body)
 }
 
-/// The items of a SWITCHON.
+/// INTO and the items of a SWITCHON, in section brackets.
 #[cycle(spelling)]
 fn cases<'s>(out: &mut Vec<TokenKind<'s>>, list: &[Item<'s>]) -> Result<(), Memory>
     ensures { Adds result out.old out.new (A sign.Into ∷ A sign.OpenSection ∷ (after_first (items_spelling (items_view list.now)) ++ A sign.CloseSection
@@ -397,6 +407,7 @@ fn cases<'s>(out: &mut Vec<TokenKind<'s>>, list: &[Item<'s>]) -> Result<(), Memo
     sign(out, Symbol::CloseSection)
 }
 
+/// A command. Every body is a block in section brackets.
 #[cycle(spelling)]
 fn command<'s>(out: &mut Vec<TokenKind<'s>>, tree: &Command<'s>) -> Result<(), Memory>
     ensures { Adds result out.old out.new (command_spelling (command_view tree.now)) }

@@ -1,4 +1,4 @@
--- Small sections, of which the worked examples speak.
+-- Small sections that the worked examples use.
 use Rattle.std.specs.Prelude.{ℕ, codes, List, [], ◌∷◌}
 use Rattle.bc_parse_tree.specs.declared.tree.Storage.{Storage}
 use Rattle.bc_parse_tree.specs.declared.tree.Storage.TheVariants as storage

@@ -1,5 +1,5 @@
--- Worked examples of faults, from the language's rules: for each fault a small section that has it, and one near it that
--- hasn't.
+-- Worked examples of faults, from the rules in docs/language.md. For each fault there is a small section that has it,
+-- and a similar one that doesn't.
 use Rattle.std.specs.Prelude.{ℕ, zero, suc, ◌≡◌, List, [], ◌∷◌, Option, Some, None}
 use Rattle.std.proofs.Common.{refl}
 use Rattle.bc_parse_tree.specs.declared.tree.Storage.TheVariants as storage
@@ -11,7 +11,7 @@ use Rattle.bc_scope_defs.specs.Found.{Thing, Data, AStatic, found_in_section}
 use Rattle.bc_scope_defs.specs.Faults.{Fault, AnUndeclared, ADeclaredTwice, ADynamicFree, ANotConstant, AGlobalNumber, ANotAssignable, AMisplaced, AFrameTooLarge, ACaseTwice, ATooManyPlaces, or_else, section_fault, frames_fault, places_fault}
 use Rattle.bc_scope_defs.specs.Examples.{a, b, f, g, l, v, x, y, start, of, number, two, list, set, do_call, plain, labelled, with_case, items, declarations, body, commands, lets, variables, variable, constants, alone}
 
--- of `LET START() BE ..`
+-- the fault of `LET START() BE ..`
 abbrev fault_in : Block → Option Fault
 fault_in c = section_fault (alone c)
 
@@ -24,14 +24,14 @@ with_parameters ps = declarations (lets (tree.Routine f ps (commands (tree.Retur
 
 -- Names
 
--- `Y := 1` with no Y, and with one
+-- `Y := 1` without a Y, and with one
 undeclared : fault_of (set y (number 1)) ≡ Some (AnUndeclared y)
 undeclared = refl
 
 declared : fault_in (body (variable y (number 0) ∷ []) (plain (set y (number 1)) ∷ [])) ≡ None
 declared = refl
 
--- a variable is known in its own initialiser, and no longer after its block
+-- a variable is in scope in its own initialiser, and no longer after its block
 in_own_initialiser : fault_in (body (variable y (of y) ∷ []) []) ≡ None
 in_own_initialiser = refl
 
@@ -45,7 +45,7 @@ twice_a_parameter = refl
 two_parameters : section_fault (with_parameters (x ∷ y ∷ [])) ≡ None
 two_parameters = refl
 
--- `LET X = 1 AND X = 2` is refused, `LET X = 1` and then `LET X = 2` hides
+-- `LET X = 1 AND X = 2` is refused; in `LET X = 1` and then `LET X = 2` the second one hides the first
 twice_in_a_let : fault_in (body (lets (variables (x ∷ []) (number 1 ∷ []) ∷ variables (x ∷ []) (number 2 ∷ []) ∷ []) ∷ []) []) ≡ Some (ADeclaredTwice x)
 twice_in_a_let = refl
 
@@ -64,8 +64,8 @@ dynamic_free = refl
 own_parameter : section_fault (nested_routine (x ∷ [])) ≡ None
 own_parameter = refl
 
--- DynamicFree wants an enclosing routine: `LET F() = X AND X = 1` outside routines is at fault at X = 1 alone, and so is
--- `LET F() BE $( LET H() = X; H() $) AND X = 1`
+-- DynamicFree needs an enclosing routine. `LET F() = X AND X = 1` outside routines is only a fault at X = 1, and so
+-- is `LET F() BE $( LET H() = X; H() $) AND X = 1`.
 outside_and_used : section_fault (declarations (lets (tree.Function f [] (of x) ∷ variables (x ∷ []) (number 1 ∷ []) ∷ []) ∷ [])) ≡ Some AMisplaced
 outside_and_used = refl
 
@@ -82,7 +82,7 @@ outside_and_nested = refl
 inside_and_used : fault_in (body (lets (tree.Function f [] (of x) ∷ variables (x ∷ []) (number 1 ∷ []) ∷ []) ∷ []) []) ≡ Some (ADynamicFree x)
 inside_and_used = refl
 
--- a name's meaning is looked for in text order: `LET A = Y AND A = 1`
+-- names are checked in text order: `LET A = Y AND A = 1`
 text_order : fault_in (body (lets (variables (a ∷ []) (of y ∷ []) ∷ variables (a ∷ []) (number 1 ∷ []) ∷ []) ∷ []) []) ≡ Some (AnUndeclared y)
 text_order = refl
 
@@ -98,19 +98,19 @@ divided_by_zero = refl
 divided_by_one : section_fault (manifest (two dyadic.Divide (number 1) (number 1))) ≡ None
 divided_by_one = refl
 
--- of one MANIFEST a name is a constant after its own entry alone
+-- in a MANIFEST, a name is a constant only after its own entry
 constant_before : section_fault (declarations (constants storage.Manifest ((a, of b) ∷ (b, number 1) ∷ []) ∷ [])) ≡ Some ANotConstant
 constant_before = refl
 
 constant_after : section_fault (declarations (constants storage.Manifest ((b, number 1) ∷ (a, of b) ∷ []) ∷ [])) ≡ None
 constant_after = refl
 
--- `LET V = VEC V`: the name is known, and no constant
+-- `LET V = VEC V`: the name is in scope, but isn't a constant
 vector_of_itself : fault_in (body (lets (tree.Vector v (of v) ∷ []) ∷ []) []) ≡ Some ANotConstant
 vector_of_itself = refl
 
--- an own name in a constant is what it will be: a static, a global and a variable are cells, which `@` and `:=` may take, and the whole is no
--- constant; a manifest and a routine are none
+-- In its constants a name of the declaration is what it will be. A static, a global and a variable are cells, which
+-- `@` and `:=` accept, but the whole isn't a constant. A manifest and a routine aren't cells.
 abbrev address_of : Exp → Exp
 address_of e = tree.Monadic monadic.Address e
 
@@ -123,7 +123,7 @@ own_global = refl
 own_manifest : section_fault (manifest (address_of (of a))) ≡ Some ANotAssignable
 own_manifest = refl
 
--- of a later entry too
+-- the same for a name of a later entry
 later_static : section_fault (declarations (constants storage.Static ((a, address_of (of b)) ∷ (b, number 1) ∷ []) ∷ [])) ≡ Some ANotConstant
 later_static = refl
 
@@ -137,12 +137,12 @@ own_vector_set = refl
 own_routine : fault_in (body (lets (tree.Vector v (address_of (of f)) ∷ tree.Function f [] (number 1) ∷ []) ∷ []) []) ≡ Some ANotAssignable
 own_routine = refl
 
--- a routine within the constant sees the variable as another's
+-- a routine inside the constant sees the variable as another routine's
 own_vector_in_a_routine :
     fault_in (body (lets (tree.Vector v (tree.Valof (body (lets (tree.Function f [] (of v) ∷ []) ∷ []) [])) ∷ []) ∷ []) []) ≡ Some (ADynamicFree v)
 own_vector_in_a_routine = refl
 
--- a label in a constant is no fault of its own, and neither is `@` of it
+-- in a constant a label has no fault of its own, and neither has `@` of it
 abbrev label_in_vector : Exp → Option Fault
 label_in_vector k = fault_in (body [] (labelled l (tree.Compound (body (lets (tree.Vector v k ∷ []) ∷ []) [])) ∷ []))
 
@@ -152,11 +152,11 @@ label_in_constant = refl
 address_of_label : label_in_vector (address_of (of l)) ≡ Some ANotConstant
 address_of_label = refl
 
--- else it is no value
+-- elsewhere a label is no value
 label_is_no_value : fault_in (body (variable x (number 0) ∷ []) (labelled l (set x (address_of (of l))) ∷ [])) ≡ Some AMisplaced
 label_is_no_value = refl
 
--- a K that is no constant: `FOR X = 1 TO 2 BY Y`, `CASE Y:`, `TABLE Y`, where Y is a variable
+-- a K that isn't a constant: `FOR X = 1 TO 2 BY Y`, `CASE Y:`, `TABLE Y`, where Y is a variable
 abbrev with_variable : Command → Option Fault
 with_variable c = fault_in (body (variable y (number 0) ∷ []) (plain c ∷ []))
 
@@ -169,7 +169,7 @@ case_of_a_variable = refl
 table_of_a_variable : with_variable (set y (tree.Table (list (of y ∷ [])))) ≡ Some ANotConstant
 table_of_a_variable = refl
 
--- what is undeclared in a constant comes before that it is none
+-- a name in a constant that isn't in scope comes before NotConstant
 undeclared_in_constant : section_fault (manifest (two dyadic.Add (of y) (two dyadic.Divide (number 1) (number 0)))) ≡ Some (AnUndeclared y)
 undeclared_in_constant = refl
 
@@ -179,7 +179,7 @@ global_512 = refl
 global_511 : section_fault (declarations (constants storage.Global ((a, number 511) ∷ []) ∷ [])) ≡ None
 global_511 = refl
 
--- Assignments: `TRUE := 1`, `!TRUE := 1`; faults of the sides come first
+-- assignments: `TRUE := 1`, `!TRUE := 1`; faults of the sides come first
 
 not_assignable : fault_of (tree.Assign (list (tree.True ∷ [])) (list (number 1 ∷ []))) ≡ Some ANotAssignable
 not_assignable = refl
@@ -190,7 +190,7 @@ assignable = refl
 sides_first : fault_of (tree.Assign (list (tree.True ∷ [])) (list (of y ∷ []))) ≡ Some (AnUndeclared y)
 sides_first = refl
 
--- `@X` of a variable, `@!1`, `@(1!2)`, and of what has no cell
+-- `@X` of a variable, `@!1`, `@(1!2)`, and `@` of something without a cell
 abbrev address_taken : Exp → Option Fault
 address_taken e = fault_in (body (variable x (number 0) ∷ []) (plain (set x (address_of e)) ∷ []))
 
@@ -223,7 +223,7 @@ break_alone = refl
 break_in_a_loop : fault_of (tree.While tree.True (commands (tree.Break ∷ []))) ≡ None
 break_in_a_loop = refl
 
--- BREAK doesn't leave a VALOF, and RETURN neither; RESULTIS leaves nothing else
+-- BREAK doesn't leave a VALOF, and neither does RETURN; RESULTIS leaves only a VALOF
 break_in_valof : fault_of (tree.While (tree.Valof (commands (tree.Break ∷ []))) (commands [])) ≡ Some AMisplaced
 break_in_valof = refl
 
@@ -233,11 +233,11 @@ return_in_valof = refl
 result_of_no_valof : fault_of (tree.ResultIs (number 1)) ≡ Some AMisplaced
 result_of_no_valof = refl
 
--- ENDCASE in a loop inside the list is lawful
+-- ENDCASE in a loop inside the list is allowed
 end_case_in_a_loop : fault_of (tree.SwitchOn (number 1) (items (with_case 1 (tree.Repeat tree.EndCase) ∷ []))) ≡ None
 end_case_in_a_loop = refl
 
--- a variable outside routines: also in a VALOF there, in a constant too
+-- a variable outside routines is a fault: also in a VALOF there, and in a constant
 outside : section_fault (declarations (variable x (number 1) ∷ [])) ≡ Some AMisplaced
 outside = refl
 
@@ -247,12 +247,12 @@ outside_in_valof = refl
 outside_in_constant : section_fault (manifest (tree.Valof (body (variable y (number 1) ∷ []) []))) ≡ Some AMisplaced
 outside_in_constant = refl
 
--- in a routine of such a VALOF it is none
+-- in a routine inside such a VALOF it isn't
 outside_in_routine :
     section_fault (manifest (tree.Valof (body (lets (tree.Routine f [] (body (variable y (number 1) ∷ []) []) ∷ []) ∷ []) []))) ≡ Some ANotConstant
 outside_in_routine = refl
 
--- FOR's start, limit and K are looked up outside, and its variable is known in the body alone
+-- FOR's start, limit and K are resolved outside, and its variable is in scope only in the body
 abbrev counts : (start limit : Exp) → Command → Option Fault
 counts a z c = fault_of (tree.For x a z (commands (c ∷ [])))
 
@@ -271,7 +271,7 @@ for_in_body = refl
 for_after_body : fault_in (body [] (plain (tree.For x (number 1) (number 2) (commands [])) ∷ plain (set x (number 1)) ∷ [])) ≡ Some (AnUndeclared x)
 for_after_body = refl
 
--- BREAK in a SWITCHON in a loop is lawful
+-- BREAK in a SWITCHON in a loop is allowed
 break_in_switch_in_loop : fault_of (tree.Repeat (tree.SwitchOn (number 1) (items (with_case 1 tree.Break ∷ [])))) ≡ None
 break_in_switch_in_loop = refl
 
@@ -284,11 +284,11 @@ loop_alone = refl
 end_case_alone : fault_of tree.EndCase ≡ Some AMisplaced
 end_case_alone = refl
 
--- CASE in a list that is no SWITCHON's own, CASE 1 twice, DEFAULT twice
+-- CASE in a list that isn't a SWITCHON's own, CASE 1 twice, DEFAULT twice
 case_in_a_block : fault_in (body [] (with_case 1 tree.Return ∷ [])) ≡ Some AMisplaced
 case_in_a_block = refl
 
--- deeper in a SWITCHON too
+-- the same deeper in a SWITCHON
 case_deeper : fault_of (tree.SwitchOn (number 1) (items (plain (tree.Compound (body [] (with_case 1 tree.Return ∷ []))) ∷ []))) ≡ Some AMisplaced
 case_deeper = refl
 
@@ -315,11 +315,11 @@ goto_label = refl
 label_twice : fault_in (body [] (Labels_alone (label (tree.Named l) no_labels) ∷ labelled l tree.Return ∷ [])) ≡ Some (ADeclaredTwice l)
 label_twice = refl
 
--- a label of a nested block isn't known outside of it
+-- a label of a nested block isn't in scope outside it
 label_inside : fault_in (body [] (plain (tree.Compound (body [] (labelled l tree.Return ∷ []))) ∷ plain (tree.Goto l) ∷ [])) ≡ Some (AnUndeclared l)
 label_inside = refl
 
--- a label of the enclosing routine, one outside of a VALOF, a name that is no label, and a label that is set
+-- a label of the enclosing routine, one outside a VALOF, a name that isn't a label, and an assignment to a label
 label_of_another : fault_in (body []
     (labelled l (tree.Compound (body (lets (tree.Routine f [] (commands (tree.Goto l ∷ [])) ∷ []) ∷ []) (plain (do_call f []) ∷ []))) ∷ []))
     ≡ Some (ADynamicFree l)
@@ -331,14 +331,15 @@ goto_out_of_valof = refl
 goto_routine : fault_of (tree.Goto start) ≡ Some AMisplaced
 goto_routine = refl
 
--- a variable, also of an enclosing routine
+-- a variable, also one of an enclosing routine
 goto_variable : fault_in (body (variable x (number 0) ∷ []) (plain (tree.Goto x) ∷ [])) ≡ Some AMisplaced
 goto_variable = refl
 
 goto_variable_of_another : fault_in (body (variable x (number 0) ∷ lets (tree.Routine f [] (commands (tree.Goto x ∷ [])) ∷ []) ∷ []) []) ≡ Some AMisplaced
 goto_variable_of_another = refl
 
--- a label isn't known in its own block's declarations; a label of a VALOF outside routines is no enclosing routine's
+-- a label isn't in scope in the declarations of its own block; a label in a VALOF outside routines doesn't belong to
+-- an enclosing routine
 label_in_declarations : fault_in (body (variable x (of l) ∷ []) (labelled l tree.Return ∷ [])) ≡ Some (AnUndeclared l)
 label_in_declarations = refl
 

@@ -1,4 +1,5 @@
--- For proofs: faults as they are found along the numbers and levels of a tree. They are those of `Faults`: a law, `bc_scope_laws::laws::faults_ask_no_numbers`.
+-- For proofs: the faults of `Faults`, found along the numbers and levels of a tree. They are the same by
+-- `bc_scope_laws::laws::faults_ask_no_numbers`.
 use Rattle.std.specs.Prelude.{ℕ, ◌+◌, nat_le, Bool, true, false, List, [], ◌∷◌, ◌++◌, length, Option, None}
 use Rattle.bc_parse_tree.specs.declared.tree.Storage.{Storage}
 use Rattle.bc_parse_tree.specs.Tree.{Exp, Exps, none, more, Block, block, Declaration, Declarations, no_declarations, declaration, Entries, no_entries, entry, Definition, Definitions, no_definitions, definition, Item, Labelled, Labels_alone, Items, no_items, item, Label, Labels, no_labels, label, Command}

@@ -1,4 +1,5 @@
--- For proofs: widths as they are found along the numbers of a tree. They are those of `Frames`: a law, `bc_scope_laws::laws::widths_ask_no_numbers`.
+-- For proofs: the widths of `Frames`, computed along the numbers of a tree. They are the same by
+-- `bc_scope_laws::laws::widths_ask_no_numbers`.
 use Rattle.std.specs.Prelude.{ℕ, ◌+◌, max, List, [], ◌∷◌}
 use Rattle.bc_parse_tree.specs.Tree.{Exp, Exps, none, more, Block, block, Declaration, Declarations, no_declarations, declaration, Definition, Definitions, no_definitions, definition, Item, Labelled, Labels_alone, Items, no_items, item, Command}
 use Rattle.bc_parse_tree.specs.Tree as tree
@@ -14,7 +15,7 @@ abbrev pub all_held : Env → Exps → (s : ℕ) → List ℕ
 all_held E none s = []
 all_held E (more x xs) s = held E x s ∷ all_held E xs s
 
--- the greatest of what the pairs of an assignment take: what is held of an address, and the widths of both sides
+-- the greatest of what the pairs of an assignment use: what is held for an address, and the widths of both sides
 abbrev pub widest : (held addresses values : List ℕ) → ℕ
 widest (h ∷ hs) (x ∷ xs) (e ∷ es) = max (max h (max e x)) (widest hs xs es)
 widest _ _ _ = 0

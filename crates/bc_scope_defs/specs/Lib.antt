@@ -1,3 +1,4 @@
+-- The definitions of names, faults, meaning and translation of sections, with worked examples.
 pub mod Characters
 pub mod Scope
 pub mod Numbering

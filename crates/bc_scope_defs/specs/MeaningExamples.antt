@@ -1,4 +1,4 @@
--- Worked examples of what sections mean. The expected outputs are from the language's rules.
+-- Worked examples of what sections mean. The expected outputs follow from the rules in docs/language.md.
 use Rattle.std.specs.Prelude.{ℕ, ◌≡◌, ◌+◌, codes, List, [], ◌∷◌}
 use Rattle.std.proofs.Common.{refl}
 use Rattle.bc_parse_tree.specs.declared.tree.Storage.TheVariants as storage
@@ -39,7 +39,7 @@ pair_by_pair : run (body (lets (variables (x ∷ y ∷ []) (number 65 ∷ number
     (plain (tree.Assign (list (of x ∷ of y ∷ [])) (list (of y ∷ of x ∷ []))) ∷ plain (print (of x)) ∷ plain (print (of y)) ∷ [])) ≡ printed (66 ∷ 66 ∷ [])
 pair_by_pair = refl
 
--- a list without the case and DEFAULT is passed over; a case falls through, and ENDCASE leaves
+-- a list without the CASE and without DEFAULT is passed over; a case falls through to the next, and ENDCASE leaves
 no_case : run (commands (tree.SwitchOn (number 3) (items (with_case 1 (print (number 88)) ∷ [])) ∷ [])) ≡ printed []
 no_case = refl
 
@@ -53,18 +53,18 @@ not_one : run (commands (tree.If (tree.Monadic monadic.Not (number 1)) (commands
     ∷ print (two dyadic.Add (number 67) (tree.Monadic monadic.Not (number 1))) ∷ [])) ≡ printed (65 ∷ [])
 not_one = refl
 
--- a VALOF without RESULTIS is 0, and RESULTIS leaves a loop within it
+-- a VALOF without RESULTIS has the value 0, and RESULTIS leaves a loop inside it
 valofs : run (commands (print (two dyadic.Add (number 65) (tree.Valof (commands [])))
     ∷ print (tree.Valof (commands (tree.Repeat (tree.ResultIs (number 66)) ∷ []))) ∷ [])) ≡ printed (65 ∷ 66 ∷ [])
 valofs = refl
 
--- statics and strings begin with their words: the first of "AB" is 2 and 65
+-- statics and strings have their words when the run begins: the first of "AB" has the bytes 2 and 65
 static_and_string : runs (declarations (constants storage.Global ((start, number 1) ∷ (wrch, number 14) ∷ []) ∷ constants storage.Static ((x, number 66) ∷ [])
     ∷ lets (tree.Routine start [] (commands (print (two dyadic.Index (tree.Text (codes "\"AB\"")) (number 0)) ∷ print (of x) ∷ [])) ∷ []) ∷ [])) 100
     ≡ printed (65 ∷ 66 ∷ [])
 static_and_string = refl
 
--- `WRCH('A'); $( $) REPEAT` goes on when its turns are spent
+-- `WRCH('A'); $( $) REPEAT` is going when its turns are used up
 goes_on : runs (program (commands (print (number 65) ∷ tree.Repeat (tree.Compound (commands [])) ∷ []))) 9 ≡ Going ((65 ∷ []) ∷ [])
 goes_on = refl
 
@@ -72,7 +72,7 @@ goes_on = refl
 zero_divisor : run (body (variable x (number 0) ∷ []) (plain (set x (two dyadic.Divide (number 1) (number 0))) ∷ [])) ≡ Ended ([] ∷ []) ZeroDivide
 zero_divisor = refl
 
--- a cell that is unset outweighs the zero divisor on the other side: `LET V = VEC 0; !V := V!0 + 1/0`
+-- an unset cell outweighs the zero divisor on the other side: `LET V = VEC 0; !V := V!0 + 1/0`
 wild : run (body (lets (tree.Vector v (number 0) ∷ []) ∷ []) (plain (tree.Assign (list (tree.Monadic monadic.Load (of v) ∷ []))
     (list (two dyadic.Add (two dyadic.Divide (number 1) (number 0)) (two dyadic.Index (of v) (number 0)) ∷ []))) ∷ [])) ≡ Wild
 wild = refl

@@ -1,4 +1,4 @@
--- The numbers after a tree, in text order.
+-- How places, VALOFs and labels are numbered in text order: for each form of the tree the next numbers after it.
 use Rattle.std.specs.Prelude.{ℕ, ◌+◌}
 use Rattle.bc_parse_tree.specs.declared.tree.Storage.{Storage}
 use Rattle.bc_parse_tree.specs.declared.tree.Storage.TheVariants as storage
@@ -6,33 +6,38 @@ use Rattle.bc_parse_tree.specs.Tree.{Exp, Exps, none, more, Block, block, Declar
 use Rattle.bc_parse_tree.specs.Tree as tree
 use Rattle.bc_scope_defs.specs.Scope.{Numbers, after_place, after_valof, after_labels}
 
--- how many labels there are
+-- how many named labels there are: in a label,
 abbrev pub labels_named : Label → ℕ
 labels_named (tree.Named n) = 1
 labels_named _ = 0
 
+-- before a command,
 abbrev pub labels_of : Labels → ℕ
 labels_of no_labels = 0
 labels_of (label l ls) = labels_named l + labels_of ls
 
+-- in an item,
 abbrev pub labels_of_item : Item → ℕ
 labels_of_item (Labelled ls c) = labels_of ls
 labels_of_item (Labels_alone ls) = labels_of ls
 
+-- and in a list
 abbrev pub labels_in : Items → ℕ
 labels_in no_items = 0
 labels_in (item i is) = labels_of_item i + labels_in is
 
--- a static is a place
+-- a static is a place, while a manifest and a global aren't
 abbrev pub after_entry : Storage → Numbers → Numbers
 after_entry storage.Static at = after_place at
 after_entry _ at = at
 
+-- the numbers after the entries of a declaration
 abbrev pub after_entries : Storage → Numbers → Entries → Numbers
 after_entries s at no_entries = at
 after_entries s at (entry n k es) = after_entries s (after_entry s at) es
 
--- a constant holds nothing that has a number; a list takes the numbers of its labels as it begins
+-- The numbers after a tree. A constant contains nothing that is numbered. A list takes the numbers of its labels when
+-- it begins.
 abbrev mutual
   pub following : Numbers → Exp → Numbers
   following at (tree.Text s) = after_place at

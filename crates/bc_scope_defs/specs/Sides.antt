@@ -1,4 +1,5 @@
--- The level of both sides of an assignment, by the form of its address in the section.
+-- The level of both sides of an assignment. It depends on whether one instruction takes the address as its operand,
+-- which is decided here by the form of the address in the source.
 use Rattle.std.specs.Prelude.{ℕ, ◌+◌, Bool, true, false, cond, List, [], ◌∷◌}
 use Rattle.bc_parse_tree.specs.declared.tree.Dyadic.{Dyadic}
 use Rattle.bc_parse_tree.specs.declared.tree.Dyadic.TheVariants as dyadic
@@ -8,8 +9,8 @@ use Rattle.bc_parse_tree.specs.Tree.{Exp, Exps, none, more}
 use Rattle.bc_parse_tree.specs.Tree as tree
 use Rattle.bc_scope_defs.specs.Scope.{Meant, Static, Global, Routine, Variable, Env, meant_by}
 
--- what one instruction takes as its operand: a number; the address of a variable or global; of a place; a sum of the first two;
--- and the content of the cell at any of these
+-- What one instruction takes as its operand: a number; the address of a variable or global; the address of a place;
+-- the sum of a number and the address of a variable or global; or the content of the cell at one of these.
 pub data Kind : Type 0 where
   ANumber : Kind
   ACell : Kind
@@ -18,27 +19,32 @@ pub data Kind : Type 0 where
   AContent : Kind
   NoOperand : Kind
 
+-- what the address and the content of an expression are as operands
 pub record Kinds : Type 0 where
   pub address : Kind
   pub content : Kind
 
+-- the content of the cell at an operand
 abbrev pub kind_of_content : Kind → Kind
 kind_of_content AContent = NoOperand
 kind_of_content NoOperand = NoOperand
 kind_of_content _ = AContent
 
+-- the sum of two operands
 abbrev pub kind_of_sum : Kind → Kind → Kind
 kind_of_sum ACell ANumber = ASum
 kind_of_sum ANumber ACell = ASum
 kind_of_sum _ _ = NoOperand
 
+-- the cell at an operand
 abbrev pub kinds_of_cell : Kind → Kinds
 kinds_of_cell a = record { address = a; content = kind_of_content a }
 
+-- an expression without a cell
 abbrev pub kinds_of_plain : Kind → Kinds
 kinds_of_plain v = record { address = v; content = v }
 
--- a constant is a number; a name that is at fault counts as one
+-- a name; a constant is a number, and a name that is a fault counts as one
 abbrev pub kinds_of_name : Meant → Kinds
 kinds_of_name (Static m) = kinds_of_cell APlace
 kinds_of_name (Global n) = kinds_of_cell ACell
@@ -46,16 +52,19 @@ kinds_of_name (Routine m) = kinds_of_plain APlace
 kinds_of_name (Variable k) = kinds_of_cell ACell
 kinds_of_name _ = kinds_of_plain ANumber
 
+-- a monadic operator
 abbrev pub kinds_of_monadic : Monadic → Kinds → Kinds
 kinds_of_monadic monadic.Load e = kinds_of_cell e.content
 kinds_of_monadic monadic.Address e = kinds_of_plain e.address
 kinds_of_monadic _ e = kinds_of_plain NoOperand
 
+-- a dyadic operator
 abbrev pub kinds_of_dyadic : Dyadic → Kind → Kind → Kinds
 kinds_of_dyadic dyadic.Index l r = kinds_of_cell (kind_of_sum l r)
 kinds_of_dyadic dyadic.Add l r = kinds_of_plain (kind_of_sum l r)
 kinds_of_dyadic _ l r = kinds_of_plain NoOperand
 
+-- an expression
 abbrev pub kinds : Env → Exp → Kinds
 kinds E (tree.Name n) = kinds_of_name (meant_by E n)
 kinds E (tree.Number w) = kinds_of_plain ANumber
@@ -68,14 +77,16 @@ kinds E (tree.Monadic m e) = kinds_of_monadic m (kinds E e)
 kinds E (tree.Dyadic o l r) = kinds_of_dyadic o (kinds E l).content (kinds E r).content
 kinds E _ = kinds_of_plain NoOperand
 
+-- whether one instruction takes it as its operand
 abbrev pub is_operand_kind : Kind → Bool
 is_operand_kind NoOperand = false
 is_operand_kind _ = true
 
+-- the level of both sides of an assignment to x at the level s
 abbrev pub side_level_of : Env → Exp → ℕ → ℕ
 side_level_of E x s = cond (is_operand_kind (kinds E x).address) s (s + 1)
 
--- of each pair of an assignment
+-- the level of each pair of an assignment
 abbrev pub side_levels : Env → Exps → ℕ → List ℕ
 side_levels E none s = []
 side_levels E (more x xs) s = side_level_of E x s ∷ side_levels E xs s

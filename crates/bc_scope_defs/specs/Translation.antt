@@ -1,4 +1,4 @@
--- The translation of a section: offsets, labels and numbers for names; its places and its table of VALOFs.
+-- The translation of a section: offsets, labels and numbers in place of names, its places, and its table of VALOFs.
 use Rattle.std.specs.Prelude.{ℕ, ◌+◌, true, false, List, [], ◌∷◌, ◌++◌, map, Option, Some, None}
 use Rattle.bc_word.specs.declared.operator.Op.{Op}
 use Rattle.bc_word.specs.declared.operator.Op.TheVariants as operators
@@ -16,18 +16,20 @@ use Rattle.bc_scope_defs.specs.Scoping.{operator, constant, before_let, in_let, 
 use Rattle.bc_scope_defs.specs.Found.{Thing, AValof, ARoutine, Data, Datum, AStatic, ATable, AText, Found, FoundRoutine, RoutineBody, Gives, Does, found_in_section}
 use Rattle.bc_scope_defs.specs.Meaning.{label_number}
 
--- an expression has an address and a content; what has no cell has itself for both
+-- What an expression becomes: an address and a content. Without a cell both are the same.
 pub record Forms : Type 0 where
   pub address : Exp
   pub content : Exp
 
+-- the cell at this address
 abbrev pub cell : Exp → Forms
 cell a = record { address = a; content = Load a }
 
+-- an expression without a cell
 abbrev pub plain : Exp → Forms
 plain v = record { address = v; content = v }
 
--- a name that is at fault, which no section without fault has, counts as the number 0
+-- what a name becomes; a name that is a fault counts as the number 0, but a section without fault has none
 abbrev pub form_of_name : Meant → Forms
 form_of_name (Constant w) = plain (Num w)
 form_of_name (Static m) = cell (Place m)
@@ -36,7 +38,7 @@ form_of_name (Routine m) = plain (Place m)
 form_of_name (Variable k) = cell (Frame k)
 form_of_name _ = plain (Num 0)
 
--- the relation that holds where this one doesn't
+-- the relation that holds exactly if this one doesn't
 abbrev pub opposite : Op → Option Op
 opposite operators.Equal = Some operators.NotEqual
 opposite operators.NotEqual = Some operators.Equal
@@ -46,26 +48,29 @@ opposite operators.Greater = Some operators.LessEqual
 opposite operators.LessEqual = Some operators.Greater
 opposite _ = None
 
+-- the opposite relation, if there is one, else NOT
 abbrev pub or_not : Option Op → Op → Exp → Exp → Exp
 or_not (Some opposite_op) op a b = Bin opposite_op a b
 or_not None op a b = Not (Bin op a b)
 
--- NOT of a relation is the opposite relation
+-- NOT of a relation becomes the opposite relation
 abbrev pub negation : Exp → Exp
 negation (Bin op a b) = or_not (opposite op) op a b
 negation e = Not e
 
+-- what a monadic operator becomes
 abbrev pub form_of_monadic : Monadic → Forms → Forms
 form_of_monadic monadic.Load e = cell e.content
 form_of_monadic monadic.Address e = plain e.address
 form_of_monadic monadic.Not e = plain (negation e.content)
 form_of_monadic monadic.Negate e = plain (Neg e.content)
 
+-- what a dyadic operator becomes; `l ! r` is the cell at the sum of both
 abbrev pub form_of_dyadic : Option Op → Exp → Exp → Forms
 form_of_dyadic None l r = cell (Bin operators.Add l r)
 form_of_dyadic (Some op) l r = plain (Bin op l r)
 
--- a VALOF's body stands in the table of VALOFs
+-- What an expression becomes. Of a VALOF only the number stays; its body is in the table of VALOFs.
 abbrev mutual
   pub forms : Env → Numbers → tree.Exp → Forms
   forms E at (tree.Name n) = form_of_name (meant_by E n)
@@ -83,64 +88,75 @@ abbrev mutual
       plain (Cond (forms E at c).content (forms E after_test x).content (forms E (following after_test x) y).content)
   forms E at (tree.Call f es) = plain (Call (core_arguments E (following at f) es) (forms E at f).content)
 
+  -- what the arguments of a call become
   pub core_arguments : Env → Numbers → tree.Exps → Args
   core_arguments E at tree.none = no_argument
   core_arguments E at (tree.more e es) = argument (forms E at e).content (core_arguments E (following at e) es)
 
+-- what each of several expressions becomes
 abbrev pub forms_of_all : Env → Numbers → tree.Exps → List Forms
 forms_of_all E at tree.none = []
 forms_of_all E at (tree.more e es) = forms E at e ∷ forms_of_all E (following at e) es
 
--- the commands of an assignment, pair by pair; the grammar gives both sides as many
+-- the commands of an assignment, pair by pair; the grammar gives both sides the same number of expressions
 abbrev pub assignments : (addresses values : List Forms) → Items
 assignments (x ∷ xs) (e ∷ es) = command (core.Assign e.content x.address) (assignments xs es)
 assignments _ _ = no_item
 
--- several pairs are a block of assignments
+-- an assignment; several pairs are a block of assignments
 abbrev pub assignment : (addresses values : List Forms) → Command
 assignment (x ∷ []) (e ∷ []) = core.Assign e.content x.address
 assignment xs es = core.Nested (block [] (assignments xs es))
 
--- Declarations
+-- ---- Declarations
 
+-- variables with these initialisers
 abbrev pub initials : List Forms → List core.Variable
 initials fs = map (λ f. Initial f.content) fs
 
+-- the variables of a definition; `before` has what names mean in the constants of the LET
 abbrev pub core_definition : Env → (before : Env) → Numbers → tree.Definition → List core.Variable
 core_definition E B at (tree.Variables ns es) = initials (forms_of_all E at es)
 core_definition E B at (tree.Vector n c) = Vector (constant B c) ∷ []
 core_definition E B at (tree.Function n ps e) = []
 core_definition E B at (tree.Routine n ps b) = []
 
+-- the variables of a LET
 abbrev pub core_definitions : Env → (before : Env) → Numbers → tree.Definitions → List core.Variable
 core_definitions E B at tree.no_definitions = []
 core_definitions E B at (tree.definition d ds) = core_definition E B at d ++ core_definitions E B (after_definition at d) ds
 
+-- what a declaration becomes where s is the next free offset: a LET declares its variables at once, constants become
+-- nothing
 abbrev pub core_declaration : Env → Numbers → (s : ℕ) → tree.Declaration → List (List core.Variable)
 core_declaration E at s (tree.Constants k es) = []
 core_declaration E at s (tree.Let ds) = core_definitions (in_let E at s ds) (before_let ds E) at ds ∷ []
 
+-- what declarations become
 abbrev pub core_declarations : Env → Numbers → (s : ℕ) → tree.Declarations → List (List core.Variable)
 core_declarations E at s tree.no_declarations = []
 core_declarations E at s (tree.declaration d ds) =
     core_declaration E at s d ++ core_declarations (in_declaration E at s d) (after_declaration at d) (s + cells_in E d) ds
 
--- Commands
+-- ---- Commands
 
+-- a label before items, which has the number k if it is named
 abbrev pub core_label : Env → (k : ℕ) → tree.Label → Items → Items
 core_label E k (tree.Case c) is = case (constant E c) is
 core_label E k tree.Default is = default is
 core_label E k (tree.Named n) is = label k is
 
+-- the labels of an item before items
 abbrev pub core_labels : Env → (k : ℕ) → tree.Labels → Items → Items
 core_labels E k tree.no_labels is = is
 core_labels E k (tree.label l ls) is = core_label E k l (core_labels E (k + labels_named l) ls is)
 
--- a body that is a command is the block of that command
+-- a command as a block of its own
 abbrev pub block_of : Command → Block
 block_of c = block [] (command c no_item)
 
 abbrev mutual
+  -- what a block becomes where s is the next free offset
   pub core_block : Env → Numbers → tree.Block → (s : ℕ) → Block
   core_block E at (tree.block ds is) s =
       let after_it = after_declarations at ds in
@@ -148,13 +164,14 @@ abbrev mutual
       block (core_declarations E at s ds) (core_items (in_list k is (in_declarations E at s ds)) k (after_labels after_it (labels_in is)) is
       (level_after E at s ds))
 
-  -- the next label of the list has number k
+  -- what the items of a list become; the next label of the list has the number k
   pub core_items : Env → (k : ℕ) → Numbers → tree.Items → (s : ℕ) → Items
   core_items E k at tree.no_items s = no_item
   core_items E k at (tree.item (tree.Labelled ls c) is) s =
       core_labels E k ls (command (core_command E at c s) (core_items E (k + labels_of ls) (after_command at c) is s))
   core_items E k at (tree.item (tree.Labels_alone ls) is) s = core_labels E k ls (core_items E (k + labels_of ls) at is s)
 
+  -- what a command becomes
   pub core_command : Env → Numbers → tree.Command → (s : ℕ) → Command
   core_command E at (tree.Assign xs es) s = assignment (forms_of_all E at xs) (forms_of_all E (after_all at xs) es)
   core_command E at (tree.Do f es) s = core.Call (Call (core_arguments E (following at f) es) (forms E at f).content)
@@ -187,35 +204,41 @@ abbrev mutual
       let k = after_value.label in
       core.SwitchOn (forms E at e).content (core_items (in_list k is E) k (after_labels after_value (labels_in is)) is s)
 
--- the table of VALOFs
+-- ---- The table of VALOFs, and the places
+-- what a VALOF becomes
 abbrev pub valof_of : Found → core.Valof
 valof_of f = record { level = f.level; body = core_block f.names f.numbers f.body f.level }
 
+-- the VALOFs among what is found
 abbrev pub valofs_of : List Thing → List core.Valof
 valofs_of [] = []
 valofs_of (AValof f ∷ things) = valof_of f ∷ valofs_of things
 valofs_of (ARoutine r ∷ things) = valofs_of things
 valofs_of (Data q d ∷ things) = valofs_of things
 
--- the places
+-- what the body of a routine becomes
 abbrev pub core_body : Env → Numbers → RoutineBody → (s : ℕ) → core.Body
 core_body E at (Gives e) s = core.Gives (forms E at e).content
 core_body E at (Does b) s = core.Does (core_block E at b s)
 
+-- what a routine becomes
 abbrev pub core_routine : FoundRoutine → core.Routine
 core_routine r =
     record { global = r.global; parameters = r.parameters; body = core_body r.names r.numbers r.body (level_after_parameters r.parameters) }
 
+-- what a static, a table or a string becomes
 abbrev pub core_datum : Datum → core.Place
 core_datum (AStatic w) = core.Static w
 core_datum (ATable words) = core.Table words
 core_datum (AText bytes) = core.Text bytes
 
+-- the places among what is found
 abbrev pub places_of : List Thing → List core.Place
 places_of [] = []
 places_of (AValof f ∷ things) = places_of things
 places_of (ARoutine r ∷ things) = core.Code (core_routine r) ∷ places_of things
 places_of (Data q d ∷ things) = core_datum d ∷ places_of things
 
+-- the translated section
 abbrev pub core_of : Declarations → core.Core
 core_of ds = let things = found_in_section ds in record { places = places_of things; valofs = valofs_of things }

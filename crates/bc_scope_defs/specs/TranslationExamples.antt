@@ -1,4 +1,4 @@
--- Worked examples of the translation. The expected sections are from the language's rules.
+-- Worked examples of the translation. The expected sections follow from the rules in docs/language.md.
 use Rattle.std.specs.Prelude.{ℕ, ◌≡◌, true, codes, List, [], ◌∷◌, Option, Some, None}
 use Rattle.std.proofs.Common.{refl}
 use Rattle.bc_word.specs.declared.operator.Op.TheVariants as operators
@@ -20,7 +20,8 @@ use Rattle.bc_scope_defs.specs.Examples.{a, b, f, g, l, v, x, y, start, wrch, of
 abbrev at : ℕ → core.Exp
 at k = core.Load (core.Frame k)
 
--- Expressions, where A is the constant 5, V the global 100, F the routine with label 3, and X and Y stand at 2 and 3
+-- Expressions, where A is the constant 5, V is the global 100, F is the routine with the label 3, and X and Y are at
+-- the offsets 2 and 3
 
 abbrev names : Env
 names = record { names = (a, Constant 5) ∷ (v, Global 100) ∷ (f, Routine 3) ∷ (x, Variable 2) ∷ (y, Variable 3) ∷ []; inside = true }
@@ -56,7 +57,7 @@ address_of_indexed = refl
 address_of_content : translated (address_of (load (of x))) ≡ at 2
 address_of_content = refl
 
--- NOT of a relation is its complement, also of one so made; of anything else it stays
+-- NOT of a relation is the opposite relation, also if that relation was made in this way; NOT of anything else stays
 not_less : translated (opposite (two dyadic.Less (of x) (number 7))) ≡ core.Bin operators.GreaterEqual (at 2) (core.Num 7)
 not_less = refl
 
@@ -66,17 +67,17 @@ not_not_less = refl
 not_variable : translated (opposite (of x)) ≡ core.Not (at 2)
 not_variable = refl
 
--- nothing is folded, and nothing moved
+-- nothing is folded or reordered
 not_folded : translated (two dyadic.Add (number 1) (tree.Monadic monadic.Negate (number 2))) ≡ core.Bin operators.Add (core.Num 1) (core.Neg (core.Num 2))
 not_folded = refl
 
--- in a call the routine's VALOF is numbered before those of the arguments
+-- in a call, a VALOF in the routine is numbered before those in the arguments
 numbered : translated (tree.Call (tree.Valof (commands [])) (list (tree.Valof (commands []) ∷ [])))
     ≡ core.Call (core.argument (core.Valof 1) core.no_argument) (core.Valof 0)
 numbered = refl
 
--- both sides of an assignment stand at s where the address is an operand, as of `X`, `!X` and `(@X)!1`, and else, as of
--- `X!1` and `!(!X)`, at s + 1
+-- Both sides of an assignment are at the level s if the address is an operand, as that of `X`, `!X` and `(@X)!1` is.
+-- Otherwise, as with `X!1` and `!(!X)`, they are at s + 1.
 abbrev level_of_sides : Exp → ℕ
 level_of_sides e = side_level_of names e 6
 
@@ -104,7 +105,7 @@ abbrev these : List c.Command → c.Items
 these [] = c.no_item
 these (d ∷ ds) = c.command d (these ds)
 
--- of the routines that are found, in text order
+-- the routines that are found, in text order
 abbrev frames_among : List Thing → List ℕ
 frames_among [] = []
 frames_among (ARoutine r ∷ things) = frame_of r ∷ frames_among things
@@ -114,7 +115,7 @@ frames_among (Data label d ∷ things) = frames_among things
 abbrev frames : Declarations → List ℕ
 frames ds = frames_among (found_in_section ds)
 
--- `LET A, B = 1, 2; A := A + B`: the roots' level is 4, and the frame has 6 cells
+-- `LET A, B = 1, 2; A := A + B`: the roots have the level 4, and the frame has 6 cells
 abbrev sum : Declarations
 sum = alone (body (lets (variables (a ∷ b ∷ []) (number 1 ∷ number 2 ∷ []) ∷ []) ∷ []) (plain (set a (two dyadic.Add (of a) (of b))) ∷ []))
 
@@ -132,8 +133,8 @@ sum_level = refl
 sum_frame : frames sum ≡ 6 ∷ []
 sum_frame = refl
 
--- `FOR X = 1 TO 3 DO WRCH(X)`: X stands at 2, its limit at 3, the call at level 4, its routine at 7, which is the frame's
--- size
+-- `FOR X = 1 TO 3 DO WRCH(X)`: X is at 2, its limit at 3, the call at the level 4, and its routine at the level 7,
+-- which is the size of the frame
 abbrev counting : Declarations
 counting = program (commands (tree.For x (number 1) (number 3) (commands (do_call wrch (of x ∷ []) ∷ [])) ∷ []))
 
@@ -148,7 +149,7 @@ counting_translated = refl
 counting_frame : frames counting ≡ 7 ∷ []
 counting_frame = refl
 
--- a name that is hidden comes back
+-- a name that was hidden is visible again
 comes_back : core_of (alone (body (variable x (number 1) ∷ []) (plain (tree.Compound (body (variable x (number 2) ∷ []) (plain (set x (number 3)) ∷ [])))
     ∷ plain (set x (number 4)) ∷ []))) ≡ record {
       places =
@@ -169,7 +170,8 @@ call_each_other : core_of (declarations (lets (tree.Routine f [] (commands (do_c
     }
 call_each_other = refl
 
--- a nested routine whose name means a global sets it, and makes no new name; it is a place after the one around it
+-- a nested routine whose name means a global sets it and makes no new name; its place comes after that of the routine
+-- around it
 sets_a_global : core_of (declarations (constants storage.Global ((f, number 100) ∷ [])
     ∷ lets (tree.Routine start [] (body (lets (tree.Routine f [] (commands []) ∷ []) ∷ []) (plain (do_call f []) ∷ [])) ∷ []) ∷ [])) ≡ record {
       places =
@@ -179,14 +181,14 @@ sets_a_global : core_of (declarations (constants storage.Global ((f, number 100)
     }
 sets_a_global = refl
 
--- `LET V = VEC 3 AND X = 1`: V stands at 2, its cells at 3 to 6, X at 7
+-- `LET V = VEC 3 AND X = 1`: V is at 2, its cells at 3 to 6, X at 7
 after_a_vector : core_of (alone (body (lets (tree.Vector v (number 3) ∷ variables (x ∷ []) (number 1 ∷ []) ∷ []) ∷ []) (plain (set x (of v)) ∷ []))) ≡ record {
   places = routine None (c.block ((c.Vector 3 ∷ c.Initial (core.Num 1) ∷ []) ∷ []) (these (c.Assign (at 2) (core.Frame 7) ∷ []))) ∷ [];
   valofs = [];
 }
 after_a_vector = refl
 
--- `MANIFEST $( A = -1; B = NOT A $)`, `STATIC $( X = B + 2 $)`, and data within a routine: all places in text order
+-- `MANIFEST $( A = -1; B = NOT A $)`, `STATIC $( X = B + 2 $)`, and data in a routine: all places in text order
 places_in_order : core_of (declarations
     (constants storage.Manifest ((a, tree.Monadic monadic.Negate (number 1)) ∷ (b, opposite (of a)) ∷ [])
     ∷ constants storage.Static ((x, two dyadic.Add (of b) (number 2)) ∷ [])

@@ -1,5 +1,5 @@
--- Worked examples of scopes: which names are known where, faults in text order, frames, the translation and the meaning of a
--- section. They are lemmas that compute, in `specs`.
+-- Worked examples of scopes: which names are in scope where, faults in text order, frames, the translation, and the
+-- meaning of a section. They are lemmas whose proof is a computation.
 pub mod Written
 pub mod Counting
 pub mod Addresses

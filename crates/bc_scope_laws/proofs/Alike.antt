@@ -1,4 +1,4 @@
--- Names that are alike: the same names in the same order, and what they mean is the same but for its number.
+-- Names that are alike: the same names in the same order, with meanings that differ at most in their numbers.
 use Rattle.std.proofs.Common.{◌≡◌, ◌∙◌, ℕ, ◌+◌, Bool, true, false, List, [], ◌∷◌, ◌++◌, cond, is_some, Option, Some, None, refl, sym, ap}
 use Rattle.std.specs.Prelude.{nat_lt, ◌&&◌, ◌||◌}
 use Rattle.bc_parse_tree.specs.declared.tree.Storage.{Storage}
@@ -23,7 +23,7 @@ pub record Alike (E F : Env) : Type 0 where
 pub alike_self : (E : Env) → Alike E E
 alike_self E = record { same = refl }
 
--- What a name means
+-- what a name means
 
 among_without : (es : Names) (n : Name) → without_number (meant_among es n) ≡ meant_among (seen_through without_number es) n
 among_without [] n = refl
@@ -36,7 +36,7 @@ among_without (e ∷ es) n = by (is_name e.0 n) (among_without es n) where
 meant_without : (E : Env) (n : Name) → without_number (meant_by E n) ≡ meant_by (without_numbers E) n
 meant_without E n = among_without E.names n
 
--- so what is told of a meaning without its number is told of both
+-- what is said of a meaning without its number is said of both
 pub same_told : {A : Type 0} {E F : Env} (told : Meant → A) → ((m : Meant) → told (without_number m) ≡ told m) → (n : Name) → Alike E F → told (meant_by E n) ≡ told (meant_by F n)
 same_told {E = E} {F = F} told blind n h =
     sym (blind (meant_by E n)) ∙ ap told (meant_without E n ∙ ap (λ G. meant_by G n) h.same ∙ sym (meant_without F n)) ∙ blind (meant_by F n)
@@ -373,7 +373,7 @@ around_valof_without StrayLabel = refl
 around_valof_without LabelOutside = refl
 around_valof_without Undeclared = refl
 
--- what goes before or after goes name by name
+-- a change of meanings may come before or after dropping the numbers
 through_without : (f : Meant → Meant) → ((m : Meant) → without_number (f m) ≡ f (without_number m)) → (es : Names)
     → seen_through without_number (seen_through f es) ≡ seen_through f (seen_through without_number es)
 through_without f h [] = refl
@@ -391,7 +391,7 @@ alike_valof {E} {F} h = record { same = valof_without E ∙ ap in_valof h.same �
 pub alike_parameters : {E F : Env} (ps : List Name) → Alike E F → Alike (in_parameters ps E) (in_parameters ps F)
 alike_parameters {E} {F} ps h = alike_variables ps 2 2 (record { same = routine_side_without E ∙ ap in_routine h.same ∙ sym (routine_side_without F) })
 
--- both stand inside a routine, or both outside
+-- both are inside a routine, or both outside
 pub same_inside : {E F : Env} → Alike E F → E.inside ≡ F.inside
 same_inside h = ap (λ (G : Env). G.inside) h.same
 

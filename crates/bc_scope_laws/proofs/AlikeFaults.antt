@@ -1,4 +1,5 @@
--- Faults ask no numbers: with names that are alike, a walk along numbers and levels finds the faults of the definition.
+-- Faults don't depend on numbers: with names that are alike, a walk along numbers and levels finds the faults of the
+-- definition.
 use Rattle.std.proofs.Common.{◌≡◌, ◌∙◌, ℕ, ◌+◌, Bool, true, false, List, [], ◌∷◌, ◌++◌, length, Option, Some, None, refl}
 use Rattle.std.specs.Prelude.{nat_le}
 use Rattle.bc_parse_tree.specs.declared.tree.Storage.{Storage}

@@ -1,4 +1,4 @@
--- Widths ask no numbers: with names that are alike, a walk along numbers finds the widths of the definition.
+-- Widths don't depend on numbers: with names that are alike, a walk along numbers finds the widths of the definition.
 use Rattle.std.proofs.Common.{◌≡◌, ◌∙◌, ℕ, ◌+◌, List, [], ◌∷◌, max, refl, arith}
 use Rattle.bc_parse_tree.specs.Tree as tree
 use Rattle.bc_core.specs.Level.{operand_level, argument_level, routine_level, level_in_for, level_after_parameters}

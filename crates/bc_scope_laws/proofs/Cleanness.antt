@@ -1,4 +1,4 @@
--- Where a tree has no fault, neither has the body of a routine or VALOF that is found in it.
+-- If a tree has no fault, neither has the body of a routine or VALOF that is found in it.
 use Rattle.std.proofs.Common.{◌≡◌, ℕ, ◌+◌, ◌≤◌, Bool, true, false, List, [], ◌∷◌, ◌++◌, length, Option, None, refl, arith}
 use Rattle.std.specs.Prelude.{drop}
 use Rattle.std.proofs.lemmas.List.{length-take}
@@ -32,14 +32,14 @@ abbrev pub body_size : RoutineBody → ℕ
 body_size (Gives e) = exp_size e
 body_size (Does b) = block_size b
 
--- what stands in it is known to fit: its names exist, it has no fault, and it is no larger than allowed
+-- what is needed to show that the body fits: its names exist, it has no fault, and its size is within the limit
 abbrev pub Clean : (places : ℕ) → Thing → Type 0
 Clean P (AValof f) = Sound P [] f.names × (along.block_fault faults.allowed_in_valof f.names f.numbers f.body f.level ≡ None) × (block_size f.body ≤ most_size)
 Clean P (ARoutine r) = Sound P [] r.names × (body_fault r.names r.numbers r.body (level_after_parameters r.parameters) ≡ None) × (body_size r.body ≤ most_size) × (global_fits r.global ≡ true)
 Clean P (Data m (AText bytes)) = length bytes ≤ 255
 Clean P (Data m _) = Unit {0}
 
--- inside a routine or VALOF no label is known
+-- inside a routine or VALOF no label is in scope
 
 valof_fits : (P : ℕ) (L : List ℕ) (m : Meant) → MeantFits P L m → MeantFits P [] (around_valof m)
 valof_fits P L (Constant w) h = tt

@@ -1,4 +1,4 @@
--- Constants are words, where the numbers of their trees and the constants among the known names are.
+-- Constants are words, if the numbers of their trees and the constants among the names in scope are.
 use Rattle.std.proofs.Common.{◌≡◌, ℕ, zero, suc, ◌+◌, ◌-◌, ◌*◌, ◌/◌, ◌%◌, ◌<◌, ◌==◌, ◌&&◌, List, [], ◌∷◌, Bool, true, false, Option, Some, None, refl, arith}
 use Rattle.std.specs.Prelude.{cond, nat_lt, nat_le, if◌then◌else◌, take, drop, ◌^◌, ℤ, pos, negsuc}
 use Rattle.std.specs.Int.Bits.{and_lt}
@@ -21,7 +21,7 @@ use Rattle.bc_scope_defs.specs.Characters.{escaped, characters, decoded}
 use Rattle.bc_scope_defs.specs.Found.{words_of_table, in_parameters}
 use Rattle.bc_scope_defs.specs.Words.{AreBytes, ExpHasWords, ExpsHaveWords, EntriesHaveWords, DeclarationHasWords, DeclarationsHaveWords}
 
--- Operators give words
+-- operators give words
 
 wrapped_small : (z : ℤ) → wrapped z < 65536
 wrapped_small (pos a) = omega arith
@@ -48,7 +48,7 @@ word_is n h = grind arith
 below_is : (n : ℕ) → IsWord n → n < 65536
 below_is n h = grind arith
 
--- what there is
+-- the value, if there is one, is a word
 abbrev IsWordIfAny : Option ℕ → Type 0
 IsWordIfAny None = Unit {0}
 IsWordIfAny (Some w) = IsWord w
@@ -76,7 +76,7 @@ value_is_word operators.Or b a hb ha = word_is _ (or_lt 16 b a hb ha)
 value_is_word operators.NotEquivalent b a hb ha = word_is _ (xor_lt 16 b a hb ha)
 value_is_word operators.Equivalent b a hb ha = word_is _ (omega arith)
 
--- Names that mean a constant mean a word
+-- names that mean a constant mean a word
 
 abbrev pub MeansWord : Meant → Type 0
 MeansWord (Constant w) = IsWord w
@@ -154,7 +154,7 @@ pub table_words : (E : Env) (ks : tree.Exps) → Wordy E → ExpsHaveWords ks �
 table_words E tree.none e h = refl
 table_words E (tree.more k ks) e h = λ i. word_of_constant E k e h.0 i && table_words E ks e h.1 i
 
--- Declarations keep this
+-- declarations preserve this
 
 meant_as_word : (s : Storage) (at : Numbers) (o : Option ℕ) → IsWordIfAny o → MeansWord (meant_as s at o)
 meant_as_word storage.Manifest at None h = tt
@@ -289,7 +289,7 @@ outer E e = through_word (around_routine E.inside) (around_routine_word E.inside
 pub wordy_parameters : (ps : List Name) (E : Env) → Wordy E → Wordy (in_parameters ps E)
 wordy_parameters ps E e = wordy_variables ps 2 (in_routine E) (outer E e)
 
--- Strings mean bytes
+-- strings have bytes
 
 either : (t : Bool) (m n : ℕ) → m < 256 → n < 256 → (if t then m else n) < 256
 either true m n h k = h

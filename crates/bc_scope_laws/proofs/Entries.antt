@@ -1,4 +1,4 @@
--- In a section without fault no SWITCHON has a CASE twice, or a second DEFAULT.
+-- In a section without fault no value of a CASE occurs twice in a SWITCHON, and DEFAULT at most once.
 use Rattle.std.proofs.Common.{◌≡◌, ◌∙◌, ℕ, ◌+◌, ◌≤◌, ◌==◌, ◌&&◌, ◌||◌, Bool, true, false, not, Option, None, List, [], ◌∷◌, ◌++◌, refl, sym, ap, arith}
 use Rattle.std.specs.Prelude.{nat_le}
 use Rattle.std.proofs.lemmas.Bool.Decides.{nat_tests}
@@ -26,7 +26,7 @@ both_true : (a b : Bool) → a ≡ true → b ≡ true → (a && b) ≡ true
 both_true true b h k = k
 both_true false b h k = absurd (cc)
 
--- no CASE of a list stands before it, or twice in it, and its DEFAULT stands once
+-- no value of a CASE in a list occurs before it or twice in it, and DEFAULT occurs at most once
 record Fresh (M : Met) (is : Items) : Type 0 where
   apart : (v : ℕ) → has_value M.values v ≡ true → has (cases_of is) v ≡ false
   distinct : are_distinct (cases_of is) ≡ true

@@ -1,4 +1,4 @@
--- A translated section without fault is one that a `Core` can hold: blocks, commands and expressions.
+-- The translation of a section without fault is well formed: expressions, and what names mean.
 use Rattle.std.proofs.Common.{◌≡◌, ◌∙◌, ℕ, ◌+◌, ◌&&◌, Bool, true, false, List, [], ◌∷◌, ◌++◌, Option, Some, None, slice_get, refl, arith}
 use Rattle.std.specs.Prelude.{nat_le, nat_lt}
 use Rattle.bc_word.specs.declared.operator.Op.{Op}
@@ -22,7 +22,7 @@ use Rattle.bc_scope_defs.specs.Faults as faults
 use Rattle.bc_scope_defs.specs.FaultsAlong as along
 use Rattle.bc_scope_laws.proofs.Forms.{count_kept}
 
--- of all things that are found
+-- this holds of all things that are found
 
 abbrev pub AllThings : (Thing → Type 0) → List Thing → Type 0
 AllThings P [] = Unit {0}
@@ -44,7 +44,7 @@ Stands A (AValof f) = (nat_le A.first f.number ≡ true) × (stands_at (slice_ge
 Stands A (ARoutine r) = IsLabel A.places r.label
 Stands A (Data m d) = IsLabel A.places m
 
--- What names mean exists
+-- what names mean exists
 
 abbrev pub MeantFits : (places : ℕ) → (labels : List ℕ) → Meant → Type 0
 MeantFits P L (Static m) = IsLabel P m
@@ -95,7 +95,7 @@ sound_definitions A O N B K at k s (tree.definition d ds) E h so =
     sound_definitions A O N B K (after_definition at d) (k + scoping.cells_of K d) s ds _ (second (Stands A) of_first of_rest h)
     (sound_definition A O N B at k s d E (first (Stands A) of_first of_rest h) so)
 
--- No fault in the whole is none in the parts
+-- if the whole has no fault, its parts have none
 
 pub none_left : (x y : Option Fault) → or_else x y ≡ None → x ≡ None
 none_left None y h = refl
@@ -109,7 +109,7 @@ pub no_fault : (b : Bool) (f : Fault) → unless b f ≡ None → b ≡ true
 no_fault true f h = refl
 no_fault false f h = cc
 
--- where a place has a label there is a first one
+-- if a place has a label, there is a first one
 first_label : (places m : ℕ) → IsLabel places m → IsLabel places 1
 first_label places m h = grind arith
 

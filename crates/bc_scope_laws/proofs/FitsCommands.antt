@@ -1,4 +1,4 @@
--- Blocks and commands without fault, translated, fit a `Core`.
+-- The translation of a section without fault is well formed: blocks and commands.
 use Rattle.std.proofs.Common.{◌≡◌, ◌∙◌, ℕ, ◌+◌, ◌*◌, ◌≤◌, ◌<◌, ◌==◌, ◌||◌, ◌&&◌, not, Bool, true, false, List, [], ◌∷◌, ◌++◌, Some, None, refl, sym, ap, subst, arith}
 use Rattle.bc_parse_tree.specs.Tree as tree
 use Rattle.bc_core.specs.Tree.{Exp, Frame}
@@ -30,7 +30,7 @@ use Rattle.bc_scope_laws.proofs.Table.{same_number, other_number}
 use Rattle.bc_scope_laws.proofs.Entries.{entered}
 use Rattle.bc_scope_laws.proofs.Fits.{AllThings, first, second, Stands, MeantFits, Sound, sound_more, sound_definitions, sound_pending, sound_entries, none_left, none_right, no_fault, FormFits, exp_fit}
 
--- with twice as many nodes a root is no larger than allowed
+-- a root with twice as many nodes is still within the limit
 abbrev pub most_size : ℕ
 most_size = 524288
 
@@ -100,7 +100,7 @@ has_is (case k is) l = has_is is l
 has_is (default is) l = has_is is l
 has_is (label k is) l = ap (λ b. k == l || b) (has_is is l)
 
--- the list's own labels are among the jumps'
+-- the list's own labels are among those that GOTO may go to
 pub sound_in_list : {P : ℕ} {L : List ℕ} (E0 : Env) (k : ℕ) (at : Numbers) (is : tree.Items) (s : ℕ) (E : Env) → Sound P L E
     → Sound P (fitting.labels_of (core_items E0 k at is s) ++ L) (in_list k is E)
 sound_in_list {P} {L} E0 k at is s E so =
@@ -135,7 +135,7 @@ distinct E k at (tree.item (tree.Labelled ls c) is) s =
 distinct E k at (tree.item (tree.Labels_alone ls) is) s =
     distinct_labels E k ls _ (λ m l. label_kept E (k + labels_of ls) at is s m ∙ not_in_list (k + labels_of ls) is m l) (distinct E (k + labels_of ls) at is s)
 
--- CASE and DEFAULT stand in the list of a SWITCHON alone
+-- CASE and DEFAULT occur only in the list of a SWITCHON
 
 some_none : (f : Fault) → Some f ≡ None → ⊥
 some_none f h = cc
@@ -226,7 +226,7 @@ VariablesFit A [] s = Unit {0}
 VariablesFit A (core.Initial e ∷ vs) s = (assignment_fits A e (Frame 0) s ≡ true) × VariablesFit A vs s
 VariablesFit A (core.Vector n ∷ vs) s = VariablesFit A vs s
 
--- wherever they stand
+-- variables that fit do so at any offset
 variables_stand : (A : Around) (vs : List core.Variable) (k s : ℕ) → VariablesFit A vs s → variables_fit A vs k s ≡ true
 variables_stand A [] k s h = refl
 variables_stand A (core.Initial e ∷ vs) k s h = λ i. h.0 i && variables_stand A vs (k + 1) s h.1 i

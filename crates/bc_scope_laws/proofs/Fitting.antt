@@ -1,4 +1,4 @@
--- A section without fault gives a `Core`.
+-- The translation of a section without fault is well formed.
 use Rattle.std.proofs.Common.{◌≡◌, ◌∙◌, ℕ, suc, ◌+◌, ◌≤◌, ◌&&◌, true, List, [], ◌∷◌, map, length, slice_get, Option, Some, None, refl, sym, ap, subst, arith}
 use Rattle.std.specs.Prelude.{nat_le}
 use Rattle.bc_parse_tree.specs.Tree.{Declarations}

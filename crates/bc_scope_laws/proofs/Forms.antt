@@ -1,4 +1,4 @@
--- What is known of translated expressions, whatever stands around them.
+-- What holds of translated expressions at any place.
 use Rattle.std.proofs.Common.{◌≡◌, ◌∙◌, ℕ, ◌+◌, ◌||◌, Bool, true, false, Option, Some, None, refl, sym, ap, arith}
 use Rattle.std.specs.Prelude.{not, int_lt, int_le, ◌==◌, ℤ}
 use Rattle.bc_word.specs.declared.operator.Op.{Op}
@@ -100,7 +100,7 @@ truth_of_complement : (b : Bool) → is_true (truth (not b)) ≡ not (is_true (t
 truth_of_complement true = refl
 truth_of_complement false = refl
 
--- a relation, and the one that holds where it doesn't
+-- a relation, and the one that holds exactly if it doesn't
 pub record Opposes (op1 op : Op) : Type 0 where
   pub test : ℕ → ℕ → Bool
   pub is : (x y : ℕ) → value_of op x y ≡ Some (truth (test x y))
@@ -197,7 +197,7 @@ negation_means C (Cond c x y) p s = refl
 negation_means C (Call es f) p s = refl
 negation_means C (Valof n) p s = refl
 
--- A translated expression means this
+-- what a translated expression means
 
 abbrev pub worth_of : Context → Forms → (p s : ℕ) → Worth
 worth_of C f p s = record { address = sense C f.address p s; content = sense C f.content p s }

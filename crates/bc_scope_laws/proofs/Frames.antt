@@ -1,4 +1,4 @@
--- Levels and frame sizes of a translation are the section's; labels and numbers rise by one.
+-- Levels and frame sizes of a translation are those of the section; labels and numbers rise by one.
 use Rattle.std.proofs.Common.{◌≡◌, ◌∙◌, ℕ, ◌+◌, List, [], ◌∷◌, map, refl, sym, subst}
 use Rattle.bc_core.specs.Level.{side_level}
 use Rattle.bc_core.specs.Layout.{cells_of_valofs}

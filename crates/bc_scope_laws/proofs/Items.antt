@@ -62,7 +62,7 @@ one_command C c p s = plain_block C (command c no_item) p s (λ l. refl) ∙ the
 
 -- Assignments
 
--- these sides, each at its level, are those with these forms
+-- these sides, each at its level, have these forms
 abbrev pub SidesAre : Context → (p : ℕ) → List Side → List Forms → List ℕ → Type 0
 SidesAre C p (x ∷ xs) (f ∷ fs) (s ∷ ss) = CallsAre f x.calls × (x.worth ≡ worth_of C f p s) × SidesAre C p xs fs ss
 SidesAre C p [] [] ss = Unit {0}

@@ -33,7 +33,7 @@ use Rattle.bc_scope_laws.proofs.SideLevels.{levels_kept}
 abbrev pub Bodies : Type 0
 Bodies = ℕ → ℕ → ℕ → Run ℕ
 
--- that these do what was found
+-- these VALOFs do what was found
 abbrev pub AllRight : Around → Bodies → (p : ℕ) → List Thing → Type 0
 AllRight A V p [] = Unit {0}
 AllRight A V p (AValof f ∷ fs) = (V f.number p f.level ≡ then_do (run_block A f.names f.numbers f.body p f.level) valof_value) × AllRight A V p fs
@@ -69,7 +69,7 @@ step_taken C by p s s1 =
     ∙ (λ i. then_do (sym (both_done false (read a) by sum) i) (λ v. write a v))
     ∙ sym (both_done false (both false (read a) (Done by) sum) a (λ v b. write b v))
 
--- What forms mean, from what their parts mean
+-- what forms mean, given what their parts mean
 
 call_means : (A : Around) (V : Bodies) (p : ℕ) (E : Env) (at : Numbers) (f : tree.Exp) (es : tree.Exps) (s : ℕ)
     → worth A E at f p (routine_level s (count es)) ≡ worth_of (in_context A V) (forms E at f) p (routine_level s (count es))

@@ -1,4 +1,4 @@
--- The VALOFs that are found in a tree have rising numbers, and after each stand those of its body.
+-- The VALOFs that are found in a tree have rising numbers, and each is followed by those of its body.
 use Rattle.std.proofs.Common.{◌≡◌, ℕ, ◌+◌, List, [], ◌∷◌, ◌++◌, length, refl, sym, subst, append_assoc, append-nil}
 use Rattle.bc_parse_tree.specs.declared.tree.Storage.{Storage}
 use Rattle.bc_parse_tree.specs.declared.tree.Storage.TheVariants as storage
@@ -21,14 +21,14 @@ found_in_routine E at (Does b) s = found_in_block E at b s
 abbrev pub routine_body : FoundRoutine → List Thing
 routine_body r = found_in_routine r.names r.numbers r.body (level_after_parameters r.parameters)
 
--- VALOFs from number n on and places from label q on; right after a body stands what is found in it
+-- VALOFs are numbered from n on and places labelled from q on; each body is followed by what is found in it
 abbrev pub Nested : (n q : ℕ) → List Thing → Type 0
 Nested n q [] = Unit {0}
 Nested n q (AValof f ∷ fs) = (f.number ≡ n) × ((rest : List Thing) × (fs ≡ body_of f ++ rest)) × Nested (n + 1) q fs
 Nested n q (ARoutine r ∷ fs) = ((rest : List Thing) × (fs ≡ routine_body r ++ rest)) × Nested n (q + 1) fs × (r.label ≡ q)
 Nested n q (Data m d ∷ fs) = Nested n (q + 1) fs × (m ≡ q)
 
--- things that take these numbers to those; a record, so that a call shows which things
+-- things that lead from these numbers to those; a record, so that a use shows which things
 pub record NestedRun (from upto : Numbers) (fs : List Thing) : Type 0 where
   pub before : (rest : List Thing) → Nested upto.valof upto.place rest → Nested from.valof from.place (fs ++ rest)
 
@@ -39,7 +39,7 @@ joined : {a b c : Numbers} {fs gs : List Thing} → NestedRun a b fs → NestedR
 joined {a} {b} {c} {fs} {gs} hf hg =
     record { before = λ rest h. subst (λ l. Nested a.valof a.place l) (sym (append_assoc fs gs rest)) (hf.before (gs ++ rest) (hg.before rest h)) }
 
--- labels of a list are no VALOFs
+-- labels of a list aren't VALOFs
 with_labels : (a c : Numbers) (n : ℕ) (gs : List Thing) → NestedRun (after_labels a n) c gs → NestedRun a c gs
 with_labels a c n gs h = record { before = h.before }
 

@@ -23,7 +23,7 @@ use Rattle.bc_scope_laws.proofs.Table.{table, table_right}
 use Rattle.bc_scope_laws.proofs.AlikeWidths.{same_frame}
 use Rattle.bc_scope_laws.proofs.Widths.{AllWide, table_wide, wide_in_routine, first_wide}
 
--- both find the same
+-- both find the same routine
 
 routine_kept : (A : Around) (V : Bodies) (f : ℕ) (r : FoundRoutine) (b : RoutineBody) → AllRight A V f (found_in_routine r.names r.numbers b (level_after_parameters r.parameters))
     → routine_does A r b f ≡ body_value (in_context A V) (core_body r.names r.numbers b (level_after_parameters r.parameters)) f (level_after_parameters r.parameters)
@@ -82,7 +82,7 @@ find_kept (s ∷ ss) a =
     (among_kept s.address ds 0 1 things a (λ call f. table_right (around s.address call) f 0 1 things nested) (table_wide 0 1 things nested) nested)
     (find_kept ss a)
 
--- and the same stands where they are
+-- and the same things are at the same addresses
 
 standing_kept : (address : ℕ → ℕ) (n q : ℕ) (things : List Thing) → Nested n q things → standing_of address things ≡ standing_from address q (places_of things)
 standing_kept address n q [] k = refl

@@ -1,4 +1,4 @@
--- The levels of an assignment's sides, by the section's form and by the translation's.
+-- The levels of an assignment's sides: an address is an operand in the section exactly if its translation is one.
 use Rattle.std.proofs.Common.{◌≡◌, ◌∙◌, ℕ, ◌+◌, ◌%◌, Bool, true, false, cond, ◌∷◌, Option, Some, None, is_some, refl, sym, ap, subst}
 use Rattle.bc_word.specs.declared.operator.Op.{Op}
 use Rattle.bc_word.specs.declared.operator.Op.TheVariants as operators
@@ -57,7 +57,7 @@ content_kind (Some o) ACell h = subst (λ (b : Bool). IsOfKind (cond b (Some (re
 content_kind (Some o) APlace h = subst (λ (b : Bool). IsOfKind (cond b (Some (record o { direct = false })) None) AContent) (sym h) refl
 content_kind (Some o) ASum h = subst (λ (b : Bool). IsOfKind (cond b (Some (record o { direct = false })) None) AContent) (sym h) refl
 
--- what a sum looks at in its sides
+-- what a sum inspects in its operands
 data Part : Type 0 where
   AFrame : ℕ → Part
   AGlobal : ℕ → Part
@@ -131,7 +131,7 @@ sum_of_parts Another (AGlobal n) = tt
 sum_of_parts Another (AConstant n) = tt
 sum_of_parts Another Another = tt
 
--- a sum looks at no more of a kind
+-- a sum inspects nothing else of a kind
 abbrev seen : Kind → Kind
 seen ACell = ACell
 seen ANumber = ANumber

@@ -21,7 +21,7 @@ same_number n m e = grind arith
 pub other_number : (n m : ℕ) → n < m → (m == n) ≡ false
 other_number n m l = grind arith
 
--- further up in a table the same is right
+-- the same is right further up in a table
 lifted : (A : Around) (p n m q : ℕ) (f : Found) (fs gs : List Thing) → n < m → Nested m q gs → AllRight A (table A (n + 1) fs) p gs → AllRight A (table A n (AValof f ∷ fs)) p gs
 lifted A p n m q f fs [] l h r = tt
 lifted A p n m q f fs (ARoutine g ∷ gs) l h r = lifted A p n m (q + 1) f fs gs l h.1 r

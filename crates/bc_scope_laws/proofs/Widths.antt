@@ -27,7 +27,7 @@ use Rattle.bc_scope_laws.proofs.SideLevels.{levels_kept, operand_test}
 use Rattle.bc_scope_laws.proofs.Table.{same_number, other_number}
 use Rattle.bc_scope_laws.proofs.Numbered.{Nested, body_of, routine_body, found_in_routine}
 
--- that these take as many cells as was found
+-- these VALOFs use as many cells as was found
 abbrev pub AllWide : Bodies → List Thing → Type 0
 AllWide V [] = Unit {0}
 AllWide V (AValof f ∷ fs) = (V f.number f.level ≡ width_of_block f.names f.numbers f.body f.level) × AllWide V fs
@@ -46,7 +46,7 @@ second V (AValof f ∷ fs) gs h = second V fs gs h.1
 second V (ARoutine r ∷ fs) gs h = second V fs gs h
 second V (Data q d ∷ fs) gs h = second V fs gs h
 
--- an address and a content take the same
+-- an address and a content use the same cells
 abbrev AreWide : Bodies → Forms → ℕ → ℕ → Type 0
 AreWide V f s n = (cells_of_exp V f.address s ≡ n) × (cells_of_exp V f.content s ≡ n)
 

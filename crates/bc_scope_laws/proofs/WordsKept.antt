@@ -1,4 +1,4 @@
--- The numbers of a translation are words where those of the section are.
+-- The numbers of a translation are words if those of the section are.
 use Rattle.std.proofs.Common.{◌≡◌, ◌∙◌, ℕ, ◌+◌, ◌&&◌, Bool, true, false, List, [], ◌∷◌, ◌++◌, length, Option, Some, None, refl}
 use Rattle.bc_word.specs.declared.operator.Op.{Op}
 use Rattle.bc_parse_tree.specs.declared.tree.Storage.{Storage}

@@ -1,2 +1,3 @@
+-- The laws of scopes.
 pub mod Laws
 pub mod StringLaws

@@ -1,7 +1,5 @@
-//! That a section whose names are resolved to offsets, labels and numbers means what the section means, and
-//! that a section without fault is translated to one that fits `Core`.
-//!
-//! That the bytes which the scopes take for a string are those that its text spells.
+//! Theorems about scopes: the translation of a section means what the section means; that of a section without fault
+//! is well formed, as `Core` requires; and the bytes of a string are those that its text spells.
 #![tactic(auto)]
 
 pub mod laws;

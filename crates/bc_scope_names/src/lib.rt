@@ -1,4 +1,5 @@
-//! What names mean where they stand, and what is declared.
+//! Scopes: what each name means at each point of a section, what declarations add, and how a section's routines, data, VALOFs
+//! and labels are numbered.
 #![tactic(auto)]
 
 mod constants;

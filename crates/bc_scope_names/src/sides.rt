@@ -1,4 +1,4 @@
-//! The level of both sides of an assignment, by the form of its address.
+//! The level at which each pair of an assignment is computed, which depends on the form of the address on the left.
 ghost use Rattle.std.specs.Prelude.{◌≡◌, IfOk};
 ghost use Rattle.bc_parse_tree.specs.View.{exp_view, exps_view};
 ghost use Rattle.bc_scope_defs.specs.Sides.{kind_of_content, kind_of_sum, kinds_of_cell, kinds_of_plain, kinds_of_name, kinds_of_monadic, kinds_of_dyadic, kinds, is_operand_kind, side_levels};
@@ -11,27 +11,33 @@ use bc_parse_tree::{Dyadic, Exp, Monadic};
 use bc_word::Memory;
 use std::alloc::Global;
 
-/// What one instruction takes as its operand.
+/// The form of an expression, as far as one instruction can take it as its operand.
 #[derive(Clone, Copy, Debug, PartialEq, Eq)]
 pub enum Kind {
+    /// A constant.
     Number,
     /// The address of a variable or a global.
     Cell,
-    /// The address of a place.
+    /// The address of a place: a routine, static, table or string.
     Place,
     /// The sum of a cell's address and a number.
     Sum,
     /// The content of the cell at one of these.
     Content,
+    /// No operand: the expression needs its own code.
     NoOperand,
 }
 
+/// Both kinds of an expression.
 #[derive(Clone, Copy, Debug, PartialEq, Eq)]
 pub struct Kinds {
+    /// The kind of the address of its cell; of its value, if it has no cell.
     pub address: Kind,
+    /// The kind of its value.
     pub content: Kind,
 }
 
+/// The kind of a cell's content, by the kind of the cell's address.
 fn kind_of_content(address: Kind) -> Kind
     ensures { kind_view result ≡ kind_of_content (kind_view address) }
 {
@@ -41,6 +47,7 @@ fn kind_of_content(address: Kind) -> Kind
     }
 }
 
+/// The kind of a sum: one instruction can only add a number to a cell's address.
 fn kind_of_sum(left: Kind, right: Kind) -> Kind
     ensures { kind_view result ≡ kind_of_sum (kind_view left) (kind_view right) }
 {
@@ -50,6 +57,7 @@ fn kind_of_sum(left: Kind, right: Kind) -> Kind
     }
 }
 
+/// The kinds of an expression with a cell, by the kind of the cell's address.
 fn kinds_of_cell(address: Kind) -> Kinds
     ensures { kinds_view result ≡ kinds_of_cell (kind_view address) }
 {
@@ -59,6 +67,7 @@ fn kinds_of_cell(address: Kind) -> Kinds
     }
 }
 
+/// The kinds of an expression without a cell, by the kind of its value.
 fn kinds_of_plain(value: Kind) -> Kinds
     ensures { kinds_view result ≡ kinds_of_plain (kind_view value) }
 {
@@ -68,6 +77,7 @@ fn kinds_of_plain(value: Kind) -> Kinds
     }
 }
 
+/// The kinds of a name. A name that is at fault counts as a number.
 fn kinds_of_name(meant: Meant) -> Kinds
     ensures { kinds_view result ≡ kinds_of_name (meant_view meant) }
 {
@@ -87,6 +97,7 @@ fn kinds_of_name(meant: Meant) -> Kinds
     }
 }
 
+/// The kinds of a monadic operator's result, by the kinds of its operand.
 fn kinds_of_monadic(sign: Monadic, operand: Kinds) -> Kinds
     ensures { kinds_view result ≡ kinds_of_monadic sign (kinds_view operand) }
 {
@@ -97,6 +108,7 @@ fn kinds_of_monadic(sign: Monadic, operand: Kinds) -> Kinds
     }
 }
 
+/// The kinds of a dyadic operator's result, by the kinds of its operands' values.
 fn kinds_of_dyadic(sign: Dyadic, left: Kind, right: Kind) -> Kinds
     ensures { kinds_view result ≡ kinds_of_dyadic sign (kind_view left) (kind_view right) }
 {
@@ -107,6 +119,7 @@ fn kinds_of_dyadic(sign: Dyadic, left: Kind, right: Kind) -> Kinds
     }
 }
 
+/// The kinds of an expression.
 fn make_kinds(scope: &Scope<'_>, e: &Exp<'_>) -> Kinds
     ensures { kinds_view result ≡ kinds (scope_view scope.now) (exp_view e.now) }
 {
@@ -128,7 +141,7 @@ fn make_kinds(scope: &Scope<'_>, e: &Exp<'_>) -> Kinds
     }
 }
 
-/// Whether the address of an expression is an operand.
+/// Whether one instruction can take the address of an expression as its operand.
 pub fn is_operand(scope: &Scope<'_>, e: &Exp<'_>) -> bool
     ensures { result ≡ is_operand_kind (kinds (scope_view scope.now) (exp_view e.now)).address }
 {
@@ -138,7 +151,8 @@ pub fn is_operand(scope: &Scope<'_>, e: &Exp<'_>) -> bool
     }
 }
 
-/// The levels of the pairs of an assignment to these addresses.
+/// For each address on the left of an assignment, the level of its pair: `level`, or one more where the address is no operand
+/// and so takes a cell. Fails with `Memory` when an allocation fails or a level exceeds 64 bits.
 pub fn side_levels(
     alloc: Global,
     scope: &Scope<'_>,

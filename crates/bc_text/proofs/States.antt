@@ -31,13 +31,13 @@ run-append (x ∷ xs) ys p = joined xs ys (step p x) (run-append xs ys)
     joined xs ys (Ok q) ih = ih q
     joined xs ys (Err f) ih = refl
 
--- what comes of a byte that leads on
+-- the result of a byte that leads to a next state
 pub answer-step : (s : List (List Item)) (i : List Item) (place : Place) (n byte : ℕ) (bytes : List ℕ) (q : Progress)
     → at_place (state s i place (n + 1)) place byte (capped n) ≡ Ok q → answer (byte ∷ bytes) (state s i place n) ≡ answer bytes q
 unfolding run
 answer-step s i place n byte bytes q e = ap (λ r. answer_of (on_ok r (run bytes))) (step-state s i place n byte ∙ e)
 
--- and of one that does not
+-- and of one that doesn't
 pub run-stop : (s : List (List Item)) (i : List Item) (place : Place) (n byte : ℕ) (bytes : List ℕ) (fault : TextError)
     → at_place (state s i place (n + 1)) place byte (capped n) ≡ Err fault → run (byte ∷ bytes) (state s i place n) ≡ Err fault
 unfolding run

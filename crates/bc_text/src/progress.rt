@@ -1,4 +1,4 @@
-//! What a reader has read so far.
+//! What a reader has read so far, and how one more byte changes it.
 
 ghost use Rattle.std.specs.Prelude.{◌≡◌, ◌⊎◌, Ok, Err, MatchResult, IfOk, IsTrue};
 ghost use Rattle.bc_text.specs.Steps.{is_in_range, start, step, run, finished, begun, closed, placed_at, after_number};
@@ -10,7 +10,7 @@ use bc_text_items::{Item, Segment};
 use std::alloc::Global;
 use std::mem;
 
-/// Whole segments, the items after them, the place in the text, and how many bytes stand before it.
+/// The state of a reader: complete segments, the items after them, the state between two bytes, and the number of bytes read.
 #[derive(Drop)]
 pub struct Progress {
     segments: Vec<Segment>,
@@ -24,7 +24,7 @@ pub struct Progress {
 impl Progress {
     ghost use Rattle.bc_text.specs.Reached.{progress_of, Reaches, GivesProgress, GivesSegments};
 
-    /// Nothing was read.
+    /// The state before the first byte.
     pub fn new(alloc: Global) -> Progress
         ensures { progress_of result ≡ start }
     {
@@ -37,7 +37,7 @@ impl Progress {
         }
     }
 
-    /// The `Z` of a segment's end.
+    /// Ends a segment, at a `Z`. `Memory` if an allocation fails.
     fn end_segment(&mut self) -> Result<(), TextError>
         ensures { Reaches result (progress_of self.new) (Ok (closed (progress_of self.old))) }
     {
@@ -47,7 +47,7 @@ impl Progress {
         Ok(())
     }
 
-    /// The place that a byte leads to, where it leads to one.
+    /// Goes to the next place, or returns the fault.
     #[inline]
     fn go_to(&mut self, place: Result<Place, TextError>) -> Result<(), TextError>
         requires { IfOk place (λ place. IsTrue (is_in_range place)) }
@@ -62,7 +62,7 @@ impl Progress {
         }
     }
 
-    /// A byte where an item may begin.
+    /// Takes a byte at which an item may begin.
     #[inline]
     fn begin(&mut self, byte: u8, at: u64) -> Result<(), TextError>
         ensures { Reaches result (progress_of self.new) (begun (progress_of self.old) byte at) }
@@ -74,7 +74,7 @@ impl Progress {
         }
     }
 
-    /// The byte after a number's digits, with what they made.
+    /// Takes the byte after a number's digits, which completed `ended`.
     #[inline]
     fn end_number(&mut self, ended: Ended, byte: u8, at: u64) -> Result<(), TextError>
         ensures { Reaches result (progress_of self.new) (after_number (progress_of self.old) ended byte at) }
@@ -88,7 +88,7 @@ impl Progress {
         }
     }
 
-    /// One byte more.
+    /// Takes one more byte. The error is the fault that the byte makes, or `Memory`.
     #[inline]
     #[tactic(auto, unfolding(crate::specs::Steps::step))]
     fn take(&mut self, byte: u8) -> Result<(), TextError>
@@ -121,7 +121,7 @@ impl Progress {
         }
     }
 
-    /// The bytes of a piece.
+    /// Takes the bytes of a piece, up to the first error.
     pub fn fed(mut self, piece: &[u8]) -> Result<Progress, TextError>
         ensures { GivesProgress result (run piece.now (progress_of self)) }
     {
@@ -131,7 +131,7 @@ impl Progress {
         Ok(self)
     }
 
-    /// The segments, at the end of the text.
+    /// The segments, at the end of the text. `Unended` if an item is incomplete, or if items follow the last `Z`.
     pub fn finished(self) -> Result<Vec<Segment>, TextError>
         ensures { GivesSegments result (finished (progress_of self)) }
     {

@@ -1,4 +1,4 @@
-//! Where a name is declared that means nothing at the place where it is used.
+//! Finds the declaration of a name that isn't in scope where it is used, by scanning the tokens.
 
 use crate::brackets::open_before;
 use crate::words::is_at;
@@ -6,7 +6,7 @@ use bc_lex_tokens::{Symbol, Token, TokenKind};
 use bc_word::Memory;
 use std::alloc::Global;
 
-/// What the names declare that stand next.
+/// What the next names declare.
 #[derive(Clone, Copy)]
 enum Listed {
     Nothing,
@@ -29,11 +29,12 @@ enum Kind {
     Label,
 }
 
-/// Where a name is declared, and what is said of it after the name.
+/// The place where a name is declared, and the sentence that follows the name.
 #[derive(Clone, Copy)]
 pub struct Declared {
     /// The index of the token.
     pub index: usize,
+    /// The sentence on the declaration, without the name.
     pub sentence: &'static str,
 }
 
@@ -66,7 +67,7 @@ fn following(listed: Listed, token: &Token<'_>) -> Listed {
     }
 }
 
-/// Whether an entry of a list, or a command, begins with the token at a place.
+/// Whether an entry of a list, or a command, begins with the token at an index.
 fn begins(tokens: &[Token<'_>], place: usize) -> bool {
     let Some(before) = place.checked_sub(1) else {
         return true
@@ -81,7 +82,7 @@ fn begins(tokens: &[Token<'_>], place: usize) -> bool {
         || is_at(tokens, before, Symbol::Colon)
 }
 
-/// How the name at a place is declared there, if it is, given what the tokens before it list.
+/// How the name at an index is declared there, given what the tokens before it list. `None` if it isn't declared there.
 fn kind_at(tokens: &[Token<'_>], place: usize, listed: Listed) -> Option<Kind> {
     let next = place.saturating_add(1);
     match listed {
@@ -100,7 +101,7 @@ fn kind_at(tokens: &[Token<'_>], place: usize, listed: Listed) -> Option<Kind> {
     }
 }
 
-/// The section bracket that is open before a place, with so many others open within it, if there is one.
+/// The section bracket that is open before an index and contains `within` other open brackets, if there is one.
 fn bracket_around(
     alloc: Global,
     tokens: &[Token<'_>],
@@ -114,7 +115,7 @@ fn bracket_around(
     })
 }
 
-/// Whether a section bracket is open before a place.
+/// Whether a section bracket is open before an index.
 fn is_open(
     alloc: Global,
     tokens: &[Token<'_>],
@@ -125,7 +126,7 @@ fn is_open(
     Ok(open.iter().any(|other| *other == bracket))
 }
 
-/// Whether the block in which a name is declared has the place where it is used, too.
+/// Whether the block in which a name is declared also contains the place where it is used.
 fn encloses(
     alloc: Global,
     tokens: &[Token<'_>],
@@ -143,24 +144,24 @@ fn encloses(
     }
 }
 
-/// What is said of a declaration at one place whose name is used at another.
+/// The sentence on a declaration whose name is used elsewhere.
 fn sentence_on(kind: Kind, is_enclosed: bool, is_after: bool) -> &'static str {
     match kind {
-        Kind::Parameter => "is a parameter here, known in this routine alone",
-        Kind::Counter => "is declared here for a FOR, and known in it alone",
-        Kind::Label => "is a label here, of another routine or an inner block",
+        Kind::Parameter => "is a parameter here, in scope only in this routine",
+        Kind::Counter => "is the variable of a FOR here, in scope only in that FOR",
+        Kind::Label => "is a label here, in another routine or an inner block",
         Kind::Defined | Kind::Constant => {
             if is_enclosed && is_after {
-                "is declared here, behind its use"
+                "is declared here, after its use"
             } else {
-                "is declared here, within another block"
+                "is declared here, in another block"
             }
         }
     }
 }
 
-/// Where a name is declared that means nothing at the token with this index: the first declaration of a block that has the token, else
-/// the first of all. Memory is answered where a growth was refused.
+/// The declaration of a name that isn't in scope at the token with this index: the first one whose block contains the
+/// token, else the first of all. Returns `Memory` if an allocation fails.
 pub fn declaration_of(
     alloc: Global,
     tokens: &[Token<'_>],
@@ -188,7 +189,7 @@ pub fn declaration_of(
     Ok(first)
 }
 
-/// Whether an entry of this kind at a place stands in the list of names that the place where its name is used is in, too.
+/// Whether an entry of this kind is in the same list of names as the place where its name is used.
 fn shares_list(
     alloc: Global,
     tokens: &[Token<'_>],
@@ -207,9 +208,9 @@ fn shares_list(
     })
 }
 
-/// Where a name is likely declared that has a meaning at the token with this index: after it in the list of names that has the token, or
-/// else the nearest declaration before it that its block has, or else the first after it. Memory is answered where a growth was
-/// refused.
+/// The probable declaration of a name that is in scope at the token with this index. A later entry of the list that
+/// contains the token comes first, then the nearest earlier declaration whose block contains it, then the first later
+/// one. Returns `Memory` if an allocation fails.
 pub fn meaning_of(
     alloc: Global,
     tokens: &[Token<'_>],

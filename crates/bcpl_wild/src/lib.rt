@@ -1,4 +1,4 @@
-//! What is said of a wild access of a run by its meaning: where in the sources it stands, whose cell it met, and the calls that led
+//! The message for a wild access in a run of the sources: where it is, whose cell the run met, and the calls that led
 //! there.
 #![tactic(auto)]
 

@@ -14,11 +14,11 @@ fits x = is_core (starting [] [] (commands (x ∷ [])))
 abbrev list_fits : Items → Bool
 list_fits is = is_core (starting [] [] (block [] is))
 
--- a section whose one VALOF stands at this level, in START as `x := VALOF ..` with x at 2
+-- a section with one VALOF at this level, in START as `x := VALOF ..` with x at 2
 abbrev valof_fits : ℕ → Block → Bool
 valof_fits s b = is_core (starting [] (record { level = s; body = b } ∷ []) (let_in (Initial (Num 0) ∷ []) (set_to 2 (Valof 0) ∷ [])))
 
--- BREAK and LOOP want a loop, ENDCASE a SWITCHON, RETURN a routine of BE, RESULTIS a VALOF
+-- BREAK and LOOP need a loop, ENDCASE a SWITCHON, RETURN a routine of BE, RESULTIS a VALOF
 in_loop : (fits (c.Repeat (commands (c.Break ∷ []))) ≡ true) × (fits (c.Repeat (commands (c.Loop ∷ []))) ≡ true) × (fits c.Break ≡ false) × (fits c.Loop
     ≡ false)
 in_loop = (refl, refl, refl, refl)
@@ -33,7 +33,7 @@ returns = (refl, refl)
 results : (valof_fits 3 (commands (c.ResultIs (Num 1) ∷ [])) ≡ true) × (fits (c.ResultIs (Num 1)) ≡ false)
 results = (refl, refl)
 
--- the VALOF stands at its level, and its body has none but later ones
+-- the VALOF has its level, and its body contains only later ones
 levels : (valof_fits 3 (commands []) ≡ true) × (valof_fits 4 (commands []) ≡ false)
 levels = (refl, refl)
 
@@ -46,7 +46,7 @@ gotos : (list_fits (label 0 (command (c.Goto 0) no_item)) ≡ true) × (list_fit
     × (list_fits (command (c.Goto 0) no_item) ≡ false) × (list_fits (command (c.Nested (block [] (label 0 no_item))) (command (c.Goto 0) no_item)) ≡ false)
 gotos = (refl, refl, refl, refl)
 
--- a CASE twice in one list, or a second DEFAULT; in the list of a SWITCHON within it they may stand again
+-- a CASE or DEFAULT twice in one list isn't well formed; in the list of a SWITCHON inside it they may occur again
 abbrev entries_fit : Items → Bool
 entries_fit is = fits (c.SwitchOn (Num 1) is)
 
@@ -55,7 +55,7 @@ entries : (entries_fit (case 1 (case 2 (default no_item))) ≡ true) × (entries
     × (entries_fit (case 1 (default (command (c.SwitchOn (Num 2) (case 1 (default no_item))) no_item))) ≡ true)
 entries = (refl, refl, refl, refl)
 
--- in the list of a SWITCHON too; not out of a VALOF
+-- GOTO to a label in the list of a SWITCHON; not out of a VALOF
 goto_in_cases : fits (c.SwitchOn (Num 1) (label 0 (command (c.Goto 0) no_item))) ≡ true
 goto_in_cases = refl
 
@@ -63,16 +63,16 @@ goto_out_of_valof : is_core (starting [] (record { level = 3; body = commands (c
     (block ((Initial (Num 0) ∷ []) ∷ []) (label 0 (command (set_to 2 (Valof 0)) no_item)))) ≡ false
 goto_out_of_valof = refl
 
--- a label twice in one list, and in two
+-- a label twice in one list, and once in each of two lists
 labels : (list_fits (label 0 (label 1 no_item)) ≡ true) × (list_fits (label 0 (label 0 no_item)) ≡ false)
     × (list_fits (label 0 (command (c.Nested (block [] (label 0 no_item))) no_item)) ≡ true)
 labels = (refl, refl, refl)
 
--- CASE and DEFAULT in the list of a SWITCHON alone
+-- CASE and DEFAULT occur only in the list of a SWITCHON
 entries_of_switch : (fits (c.SwitchOn (Num 1) (case 1 (default no_item))) ≡ true) × (list_fits (case 1 no_item) ≡ false) × (list_fits (default no_item) ≡ false)
 entries_of_switch = (refl, refl, refl)
 
--- globals 0 to 511; places 1 to how many there are: here START alone
+-- globals are 0 to 511; places are 1 to the number of places, which is 1 here
 globals : (fits (c.Call (Load (Glob 511))) ≡ true) × (fits (c.Call (Load (Glob 512))) ≡ false)
 globals = (refl, refl)
 

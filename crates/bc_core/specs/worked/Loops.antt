@@ -8,14 +8,14 @@ use Rattle.bc_core.specs.worked.Written.{at, run, printed, digit, commands, let_
 
 -- ---- Worked examples
 
--- LET X = 0; and a loop whose body adds 1 to X, leaves where it is 4, goes on where it is 2, and prints it
+-- LET X = 0, and a loop whose body adds 1 to X, leaves when it is 4, goes on when it is 2, and prints it
 abbrev body : List Command
 body = more 2 1 ∷ where_is 2 4 c.Break ∷ where_is 2 2 c.Loop ∷ digit (at 2) ∷ []
 
 abbrev counting : Command → Result
 counting loop = run (let_in (Initial (Num 0) ∷ []) (loop ∷ digit (at 2) ∷ []))
 
--- 1, 3, and 4 after the loop
+-- prints 1, 3, and after the loop 4
 abbrev one_three_four : List ℕ
 one_three_four = 49 ∷ 51 ∷ 52 ∷ []
 
@@ -34,11 +34,11 @@ repeat_while_loop = refl
 repeat_until_loop : counting (c.RepeatWhile (commands body) false (Num 0)) ≡ printed one_three_four
 repeat_until_loop = refl
 
--- LOOP in a REPEATWHILE goes to its condition, which ends it
+-- LOOP in a REPEATWHILE goes to its condition, which ends the loop
 loop_to_condition : counting (c.RepeatWhile (commands (more 2 1 ∷ c.Loop ∷ [])) true (below 2 3)) ≡ printed (51 ∷ [])
 loop_to_condition = refl
 
--- BREAK leaves the innermost loop alone
+-- BREAK leaves only the innermost loop
 inner_break : counting (c.While true (below 2 2) (commands (more 2 1 ∷ c.Repeat (commands (c.Break ∷ [])) ∷ digit (at 2) ∷ [])))
     ≡ printed (49 ∷ 50 ∷ 50 ∷ [])
 inner_break = refl

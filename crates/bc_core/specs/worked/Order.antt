@@ -1,4 +1,4 @@
--- Worked examples: in which order the parts of expressions and commands are computed, seen by what they print.
+-- Worked examples: the order in which the parts of expressions and commands are evaluated, shown by what they print.
 use Rattle.std.specs.Prelude.{ℕ, ◌≡◌, true, List, [], ◌∷◌, None, refl}
 use Rattle.bc_word.specs.declared.operator.Op.TheVariants.{Add, And}
 use Rattle.bc_core.specs.Tree.{Exp, Num, Frame, Place, Bin, Cond, Valof}
@@ -9,7 +9,7 @@ use Rattle.bc_core.specs.worked.Written.{at, routine, run_with, printed, call, d
 
 -- ---- Worked examples
 
--- A() = VALOF $( print 1; RESULTIS 1 $), B() likewise with 2, F(X) = X, G() = VALOF $( print 3; RESULTIS F $)
+-- A() = VALOF $( print 1; RESULTIS 1 $), B() is the same with 2, F(X) = X, G() = VALOF $( print 3; RESULTIS F $)
 abbrev told : ℕ → Exp → c.Valof
 told n e = record { level = 2; body = commands (digit (Num n) ∷ c.ResultIs e ∷ []) }
 
@@ -31,7 +31,7 @@ does cs = run_among (commands cs)
 sums : (does (digit (Bin Add a b) ∷ []) ≡ printed (49 ∷ 50 ∷ 51 ∷ [])) × (does (digit (Bin Add b a) ∷ []) ≡ printed (50 ∷ 49 ∷ 51 ∷ []))
 sums = (refl, refl)
 
--- LET X, Y = 0, 0; (@X)!A() := B(): the value comes before the address; Y is then 2
+-- LET X, Y = 0, 0; (@X)!A() := B(): the value is computed before the address, and Y is 2 afterwards
 assigned : run_among (let_in (Initial (Num 0) ∷ Initial (Num 0) ∷ []) (c.Assign b (Bin Add (Frame 2) a) ∷ digit (at 3) ∷ [])) ≡ printed (50 ∷ 49 ∷ 50 ∷ [])
 assigned = refl
 
@@ -39,26 +39,26 @@ assigned = refl
 arguments_in_order : does (digit (call (Place 4) (a ∷ b ∷ [])) ∷ []) ≡ printed (49 ∷ 50 ∷ 49 ∷ [])
 arguments_in_order = refl
 
--- (G())(A()): the routine's value comes after the arguments
+-- (G())(A()): the routine is computed after the arguments
 routine_last : does (digit (call (call (Place 5) []) (a ∷ [])) ∷ []) ≡ printed (49 ∷ 51 ∷ 49 ∷ [])
 routine_last = refl
 
--- 1 -> A(), B(), and 0 -> A(), B(): one part alone
+-- 1 -> A(), B(), and 0 -> A(), B(): only one of the two is evaluated
 choices : (does (digit (Cond (Num 1) a b) ∷ []) ≡ printed (49 ∷ 49 ∷ [])) × (does (digit (Cond (Num 0) a b) ∷ []) ≡ printed (50 ∷ 50 ∷ []))
 choices = (refl, refl)
 
--- IF 0 & A() DO .. doesn't meet A(); the value of 0 & A() does
+-- IF 0 & A() DO .. doesn't evaluate A(); the value of 0 & A() does
 test_of_and : does (c.If true (Bin And (Num 0) a) (commands []) ∷ []) ≡ printed []
 test_of_and = refl
 
 value_of_and : does (digit (Bin And (Num 0) a) ∷ []) ≡ printed (49 ∷ 48 ∷ [])
 value_of_and = refl
 
--- the parts of `->` are no test positions: IF 1 -> 0 & A(), 0 DO ..
+-- the values of `->` aren't in a test position: IF 1 -> 0 & A(), 0 DO ..
 part_of_test : does (c.If true (Cond (Num 1) (Bin And (Num 0) a) (Num 0)) (commands []) ∷ []) ≡ printed (49 ∷ [])
 part_of_test = refl
 
--- FOR I = A() TO B() DO print I: the start, the limit, and then each I; neither is computed again
+-- FOR I = A() TO B() DO print I: the start, the limit, and then each I; start and limit aren't computed again
 for_in_order : does (c.For a b 1 (commands (digit (at 2) ∷ [])) ∷ []) ≡ printed (49 ∷ 50 ∷ 49 ∷ 50 ∷ [])
 for_in_order = refl
 
@@ -67,6 +67,6 @@ initialisers : (run_among (let_in (Initial a ∷ Initial b ∷ []) []) ≡ print
     ≡ printed (50 ∷ 49 ∷ []))
 initialisers = (refl, refl)
 
--- LET X = 1 AND Y = X: X is set when Y is
+-- LET X = 1 AND Y = X: X is set before Y
 x_first : run_among (let_in (Initial (Num 1) ∷ Initial (at 2) ∷ []) (digit (at 3) ∷ [])) ≡ printed (49 ∷ [])
 x_first = refl

@@ -9,7 +9,7 @@ use Rattle.bc_core.specs.worked.Written.{at, routine, run_sections, starting, ru
 
 -- ---- Worked examples
 
--- FINISH in a loop in a routine that is called in an expression
+-- FINISH in a loop of a routine that is called in an expression
 finish : run_with (routine None 0 (Does (commands (c.Repeat (commands (digit (Num 1) ∷ c.Finish ∷ [])) ∷ []))) ∷ []) []
     (commands (digit (Bin Add (Num 1) (call (Place 2) [])) ∷ [])) ≡ printed (49 ∷ [])
 finish = refl
@@ -21,17 +21,17 @@ table : run_with (c.Table (7 ∷ 8 ∷ 9 ∷ []) ∷ []) []
     ≡ printed (57 ∷ 57 ∷ [])
 table = refl
 
--- a static is one cell for all calls
+-- a static is one and the same cell in all calls
 static : run_with (c.Static 3 ∷ routine None 0 (Does (commands (c.Assign (Bin Add (Load (Place 2)) (Num 1)) (Place 2) ∷ []))) ∷ []) []
     (commands (c.Call (call (Place 3) []) ∷ c.Call (call (Place 3) []) ∷ digit (Load (Place 2)) ∷ [])) ≡ printed (53 ∷ [])
 static = refl
 
--- a routine's frame lies above its caller's, and the caller's variables are as they were
+-- a routine's frame is above its caller's, and the caller's variables don't change
 frames : run_with (routine None 1 (Does (let_in (Initial (Num 7) ∷ []) (set_to 2 (Num 8) ∷ digit (at 3) ∷ []))) ∷ []) []
     (let_in (Initial (Num 1) ∷ Initial (Num 2) ∷ []) (c.Call (call (Place 2) (at 3 ∷ [])) ∷ digit (at 2) ∷ digit (at 3) ∷ [])) ≡ printed (55 ∷ 49 ∷ 50 ∷ [])
 frames = refl
 
--- a routine of `=` in one of BE, by its label: G(X) = X*X, and F(X) BE print G(X)
+-- a routine of `=` is called in one of BE, by its label: G(X) = X*X, and F(X) BE print G(X)
 nested_routine :
     run_with (routine None 1 (Does (commands (digit (call (Place 3) (at 2 ∷ [])) ∷ []))) ∷ routine None 1 (Gives (Bin Multiply (at 2) (at 2))) ∷ []) []
     (commands (c.Call (call (Place 2) (Num 3 ∷ [])) ∷ [])) ≡ printed (57 ∷ [])
@@ -42,14 +42,14 @@ returns : run_with (routine None 0 (Does (commands (c.Repeat (commands (c.Return
     (commands (digit (call (Place 2) []) ∷ [])) ≡ printed (48 ∷ [])
 returns = refl
 
--- RESULTIS leaves the inner VALOF alone: VALOF $( LET X = VALOF RESULTIS 3; RESULTIS X + 1 $)
+-- RESULTIS leaves only the inner VALOF: VALOF $( LET X = VALOF RESULTIS 3; RESULTIS X + 1 $)
 valof_in_valof : run_with []
     (record { level = 5; body = let_in (Initial (Valof 1) ∷ []) (c.ResultIs (Bin Add (at 5) (Num 1)) ∷ []) }
     ∷ record { level = 6; body = commands (c.ResultIs (Num 3) ∷ []) } ∷ [])
     (commands (digit (Valof 0) ∷ [])) ≡ printed (52 ∷ [])
 valof_in_valof = refl
 
--- WRCH without an argument reads a cell that is unset, and its further arguments are dropped
+-- WRCH without an argument reads an unset cell; its extra arguments are dropped
 extra_argument : run (commands (c.Call (call (Load (Glob 14)) (Num 65 ∷ Num 66 ∷ [])) ∷ [])) ≡ printed (65 ∷ [])
 extra_argument = refl
 
@@ -67,11 +67,11 @@ second = record { places = routine (Some 100) 0 (Does (commands (c.Assign (Bin A
 one_global : run_sections (first ∷ second ∷ []) 100 ≡ printed (53 ∷ [])
 one_global = refl
 
--- the order of the sections doesn't matter to them
+-- the order of the sections doesn't matter
 other_order : run_sections (second ∷ first ∷ []) 100 ≡ printed (53 ∷ [])
 other_order = refl
 
--- LET I = 0; A: $( LET X = 5; I := I + 1; IF I < 3 GOTO A; digit X + I $): each time X is set again
+-- LET I = 0; A: $( LET X = 5; I := I + 1; IF I < 3 GOTO A; digit X + I $): X is set each time
 out_of_a_block : run (block ((Initial (Num 0) ∷ []) ∷ []) (label 0 (list
     (c.Nested (let_in (Initial (Num 5) ∷ []) (more 2 1 ∷ where_is 2 1 (c.Goto 0) ∷ where_is 2 2 (c.Goto 0) ∷ digit (Bin Add (at 3) (at 2)) ∷ [])) ∷ []))))
     ≡ printed (56 ∷ [])

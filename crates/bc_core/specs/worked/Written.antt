@@ -1,4 +1,4 @@
--- Programs as they are written in the examples, and their runs.
+-- Programs, written briefly for the examples, and their runs.
 use Rattle.std.specs.Prelude.{ℕ, ◌+◌, true, List, [], ◌∷◌, Option, Some, None}
 use Rattle.bc_word.specs.declared.operator.Op.TheVariants.{Add, Less, Equal}
 use Rattle.bc_machine_defs.specs.StreamStart.{start_streams}
@@ -19,14 +19,14 @@ at k = Load (Frame k)
 abbrev pub routine : Option ℕ → ℕ → Body → c.Place
 routine global parameters body = Code (record { global = global; parameters = parameters; body = body })
 
--- sections, of which the places of the first stand at 546, 547, .., those of the second at 566, 567, .., in n turns; with one
--- output, cells up to 589 and the stack from 560 on where there is one section, else from 580 on
+-- Sections, run in n turns with one output. The places of the first section are at 546, 547, .., those of the second
+-- at 566, 567, .. There are cells up to 589. The stack begins at 560 if there is one section, else at 580.
 abbrev pub run_sections : List Core → ℕ → Result
 run_sections cores n =
     let program = placed cores ((λ label. 545 + label) ∷ (λ label. 565 + label) ∷ []) in
     meaning_over (cells_from 610 0 (standing program)) (entered_at program) 580 (start_streams [] ((79 ∷ []) ∷ [])) n
 
--- a section whose first routine is START, in global 1
+-- a section whose first routine is START, which sets global 1
 abbrev pub starting : List c.Place → List Valof → Block → Core
 starting more valofs body = record { places = routine (Some 1) 0 (Does body) ∷ more; valofs = valofs }
 
@@ -49,7 +49,7 @@ call f es = Call (arguments es) f
 abbrev pub print : Exp → Command
 print e = c.Call (call (Load (Glob 14)) (e ∷ []))
 
--- the digit of a small number
+-- prints a small number as a digit
 abbrev pub digit : Exp → Command
 digit e = print (Bin Add (Num 48) e)
 
@@ -60,18 +60,18 @@ list (x ∷ xs) = command x (list xs)
 abbrev pub commands : List Command → Block
 commands xs = block [] (list xs)
 
--- LET variables; and then commands, from offset 2 on
+-- LET variables, followed by commands, from the offset 2 on
 abbrev pub let_in : List Variable → List Command → Block
 let_in vs xs = block (vs ∷ []) (list xs)
 
 abbrev pub set_to : ℕ → Exp → Command
 set_to k e = c.Assign e (Frame k)
 
--- the variable at an offset is a number larger
+-- adds a number to the variable at an offset
 abbrev pub more : ℕ → ℕ → Command
 more k n = set_to k (Bin Add (at k) (Num n))
 
--- a command where the variable is this number
+-- a command that is done if the variable has this value
 abbrev pub where_is : ℕ → ℕ → Command → Command
 where_is k n x = c.If true (Bin Equal (at k) (Num n)) (commands (x ∷ []))
 

@@ -1,4 +1,4 @@
--- Worked examples: how deep trees nest, how deep they may, and how many round brackets may be open.
+-- Worked examples: how deep trees nest, how deep they may nest, and how many parentheses may be open at once.
 use Rattle.std.specs.Prelude.{ℕ, ◌≡◌, List, [], ◌∷◌, Result, Ok, Err, refl, codes}
 use Rattle.bc_lex_tokens.specs.declared.symbol.Symbol.TheVariants as sign
 use Rattle.bc_parse_tree.specs.Parts.{Part, A}
@@ -16,7 +16,8 @@ expressions : (exp_height the_a ≡ 1) × (exp_height (minus the_a) ≡ 2) × (e
     × (exp_height (two dyadic.Add (two dyadic.Add the_a the_b) (minus the_a)) ≡ 3)
 expressions = (refl, refl, refl, refl)
 
--- F() is two deep, and as a command three: it counts as command and as expression; X := A is two deep, and so is RESULTIS A
+-- F() is two deep, and as a command three, since it counts as command and as expression; X := A is two deep, and so
+-- is RESULTIS A
 commands : (exp_height (tree.Call the_f none) ≡ 2) × (command_height (tree.Do the_f none) ≡ 3) × (command_height (set the_x the_a)
     ≡ 2) × (command_height (tree.ResultIs the_a) ≡ 2)
 commands = (refl, refl, refl, refl)
@@ -25,12 +26,13 @@ commands = (refl, refl, refl, refl)
 call_commands : (command_height (tree.Do the_f (list (the_a ∷ []))) ≡ 3) × (command_height (tree.Do the_f (list (minus the_a ∷ []))) ≡ 4)
 call_commands = (refl, refl)
 
--- BREAK; IF A DO BREAK; the block $( BREAK $), which counts as a command, and not as a body: IF A DO $( BREAK $) is as IF A DO BREAK
+-- BREAK; IF A DO BREAK; the block $( BREAK $), which counts as a command but not as a body: IF A DO $( BREAK $) is as
+-- deep as IF A DO BREAK
 blocks : (command_height tree.Break ≡ 1) × (command_height (tree.If the_a (only tree.Break)) ≡ 2) × (command_height (tree.Compound (only tree.Break)) ≡ 2)
     × (command_height (tree.If the_a (only (tree.Compound (only tree.Break)))) ≡ 3)
 blocks = (refl, refl, refl, refl)
 
--- labels count nothing: CASE A: BREAK is as deep as the deeper of its two
+-- labels add nothing: CASE A: BREAK is as deep as the deeper of the two
 labelled : command_height (tree.SwitchOn the_a (item (Labelled (label (tree.Case the_a) no_labels) tree.Break) no_items)) ≡ 2
 labelled = refl
 
@@ -39,7 +41,8 @@ declarations : (declarations_height (the_routine (only tree.Break)) ≡ 2)
     × (declarations_height (declaration (tree.Let (definition (tree.Variables (codes "X" ∷ []) (list (the_a ∷ []))) no_definitions)) no_declarations) ≡ 2)
 declarations = (refl, refl)
 
--- What a command of some depth is read in: X := A in 2, and in 1 it is refused at its first part; F() in 3, and in 2 it is refused at its bracket
+-- The depth that a command needs. X := A needs 2; with 1 it is refused at its first part. F() needs 3; with 2 it is
+-- refused at its `(`.
 
 abbrev read_in : ℕ → List Part → Result Command Fault
 read_in nest ts = command_of 40 nest 20 ts >>= λ p. Ok p.tree
@@ -61,7 +64,7 @@ unfolding turns name_turn names_read parameters_read exps_turn exps_read argumen
     command_read variables_read vector_read routine_read shaped_read defined_read exp_of command_of definition_of section_of
 call_in_depth = (refl, refl)
 
--- A + B in X := A + B: refused at its operator
+-- X := A + B is refused at the operator
 sum_in : (read_in 3 (x ∷ A sign.Assign ∷ a ∷ A sign.Plus ∷ b ∷ []) ≡ Ok (set the_x (two dyadic.Add the_a the_b)))
     × (read_in 2 (x ∷ A sign.Assign ∷ a ∷ A sign.Plus ∷ b ∷ []) ≡ Err (TooDeep 2))
 unfolding turns name_turn names_read parameters_read exps_turn exps_read arguments_read with_operator with_arguments with_choice suffix_read grow_turn
@@ -71,7 +74,7 @@ unfolding turns name_turn names_read parameters_read exps_turn exps_read argumen
     command_read variables_read vector_read routine_read shaped_read defined_read exp_of command_of definition_of section_of
 sum_in = (refl, refl)
 
--- BREAK REPEAT: refused at REPEAT
+-- BREAK REPEAT is refused at REPEAT
 repeat_in : (read_in 2 (A sign.Break ∷ A sign.Repeat ∷ []) ≡ Ok (tree.Repeat tree.Break)) × (read_in 1 (A sign.Break ∷ A sign.Repeat ∷ []) ≡ Err (TooDeep 1))
 unfolding turns name_turn names_read parameters_read exps_turn exps_read arguments_read with_operator with_arguments with_choice suffix_read grow_turn
     grow_read bracket_read table_read monadic_read repeated repeat_turn repeats_read label_read labels_read entry_read entry_turn entries_read
@@ -80,7 +83,8 @@ unfolding turns name_turn names_read parameters_read exps_turn exps_read argumen
     command_read variables_read vector_read routine_read shaped_read defined_read exp_of command_of definition_of section_of
 repeat_in = (refl, refl)
 
--- LET F() BE X := - - .. A with so many signs: the definition, the command, the signs and A nest 200 deep with 197 of them
+-- LET F() BE X := - - .. A with a number of signs: with 197 of them the definition, the command, the signs and A nest
+-- 200 deep
 abbrev signed : ℕ → List Part
 signed n = in_routine (x ∷ A sign.Assign ∷ many n (A sign.Minus) (a ∷ []))
 
@@ -107,7 +111,7 @@ unfolding turns name_turn names_read parameters_read exps_turn exps_read argumen
     command_read variables_read vector_read routine_read shaped_read defined_read exp_of command_of definition_of section_of
 too_deep = refl
 
--- LET F() BE X := ((..A..)) with so many brackets: 400 may be open at once, and they count nothing else
+-- LET F() BE X := ((..A..)) with a number of parentheses: 400 may be open at once, and they add nothing to the depth
 abbrev bracketed : ℕ → List Part
 bracketed n = in_routine (x ∷ A sign.Assign ∷ many n (A sign.OpenBracket) (a ∷ many n (A sign.CloseBracket) []))
 

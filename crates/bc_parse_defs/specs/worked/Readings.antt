@@ -1,4 +1,5 @@
--- Worked examples: what is read of expressions and commands, and where others are refused: with the number of parts from that place to the end.
+-- Worked examples: what is read from expressions and commands, and where others are refused. Faults have the number
+-- of parts from their place to the end.
 use Rattle.std.specs.Prelude.{◌≡◌, List, [], ◌∷◌, Result, Ok, Err, refl}
 use Rattle.bc_lex_tokens.specs.declared.symbol.Symbol.TheVariants as sign
 use Rattle.bc_parse_tree.specs.declared.tree.Dyadic.TheVariants as dyadic
@@ -11,14 +12,14 @@ use Rattle.bc_parse_defs.specs.worked.Written.{a, b, c, x, f, the_a, the_b, the_
 
 -- ---- Worked examples
 
--- a tree, and the parts after it
+-- a tree, and the remaining parts
 abbrev Read : Type 0 → Type 0
 Read T = Result (T × List Part) Fault
 
 abbrev without_height : {T : Type 0} → Result (Piece T) Fault → Read T
 without_height r = r >>= λ p. Ok (p.tree, p.rest)
 
--- an expression of level 1, and a command, at most 20 deep
+-- an expression of level 1, and a command, each at most 20 deep
 abbrev expression : List Part → Read Exp
 expression ts = without_height (exp_of 40 20 20 1 ts)
 
@@ -107,7 +108,8 @@ unfolding turns name_turn names_read parameters_read exps_turn exps_read argumen
     command_read variables_read vector_read routine_read shaped_read defined_read exp_of command_of definition_of section_of
 calls = (refl, refl)
 
--- F(VALOF G(), 1) is refused after G(): the VALOF's body takes the comma for that of an assignment, and wants `:=` at the bracket
+-- F(VALOF G(), 1) is refused after G(): the VALOF's body takes the comma as that of an assignment, and expects `:=`
+-- at the `)`
 comma_of_body : expression (f ∷ A sign.OpenBracket ∷ A sign.ValueOf ∷ f ∷ A sign.OpenBracket ∷ A sign.CloseBracket ∷ A sign.Comma ∷ Number 1
     ∷ A sign.CloseBracket ∷ [])
     ≡ Err (Expected 1)
@@ -118,7 +120,7 @@ unfolding turns name_turn names_read parameters_read exps_turn exps_read argumen
     command_read variables_read vector_read routine_read shaped_read defined_read exp_of command_of definition_of section_of
 comma_of_body = refl
 
--- with the VALOF in brackets it is read
+-- with the VALOF in parentheses it is read
 comma_of_call : expression (f ∷ A sign.OpenBracket ∷ A sign.OpenBracket ∷ A sign.ValueOf ∷ f ∷ A sign.OpenBracket ∷ A sign.CloseBracket
     ∷ A sign.CloseBracket ∷ A sign.Comma
     ∷ Number 1 ∷ A sign.CloseBracket ∷ []) ≡ Ok (tree.Call the_f (list (tree.Valof (only (tree.Do the_f none)) ∷ tree.Number 1 ∷ [])), [])
@@ -140,7 +142,7 @@ unfolding turns name_turn names_read parameters_read exps_turn exps_read argumen
     command_read variables_read vector_read routine_read shaped_read defined_read exp_of command_of definition_of section_of
 test_takes = (refl, refl)
 
--- A, B := 1, 2; a surplus element is left from its comma on; one too few is refused at the end
+-- A, B := 1, 2; a surplus element isn't read, from its comma on; a missing one is refused at the end
 pairs : (command (a ∷ A sign.Comma ∷ b ∷ A sign.Assign ∷ Number 1 ∷ A sign.Comma ∷ Number 2 ∷ [])
     ≡ Ok (tree.Assign (list (the_a ∷ the_b ∷ [])) (list (tree.Number 1 ∷ tree.Number 2 ∷ [])), []))
     × (command (a ∷ A sign.Assign ∷ Number 1 ∷ A sign.Comma ∷ Number 2 ∷ []) ≡ Ok (set the_a (tree.Number 1), A sign.Comma ∷ Number 2 ∷ []))
@@ -152,7 +154,7 @@ unfolding turns name_turn names_read parameters_read exps_turn exps_read argumen
     command_read variables_read vector_read routine_read shaped_read defined_read exp_of command_of definition_of section_of
 pairs = (refl, refl, refl)
 
--- what is no command: A, A + 1, and a call with something after it: F() + 1
+-- these are no commands: A, A + 1, and a call with something after it, as in F() + 1
 no_commands : (command (a ∷ []) ≡ Err (Expected 0)) × (command (a ∷ A sign.Plus ∷ Number 1 ∷ []) ≡ Err (Expected 0))
     × (command (f ∷ A sign.OpenBracket ∷ A sign.CloseBracket ∷ A sign.Plus ∷ Number 1 ∷ []) ≡ Err (Expected 0))
 unfolding turns name_turn names_read parameters_read exps_turn exps_read arguments_read with_operator with_arguments with_choice suffix_read grow_turn
@@ -162,7 +164,7 @@ unfolding turns name_turn names_read parameters_read exps_turn exps_read argumen
     command_read variables_read vector_read routine_read shaped_read defined_read exp_of command_of definition_of section_of
 no_commands = (refl, refl, refl)
 
--- a call in brackets is a command: (F())
+-- a call in parentheses is a command: (F())
 call_in_brackets : command (A sign.OpenBracket ∷ f ∷ A sign.OpenBracket ∷ A sign.CloseBracket ∷ A sign.CloseBracket ∷ []) ≡ Ok (tree.Do the_f none, [])
 unfolding turns name_turn names_read parameters_read exps_turn exps_read arguments_read with_operator with_arguments with_choice suffix_read grow_turn
     grow_read bracket_read table_read monadic_read repeated repeat_turn repeats_read label_read labels_read entry_read entry_turn entries_read
@@ -183,7 +185,7 @@ unfolding turns name_turn names_read parameters_read exps_turn exps_read argumen
     command_read variables_read vector_read routine_read shaped_read defined_read exp_of command_of definition_of section_of
 tests = (refl, refl)
 
--- FOR X = 1 TO 2 BY 1 DO BREAK, and without BY: the tree tells them apart
+-- FOR X = 1 TO 2 BY 1 DO BREAK, and the same without BY: the trees differ
 fors : (command (A sign.For ∷ x ∷ A sign.Equal ∷ Number 1 ∷ A sign.To ∷ Number 2 ∷ A sign.By ∷ Number 1 ∷ A sign.Do ∷ A sign.Break ∷ [])
     ≡ Ok (tree.ForBy (88 ∷ []) (tree.Number 1) (tree.Number 2) (tree.Number 1) (only tree.Break), []))
     × (command (A sign.For ∷ x ∷ A sign.Equal ∷ Number 1 ∷ A sign.To ∷ Number 2 ∷ A sign.Do ∷ A sign.Break ∷ [])
@@ -195,7 +197,7 @@ unfolding turns name_turn names_read parameters_read exps_turn exps_read argumen
     command_read variables_read vector_read routine_read shaped_read defined_read exp_of command_of definition_of section_of
 fors = (refl, refl)
 
--- X := A REPEATWHILE B: what stands before REPEATWHILE is the whole assignment; IF A DO BREAK REPEAT repeats the body alone
+-- X := A REPEATWHILE B repeats the whole assignment; IF A DO BREAK REPEAT repeats only the body
 repeats : (command (x ∷ A sign.Assign ∷ a ∷ A sign.RepeatWhile ∷ b ∷ []) ≡ Ok (tree.RepeatWhile (set the_x the_a) the_b, []))
     × (command (A sign.If ∷ a ∷ A sign.Do ∷ A sign.Break ∷ A sign.Repeat ∷ []) ≡ Ok (tree.If the_a (only (tree.Repeat tree.Break)), []))
 unfolding turns name_turn names_read parameters_read exps_turn exps_read arguments_read with_operator with_arguments with_choice suffix_read grow_turn
@@ -222,7 +224,7 @@ unfolding turns name_turn names_read parameters_read exps_turn exps_read argumen
     command_read variables_read vector_read routine_read shaped_read defined_read exp_of command_of definition_of section_of
 switches = refl
 
--- $( ; BREAK ; ; $) and $( nl $): empty places leave nothing
+-- $( ; BREAK ; ; $) and $( nl $): empty places leave no trace in the tree
 empty_places : (command (A sign.OpenSection ∷ A sign.Semicolon ∷ A sign.Break ∷ A sign.Semicolon ∷ A sign.Semicolon ∷ A sign.CloseSection ∷ [])
     ≡ Ok (tree.Compound (only tree.Break), []))
     × (command (A sign.OpenSection ∷ NewLine ∷ A sign.CloseSection ∷ []) ≡ Ok (tree.Compound (block no_declarations no_items), []))
@@ -233,7 +235,7 @@ unfolding turns name_turn names_read parameters_read exps_turn exps_read argumen
     command_read variables_read vector_read routine_read shaped_read defined_read exp_of command_of definition_of section_of
 empty_places = (refl, refl)
 
--- two commands with nothing between them: $( BREAK BREAK $)
+-- $( BREAK BREAK $) is refused: two commands need a separator
 no_semicolon : command (A sign.OpenSection ∷ A sign.Break ∷ A sign.Break ∷ A sign.CloseSection ∷ []) ≡ Err (Expected 2)
 unfolding turns name_turn names_read parameters_read exps_turn exps_read arguments_read with_operator with_arguments with_choice suffix_read grow_turn
     grow_read bracket_read table_read monadic_read repeated repeat_turn repeats_read label_read labels_read entry_read entry_turn entries_read

@@ -1,4 +1,4 @@
--- Parts and trees as they are written in the examples.
+-- Parts and trees, written briefly for the examples.
 use Rattle.std.specs.Prelude.{ℕ, zero, suc, List, [], ◌∷◌, codes}
 use Rattle.bc_lex_tokens.specs.declared.symbol.Symbol.TheVariants as sign
 use Rattle.bc_parse_tree.specs.declared.tree.Dyadic.{Dyadic}
@@ -56,7 +56,7 @@ set l r = tree.Assign (list (l ∷ [])) (list (r ∷ []))
 abbrev pub only : Command → Block
 only d = block no_declarations (item (Labelled no_labels d) no_items)
 
--- so many of a part before others
+-- a part, repeated before other parts
 abbrev pub many : ℕ → Part → List Part → List Part
 many zero p ts = ts
 many (suc n) p ts = p ∷ many n p ts

@@ -1,4 +1,5 @@
--- Worked examples of `@E`, for each form of E: whether it is a fault, what one instruction takes of it, its translation and its meaning.
+-- Worked examples of `@E` for each form of E: whether it is a fault, what kind of operand it is, its translation, and
+-- its meaning.
 use Rattle.std.specs.Prelude.{ℕ, ◌≡◌, codes, List, [], ◌∷◌, map, Option, Some, None, refl, true, false}
 use Rattle.bc_word.specs.declared.operator.Op.TheVariants as operators
 use Rattle.bc_parse_tree.specs.declared.tree.Storage.TheVariants as storage
@@ -17,7 +18,8 @@ use Rattle.bc_scope_defs.specs.worked.Written.{load, address_of, minus, opposite
 
 -- ---- Worked examples
 
--- MANIFEST $( A = 2 $); STATIC $( B = 1 $); GLOBAL $( G:100 $); LET F() = 1; and in START, with LET X = 0 and a label L, X := @E
+-- X := @E in START with LET X = 0 and a label L, where MANIFEST $( A = 2 $); STATIC $( B = 1 $); GLOBAL $( G:100 $);
+-- LET F() = 1
 abbrev things : List Declaration
 things =
     manifest a 2 ∷ constants storage.Static ((b, number 1) ∷ []) ∷ constants storage.Global ((g, number 100) ∷ []) ∷ lets (tree.Function f [] (number 1)
@@ -43,7 +45,7 @@ of_manifest = refl
 of_routine : taken (of f) ≡ Some ANotAssignable
 of_routine = refl
 
--- @L: a label is no value, and @Y isn't known
+-- @L: a label is no value; and @Y, where Y isn't in scope
 of_label : taken (of l) ≡ Some AMisplaced
 of_label = refl
 
@@ -60,7 +62,7 @@ of_content_of_routine = refl
 of_element : taken (index (call f []) (of a)) ≡ None
 of_element = refl
 
--- what is no cell
+-- expressions without a cell
 abbrev refused : Exp → Type 0
 refused e = taken e ≡ Some ANotAssignable
 
@@ -107,7 +109,7 @@ of_operators : map (λ o. taken (two o (of x) (number 1)))
     ≡ (let no = Some ANotAssignable in no ∷ no ∷ no ∷ no ∷ no ∷ no ∷ no ∷ no ∷ no ∷ no ∷ no ∷ no ∷ no ∷ no ∷ no ∷ no ∷ no ∷ [])
 of_operators = refl
 
--- what is at fault in E comes first: @!Y, @(X + Y)
+-- a fault in E comes first: @!Y, @(X + Y)
 within_content : taken (load (of y)) ≡ Some (AnUndeclared y)
 within_content = refl
 
@@ -123,12 +125,12 @@ of_outer_variable = refl
 of_parameter : section_fault (declarations (lets (tree.Function f (x ∷ []) (address_of (of x)) ∷ []) ∷ [])) ≡ None
 of_parameter = refl
 
--- a variable outside routines has a cell, and is at fault where it is declared: LET F() = @X AND X = 1
+-- a variable outside routines has a cell; it is a fault where it is declared: LET F() = @X AND X = 1
 of_stray_variable : section_fault (declarations (lets (tree.Function f [] (address_of (of x)) ∷ variables (x ∷ []) (number 1 ∷ []) ∷ []) ∷ []))
     ≡ Some AMisplaced
 of_stray_variable = refl
 
--- the same is assigned to and taken the address of: `E := 1` for each E that has a cell, and for some that haven't
+-- `@` and `:=` accept the same expressions: `E := 1` for each E that has a cell, and for some that don't
 abbrev assigned : Exp → Option Fault
 assigned e = section_fault (section things (body (variable x (number 0) ∷ []) (plain (store e (number 1)) ∷ [])))
 
@@ -140,8 +142,8 @@ set_no_cells : (assigned (of a) ≡ Some ANotAssignable) × (assigned (of f) ≡
     × (assigned (call f []) ≡ Some ANotAssignable) × (assigned (tree.Text (codes "\"AB\"")) ≡ Some ANotAssignable)
 set_no_cells = (refl, refl, refl, refl, refl)
 
--- Translations and operands, where A is the constant 5, B the static with label 2, G the global 100, F the routine with label 3, and X and Y
--- stand at 2 and 3
+-- Translations and operands, where A is the constant 5, B is the static with the label 2, G is the global 100, F is
+-- the routine with the label 3, and X and Y are at 2 and 3
 abbrev names : Env
 names = record {
   names = (a, Constant 5) ∷ (b, Static 2) ∷ (g, Global 100) ∷ (f, Routine 3) ∷ (x, Variable 2) ∷ (y, Variable 3) ∷ [];
@@ -151,7 +153,7 @@ names = record {
 abbrev translated : Exp → core.Exp
 translated e = (forms names section_start e).content
 
--- @X, @B, @G are addresses; X, B, G are what is there
+-- @X, @B, @G are addresses; X, B, G are the contents
 addresses : (translated (address_of (of x)) ≡ core.Frame 2) × (translated (address_of (of b)) ≡ core.Place 2) × (translated (address_of (of g))
     ≡ core.Glob 100)
 addresses = (refl, refl, refl)
@@ -159,7 +161,7 @@ addresses = (refl, refl, refl)
 contents : (translated (of x) ≡ at 2) × (translated (of b) ≡ core.Load (core.Place 2)) × (translated (of g) ≡ core.Load (core.Glob 100))
 contents = (refl, refl, refl)
 
--- F is an address itself, and A a number
+-- F itself is an address, and A is a number
 no_contents : (translated (of f) ≡ core.Place 3) × (translated (of a) ≡ core.Num 5)
 no_contents = (refl, refl)
 
@@ -180,8 +182,8 @@ element_at = refl
 at_element_at : translated (address_of (index (address_of (of x)) (number 3))) ≡ core.Bin operators.Add (core.Frame 2) (core.Num 3)
 at_element_at = refl
 
--- The address of `E := ..` is an operand, and so both sides stand at the assignment's level 6, or it is none, and they stand at 7. Both
--- definitions agree: that of sections, and that of resolved trees.
+-- If the address of `E := ..` is an operand, both sides are at the level 6 of the assignment; otherwise both are at
+-- 7. The definition for sections and that for resolved trees agree.
 abbrev sides_of : Exp → ℕ
 sides_of e = side_level_of names e 6
 
@@ -224,7 +226,7 @@ cell_before_x_is = (refl, refl)
 cell_after_g_is : operand (index (address_of (of g)) (of a))
 cell_after_g_is = (refl, refl)
 
--- (@B)!3 is none: where a static stands the linker alone knows; F!3 and (TABLE 1)!3 neither
+-- (@B)!3 isn't one, since only the linker knows the address of a static; F!3 and (TABLE 1)!3 aren't either
 cell_after_b_is_none : no_operand (index (address_of (of b)) (number 3))
 cell_after_b_is_none = (refl, refl)
 
@@ -238,7 +240,7 @@ cell_of_table_is_none = (refl, refl)
 content_of_table_is : operand (load (tree.Table (list (number 1 ∷ []))))
 content_of_table_is = (refl, refl)
 
--- X!3, !(!X), (@X)!Y, 5!3, !(X + 3) and !(-X) are none
+-- X!3, !(!X), (@X)!Y, 5!3, !(X + 3) and !(-X) aren't operands
 element_of_x_is_none : no_operand (index (of x) (number 3))
 element_of_x_is_none = (refl, refl)
 
@@ -257,14 +259,14 @@ content_of_sum_is_none = (refl, refl)
 content_of_minus_is_none : no_operand (load (minus (of x)))
 content_of_minus_is_none = (refl, refl)
 
--- !(@X + 3) is (@X)!3, and !(@X - 3) is none
+-- !(@X + 3) is (@X)!3, and !(@X - 3) isn't one
 content_of_moved_is : operand (load (plus (address_of (of x)) (number 3)))
 content_of_moved_is = (refl, refl)
 
 content_of_lowered_is_none : no_operand (load (two dyadic.Subtract (address_of (of x)) (number 3)))
 content_of_lowered_is_none = (refl, refl)
 
--- the result of a VALOF, a call, `->`
+-- the result of a VALOF, of a call, and of `->`
 content_of_valof_is_none : no_operand (load (tree.Valof (commands (tree.ResultIs (of x) ∷ []))))
 content_of_valof_is_none = (refl, refl)
 
@@ -289,7 +291,7 @@ reads_after = refl
 at_content_is : run (shown (address_of (load (of x)))) ≡ printed (55 ∷ [])
 at_content_is = refl
 
--- @(X!Y) is X + Y: 7 + 8 = 15, a digit of '?'
+-- @(X!Y) is X + Y: 7 + 8 = 15, printed as the digit '?'
 at_element_is : run (shown (address_of (index (of x) (of y)))) ≡ printed (63 ∷ [])
 at_element_is = refl
 

@@ -1,4 +1,4 @@
--- Worked examples of constants: their values, what is none, and what names mean in them.
+-- Worked examples of constants: their values, what isn't a constant, and what names mean in them.
 use Rattle.std.specs.Prelude.{ℕ, ◌≡◌, codes, List, [], ◌∷◌, map, Option, Some, None, refl, true}
 use Rattle.bc_parse_tree.specs.declared.tree.Storage.{Storage}
 use Rattle.bc_parse_tree.specs.declared.tree.Storage.TheVariants as storage
@@ -46,13 +46,13 @@ wraps = (refl, refl)
 signed : (worth (two dyadic.Divide (minus (number 7)) (number 2)) ≡ Some 65533) × (worth (two dyadic.Less (minus (number 1)) (number 0)) ≡ Some 65535)
 signed = (refl, refl)
 
--- 1/0 and 1 REM 0 are none, whatever is made of them: 0 * (1/0), FALSE & 1/0
+-- 1/0 and 1 REM 0 aren't constants, and neither is anything that contains them: 0 * (1/0), FALSE & 1/0
 zero_divisors : (worth (two dyadic.Divide (number 1) (number 0)) ≡ None) × (worth (two dyadic.Remainder (number 1) (number 0)) ≡ None)
     × (worth (two dyadic.Multiply (number 0) (two dyadic.Divide (number 1) (number 0))) ≡ None)
     × (worth (two dyadic.And tree.False (two dyadic.Divide (number 1) (number 0))) ≡ None)
 zero_divisors = (refl, refl, refl, refl)
 
--- B, G, F, X and a name that isn't known are none
+-- B, G, F, X and a name that isn't in scope aren't constants
 no_constant_names : (worth (of b) ≡ None) × (worth (of g) ≡ None) × (worth (of f) ≡ None) × (worth (of x) ≡ None) × (worth (of y) ≡ None)
 no_constant_names = (refl, refl, refl, refl, refl)
 
@@ -63,7 +63,7 @@ no_constants : (worth (load (number 1)) ≡ None) × (worth (address_of (of x)) 
     × (worth (tree.Condition (number 1) (number 2) (number 3)) ≡ None)
 no_constants = (refl, refl, refl, refl, refl, refl, refl, refl)
 
--- Where a constant is wanted: with MANIFEST $( A = 1 $) it is lawful, and with LET A = 1 it is none
+-- Where a constant is required: allowed with MANIFEST $( A = 1 $), and a fault with LET A = 1
 
 abbrev with_manifest : Command → Option Fault
 with_manifest d = section_fault (section (manifest a 1 ∷ []) (body (variable x (number 0) ∷ []) (plain d ∷ [])))
@@ -99,7 +99,7 @@ in_list s = wants_constant (declared (constants s ((v, of a) ∷ [])))
 in_lists : in_list storage.Static × in_list storage.Global × in_list storage.Manifest
 in_lists = ((refl, refl), (refl, refl), (refl, refl))
 
--- a label's name in each of them, as with a variable: L: FOR Y = 1 TO 2 BY L, ..
+-- a label's name in each of them is like a variable: L: FOR Y = 1 TO 2 BY L, ..
 abbrev at_label : Command → Option Fault
 at_label d = fault_in (body (variable x (number 0) ∷ []) (labelled l d ∷ []))
 
@@ -112,18 +112,18 @@ labels_are_none : (at_label (tree.ForBy y (number 1) (number 2) (of l) (commands
     × (at_label (declared (constants storage.Manifest ((v, of l) ∷ []))) ≡ Some ANotConstant)
 labels_are_none = (refl, refl, refl, refl, refl, refl, refl)
 
--- deeper in the constant, and `@` of it: TABLE L + 1, TABLE @L
+-- deeper in the constant, and with `@`: TABLE L + 1, TABLE @L
 labels_deeper : (at_label (set x (tree.Table (list (plus (of l) (number 1) ∷ [])))) ≡ Some ANotConstant)
     × (at_label (set x (tree.Table (list (address_of (of l) ∷ [])))) ≡ Some ANotConstant)
 labels_deeper = (refl, refl)
 
--- a start and a limit need be no constants: FOR Y = A TO A, with LET A = 1
+-- a start and a limit needn't be constants: FOR Y = A TO A, with LET A = 1
 start_and_limit : (with_variable (tree.For y (of a) (of a) (commands [])) ≡ None) × (with_manifest (tree.For y (of a) (of a) (commands [])) ≡ None)
 start_and_limit = (refl, refl)
 
 -- Names of one declaration
 
--- MANIFEST $( A = 1; B = A + 1 $); STATIC $( X = A + B $): the static begins as 3
+-- MANIFEST $( A = 1; B = A + 1 $); STATIC $( X = A + B $): the static begins with 3
 abbrev a_and_b : Declaration
 a_and_b = constants storage.Manifest ((a, number 1) ∷ (b, plus (of a) (number 1)) ∷ [])
 
@@ -137,7 +137,8 @@ before = refl
 itself : section_fault (declarations (constants storage.Manifest ((a, of a) ∷ []) ∷ [])) ≡ Some ANotConstant
 itself = refl
 
--- a manifest further out is hidden by the own names: MANIFEST $( A = 1 $), and then MANIFEST $( B = A $) and MANIFEST $( B = A; A = 2 $)
+-- a manifest further out is hidden by the declaration's own names: MANIFEST $( A = 1 $), then MANIFEST $( B = A $)
+-- and MANIFEST $( B = A; A = 2 $)
 abbrev then_constants : Storage → List (Name × Exp) → Option Fault
 then_constants s es = section_fault (declarations (manifest a 1 ∷ constants s es ∷ []))
 
@@ -176,6 +177,6 @@ global_numbers : (global (number 511) ≡ None) × (global (number 512) ≡ Some
     × (global (two dyadic.Divide (number 1) (number 0)) ≡ Some ANotConstant)
 global_numbers = (refl, refl, refl, refl)
 
--- two globals of one number are lawful: GLOBAL $( A:100; B:100 $)
+-- two globals with the same number are allowed: GLOBAL $( A:100; B:100 $)
 one_number : section_fault (declarations (constants storage.Global ((a, number 100) ∷ (b, number 100) ∷ []) ∷ [])) ≡ None
 one_number = refl

@@ -1,5 +1,5 @@
--- Worked examples of FOR: its start, limit and K are looked up outside, and its variable is known in the body alone. Five definitions rest
--- on this, each by itself: faults, what is found, frames, the translation and the meaning.
+-- Worked examples of FOR: its start, limit and K are resolved outside, and its variable is in scope only in the body.
+-- Five definitions rely on this separately: faults, what is found, frames, the translation, and the meaning.
 use Rattle.std.specs.Prelude.{ℕ, ◌≡◌, List, [], ◌∷◌, Some, None, refl}
 use Rattle.bc_word.specs.declared.operator.Op.TheVariants as operators
 use Rattle.bc_parse_tree.specs.Tree.{Exp, Block, Declarations, Command}
@@ -14,14 +14,14 @@ use Rattle.bc_scope_defs.specs.worked.Written.{fault_in, fault_of, load, address
 
 -- ---- Worked examples
 
--- LET X = 5; FOR X = X TO X + 2 DO ..: the start and the limit mean the X outside, the body the FOR's own
+-- LET X = 5; FOR X = X TO X + 2 DO ..: start and limit use the X outside, the body uses the FOR's own
 abbrev outside_and_in : Command → Block
 outside_and_in c = body (variable x (number 5) ∷ []) (plain (tree.For x (of x) (plus (of x) (number 2)) (commands (c ∷ []))) ∷ [])
 
 no_fault : fault_in (outside_and_in (set x (number 9))) ≡ None
 no_fault = refl
 
--- the X outside stands at 2, the FOR's own at 3
+-- the X outside is at 2, the FOR's own at 3
 for_translated : core_of (alone (outside_and_in (set x (number 9)))) ≡ record {
   places =
       routine None (c.block ((c.Initial (core.Num 5) ∷ []) ∷ [])
@@ -34,11 +34,11 @@ for_translated = refl
 for_runs : run (outside_and_in (digit (of x))) ≡ printed (53 ∷ 54 ∷ 55 ∷ [])
 for_runs = refl
 
--- after the FOR X is the one outside again: LET X = 5; FOR X = 1 TO 2 DO $( $); WRCH('0' + X)
+-- after the FOR, X is the one outside again: LET X = 5; FOR X = 1 TO 2 DO $( $); WRCH('0' + X)
 after_for : run (body (variable x (number 5) ∷ []) (plain (tree.For x (number 1) (number 2) (commands [])) ∷ plain (digit (of x)) ∷ [])) ≡ printed (53 ∷ [])
 after_for = refl
 
--- FOR X = X TO 2, FOR X = 1 TO X, and FOR X = 1 TO 2 BY X, with no X outside
+-- FOR X = X TO 2, FOR X = 1 TO X, and FOR X = 1 TO 2 BY X, without an X outside
 undeclared_start : fault_of (tree.For x (of x) (number 2) (commands [])) ≡ Some (AnUndeclared x)
 undeclared_start = refl
 
@@ -48,7 +48,7 @@ undeclared_limit = refl
 undeclared_step : fault_of (tree.ForBy x (number 1) (number 2) (of x) (commands [])) ≡ Some (AnUndeclared x)
 undeclared_step = refl
 
--- the same of a FOR with BY: FOR X = X TO 2 BY 1, FOR X = 1 TO X BY 1, and X known in the body
+-- the same with BY: FOR X = X TO 2 BY 1, FOR X = 1 TO X BY 1, and X in scope in the body
 undeclared_start_by : fault_of (tree.ForBy x (of x) (number 2) (number 1) (commands [])) ≡ Some (AnUndeclared x)
 undeclared_start_by = refl
 
@@ -75,16 +75,16 @@ by_manifest_translated = refl
 by_manifest_runs : runs (by_manifest (digit (of x))) ≡ printed (49 ∷ 51 ∷ 53 ∷ [])
 by_manifest_runs = refl
 
--- where X outside is a variable, BY X is no constant: LET X = 2; FOR X = 1 TO 5 BY X
+-- if the X outside is a variable, BY X isn't a constant: LET X = 2; FOR X = 1 TO 5 BY X
 by_variable : fault_in (body (variable x (number 2) ∷ []) (plain (tree.ForBy x (number 1) (number 5) (of x) (commands [])) ∷ [])) ≡ Some ANotConstant
 by_variable = refl
 
--- the FOR's own X hides the manifest: in the body X := 9 is lawful, and TABLE X is no constant
+-- the FOR's own X hides the manifest: in the body X := 9 is allowed, and TABLE X has no constant
 hidden_in_body : section_fault (by_manifest (set x (tree.Table (list (of x ∷ []))))) ≡ Some ANotConstant
 hidden_in_body = refl
 
--- LET X, Y = 1, 2; FOR X = VALOF RESULTIS X TO VALOF RESULTIS X DO Y := VALOF RESULTIS X: what is found in the start and the limit has X at 2,
--- what is found in the body has it at 4
+-- LET X, Y = 1, 2; FOR X = VALOF RESULTIS X TO VALOF RESULTIS X DO Y := VALOF RESULTIS X: what is found in start and
+-- limit has X at 2, what is found in the body has it at 4
 abbrev its_own : Exp
 its_own = tree.Valof (commands (tree.ResultIs (of x) ∷ []))
 
@@ -101,7 +101,7 @@ valofs_found = refl
 valofs_run : run (body (variable x (number 5) ∷ []) (plain (tree.For x its_own its_own (commands (digit its_own ∷ []))) ∷ [])) ≡ printed (53 ∷ [])
 valofs_run = refl
 
--- MANIFEST $( X = 7 $) and FOR X = (TABLE X)!0 TO (TABLE X, X)!1 DO $( $): the tables have the manifest's words
+-- MANIFEST $( X = 7 $) and FOR X = (TABLE X)!0 TO (TABLE X, X)!1 DO $( $): the tables use the manifest
 words_found : (core_of (section (manifest x 7 ∷ [])
     (commands (tree.For x (index (tree.Table (list (of x ∷ []))) (number 0)) (index (tree.Table (list (of x ∷ of x ∷ []))) (number 1)) (commands [])
     ∷ [])))).places
@@ -111,7 +111,8 @@ words_found : (core_of (section (manifest x 7 ∷ [])
     ∷ c.Table (7 ∷ []) ∷ c.Table (7 ∷ 7 ∷ []) ∷ []
 words_found = refl
 
--- a routine in the start sees the manifest, one in the body the FOR's variable, which it may not use: LET F() = X
+-- a routine in the start sees the manifest; one in the body sees the FOR's variable, which it may not use: LET F() =
+-- X
 abbrev with_routine : Exp
 with_routine = tree.Valof (body (lets (tree.Function f [] (of x) ∷ []) ∷ []) (plain (tree.ResultIs (call f [])) ∷ []))
 
@@ -122,7 +123,8 @@ routine_in_body : section_fault (section (manifest x 7 ∷ []) (commands (tree.F
     ≡ Some (ADynamicFree x)
 routine_in_body = refl
 
--- frames: VALOF $( LET V = VEC X; RESULTIS 1 $) with MANIFEST $( X = 10 $) stands at 4 and takes 12 cells in the start, and in the limit
+-- frames: VALOF $( LET V = VEC X; RESULTIS 1 $) with MANIFEST $( X = 10 $) is at 4 and uses 12 cells in the start,
+-- and in the limit
 abbrev with_vector : Exp
 with_vector = tree.Valof (body (lets (tree.Vector v (of x) ∷ []) ∷ []) (plain (tree.ResultIs (number 1)) ∷ []))
 
@@ -135,14 +137,14 @@ frame_of_start = refl
 frame_of_limit : frame_with (number 1) with_vector (commands []) ≡ 16 ∷ []
 frame_of_limit = refl
 
--- in the body X is no constant, which is a fault, and counts as 0: the FOR's own test and step take 6 cells
+-- in the body X isn't a constant, which is a fault and counts as 0: the FOR's own test and step use 6 cells
 frame_of_body : frame_with (number 1) (number 2) (commands (set x with_vector ∷ [])) ≡ 6 ∷ []
 frame_of_body = refl
 
 frame_without : frame_with (number 1) (number 2) (commands []) ≡ 6 ∷ []
 frame_without = refl
 
--- the same four of a FOR with BY
+-- the same four with BY
 abbrev frame_by : (start limit : Exp) → Block → List ℕ
 frame_by first last b = frames (section (manifest x 10 ∷ []) (commands (tree.ForBy x first last (of x) b ∷ [])))
 
@@ -170,8 +172,8 @@ limit_once : run (body (variable y (number 2) ∷ []) (plain (tree.For x (number
     ≡ printed (49 ∷ 50 ∷ [])
 limit_once = refl
 
--- the variable is set before the limit is computed, and unset before its start is: LET Y = 0; FOR X = 5 TO (@Y)!1 and FOR X = (@Y)!1 TO 5,
--- where the cell after that of Y is that of X
+-- The variable is set before the limit is computed, and is unset until its start is: LET Y = 0; FOR X = 5 TO (@Y)!1
+-- and FOR X = (@Y)!1 TO 5, where the cell after that of Y is that of X.
 set_before_limit : run (body (variable y (number 0) ∷ []) (plain (tree.For x (number 5) (index (address_of (of y)) (number 1)) (commands (digit (of x)
     ∷ []))) ∷ []))
     ≡ printed (53 ∷ [])
@@ -186,7 +188,7 @@ given_back : run (body (variable y (number 0) ∷ []) (plain (tree.For x (number
     ≡ Wild
 given_back = refl
 
--- and not in it: FOR X = 1 TO 1 DO $( Y := @X; WRCH('0' + !Y) $)
+-- during the FOR it is live: FOR X = 1 TO 1 DO $( Y := @X; WRCH('0' + !Y) $)
 live_in_body : run (body (variable y (number 0) ∷ [])
     (plain (tree.For x (number 1) (number 1) (commands (set y (address_of (of x)) ∷ digit (load (of y)) ∷ []))) ∷ [])) ≡ printed (49 ∷ [])
 live_in_body = refl

@@ -1,4 +1,4 @@
--- Worked examples of names: what hides what, what a routine may use, and which routines set a global.
+-- Worked examples of names: which names hide others, what a routine may use, and which routines set a global.
 use Rattle.std.specs.Prelude.{ℕ, ◌≡◌, List, [], ◌∷◌, Option, Some, None, refl}
 use Rattle.bc_parse_tree.specs.declared.tree.Storage.TheVariants as storage
 use Rattle.bc_parse_tree.specs.Tree.{Exp, Block, Declaration, Definition}
@@ -22,7 +22,7 @@ declared_before = refl
 declared_after : fault_in (body (variable x (of y) ∷ variable y (number 1) ∷ []) []) ≡ Some (AnUndeclared y)
 declared_after = refl
 
--- LET X = Y AND Y = 1: known in all of the LET, and unset where X is set
+-- LET X = Y AND Y = 1: Y is in scope in all of the LET, but unset when X is set
 abbrev together : Block
 together = body (lets (variables (x ∷ []) (of y ∷ []) ∷ variables (y ∷ []) (number 1 ∷ []) ∷ []) ∷ []) (plain (digit (of x)) ∷ [])
 
@@ -46,7 +46,7 @@ hides_later : run (body (variable x (number 1) ∷ variable y (plus (of x) (numb
     ≡ printed (50 ∷ [])
 hides_later = refl
 
--- MANIFEST $( A = 2 $), and then LET A = 3 in a block: 3, and 2 after it
+-- MANIFEST $( A = 2 $), and then LET A = 3 in a block: 3, and 2 after the block
 comes_back : runs (section (manifest a 2 ∷ []) (body [] (plain (tree.Compound (body (variable a (number 3) ∷ []) (plain (digit (of a)) ∷ []))) ∷ plain
     (digit (of a)) ∷ [])))
     ≡ printed (51 ∷ 50 ∷ [])
@@ -57,15 +57,16 @@ hidden_by_manifest : fault_in (body (variable x (number 1) ∷ []) (plain (tree.
     ≡ Some ANotAssignable
 hidden_by_manifest = refl
 
--- a label hides a variable of its block in the commands, not in the declarations: LET L = 1; LET X = L; L: X := 2, and L: X := L
+-- a label hides a variable of its block in the commands, but not in the declarations: LET L = 1; LET X = L; L: X :=
+-- 2, and L: X := L
 label_after_declarations : only (body (variable l (number 1) ∷ variable x (of l) ∷ []) (labelled l (set x (number 2)) ∷ []))
 label_after_declarations = refl
 
 label_hides : fault_in (body (variable l (number 1) ∷ variable x (of l) ∷ []) (labelled l (set x (of l)) ∷ [])) ≡ Some AMisplaced
 label_hides = refl
 
--- What a routine uses of what is around it: LET START() BE $( LET X = 0; LET F() = E; .. $), with MANIFEST $( A = 1 $), STATIC $( B = 2 $),
--- GLOBAL $( G:100 $)
+-- What a routine uses of the things around it: LET START() BE $( LET X = 0; LET F() = E; .. $), with MANIFEST $( A =
+-- 1 $), STATIC $( B = 2 $), GLOBAL $( G:100 $)
 abbrev used : Exp → Option Fault
 used e = section_fault (section (manifest a 1 ∷ constants storage.Static ((b, number 2) ∷ []) ∷ constants storage.Global ((g, number 100) ∷ []) ∷ [])
     (body (variable x (number 0) ∷ lets (tree.Function f [] e ∷ []) ∷ []) (labelled l (set x (call f [])) ∷ [])))
@@ -76,7 +77,7 @@ uses = (refl, refl, refl, refl, refl)
 uses_variable : used (of x) ≡ Some (ADynamicFree x)
 uses_variable = refl
 
--- a label of the commands isn't known in the declarations before them
+-- a label of the commands isn't in scope in the declarations before them
 uses_label : used (of l) ≡ Some (AnUndeclared l)
 uses_label = refl
 
@@ -84,7 +85,8 @@ uses_label = refl
 label_around : fault_in (body [] (labelled l (tree.Compound (body (lets (tree.Function f [] (of l) ∷ []) ∷ []) [])) ∷ [])) ≡ Some (ADynamicFree l)
 label_around = refl
 
--- a variable of an enclosing routine hides what stands further out: STATIC $( X = 1 $); LET START() BE $( LET X = 0; LET F() = X $)
+-- a variable of an enclosing routine hides names further out: STATIC $( X = 1 $); LET START() BE $( LET X = 0; LET
+-- F() = X $)
 hidden_static : section_fault (section (constants storage.Static ((x, number 1) ∷ []) ∷ []) (body (variable x (number 0) ∷ lets (tree.Function f []
     (of x) ∷ []) ∷ []) []))
     ≡ Some (ADynamicFree x)
@@ -107,7 +109,7 @@ free_two_out = refl
 routines_out : (two_deep f ≡ None) × (two_deep g ≡ None) × (two_deep l ≡ None)
 routines_out = (refl, refl, refl)
 
--- a VALOF is of the same routine: LET F(X) = VALOF RESULTIS X
+-- a VALOF belongs to the routine around it: LET F(X) = VALOF RESULTIS X
 in_valof : section_fault (declarations (lets (tree.Function f (x ∷ []) (tree.Valof (commands (tree.ResultIs (of x) ∷ []))) ∷ []) ∷ [])) ≡ None
 in_valof = refl
 
@@ -118,7 +120,7 @@ globals_among (ARoutine r ∷ things) = r.global ∷ globals_among things
 globals_among (AValof t ∷ things) = globals_among things
 globals_among (Data m d ∷ things) = globals_among things
 
--- of the routines in text order
+-- the routines in text order
 abbrev globals : List Declaration → List (Option ℕ)
 globals ds = globals_among (found_in_section (declarations (constants storage.Global ((g, number 100) ∷ []) ∷ ds)))
 
@@ -132,15 +134,15 @@ sets_its_global = refl
 sets_none : globals (lets (tree.Routine f [] (commands []) ∷ []) ∷ []) ≡ None ∷ []
 sets_none = refl
 
--- LET G() BE $( $) twice, one in the other: both set it
+-- LET G() BE $( $) twice, one inside the other: both set the global
 sets_within : globals (lets (tree.Routine g [] (body (lets (g_does ∷ []) ∷ []) []) ∷ []) ∷ []) ≡ Some 100 ∷ Some 100 ∷ []
 sets_within = refl
 
--- LET F(G) BE $( LET G() BE $( $) $): the parameter hides the global, so that G is a routine's name
+-- LET F(G) BE $( LET G() BE $( $) $): the parameter hides the global, so G is the name of a routine
 hidden_by_parameter : globals (lets (tree.Routine f (g ∷ []) (body (lets (g_does ∷ []) ∷ []) []) ∷ []) ∷ []) ≡ None ∷ None ∷ []
 hidden_by_parameter = refl
 
--- so in a block with LET G = 1; LET G() BE $( $)
+-- the same in a block with LET G = 1; LET G() BE $( $)
 hidden_by_variable : globals (lets (tree.Routine f [] (body (variable g (number 1) ∷ lets (g_does ∷ []) ∷ []) []) ∷ []) ∷ []) ≡ None ∷ None ∷ []
 hidden_by_variable = refl
 
@@ -148,12 +150,13 @@ hidden_by_variable = refl
 hidden_by_static : globals (constants storage.Static ((g, number 1) ∷ []) ∷ lets (g_does ∷ []) ∷ []) ≡ None ∷ []
 hidden_by_static = refl
 
--- such a routine's name means the global: LET G() BE $( $) AND START() BE G() calls what global 100 holds, which G := .. may change
+-- the name of such a routine means the global: LET G() BE $( $) AND START() BE G() calls what the global 100 holds,
+-- which G := .. may change
 global_is_called : runs (section (constants storage.Global ((g, number 100) ∷ []) ∷ lets (tree.Routine g [] (commands (digit (number 1) ∷ [])) ∷ []) ∷ [])
     (commands (do_call g [] ∷ set g (of wrch) ∷ do_call g (number 50 ∷ []) ∷ []))) ≡ printed (49 ∷ 50 ∷ [])
 global_is_called = refl
 
--- without GLOBAL its name is no variable: G := WRCH
+-- without GLOBAL its name isn't a variable: G := WRCH
 routine_is_set : section_fault (section (lets (tree.Routine g [] (commands (digit (number 1) ∷ [])) ∷ []) ∷ []) (commands (set g (of wrch) ∷ [])))
     ≡ Some ANotAssignable
 routine_is_set = refl

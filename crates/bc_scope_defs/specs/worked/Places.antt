@@ -1,4 +1,4 @@
--- Worked examples of where commands and labels may stand.
+-- Worked examples of where commands and labels may be.
 use Rattle.std.specs.Prelude.{◌≡◌, [], ◌∷◌, Option, Some, None, refl}
 use Rattle.bc_parse_tree.specs.declared.tree.Dyadic.TheVariants as dyadic
 use Rattle.bc_parse_tree.specs.Tree.{Exp, Block, Labels_alone, Labelled, Item, no_labels, label, Command}
@@ -32,13 +32,13 @@ breaks = (refl, refl, refl, refl, refl, refl, refl)
 loops : in_loops tree.Loop
 loops = (refl, refl, refl, refl, refl, refl, refl)
 
--- what is no loop: IF, UNLESS, TEST, a block, SWITCHON
+-- these aren't loops: IF, UNLESS, TEST, a block, SWITCHON
 in_no_loop : misplaced (tree.If tree.True (only tree.Loop)) × misplaced (tree.Unless tree.True (only tree.Loop))
     × misplaced (tree.Test tree.True (only tree.Return) (only tree.Loop)) × misplaced (tree.Compound (only tree.Loop))
     × misplaced (tree.SwitchOn (number 1) (items (with_case 1 tree.Loop ∷ [])))
 in_no_loop = (refl, refl, refl, refl, refl)
 
--- after a loop, and in its condition by a VALOF: WHILE TRUE DO $( $); BREAK
+-- after a loop, and in a VALOF in its condition: WHILE TRUE DO $( $); BREAK
 after_a_loop : fault_in (commands (tree.While tree.True (commands []) ∷ tree.Break ∷ [])) ≡ Some AMisplaced
 after_a_loop = refl
 
@@ -60,7 +60,7 @@ routine_in_a_loop = refl
 deep_in_a_loop : lawful (tree.While tree.True (only (tree.If tree.True (only tree.Break))))
 deep_in_a_loop = refl
 
--- ENDCASE: in a SWITCHON's list, deeper in it, and not in a loop alone
+-- ENDCASE: in a SWITCHON's list and deeper in it, but not in a loop without one
 end_case : lawful (tree.SwitchOn (number 1) (items (with_case 1 tree.EndCase ∷ [])))
 end_case = refl
 
@@ -78,11 +78,11 @@ end_case_in_valof : fault_in (body (variable x (number 0) ∷ []) (plain (tree.S
     ≡ Some AMisplaced
 end_case_in_valof = refl
 
--- in the SWITCHON's value: SWITCHON VALOF ENDCASE INTO $( $)
+-- in the value of the SWITCHON: SWITCHON VALOF ENDCASE INTO $( $)
 end_case_in_value : misplaced (tree.SwitchOn (tree.Valof (only tree.EndCase)) (items []))
 end_case_in_value = refl
 
--- RETURN: in a routine of BE, in a loop in it, and not in `F() = VALOF RETURN`
+-- RETURN: in a routine of BE and in a loop in it, but not in `F() = VALOF RETURN`
 return_in_loop : lawful (tree.Repeat tree.Return)
 return_in_loop = refl
 
@@ -95,7 +95,7 @@ return_in_inner_routine :
     ∷ []))) ∷ []) ∷ [])) ≡ None
 return_in_inner_routine = refl
 
--- RESULTIS: in a VALOF, in a loop in it, and not in a routine of BE in it
+-- RESULTIS: in a VALOF and in a loop in it, but not in a routine of BE in it
 abbrev worked_out : Command → Option Fault
 worked_out c = section_fault (declarations (lets (tree.Function f [] (tree.Valof (only c)) ∷ []) ∷ []))
 
@@ -108,18 +108,18 @@ result_in_loop = refl
 result_in_routine : worked_out (tree.Compound (body (lets (tree.Routine g [] (only (tree.ResultIs (number 1))) ∷ []) ∷ []) [])) ≡ Some AMisplaced
 result_in_routine = refl
 
--- FINISH stands anywhere
+-- FINISH may be anywhere
 finish : lawful tree.Finish × (worked_out tree.Finish ≡ None)
 finish = (refl, refl)
 
 -- CASE and DEFAULT
 
--- in the list of their own SWITCHON, before a command or alone
+-- in the list of their own SWITCHON, before a command or without one
 cases : lawful (tree.SwitchOn (number 1) (items (with_case 1 tree.EndCase ∷ by_default tree.EndCase ∷ Labels_alone (label (tree.Case
     (number 2)) no_labels) ∷ [])))
 cases = refl
 
--- deeper: in a block, a loop, an IF of the list
+-- deeper: in a block, a loop, or an IF of the list
 abbrev within : Item → Block
 within i = body [] (i ∷ [])
 
@@ -132,12 +132,12 @@ case_in_loop = refl
 case_in_if : misplaced (tree.SwitchOn (number 1) (items (with_case 1 (tree.If tree.True (within (with_case 2 tree.Return))) ∷ [])))
 case_in_if = refl
 
--- the list of a SWITCHON within has its own: the same values stand there again
+-- the list of a nested SWITCHON is separate: the same values may occur there again
 case_in_inner : lawful (tree.SwitchOn (number 1) (items (with_case 1 (tree.SwitchOn (number 2) (items (with_case 1 tree.EndCase ∷ by_default tree.EndCase
     ∷ []))) ∷ by_default tree.EndCase ∷ [])))
 case_in_inner = refl
 
--- the values count, not how they are written: CASE 2: and CASE 1 + 1:, CASE 'A': and CASE 65:, CASE -1: and CASE TRUE:
+-- the values count, not their spelling: CASE 2: and CASE 1 + 1:, CASE 'A': and CASE 65:, CASE -1: and CASE TRUE:
 abbrev two_cases : Exp → Exp → Command
 two_cases j k = tree.SwitchOn (number 1) (items (cased j tree.EndCase ∷ cased k tree.EndCase ∷ []))
 
@@ -149,7 +149,7 @@ twice = (refl, refl, refl)
 not_twice : lawful (two_cases (number 2) (plus (number 1) (number 2))) × lawful (two_cases tree.False tree.True)
 not_twice = (refl, refl)
 
--- two at one command, and with others between: CASE 1: CASE 1:, and CASE 1: .. CASE 2: .. CASE 1:
+-- two at one command, and with others between them: CASE 1: CASE 1:, and CASE 1: .. CASE 2: .. CASE 1:
 twice_at_one : fault_of (tree.SwitchOn (number 1) (items (Labelled (label (tree.Case (number 1)) (label (tree.Case (number 1)) no_labels)) tree.EndCase
     ∷ []))) ≡ Some ACaseTwice
 twice_at_one = refl
@@ -170,7 +170,7 @@ two_defaults = refl
 abbrev goto_l : Command
 goto_l = tree.Goto l
 
--- to a label of a list around it: out of a block, a loop, a SWITCHON, and forward
+-- to a label of a list around it: out of a block, a loop or a SWITCHON, and forward
 out_of_a_block : fault_in (body [] (labelled l (tree.Compound (only goto_l)) ∷ [])) ≡ None
 out_of_a_block = refl
 
@@ -183,7 +183,7 @@ out_of_cases = refl
 forward : fault_in (body [] (plain goto_l ∷ labelled l tree.Return ∷ [])) ≡ None
 forward = refl
 
--- a SWITCHON's list has labels of its own: L: in it, and GOTO L there, in its value, and after it
+-- a SWITCHON's list has its own labels: L: in it, and GOTO L there, in its value, and after it
 label_of_cases : lawful (tree.SwitchOn (number 1) (items (with_case 1 goto_l ∷ labelled l tree.EndCase ∷ [])))
 label_of_cases = refl
 
@@ -193,14 +193,15 @@ label_in_value = refl
 label_after_cases : fault_in (commands (tree.SwitchOn (number 1) (items (labelled l tree.EndCase ∷ [])) ∷ goto_l ∷ [])) ≡ Some (AnUndeclared l)
 label_after_cases = refl
 
--- it is known in the list's CASEs, as what is no constant: CASE L: in the list of L:, and CASE X: with no X
+-- such a label is in scope in the list's CASEs, but isn't a constant: CASE L: in the list of L:, and CASE X: without
+-- an X
 label_in_case : fault_of (tree.SwitchOn (number 1) (items (cased (of l) tree.EndCase ∷ labelled l tree.EndCase ∷ []))) ≡ Some ANotConstant
 label_in_case = refl
 
 nothing_in_case : fault_of (tree.SwitchOn (number 1) (items (cased (of x) tree.EndCase ∷ labelled l tree.EndCase ∷ []))) ≡ Some (AnUndeclared x)
 nothing_in_case = refl
 
--- and hides a manifest there: MANIFEST $( L = 1 $); SWITCHON 1 INTO $( CASE L: ENDCASE $), with L: in the list
+-- it hides a manifest there: MANIFEST $( L = 1 $); SWITCHON 1 INTO $( CASE L: ENDCASE $), with L: in the list
 manifest_in_case : section_fault (section (manifest l 1 ∷ []) (only (tree.SwitchOn (number 1) (items (cased (of l) tree.EndCase ∷ []))))) ≡ None
 manifest_in_case = refl
 
@@ -209,7 +210,7 @@ hidden_in_case : section_fault (section (manifest l 1 ∷ []) (only (tree.Switch
     ≡ Some ANotConstant
 hidden_in_case = refl
 
--- label and CASE at one command, and the same label in a list within
+-- label and CASE at one command, and the same label in a nested list
 beside_case : lawful (tree.SwitchOn (number 1) (items (Labelled (label (tree.Named l) (label (tree.Case (number 1)) no_labels)) goto_l ∷ [])))
 beside_case = refl
 
@@ -219,14 +220,14 @@ label_again_within = refl
 label_twice_apart : fault_in (body [] (labelled l tree.Return ∷ plain tree.Return ∷ labelled l tree.Return ∷ [])) ≡ Some (ADeclaredTwice l)
 label_twice_apart = refl
 
--- the inner one counts: L: prints 1, L: within prints 2, and the GOTO goes to that one
+-- the inner one counts: L: prints 1, a nested L: prints 2, and the GOTO goes to that one
 inner_counts : run (body (variable x (number 0) ∷ []) (labelled l (digit (number 1))
     ∷ plain (tree.Compound (body [] (labelled l (digit (number 2)) ∷ plain (set x (plus (of x) (number 1))) ∷ plain (tree.If (two dyadic.Less (of x)
     (number 2)) (only goto_l)) ∷ []))) ∷ []))
     ≡ printed (49 ∷ 50 ∷ 50 ∷ [])
 inner_counts = refl
 
--- what hides a label: a variable, a FOR's variable, a routine: L: $( LET L = 1; GOTO L $)
+-- these hide a label: a variable, a FOR's variable, a routine: L: $( LET L = 1; GOTO L $)
 hidden_by_variable : fault_in (body [] (labelled l (tree.Compound (body (variable l (number 1) ∷ []) (plain goto_l ∷ []))) ∷ [])) ≡ Some AMisplaced
 hidden_by_variable = refl
 
@@ -237,14 +238,14 @@ hidden_by_for = refl
 label_in_start : fault_in (body [] (labelled l (tree.For l (of l) (number 2) (commands [])) ∷ [])) ≡ Some AMisplaced
 label_in_start = refl
 
--- GOTO out of a VALOF of the list, and within one
+-- GOTO out of a VALOF of the list, and inside one
 out_of_valof : fault_in (body (variable x (number 0) ∷ []) (labelled l (set x (tree.Valof (only goto_l))) ∷ [])) ≡ Some AMisplaced
 out_of_valof = refl
 
 within_valof : fault_in (body (variable x (number 0) ∷ []) (plain (set x (tree.Valof (body [] (labelled l goto_l ∷ [])))) ∷ [])) ≡ None
 within_valof = refl
 
--- a label outside of a VALOF as a value in it; and in a routine in it an enclosing routine's
+-- a label outside a VALOF, used as a value in it; in a routine in the VALOF it is an enclosing routine's
 outside_as_value : fault_in (body (variable x (number 0) ∷ []) (labelled l (set x (tree.Valof (only (tree.ResultIs (of l))))) ∷ [])) ≡ Some AMisplaced
 outside_as_value = refl
 
@@ -253,7 +254,7 @@ outside_in_routine : fault_in (body (variable x (number 0) ∷ [])
     ≡ Some (ADynamicFree l)
 outside_in_routine = refl
 
--- GOTO to what is no label: a manifest, a static, a global, a parameter
+-- GOTO to other things than labels: a manifest, a static, a global, a parameter
 goto_manifest : section_fault (section (manifest l 1 ∷ []) (only goto_l)) ≡ Some AMisplaced
 goto_manifest = refl
 

@@ -1,4 +1,4 @@
--- Worked examples of what sections mean, command by command, over the trees with names.
+-- Worked examples of what sections mean, command by command, for the trees with names.
 use Rattle.std.specs.Prelude.{ℕ, ◌≡◌, codes, map, List, [], ◌∷◌, refl}
 use Rattle.bc_parse_tree.specs.declared.tree.Storage.TheVariants as storage
 use Rattle.bc_parse_tree.specs.declared.tree.Dyadic.TheVariants as dyadic
@@ -11,7 +11,7 @@ use Rattle.bc_scope_defs.specs.worked.Written.{load, address_of, minus, opposite
 
 -- ---- Worked examples
 
--- LET X = 0, and then these
+-- LET X = 0, followed by these commands
 abbrev with_x : List Command → Result
 with_x cs = run (body (variable x (number 0) ∷ []) (map plain cs))
 
@@ -24,7 +24,7 @@ when e c = tree.If e (commands (c ∷ []))
 abbrev add_one : Command
 add_one = set x (plus (of x) (number 1))
 
--- Loops: X := X + 1; IF X = 4 DO BREAK; IF X = 2 DO LOOP; WRCH('0' + X): 1, 3, and 4 after the loop
+-- loops: X := X + 1; IF X = 4 DO BREAK; IF X = 2 DO LOOP; WRCH('0' + X) prints 1, 3, and after the loop 4
 abbrev round : List Command
 round = add_one ∷ when (equals 4) tree.Break ∷ when (equals 2) tree.Loop ∷ digit (of x) ∷ []
 
@@ -46,7 +46,8 @@ repeat_while_loop = refl
 repeat_until_loop : counting (tree.RepeatUntil (tree.Compound (commands round)) tree.False)
 repeat_until_loop = refl
 
--- where they end: WHILE X < 2 and UNTIL X = 2 test first, X := X + 1 REPEATWHILE X < 2 and REPEATUNTIL X = 2 after the command
+-- where loops end: WHILE X < 2 and UNTIL X = 2 test first, X := X + 1 REPEATWHILE X < 2 and REPEATUNTIL X = 2 after
+-- the command
 ends : (with_x (tree.While (two dyadic.Less (of x) (number 2)) (commands (add_one ∷ [])) ∷ digit (of x) ∷ []) ≡ printed (50 ∷ []))
     × (with_x (tree.Until (equals 2) (commands (add_one ∷ [])) ∷ digit (of x) ∷ []) ≡ printed (50 ∷ []))
     × (with_x (tree.RepeatWhile add_one (two dyadic.Less (of x) (number 2)) ∷ digit (of x) ∷ []) ≡ printed (50 ∷ []))
@@ -67,7 +68,7 @@ fors : (for_by (number 1) (number 8) (number 3) ≡ printed (49 ∷ 52 ∷ 55 �
     × (for_by (number 1) (number 0) (number 1) ≡ printed [])
 fors = (refl, refl, refl)
 
--- IF, UNLESS and TEST, of 7 and of 0
+-- IF, UNLESS and TEST, with 7 and with 0
 abbrev marks : Command
 marks = digit (number 1)
 
@@ -96,7 +97,8 @@ switched n = with_x (tree.SwitchOn (number n) (items (with_case 1 (digit (number
 switches : (switched 1 ≡ printed (49 ∷ 52 ∷ [])) × (switched 9 ≡ printed (50 ∷ 51 ∷ 52 ∷ [])) × (switched 3 ≡ printed (51 ∷ 52 ∷ []))
 switches = (refl, refl, refl)
 
--- FINISH, and RETURN in a routine that is called: print 1; FINISH; print 2, and F(); print 2 with LET F() BE $( print 1; RETURN; print 3 $)
+-- FINISH, and RETURN in a routine that was called: print 1; FINISH; print 2, and F(); print 2 with LET F() BE $(
+-- print 1; RETURN; print 3 $)
 finish : with_x (digit (number 1) ∷ tree.Finish ∷ digit (number 2) ∷ []) ≡ printed (49 ∷ [])
 finish = refl
 
@@ -111,12 +113,12 @@ returns = refl
 value_of_be : among (tree.Routine f [] (commands []) ∷ []) (digit (call f []) ∷ []) ≡ printed (48 ∷ [])
 value_of_be = refl
 
--- LET F(X) = X = 0 -> 0, X + F(X - 1), of 3
+-- LET F(X) = X = 0 -> 0, X + F(X - 1), called with 3
 recursion : among (tree.Function f (x ∷ []) (tree.Condition (equals 0) (number 0) (plus (of x) (call f (two dyadic.Subtract (of x) (number 1) ∷ [])))) ∷ [])
     (digit (call f (number 3 ∷ [])) ∷ []) ≡ printed (54 ∷ [])
 recursion = refl
 
--- the first call has its own X: LET F(X) BE $( IF X DO F(X - 1); print X $), of 2
+-- each call has its own X: LET F(X) BE $( IF X DO F(X - 1); print X $), called with 2
 own_parameter : among (tree.Routine f (x ∷ []) (commands (when (of x) (do_call f (two dyadic.Subtract (of x) (number 1) ∷ [])) ∷ digit (of x) ∷ [])) ∷ [])
     (do_call f (number 2 ∷ []) ∷ []) ≡ printed (48 ∷ 49 ∷ 50 ∷ [])
 own_parameter = refl
@@ -136,7 +138,8 @@ routine_as_value : runs (section (lets (tree.Routine f (x ∷ []) (commands (dig
     ≡ printed (51 ∷ [])
 routine_as_value = refl
 
--- a nested routine, and a static that it counts in: STATIC $( A = 3 $); LET START() BE $( LET F() BE A := A + 1; F(); F(); print A $)
+-- a nested routine, and a static that it counts in: STATIC $( A = 3 $); LET START() BE $( LET F() BE A := A + 1; F();
+-- F(); print A $)
 nested_routine : runs (section (constants storage.Static ((a, number 3) ∷ []) ∷ [])
     (body (lets (tree.Routine f [] (commands (set a (plus (of a) (number 1)) ∷ [])) ∷ []) ∷ []) (plain (do_call f []) ∷ plain (do_call f []) ∷ plain
     (digit (of a)) ∷ [])))
@@ -151,22 +154,22 @@ vectors : in_vector (plain (tree.Assign (list (index (of v) (number 0) ∷ index
     ∷ plain (digit (index (of v) (number 0))) ∷ plain (digit (index (of v) (number 1))) ∷ []) ≡ printed (49 ∷ 50 ∷ [])
 vectors = refl
 
--- V!2 isn't one of its cells: V!1 := 1 and V!2 := 1
+-- V!2 isn't one of V's cells: V!1 := 1 and V!2 := 1
 after_vector : (in_vector (plain (store (index (of v) (number 1)) (number 1)) ∷ []) ≡ printed []) × (in_vector (plain (store (index (of v) (number 2))
     (number 1)) ∷ []) ≡ Wild)
 after_vector = (refl, refl)
 
--- (TABLE 7, 8)!1; a table is one for all calls: LET F() = TABLE 1; !F() := 5; print !F()
+-- (TABLE 7, 8)!1; a table is the same for all calls: LET F() = TABLE 1; !F() := 5; print !F()
 tables : (with_x (digit (index (tree.Table (list (number 7 ∷ number 8 ∷ []))) (number 1)) ∷ []) ≡ printed (56 ∷ []))
     × (among (tree.Function f [] (tree.Table (list (number 1 ∷ []))) ∷ []) (store (load (call f [])) (number 5) ∷ digit (load (call f [])) ∷ [])
     ≡ printed (53 ∷ []))
 tables = (refl, refl)
 
--- "A*N" has two bytes, as its first byte says: print "A*N"!0 >> 8
+-- "A*N" has two bytes, which is its first byte: print "A*N"!0 >> 8
 strings : with_x (digit (two dyadic.ShiftRight (index (tree.Text (codes "\"A*N\"")) (number 0)) (number 8)) ∷ []) ≡ printed (50 ∷ [])
 strings = refl
 
--- L: $( LET Y = 5; X := X + 1; IF X < 3 DO GOTO L; print X + Y $): out of the block, whose Y is set again
+-- L: $( LET Y = 5; X := X + 1; IF X < 3 DO GOTO L; print X + Y $) leaves the block, whose Y is set again
 out_of_a_block : run (body (variable x (number 0) ∷ []) (labelled l (tree.Compound (body (variable y (number 5) ∷ [])
     (plain add_one ∷ plain (when (two dyadic.Less (of x) (number 3)) (tree.Goto l)) ∷ plain (digit (plus (of x) (of y))) ∷ []))) ∷ [])) ≡ printed (56 ∷ [])
 out_of_a_block = refl
@@ -177,17 +180,18 @@ within_cases : with_x (tree.SwitchOn (number 1) (items (labelled l (digit (numbe
     ≡ printed (49 ∷ 50 ∷ [])
 within_cases = refl
 
--- NOT of a value turns its bits, of a test its truth: print NOT -2, and IF NOT 1 DO ..
+-- NOT of a value inverts its bits, NOT of a test its truth: print NOT -2, and IF NOT 1 DO ..
 nots : (with_x (digit (opposite (minus (number 2))) ∷ []) ≡ printed (49 ∷ [])) × (with_x (when (opposite (number 1)) marks ∷ []) ≡ printed [])
     × (with_x (when (opposite (number 0)) marks ∷ []) ≡ printed (49 ∷ []))
 nots = (refl, refl, refl)
 
--- IF 1 & 2 DO .. does, as both are true; the value of 1 & 2 is 0
+-- IF 1 & 2 DO .. holds, since both are true; the value of 1 & 2 is 0
 ands : (with_x (when (two dyadic.And (number 1) (number 2)) marks ∷ []) ≡ printed (49 ∷ [])) × (with_x (digit (two dyadic.And (number 1) (number 2))
     ∷ []) ≡ printed (48 ∷ []))
 ands = (refl, refl)
 
--- the right side of `&` and of the bar isn't met where the left one decides: IF 0 & 1/0 DO .., IF 1 | 1/0 DO ..; and met elsewhere
+-- the right operand of `&` and of the bar isn't evaluated if the left one decides: IF 0 & 1/0 DO .., IF 1 | 1/0 DO
+-- ..; elsewhere it is
 abbrev fault : Exp
 fault = two dyadic.Divide (number 1) (number 0)
 

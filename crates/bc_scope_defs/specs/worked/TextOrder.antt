@@ -1,4 +1,4 @@
--- Worked examples of text order: which of two faults is the first.
+-- Worked examples of text order: which of two faults comes first.
 use Rattle.std.specs.Prelude.{◌≡◌, [], ◌∷◌, Option, Some, None, refl}
 use Rattle.bc_parse_tree.specs.declared.tree.Storage.TheVariants as storage
 use Rattle.bc_parse_tree.specs.declared.tree.Dyadic.TheVariants as dyadic
@@ -11,7 +11,7 @@ use Rattle.bc_scope_defs.specs.worked.Written.{fault_in, fault_of, address_of, p
 
 -- ---- Worked examples
 
--- The names A, B, X and Y aren't known, but where a line declares them.
+-- The names A, B, X and Y aren't in scope unless a line declares them.
 
 abbrev first_is : Command → Name → Type 0
 first_is c n = fault_of c ≡ Some (AnUndeclared n)
@@ -29,7 +29,7 @@ choices = refl
 second_part : first_is (do_call start (tree.Condition (number 1) (of b) (of x) ∷ [])) b
 second_part = refl
 
--- the routine stands before its arguments: A(B); START(A, B)
+-- the routine comes before its arguments: A(B); START(A, B)
 calls : first_is (do_call a (of b ∷ [])) a
 calls = refl
 
@@ -62,7 +62,7 @@ undeclared_first = refl
 twice_first : fault_in (body (lets (variables (a ∷ []) (number 1 ∷ []) ∷ variables (a ∷ []) (of y ∷ []) ∷ []) ∷ []) []) ≡ Some (ADeclaredTwice a)
 twice_first = refl
 
--- LET A, A = Y, 1: the names stand in front
+-- LET A, A = Y, 1: the names come first
 names_first : fault_in (body (lets (variables (a ∷ a ∷ []) (of y ∷ number 1 ∷ []) ∷ []) ∷ []) []) ≡ Some (ADeclaredTwice a)
 names_first = refl
 
@@ -80,7 +80,7 @@ parameters_first : (outside (tree.Function f (a ∷ a ∷ []) (of y)) ≡ Some (
     ≡ Some (AnUndeclared y))
 parameters_first = (refl, refl)
 
--- LET F() = 1 AND F(A, A) = Y: the routine's name stands before its parameters
+-- LET F() = 1 AND F(A, A) = Y: the routine's name comes before its parameters
 name_first : section_fault (declarations (lets (tree.Function f [] (number 1) ∷ tree.Function f (a ∷ a ∷ []) (of y) ∷ []) ∷ [])) ≡ Some (ADeclaredTwice f)
 name_first = refl
 
@@ -101,7 +101,7 @@ entries_of_names : (two_entries (of y) (number 1) ≡ Some (AnUndeclared y)) × 
     × (two_entries (number 1) (of y) ≡ Some (ADeclaredTwice a))
 entries_of_names = (refl, refl, refl)
 
--- FOR I = A TO B BY X DO Y := 1, one by one
+-- FOR I = A TO B BY X DO Y := 1: one after the other
 abbrev all_of_for : (first last step : Exp) → Command
 all_of_for first last step = tree.ForBy v first last step (commands (set y (number 1) ∷ []))
 
@@ -117,11 +117,11 @@ for_step = refl
 for_body : first_is (all_of_for (number 1) (number 2) (number 3)) y
 for_body = refl
 
--- a K that is no constant stands before the body: FOR I = 1 TO 2 BY 1/0 DO Y := 1
+-- a K that isn't a constant comes before the body: FOR I = 1 TO 2 BY 1/0 DO Y := 1
 step_before_body : fault_of (all_of_for (number 1) (number 2) (two dyadic.Divide (number 1) (number 0))) ≡ Some ANotConstant
 step_before_body = refl
 
--- RESULTIS A, and RESULTIS 1, outside of a VALOF; IF A DO BREAK, and IF 1 DO BREAK
+-- RESULTIS A, and RESULTIS 1, outside a VALOF; IF A DO BREAK, and IF 1 DO BREAK
 results : (fault_of (tree.ResultIs (of a)) ≡ Some (AnUndeclared a)) × (fault_of (tree.ResultIs (number 1)) ≡ Some AMisplaced)
 results = (refl, refl)
 
@@ -147,7 +147,7 @@ switched = refl
 case_first : first_is (tree.SwitchOn (number 1) (items (cased (of b) (do_call x []) ∷ []))) b
 case_first = refl
 
--- outside of a SWITCHON: CASE Y:, CASE 1/0:, CASE 1:; its constant comes first
+-- outside a SWITCHON: CASE Y:, CASE 1/0:, CASE 1:; its constant comes first
 abbrev in_block : Exp → Option Fault
 in_block k = fault_in (body [] (cased k tree.Return ∷ []))
 
@@ -155,12 +155,12 @@ cases : (in_block (of y) ≡ Some (AnUndeclared y)) × (in_block (two dyadic.Div
     ≡ Some AMisplaced)
 cases = (refl, refl, refl)
 
--- CASE 1: CASE 1: in a block is Misplaced at the first one, DEFAULT: DEFAULT: likewise
+-- CASE 1: CASE 1: in a block is Misplaced at the first one, and so is DEFAULT: DEFAULT:
 misplaced_first : (fault_in (body [] (cased (number 1) tree.Return ∷ cased (number 1) tree.Return ∷ [])) ≡ Some AMisplaced)
     × (fault_in (body [] (by_default tree.Return ∷ by_default tree.Return ∷ [])) ≡ Some AMisplaced)
 misplaced_first = (refl, refl)
 
--- CASE 1: A(); CASE 1: B(): the command of the first one stands before the second one
+-- CASE 1: A(); CASE 1: B(): the command of the first one comes before the second one
 command_between : first_is (tree.SwitchOn (number 1) (items (cased (number 1) (do_call a []) ∷ cased (number 1) (do_call b []) ∷ []))) a
 command_between = refl
 
@@ -171,7 +171,7 @@ twice_before_command = refl
 labels_between : fault_in (body [] (labelled l (do_call a []) ∷ labelled l (do_call b []) ∷ [])) ≡ Some (AnUndeclared a)
 labels_between = refl
 
--- declarations stand before commands: LET X = A; B()
+-- declarations come before commands: LET X = A; B()
 declarations_first : fault_in (body (variable x (of a) ∷ []) (plain (do_call b []) ∷ [])) ≡ Some (AnUndeclared a)
 declarations_first = refl
 
@@ -180,6 +180,6 @@ tables : (fault_of (do_call start (tree.Table (list (of a ∷ of b ∷ [])) ∷ 
     × (fault_of (do_call start (tree.Table (list (two dyadic.Divide (number 1) (number 0) ∷ of b ∷ [])) ∷ [])) ≡ Some ANotConstant)
 tables = (refl, refl)
 
--- in one constant what isn't known comes first: TABLE 1/0 + B
+-- in one constant a name that isn't in scope comes first: TABLE 1/0 + B
 within_constant : first_is (do_call start (tree.Table (list (plus (two dyadic.Divide (number 1) (number 0)) (of b) ∷ [])) ∷ [])) b
 within_constant = refl

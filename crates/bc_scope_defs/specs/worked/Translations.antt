@@ -15,7 +15,7 @@ use Rattle.bc_scope_defs.specs.worked.Written.{minus, opposite, plus, at, these,
 
 -- ---- Worked examples
 
--- a command at level 4, with X and Y at 2 and 3
+-- a command at the level 4, with X and Y at 2 and 3
 abbrev names : Env
 names = record { names = (x, Variable 2) ∷ (y, Variable 3) ∷ []; inside = true }
 
@@ -29,7 +29,7 @@ nothing = c.block [] c.no_item
 ifs : (translated (tree.If (of x) (commands [])) ≡ c.If true (at 2) nothing) × (translated (tree.Unless (of x) (commands [])) ≡ c.If false (at 2) nothing)
 ifs = (refl, refl)
 
--- IF NOT X DO keeps the NOT, IF NOT X = Y DO is IF X NE Y DO
+-- IF NOT X DO keeps the NOT, IF NOT X = Y DO becomes IF X NE Y DO
 nots : (translated (tree.If (opposite (of x)) (commands [])) ≡ c.If true (core.Not (at 2)) nothing)
     × (translated (tree.If (opposite (two dyadic.Equal (of x) (of y))) (commands [])) ≡ c.If true (core.Bin operators.NotEqual (at 2) (at 3)) nothing)
 nots = (refl, refl)
@@ -47,18 +47,18 @@ loops : (translated (tree.While (of x) (commands [])) ≡ c.While true (at 2) no
     × (translated (tree.RepeatUntil tree.Break (of x)) ≡ c.RepeatWhile (c.block [] (these (c.Break ∷ []))) false (at 2))
 loops = (refl, refl, refl, refl, refl)
 
--- $( BREAK $) REPEAT: the block that is repeated is a command of its own
+-- $( BREAK $) REPEAT: the block that is repeated is a separate command
 block_repeated : translated (tree.Repeat (tree.Compound (commands (tree.Break ∷ [])))) ≡ c.Repeat (c.block [] (these (c.Nested (c.block [] (these
     (c.Break ∷ []))) ∷ [])))
 block_repeated = refl
 
--- FOR V = X TO Y DO V := 1, and BY -2: V stands at 4, its limit at 5
+-- FOR V = X TO Y DO V := 1, and with BY -2: V is at 4, its limit at 5
 fors : (translated (tree.For v (of x) (of y) (commands (set v (number 1) ∷ []))) ≡ c.For (at 2) (at 3) 1 (c.block [] (these (c.Assign (core.Num 1)
     (core.Frame 4) ∷ []))))
     × (translated (tree.ForBy v (of x) (of y) (minus (number 2)) (commands [])) ≡ c.For (at 2) (at 3) 65534 nothing)
 fors = (refl, refl)
 
--- in its body a block's variable stands at 6: FOR V = X TO Y DO $( LET G = V $)
+-- in its body a block's variable is at 6: FOR V = X TO Y DO $( LET G = V $)
 variable_in_for : translated (tree.For v (of x) (of y) (body (variable g (of v) ∷ []) [])) ≡ c.For (at 2) (at 3) 1 (c.block ((c.Initial (at 4) ∷ [])
     ∷ []) c.no_item)
 variable_in_for = refl
@@ -84,7 +84,7 @@ switches : translated (tree.SwitchOn (of x) (items (with_case 1 tree.Break
     ≡ c.SwitchOn (at 2) (c.case 1 (c.command c.Break (c.label 0 (c.default (c.command (c.Goto 0) (c.case 2 c.no_item))))))
 switches = refl
 
--- Labels are numbered list by list: L: G: $( L: GOTO G; GOTO L $); GOTO L
+-- labels are numbered list by list: L: G: $( L: GOTO G; GOTO L $); GOTO L
 labels_numbered : core_of (alone (body [] (labelled l tree.Return ∷ labelled g (tree.Compound (body [] (labelled l (tree.Goto g) ∷ plain (tree.Goto l)
     ∷ []))) ∷ plain (tree.Goto l) ∷ [])))
     ≡ record {
@@ -95,7 +95,7 @@ labels_numbered : core_of (alone (body [] (labelled l tree.Return ∷ labelled g
     }
 labels_numbered = refl
 
--- VALOFs are numbered as they begin: VALOF RESULTIS VALOF RESULTIS 1, and after it VALOF RESULTIS 2
+-- VALOFs are numbered where they begin: VALOF RESULTIS VALOF RESULTIS 1, followed by VALOF RESULTIS 2
 abbrev gives : Exp → Exp
 gives e = tree.Valof (commands (tree.ResultIs e ∷ []))
 
@@ -109,7 +109,8 @@ valofs_numbered : core_of (declarations (lets (tree.Function f [] (plus (gives (
     }
 valofs_numbered = refl
 
--- places in text order: STATIC $( A = 1; B = 2 $); LET F() = "X" AND START() BE START(TABLE 3, F); the string is the fourth, START the fifth
+-- places in text order: STATIC $( A = 1; B = 2 $); LET F() = "X" AND START() BE START(TABLE 3, F); the string is the
+-- fourth, START the fifth
 abbrev starts : Command
 starts = do_call start (tree.Table (list (number 3 ∷ [])) ∷ of f ∷ [])
 

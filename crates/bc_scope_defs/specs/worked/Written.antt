@@ -1,4 +1,4 @@
--- Sections as they are written in the examples: their faults, frames and runs.
+-- Sections, written briefly for the examples, with their faults, frames and runs.
 use Rattle.std.specs.Prelude.{ℕ, ◌+◌, List, [], ◌∷◌, ◌++◌, Option}
 use Rattle.bc_parse_tree.specs.declared.tree.Storage.TheVariants as storage
 use Rattle.bc_parse_tree.specs.declared.tree.Dyadic.TheVariants as dyadic
@@ -22,7 +22,7 @@ use Rattle.bc_scope_defs.specs.Examples.{start, wrch, number, two, do_call, comm
 
 -- Faults
 
--- of `LET START() BE ..`
+-- the fault of `LET START() BE ..`
 abbrev pub fault_in : Block → Option Fault
 fault_in b = section_fault (alone b)
 
@@ -57,7 +57,7 @@ store x e = tree.Assign (tree.more x tree.none) (tree.more e tree.none)
 abbrev pub print : Exp → Command
 print e = do_call wrch (e ∷ [])
 
--- the digit of a small number
+-- prints a small number as a digit
 abbrev pub digit : Exp → Command
 digit e = print (plus (number 48) e)
 
@@ -88,7 +88,7 @@ run b = runs (section [] b)
 abbrev pub printed : List ℕ → Result
 printed bytes = Ended (bytes ∷ []) Finished
 
--- Frames, of the routines in text order
+-- Frames of the routines, in text order
 abbrev pub frames_among : List Thing → List ℕ
 frames_among [] = []
 frames_among (ARoutine r ∷ things) = frame_of r ∷ frames_among things

@@ -2,7 +2,7 @@
 use Rattle.std.specs.Prelude.{OnOk, Ok, Err}
 use Rattle.std.proofs.Common.{◌∙◌, subst, ◌++◌, ◌≤◌, ◌+◌, [], take, length, length-take, arith}
 use Rattle.bc_cert_defs.specs.View.{verdict}
-use Rattle.bc_cert_trees.specs.View.{Gives}
+use Rattle.bc_cert_read.specs.TreeView.{Gives}
 use Rattle.bc_cert_laws.specs.Judging.{start, finished}
 use Rattle.bc_cert.specs.View.{fed}
 use Rattle.bc_cert.proofs.Steps.{answer_at_end, fault_given, fed_more, consumes_more}

@@ -1,7 +1,7 @@
 -- What was found so far is what the bytes say that the reader gave.
 use Rattle.std.proofs.Common.{◌≡◌, ◌≤◌, ◌+◌, ℕ, List, [], Ok}
 use Rattle.std.specs.Io.KnownBytes.{Consumes}
-use Rattle.bc_cert_trees.specs.Stacks.{AreParallel}
+use Rattle.bc_cert_read.specs.Stacks.{AreParallel}
 use Rattle.bc_cert_laws.specs.Judging.{feed_from, start}
 use Rattle.bc_cert.specs.View.{state, fed}
 use Rattle.bc_cert.proofs.Short.{Leaves}

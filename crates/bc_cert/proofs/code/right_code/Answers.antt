@@ -1,6 +1,6 @@
 -- The code and the labels of a derivation are told by its rules.
 use Rattle.std.proofs.Common.{sym}
-use Rattle.bc_cert_trees.specs.View.{rooted}
+use Rattle.bc_cert_read.specs.TreeView.{rooted}
 use Rattle.bc_cert.proofs.Codes.{no_room, right_found}
 use Rattle.bc_cert.proofs.code.right_code.Goals as goal
 

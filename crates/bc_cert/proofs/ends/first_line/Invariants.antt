@@ -1,6 +1,6 @@
 -- No end of a line stands among the bytes so far.
 use Rattle.std.proofs.Common.{◌≡◌, take, drop}
-use Rattle.bc_cert_lines.specs.Fields.{cut, longer}
+use Rattle.bc_cert_read.specs.Fields.{cut, longer}
 use Rattle.bc_cert.proofs.ends.first_line.Given as goal
 
 abbrev pub invariant-loop-at : goal.invariant-loop-at

@@ -2,7 +2,7 @@
 use Rattle.std.specs.Prelude.{OnOk, Err}
 use Rattle.std.proofs.Common.{◌∙◌, ◌≡◌, ◌≤◌, ◌+◌, Ok, refl, ap, sym, subst, take, length, length-take, arith}
 use Rattle.bc_cert_defs.specs.View.{judged}
-use Rattle.bc_cert_trees.specs.Stacks.{AreParallel}
+use Rattle.bc_cert_read.specs.Stacks.{AreParallel}
 use Rattle.bc_cert.specs.View.{own, fed_after, gone}
 use Rattle.bc_cert.proofs.Lengths.{seen_length}
 use Rattle.bc_cert.proofs.Summed.{own_is_fed, found_none, found_more, found_moved, found_few, found_fault, found_answer}

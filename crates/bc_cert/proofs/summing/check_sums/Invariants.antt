@@ -1,6 +1,6 @@
 -- What was found so far is what the bytes say that the reader gave, after entries that are no longer kept.
 use Rattle.std.proofs.Common.{◌≡◌, ◌≤◌, ◌+◌, []}
-use Rattle.bc_cert_trees.specs.Stacks.{AreParallel}
+use Rattle.bc_cert_read.specs.Stacks.{AreParallel}
 use Rattle.bc_cert.specs.View.{own}
 use Rattle.bc_cert.proofs.Summed.{Found}
 use Rattle.bc_cert.proofs.Short.{Leaves}

@@ -5,7 +5,7 @@ use Rattle.bc_parse_tree.specs.View.{exps_view, declarations_view, definitions_v
 use Rattle.bc_parse_tree.specs.Adds.{joined}
 use Rattle.bc_parse_tree.proofs.spelling.+spelling.Given as goal
 
--- what is there, and after it what is left, is the whole
+-- the tokens up to here, followed by those of the remaining elements, are the whole spelling
 
 abbrev pub invariant-expressions-loop-each : goal.invariant-expressions-loop-each
 invariant-expressions-loop-each l =

@@ -1,7 +1,7 @@
 -- Each turn takes a line off.
 use Rattle.std.proofs.Common.{ap, subst, ◌∙◌, arith}
-use Rattle.bc_cert_lines.specs.View.{cut as seen_cut, slice}
-use Rattle.bc_cert_trees.specs.View.{Steps}
+use Rattle.bc_cert_read.specs.View.{cut as seen_cut, slice}
+use Rattle.bc_cert_read.specs.TreeView.{Steps}
 use Rattle.bc_cert.specs.View.{fed}
 use Rattle.bc_cert.proofs.Steps.{feed_last, feed_on, feed_fails}
 use Rattle.bc_cert.proofs.checker.Checker.feed.Goals as goal

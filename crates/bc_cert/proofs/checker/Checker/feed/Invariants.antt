@@ -1,6 +1,6 @@
 -- What is left of the bytes goes on from what was found so far, and gets shorter.
 use Rattle.std.proofs.Common.{◌≡◌, ◌≤◌, ◌+◌, length}
-use Rattle.bc_cert_trees.specs.Stacks.{AreParallel}
+use Rattle.bc_cert_read.specs.Stacks.{AreParallel}
 use Rattle.bc_cert_laws.specs.Judging.{feed_from}
 use Rattle.bc_cert.specs.View.{state, fed}
 use Rattle.bc_cert.proofs.checker.Checker.feed.Given as goal

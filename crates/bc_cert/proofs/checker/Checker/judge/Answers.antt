@@ -1,6 +1,6 @@
 -- A line between entries.
 use Rattle.std.proofs.Common.{◌≡◌, ap, sym, ◌∙◌, subst}
-use Rattle.bc_cert_trees.specs.View.{Steps}
+use Rattle.bc_cert_read.specs.TreeView.{Steps}
 use Rattle.bc_cert.specs.View.{state, stage}
 use Rattle.bc_cert.proofs.Steps.{between_line}
 use Rattle.bc_cert.proofs.checker.Checker.judge.Goals as goal

@@ -2,7 +2,7 @@ use Rattle.std.proofs.Common.{arith}
 use Rattle.bc_scope_faults.proofs.Held.{exp_held, entry_held, declaration_held, definition_held, item_held, label_held}
 use Rattle.bc_scope_places.proofs.walk.Walk.+places.Goals as goal
 
--- each call is of less than is left to walk: said here, since the search goes through all that the calls before it gave
+-- Each call gets less than remains to be walked. This is said here because the search would go through all earlier calls' clauses.
 
 pub table-constants-requires : goal.table-constants-requires
 table-constants-requires t c = (omega (arith, c.decreases), tt)

@@ -3,7 +3,7 @@ use Rattle.bc_parse_tree.specs.Size.{block_size, command_size, declaration_size,
 use Rattle.bc_parse_tree.specs.View.{block_view, command_view, declaration_view, declarations_view, definition_view, definitions_view, entries_view, exp_view, exps_view, item_view, items_view, label_view, labels_view}
 use Rattle.bc_scope_places.proofs.walk.Walk.+places.Given as goal
 
--- each measure is 16 times the size of what is left to walk, with a rank among the functions that hand the same on
+-- each measure is 16 times the size of the trees that remain to be walked, plus a rank among functions that pass the same trees on
 
 abbrev pub decreases-expression : goal.decreases-expression
 decreases-expression l = 16 * exp_size (exp_view l.e.now)

@@ -1,7 +1,0 @@
--- What is left goes on from the number so far.
-use Rattle.std.proofs.Common.{◌≡◌, ◌<◌, ◌^◌, drop}
-use Rattle.bc_cert_lines.specs.Fields.{digits_from}
-use Rattle.bc_cert_lines.proofs.fields.digits.Given as goal
-
-abbrev pub invariant-loop-digit : goal.invariant-loop-digit
-invariant-loop-digit l = record { same : digits_from l.value (drop l.digit-index l.text) ≡ digits_from 0 l.text; below : l.value < 2 ^ 64 }

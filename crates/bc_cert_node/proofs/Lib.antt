@@ -1,2 +1,0 @@
-pub mod Minima
-pub mod Least

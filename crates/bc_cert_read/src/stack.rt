@@ -1,0 +1,482 @@
+// The trees of an entry that no whole has taken yet.
+
+ghost use Rattle.std.specs.Prelude.{◌≡◌, ◌≤◌, drop, length, OnOk, IfOk};
+ghost use Rattle.bc_core.specs.View.{exp};
+ghost use Rattle.bc_rules_defs.specs.View.{derivation as tree};
+ghost use Rattle.bc_cert_read.specs.Showing.{judged as judged_of};
+ghost use Rattle.bc_cert_read.specs.Wholes.{whole as whole_of};
+ghost use Rattle.bc_cert_read.specs.Stacks.{no_trees, node_step, line_node, with_whole, without_expressions, node_judged_over, put_over, derived_over, seen_over, root_step, one_tree, two_trees, value_root, test_root, assign_root, side as side_of, sides_show as sides_show_of, assigned as assigned_of, fitting as fitting_of, any_calls, second_zero, AreParallel};
+ghost use Rattle.bc_cert_read.specs.TreeView.{stack, one as one_of, only as only_of, both as both_of, rooted as rooted_of, Steps, Gives};
+
+use crate::mark::{Mark, Shown, all_bare, depth_over, levels_fit};
+use crate::one::One;
+use crate::position::Position;
+use crate::rooted::Rooted;
+use crate::shown::judged;
+use crate::sides::Sides;
+use crate::taken::{by_rule, derived};
+use crate::whole::whole;
+use crate::{Facts, Node, NodeLine, RootLine, Rules, words_as_operand};
+use bc_cert_defs::CheckFault;
+use bc_core::{CoreExp, Root};
+use bc_rules_defs::{Aim, Derivation, Mode, Rule, Table};
+use bc_word::Memory;
+use std::alloc::Global;
+
+/// The most nodes one within another.
+const DEPTH_LIMIT: u32 = 400;
+
+/// The trees of an entry that no whole has taken yet, in the order of their lines.
+#[derive(Drop)]
+pub struct Stack {
+    marks: Vec<Mark>,
+    facts: Vec<Facts>,
+    expressions: Vec<CoreExp>,
+    derivations: Vec<Derivation>,
+}
+
+/// The marks from a place on.
+fn marks_from(items: &[Mark], at: usize) -> &[Mark]
+    requires { at ≤ length items.now }
+    ensures { result.now ≡ drop at items.now }
+{
+    items.split_at(at).1
+}
+
+/// The facts from a place on.
+fn facts_from(items: &[Facts], at: usize) -> &[Facts]
+    requires { at ≤ length items.now }
+    ensures { result.now ≡ drop at items.now }
+{
+    items.split_at(at).1
+}
+
+/// The depth of a node over these parts, where their levels are right and it is not too deep.
+fn fitting(line: &NodeLine, parts: &[Mark], place: Position) -> Result<u16, CheckFault>
+    ensures { result ≡ fitting_of line.now parts.now place }
+{
+    if levels_fit(line.level, line.form, parts) {
+        let depth = depth_over(parts);
+        if depth <= DEPTH_LIMIT {
+            Ok(depth as u16)
+        } else {
+            Err(CheckFault::TooDeep(place.line))
+        }
+    } else {
+        Err(CheckFault::Line(place.line))
+    }
+}
+
+/// Whether a part holds a call or a VALOF.
+fn calls(parts: &[Facts]) -> bool
+    ensures { result ≡ any_calls parts.now }
+{
+    for part in parts {
+        if part.calls {
+            return true;
+        }
+    }
+    false
+}
+
+/// Whether the second part is the number 0.
+fn second_is_zero(parts: &[Facts]) -> bool
+    ensures { result ≡ second_zero parts.now }
+{
+    match parts {
+        [_, second, ..] => second.is_zero(),
+        _ => false,
+    }
+}
+
+impl Stack {
+    /// No trees.
+    pub fn new(alloc: Global) -> Stack
+        ensures { stack result ≡ no_trees }
+    {
+        Stack {
+            marks: Vec::new(alloc),
+            facts: Vec::new(alloc),
+            expressions: Vec::new(alloc),
+            derivations: Vec::new(alloc),
+        }
+    }
+
+    /// Takes all trees off.
+    pub fn clear(&mut self)
+        ensures { stack self.new ≡ no_trees }
+    {
+        self.marks.truncate(0);
+        self.facts.truncate(0);
+        self.expressions.truncate(0);
+        self.derivations.truncate(0);
+    }
+
+    /// A node line: it takes the trees of its parts, and puts its own there.
+    pub fn node(
+        &mut self,
+        alloc: Global,
+        table: Table,
+        line: &NodeLine,
+        place: Position,
+    ) -> Result<(), CheckFault>
+        requires { AreParallel (stack self.old) }
+        ensures exact { Steps (stack self.new) result (node_step table line.now place (stack self.old)) }
+        ensures parallel { OnOk result (AreParallel (stack self.new)) }
+    {
+        let count = line.form.parts();
+        if self.facts.len() < count {
+            return Err(CheckFault::Line(place.line));
+        }
+        let from = self.facts.len() - count;
+        let depth = fitting(line, marks_from(&self.marks, from), place)?;
+        let expression = self.expression(alloc, line, from, place)?;
+        self.judge(alloc, table, line, expression, from, depth, place)
+    }
+
+    /// The expression of a node over the trees from a place on, which it takes off.
+    #[tactic(auto, using(crate::proofs::Nodes::take_seen, crate::proofs::Nodes::drop_seen))]
+    fn expression(
+        &mut self,
+        alloc: Global,
+        line: &NodeLine,
+        from: usize,
+        place: Position,
+    ) -> Result<CoreExp, CheckFault>
+        requires { from ≤ length self.old.expressions.items }
+        ensures exact { Gives exp result (with_whole place (whole_of line.now.form (drop from (stack self.old).expressions))) }
+        ensures rest { OnOk result (stack self.new ≡ without_expressions from (stack self.old)) }
+        ensures len { OnOk result (length self.new.expressions.items ≡ from) }
+    {
+        let parts = self.expressions.split_off(from)?;
+        match whole(alloc, line.form, parts)? {
+            Some(expression) => Ok(expression),
+            None => Err(CheckFault::Line(place.line)),
+        }
+    }
+
+    /// Judges a node line whose expression was taken off, and puts its tree there.
+    fn judge(
+        &mut self,
+        alloc: Global,
+        table: Table,
+        line: &NodeLine,
+        e: CoreExp,
+        from: usize,
+        depth: u16,
+        place: Position,
+    ) -> Result<(), CheckFault>
+        requires facts { from ≤ length self.old.facts.items }
+        requires marks { from ≤ length self.old.marks.items }
+        requires derivations { from ≤ length self.old.derivations.items }
+        ensures exact { Steps (stack self.new) result (node_judged_over table line.now place (stack self.old) from depth (exp e)) }
+        ensures parallel { length self.old.expressions.items ≡ from → OnOk result (AreParallel (stack self.new)) }
+    {
+        match self.shown(table, line, &e, from, place) {
+            Ok(shown) => {
+                self.put(alloc, line, e, from, depth, shown)?;
+                Ok(())
+            }
+            Err(fault) => Err(fault),
+        }
+    }
+
+    /// The aims that a node line shows.
+    fn shown(
+        &self,
+        table: Table,
+        line: &NodeLine,
+        e: &CoreExp,
+        from: usize,
+        place: Position,
+    ) -> Result<Shown, CheckFault>
+        requires facts { from ≤ length self.now.facts.items }
+        requires marks { from ≤ length self.now.marks.items }
+        ensures { result ≡ judged_of (line_node table line.now (exp e.now) (drop from self.now.facts.items)) (drop from self.now.marks.items) line.now place }
+    {
+        let node = Node {
+            table,
+            level: line.level,
+            form: line.form,
+            operand: words_as_operand(e),
+            parts: facts_from(&self.facts, from),
+        };
+        judged(&node, marks_from(&self.marks, from), line, place)
+    }
+
+    /// Puts the tree of a node there, in place of those of its parts.
+    fn put(
+        &mut self,
+        alloc: Global,
+        line: &NodeLine,
+        e: CoreExp,
+        from: usize,
+        depth: u16,
+        shown: Shown,
+    ) -> Result<(), Memory>
+        requires facts { from ≤ length self.old.facts.items }
+        requires marks { from ≤ length self.old.marks.items }
+        requires derivations { from ≤ length self.old.derivations.items }
+        ensures exact { OnOk result (stack self.new ≡ put_over line.now (stack self.old) from depth (exp e) shown) }
+        ensures parallel { length self.old.expressions.items ≡ from → OnOk result (AreParallel (stack self.new)) }
+    {
+        self.derive(alloc, line, from)?;
+        self.seen(line, &e, from, depth, shown)?;
+        self.expressions.push(e)?;
+        Ok(())
+    }
+
+    /// Puts the derivation of a node in place of those of its parts.
+    #[tactic(auto, using(crate::proofs::Nodes::trees_take_seen, crate::proofs::Nodes::trees_drop_seen, crate::proofs::Nodes::trees_push_seen))]
+    fn derive(&mut self, alloc: Global, line: &NodeLine, from: usize) -> Result<(), Memory>
+        requires facts { from ≤ length self.old.facts.items }
+        requires derivations { from ≤ length self.old.derivations.items }
+        ensures { OnOk result (stack self.new ≡ derived_over line.now (stack self.old) from) }
+    {
+        let parts = self.derivations.split_off(from)?;
+        let zero = second_is_zero(facts_from(&self.facts, from));
+        let derivation = derived(alloc, line.rules, zero, parts)?;
+        self.derivations.push(derivation)?;
+        Ok(())
+    }
+
+    /// Puts the mark and the facts of a node in place of those of its parts.
+    fn seen(
+        &mut self,
+        line: &NodeLine,
+        e: &CoreExp,
+        from: usize,
+        depth: u16,
+        shown: Shown,
+    ) -> Result<(), Memory>
+        requires facts { from ≤ length self.old.facts.items }
+        requires marks { from ≤ length self.old.marks.items }
+        ensures { OnOk result (stack self.new ≡ seen_over line.now (exp e.now) from depth shown (stack self.old)) }
+    {
+        let calls = line.form.calls() || calls(facts_from(&self.facts, from));
+        let taken = match line.rules {
+            Rules::Taken => true,
+            Rules::Named(_) | Rules::Wrong => false,
+        };
+        let is_bare = taken && all_bare(marks_from(&self.marks, from));
+        self.facts.truncate(from);
+        self.facts.push(Facts::of(e, calls, line.costs))?;
+        self.marks.truncate(from);
+        self.marks.push(Mark {
+            level: line.level,
+            depth,
+            shown,
+            is_bare,
+        })?;
+        Ok(())
+    }
+
+    /// The one tree, if there is one alone.
+    fn only(&mut self) -> Option<One>
+        requires { AreParallel (stack self.old) }
+        ensures { only_of result ≡ one_tree (stack self.old) }
+    {
+        if self.facts.len() != 1 {
+            return None;
+        }
+        let mark = self.marks[0];
+        let facts = self.facts[0];
+        match (self.expressions.pop(), self.derivations.pop()) {
+            (Some(expression), Some(derivation)) => Some(One {
+                mark,
+                facts,
+                expression,
+                derivation,
+            }),
+            _ => None,
+        }
+    }
+
+    /// The two trees, if there are just two.
+    fn both(&mut self) -> Option<(One, One)>
+        requires { AreParallel (stack self.old) }
+        ensures { both_of result ≡ two_trees (stack self.old) }
+    {
+        if self.facts.len() != 2 {
+            return None;
+        }
+        let marks = (self.marks[0], self.marks[1]);
+        let facts = (self.facts[0], self.facts[1]);
+        match (
+            self.expressions.pop(),
+            self.expressions.pop(),
+            self.derivations.pop(),
+            self.derivations.pop(),
+        ) {
+            (Some(right), Some(left), Some(following), Some(before)) => Some((
+                One {
+                    mark: marks.0,
+                    facts: facts.0,
+                    expression: left,
+                    derivation: before,
+                },
+                One {
+                    mark: marks.1,
+                    facts: facts.1,
+                    expression: right,
+                    derivation: following,
+                },
+            )),
+            _ => None,
+        }
+    }
+
+    /// A root line: the root that the trees are, with the rules that they show.
+    pub fn root(
+        &mut self,
+        alloc: Global,
+        line: RootLine,
+        place: Position,
+    ) -> Result<Rooted, CheckFault>
+        requires { AreParallel (stack self.old) }
+        ensures { Gives rooted_of result (root_step line place (stack self.old)) }
+    {
+        match line {
+            RootLine::Value => match self.only() {
+                Some(one) => value(one, place),
+                None => Err(CheckFault::Line(place.line)),
+            },
+            RootLine::Test(sense) => match self.only() {
+                Some(one) => test(one, sense, place),
+                None => Err(CheckFault::Line(place.line)),
+            },
+            RootLine::Assign(rule, level) => match self.both() {
+                Some((value, address)) => assignment(alloc, rule, level, value, address, place),
+                None => Err(CheckFault::Line(place.line)),
+            },
+        }
+    }
+}
+
+/// A value as root.
+fn value(one: One, place: Position) -> Result<Rooted, CheckFault>
+    ensures { Gives rooted_of result (value_root place (one_of one)) }
+{
+    if one.mark.shown.has(Aim::Gets(Mode::Any)) {
+        Ok(Rooted {
+            words: u128::from(one.facts.costs.any),
+            root: Root::Value {
+                level: one.mark.level,
+                expression: one.expression,
+            },
+            derivation: one.derivation,
+        })
+    } else {
+        Err(CheckFault::WrongRule(place.entry, place.node))
+    }
+}
+
+/// A test as root.
+fn test(one: One, sense: bool, place: Position) -> Result<Rooted, CheckFault>
+    ensures { Gives rooted_of result (test_root sense place (one_of one)) }
+{
+    if one.mark.shown.has(Aim::Jumps(sense)) {
+        let words = if sense {
+            one.facts.costs.on_true
+        } else {
+            one.facts.costs.on_false
+        };
+        Ok(Rooted {
+            words: u128::from(words),
+            root: Root::Test {
+                level: one.mark.level,
+                sense,
+                expression: one.expression,
+            },
+            derivation: one.derivation,
+        })
+    } else {
+        Err(CheckFault::WrongRule(place.entry, place.node))
+    }
+}
+
+/// The level of the sides of an assignment.
+fn side(operand: Option<u8>, level: u16) -> u32
+    ensures { result ≡ side_of operand level }
+{
+    match operand {
+        Some(_) => u32::from(level),
+        None => u32::from(level) + 1,
+    }
+}
+
+/// Whether the sides of an assignment show what its rule asks of them.
+fn sides_show(rule: Rule, value: &Mark, address: &Mark) -> bool
+    ensures { result ≡ sides_show_of rule value.now address.now }
+{
+    let any = Aim::Gets(Mode::Any);
+    value.shown.has(any)
+        && match rule {
+            Rule::A1 => address.is_bare,
+            _ => address.shown.has(any),
+        }
+}
+
+/// The derivation of an assignment.
+fn assigned(
+    alloc: Global,
+    rule: Rule,
+    value: Derivation,
+    address: Derivation,
+) -> Result<Derivation, Memory>
+    ensures { IfOk result (λ d. tree d ≡ assigned_of rule (tree value) (tree address)) }
+{
+    let mut parts = Vec::new(alloc);
+    match rule {
+        Rule::A1 => parts.push(value)?,
+        Rule::A2 => {
+            parts.push(address)?;
+            parts.push(value)?;
+        }
+        _ => {
+            parts.push(value)?;
+            parts.push(address)?;
+        }
+    }
+    Ok(by_rule(rule, parts))
+}
+
+/// An assignment as root.
+fn assignment(
+    alloc: Global,
+    rule: Rule,
+    level: u16,
+    value: One,
+    address: One,
+    place: Position,
+) -> Result<Rooted, CheckFault>
+    ensures { Gives rooted_of result (assign_root rule level place (one_of value, one_of address)) }
+{
+    let side = side(address.facts.operand, level);
+    if u32::from(value.mark.level) != side || u32::from(address.mark.level) != side {
+        return Err(CheckFault::Line(place.line));
+    }
+    let sides = Sides {
+        level,
+        value: value.facts,
+        address: address.facts,
+    };
+    match sides.least_by(rule) {
+        Some(words) => {
+            if !sides_show(rule, &value.mark, &address.mark) {
+                return Err(CheckFault::WrongRule(place.entry, place.node));
+            }
+            let derivation = assigned(alloc, rule, value.derivation, address.derivation)?;
+            Ok(Rooted {
+                words,
+                root: Root::Assign {
+                    level,
+                    value: value.expression,
+                    address: address.expression,
+                },
+                derivation,
+            })
+        }
+        None => Err(CheckFault::WrongRule(place.entry, place.node)),
+    }
+}

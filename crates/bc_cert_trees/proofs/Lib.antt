@@ -1,3 +1,0 @@
-pub mod Pops
-pub mod Derived
-pub mod Nodes

@@ -1,7 +1,0 @@
--- The parts so far show what is asked of them.
-use Rattle.std.proofs.Common.{◌≡◌, drop}
-use Rattle.bc_cert_trees.specs.Showing.{agree}
-use Rattle.bc_cert_trees.proofs.shown.agree.Given as goal
-
-abbrev pub invariant-loop-at : goal.invariant-loop-at
-invariant-loop-at l = agree l.takes l.at (drop l.at l.parts) ≡ agree l.takes 0 l.parts

@@ -1,0 +1,250 @@
+-- Where a law of the library says what a call does with turns enough, it is not wild with fewer.
+use Rattle.std.proofs.Common.{◌≡◌, ℕ, zero, suc, ◌+◌, ◌<◌, ◌≤◌, ◌%◌, ◌==◌, ◌&&◌, ◌||◌, List, [], ◌∷◌, length, Bool, true, false, Option, Some, None, refl, sym, ap, ◌∙◌, subst, arith, ◌≢◌, ◌*◌, ◌/◌, ◌++◌}
+use Rattle.bc_word.specs.Words.{signed}
+use Rattle.bc_machine_defs.specs.Streams.{Content}
+use Rattle.bc_machine_defs.specs.StreamCalls.{after_write}
+use Rattle.bc_core.specs.Map.{Placed}
+use Rattle.bc_core.specs.Store.{Cell, Set, cell_at}
+use Rattle.bc_core.specs.Outcome.{State, Outcome, Done, Ended, Going, Wild}
+use Rattle.bc_core.specs.Laws.{is_live}
+use Rattle.bc_core.specs.Meaning.{calls}
+use Rattle.bc_library_laws.specs.Laws.{state, Ready, after_writes, turns_of}
+use Rattle.std.specs.Fmt.{signed_decimal}
+use Rattle.bc_library_laws.proofs.Steps.{Has, wrch, newline_does}
+use Rattle.bc_library_laws.proofs.Numbers.{writen_does}
+use Rattle.std.specs.Prelude.{nat_lt, nat_le, not}
+use Rattle.std.proofs.Common.{length-append}
+use Rattle.std.proofs.lemmas.Bool.Decides.{nat_tests}
+use Rattle.bc_core.specs.Words.{packed, string_words}
+use Rattle.bc_core.specs.Commands.{Core}
+use Rattle.bc_core.specs.Map.{IsMap, placed}
+use Rattle.bc_library_laws.specs.Library.{library}
+use Rattle.bc_library_laws.specs.Laws.{HoldsBytes, HoldsString, byte_in, Piece, Plain, OfNumber, OfCharacter, Escaped, format_of, taken_by, written_by, turns_by, ArePieces}
+use Rattle.bc_library_laws.proofs.Joined.{writes_law, writef_law}
+use Rattle.bc_tame.specs.Programs.{library_global, library_fixed, library_speaks, are_bytes, fits_format}
+use Rattle.bc_tame.proofs.Fine.{within, both_true, less_true, at_most_true, same_true, Gone, Fits, Shape, Inv, Fine, Runs, IsWord}
+use Rattle.bc_tame.proofs.Expressions.{HoldsWords, Ground, AreWords, CanSay, IsCallable}
+use Rattle.bc_core.proofs.Turns.{Goes, later, more_calls}
+
+abbrev cells_in : Outcome ℕ → List Cell
+cells_in (Done x st) = st.cells
+cells_in _ = []
+
+abbrev value_in : Outcome ℕ → ℕ
+value_in (Done x st) = x
+value_in _ = 0
+
+abbrev is_wild : Outcome ℕ → Bool
+is_wild Wild = true
+is_wild _ = false
+
+fine_before : (σ : Shape) (d v : ℕ) (cells : List Cell) (st1 : State) (o o1 : Outcome ℕ) → Goes d o o1 → o1 ≡ Done v st1 → st1.cells ≡ cells → v < 65536 → Inv σ cells → Fine IsWord σ o
+fine_before σ d v cells st1 (Done x st) o1 g e same lt i =
+    let f : Done x (later d st) ≡ Done v st1 = sym g ∙ e in
+    let fx : x ≡ v = ap value_in f in
+    let fc : st.cells ≡ cells = ap cells_in f ∙ same in
+    (subst (λ z. z < 65536) (sym fx) lt, subst (λ z. Inv σ z) (sym fc) i)
+fine_before σ d v cells st1 (Ended e1 streams) o1 g e same lt i = tt
+fine_before σ d v cells st1 (Going streams) o1 g e same lt i = tt
+fine_before σ d v cells st1 Wild o1 g e same lt i = let f : true ≡ false = ap is_wild (sym g ∙ e) in let z : ⊥ = cc in absurd z
+
+-- a call that changes no cell where it has turns enough
+pub by_law : (σ : Shape) (program : List Placed) (a f n d v : ℕ) (vs : List ℕ) → v < 65536 → (change : Content → Content)
+    → ((cells : List Cell) → Inv σ cells → (streams : Content) (t : ℕ) → calls program (d + n) a vs f (state cells streams (d + t)) ≡ Done v (state cells (change streams) t))
+    → Runs σ IsWord σ (calls program n a vs f)
+by_law σ program a f n d v vs lt change law = record {
+  from = λ st i.
+      let le : n ≤ d + n = omega arith in
+      let turns : d + st.turns ≡ st.turns + d = omega arith in
+      let goes = (more_calls d program n (d + n) le a vs f).from st in
+      let e : calls program (d + n) a vs f (later d st) ≡ Done v (state st.cells (change st.streams) st.turns) =
+      subst (λ k. calls program (d + n) a vs f (state st.cells st.streams k) ≡ Done v (state st.cells (change st.streams) st.turns)) turns (law st.cells i st.streams st.turns) in
+      fine_before σ d v st.cells (state st.cells (change st.streams) st.turns) (calls program n a vs f st) (calls program (d + n) a vs f (later d st)) goes e refl lt i;
+}
+
+-- a store of such a shape is ready
+held_cell : (static : ℕ → Bool) (text : ℕ → Option (List ℕ)) (place : ℕ → ℕ) (address : ℕ → ℕ) (σ : Shape) (cells : List Cell) → Ground library_fixed static text place (library_global address) σ → Inv σ cells
+    → (g : ℕ) → g < 512 → library_fixed g ≡ true → cell_at cells (8 + g) ≡ Set (library_global address g)
+held_cell static text place address σ cells ground i g lt e = (subst (λ k. Fits k (cell_at cells (8 + g))) (ground.held g lt e) (i.fits (8 + g))).0
+
+ready : (static : ℕ → Bool) (text : ℕ → Option (List ℕ)) (place : ℕ → ℕ) (address : ℕ → ℕ) (σ : Shape) (f most : ℕ) → Ground library_fixed static text place (library_global address) σ → ((a : ℕ) → f ≤ a → σ a ≡ Gone) → f + most ≤ 65536
+    → (cells : List Cell) → Inv σ cells → Ready address cells f most
+ready static text place address σ f most ground gone room cells i = record {
+  whole = i.whole;
+  free = λ a up. ap is_live (subst (λ k. Fits k (cell_at cells a)) (gone a up) (i.fits a));
+  room = room;
+  write_char = held_cell static text place address σ cells ground i 14 (omega arith) refl;
+  get_byte = held_cell static text place address σ cells ground i 20 (omega arith) refl;
+  write_s = held_cell static text place address σ cells ground i 22 (omega arith) refl;
+  write_n = held_cell static text place address σ cells ground i 23 (omega arith) refl;
+}
+
+pub wrch_callable : (program : List Placed) (address : ℕ → ℕ) (static : ℕ → Bool) (text : ℕ → Option (List ℕ)) (place : ℕ → ℕ) (n : ℕ) → Has program address
+    → IsCallable library_fixed static text place (library_global address) (record { arguments = 1; room = 3 }) (calls program n 530)
+wrch_callable program address static text place n h [] f σ args ground gone room = absurd (omega (arith, args.0))
+wrch_callable program address static text place n h (v ∷ w ∷ vs) f σ args ground gone room = absurd (omega (arith, args.0))
+wrch_callable program address static text place n h (v ∷ []) f σ args ground gone room =
+    by_law σ program 530 f n 1 0 (v ∷ []) (omega arith) (after_write (v % 256)) (λ cells i streams t.
+    let r = ready static text place address σ f 3 ground gone room cells i in
+    let one : 1 + n ≡ suc n = omega arith in
+    let turns : 1 + t ≡ suc t = omega arith in
+    rw (one, turns) (wrch program h.wrch cells streams f n t v r.whole r.free room))
+
+pub newline_callable : (program : List Placed) (address : ℕ → ℕ) (static : ℕ → Bool) (text : ℕ → Option (List ℕ)) (place : ℕ → ℕ) (n : ℕ) → Has program address
+    → IsCallable library_fixed static text place (library_global address) (record { arguments = 0; room = 8 }) (calls program n (address 4))
+newline_callable program address static text place n h (v ∷ vs) f σ args ground gone room = absurd (omega (arith, args.0))
+newline_callable program address static text place n h [] f σ args ground gone room =
+    by_law σ program (address 4) f n 2 0 [] (omega arith) (after_write 10) (λ cells i streams t.
+    let r = ready static text place address σ f 8 ground gone room cells i in
+    let two : 2 + n ≡ suc (suc n) = omega arith in
+    let turns : 2 + t ≡ suc (suc t) = omega arith in
+    rw (two, turns) (newline_does program address h cells streams f n t r))
+
+pub writen_callable : (program : List Placed) (address : ℕ → ℕ) (static : ℕ → Bool) (text : ℕ → Option (List ℕ)) (place : ℕ → ℕ) (n : ℕ) → Has program address
+    → IsCallable library_fixed static text place (library_global address) (record { arguments = 1; room = 20 }) (calls program n (address 5))
+writen_callable program address static text place n h [] f σ args ground gone room = absurd (omega (arith, args.0))
+writen_callable program address static text place n h (v ∷ w ∷ vs) f σ args ground gone room = absurd (omega (arith, args.0))
+writen_callable program address static text place n h (v ∷ []) f σ args ground gone room =
+    by_law σ program (address 5) f n (turns_of (signed v)) 0 (v ∷ []) (omega arith) (after_writes (signed_decimal (signed v))) (λ cells i streams t.
+    let r = ready static text place address σ f 20 ground gone room cells i in
+    writen_does program address h v args.1.0 cells streams f n t r)
+
+-- the bytes of a string, of which the words are held
+packed_held : (σ : Shape) (cells : List Cell) → Inv σ cells → (s k : ℕ) (bs : List ℕ) → are_bytes bs ≡ true → HoldsWords σ (s + k) (packed bs) → HoldsBytes cells s (2 * k) bs
+packed_held σ cells i s k [] ok h = tt
+packed_held σ cells i s k (high ∷ []) ok h =
+    let a : high < 256 = less_true high 256 (both_true (nat_lt high 256) true ok).0 in
+    let c = (subst (λ z. Fits z (cell_at cells (s + k))) h.0 (i.fits (s + k))).0 in
+    let lt : s + k < 65536 = omega (arith, i.whole, within cells (s + k) (λ d. let z : ⊥ = cc in z)) in
+    let here : (s + 2 * k / 2) % 65536 ≡ s + k = omega (arith, lt) in
+    let even : (2 * k % 2 == 0) ≡ true = (let e : 2 * k % 2 ≡ 0 = omega arith in rw e refl) in
+    let first : byte_in (2 * k) (high * 256) ≡ high = (let e : high * 256 / 256 ≡ high = omega arith in rw (even, e) refl) in
+    ((high * 256, ap (λ z. cell_at cells z) here ∙ c, first, a), tt)
+packed_held σ cells i s k (high ∷ low ∷ bs) ok h =
+    let oks = both_true (nat_lt high 256) (nat_lt low 256 && are_bytes bs) ok in
+    let more = both_true (nat_lt low 256) (are_bytes bs) oks.1 in
+    let a : high < 256 = less_true high 256 oks.0 in
+    let b : low < 256 = less_true low 256 more.0 in
+    let c = (subst (λ z. Fits z (cell_at cells (s + k))) h.0 (i.fits (s + k))).0 in
+    let lt : s + k < 65536 = omega (arith, i.whole, within cells (s + k) (λ d. let z : ⊥ = cc in z)) in
+    let here : (s + 2 * k / 2) % 65536 ≡ s + k = omega (arith, lt) in
+    let there : (s + (2 * k + 1) / 2) % 65536 ≡ s + k = omega (arith, lt) in
+    let even : (2 * k % 2 == 0) ≡ true = (let e : 2 * k % 2 ≡ 0 = omega arith in rw e refl) in
+    let odd : ((2 * k + 1) % 2 == 0) ≡ false = (let e : (2 * k + 1) % 2 ≡ 1 = omega arith in rw e refl) in
+    let first : byte_in (2 * k) (high * 256 + low) ≡ high = (let e : (high * 256 + low) / 256 ≡ high = omega (arith, b) in rw (even, e) refl) in
+    let second : byte_in (2 * k + 1) (high * 256 + low) ≡ low = (let e : (high * 256 + low) % 256 ≡ low = omega (arith, b) in rw (odd, e) refl) in
+    let next : s + k + 1 ≡ s + (k + 1) = omega arith in
+    let index : 2 * (k + 1) ≡ 2 * k + 1 + 1 = omega arith in
+    let rest = packed_held σ cells i s (k + 1) bs more.1 (subst (λ z. HoldsWords σ z (packed bs)) next h.1) in (
+      (high * 256 + low, ap (λ z. cell_at cells z) here ∙ c, first, a),
+      ((high * 256 + low, ap (λ z. cell_at cells z) there ∙ c, second, b), subst (λ z. HoldsBytes cells s z bs) index rest),
+    )
+
+string_held : (σ : Shape) (cells : List Cell) → Inv σ cells → (s : ℕ) (bytes : List ℕ) → are_bytes (length bytes ∷ bytes) ≡ true → HoldsWords σ s (string_words bytes) → HoldsString cells s bytes
+string_held σ cells i s bytes ok h =
+    let e : s ≡ s + 0 = omega arith in
+    packed_held σ cells i s 0 (length bytes ∷ bytes) ok (subst (λ z. HoldsWords σ z (string_words bytes)) e h)
+
+-- a format reads as pieces
+record Read (bs : List ℕ) (vs : List ℕ) : Type 0 where
+  pieces : List Piece
+  more : List ℕ
+  format : format_of pieces ≡ bs
+  taken : vs ≡ taken_by pieces ++ more
+  are : (cells : List Cell) → ArePieces cells pieces
+
+abbrev following : Bool → List ℕ → List ℕ
+following true bs = 37 ∷ bs
+following false bs = bs
+
+unlike_true : (a b : ℕ) → (a == b) ≡ false → a ≢ b
+unlike_true a b e = grind (arith, nat_tests)
+
+not_false : (t : Bool) → not t ≡ true → t ≡ false
+not_false true e = let z : ⊥ = cc in absurd z
+not_false false e = refl
+
+none_of : (a b : Bool) → (a || b) ≡ false → (a ≡ false) × (b ≡ false)
+none_of true b e = let z : ⊥ = cc in absurd z
+none_of false b e = (refl, e)
+
+reads : (t : Bool) (bs : List ℕ) (n : ℕ) (vs : List ℕ) → fits_format t bs n ≡ true → length vs ≡ n → AreWords vs → Read (following t bs) vs
+reads true [] n vs ok many words = let z : ⊥ = cc in absurd z
+reads false [] n vs ok many words = record { pieces = []; more = vs; format = refl; taken = refl; are = λ cells. tt }
+reads false (b ∷ bs) n vs ok many words =
+    by (λ o. reads true bs n vs o many words) (λ o. reads false bs n vs o many words) (b == 37) refl ok where
+      by : (fits_format true bs n ≡ true → Read (37 ∷ bs) vs) → (fits_format false bs n ≡ true → Read bs vs) → (x : Bool) → (b == 37) ≡ x
+          → elim x as (λ z. Bool) [ true ↦ fits_format true bs n | false ↦ fits_format false bs n ] ≡ true → Read (b ∷ bs) vs
+      by f g true e o = subst (λ z. Read (z ∷ bs) vs) (sym (same_true b 37 e)) (f o)
+      by f g false e o = let r = g o in record { pieces = Plain b ∷ r.pieces; more = r.more; format = ap (λ z. b ∷ z) r.format; taken = r.taken; are = λ cells. (unlike_true b 37 e, r.are cells) }
+reads true (b ∷ bs) zero vs ok many words =
+    let oks = both_true (not ((b == 78) || ((b == 83) || (b == 67)))) (fits_format false bs zero) ok in
+    let e1 = none_of (b == 78) ((b == 83) || (b == 67)) (not_false _ oks.0) in
+    let e2 = none_of (b == 83) (b == 67) e1.1 in
+    let r = reads false bs zero vs oks.1 many words in
+    record { pieces = Escaped b ∷ r.pieces; more = r.more; format = ap (λ z. 37 ∷ b ∷ z) r.format; taken = r.taken; are = λ cells. ((unlike_true b 78 e1.0, unlike_true b 83 e2.0, unlike_true b 67 e2.1), r.are cells) }
+reads true (b ∷ bs) (suc n) [] ok many words = absurd (omega (arith, many))
+reads true (b ∷ bs) (suc n) (v ∷ vs) ok many words =
+    let few : length vs ≡ n = omega (arith, many) in
+    by (λ o. reads false bs n vs o few words.1) (λ o. reads false bs (suc n) (v ∷ vs) o many words) (b == 78) (b == 67) refl refl ok where
+      by : (fits_format false bs n ≡ true → Read bs vs) → (fits_format false bs (suc n) ≡ true → Read bs (v ∷ vs)) → (x y : Bool) → (b == 78) ≡ x → (b == 67) ≡ y
+          → elim x as (λ z. Bool) [ true ↦ fits_format false bs n | false ↦ elim y as (λ z. Bool) [ true ↦ fits_format false bs n | false ↦ not (b == 83) && fits_format false bs (suc n) ] ] ≡ true → Read (37 ∷ b ∷ bs) (v ∷ vs)
+      by f g true y ex ey o = let r = f o in subst (λ z. Read (37 ∷ z ∷ bs) (v ∷ vs)) (sym (same_true b 78 ex))
+          (record { pieces = OfNumber v ∷ r.pieces; more = r.more; format = ap (λ z. 37 ∷ 78 ∷ z) r.format; taken = ap (λ z. v ∷ z) r.taken; are = λ cells. (words.0, r.are cells) })
+      by f g false true ex ey o = let r = f o in subst (λ z. Read (37 ∷ z ∷ bs) (v ∷ vs)) (sym (same_true b 67 ey))
+          (record { pieces = OfCharacter v ∷ r.pieces; more = r.more; format = ap (λ z. 37 ∷ 67 ∷ z) r.format; taken = ap (λ z. v ∷ z) r.taken; are = λ cells. r.are cells })
+      by f g false false ex ey o =
+          let oks = both_true (not (b == 83)) (fits_format false bs (suc n)) o in
+          let r = g oks.1 in
+          record { pieces = Escaped b ∷ r.pieces; more = r.more; format = ap (λ z. 37 ∷ b ∷ z) r.format; taken = r.taken; are = λ cells. ((unlike_true b 78 ex, unlike_true b 83 (not_false _ oks.0), unlike_true b 67 ey), r.are cells) }
+
+taken_few : (xs ys : List ℕ) (n : ℕ) → length (xs ++ ys) ≤ n → length xs ≤ n
+taken_few xs ys n h = omega (arith, h, length-append xs ys)
+
+-- WRITES and WRITEF, in a program of the library and a section
+abbrev program_of : Core → (ℕ → ℕ) → (ℕ → ℕ) → List Placed
+program_of core address other = placed (library ∷ core ∷ []) (address ∷ other ∷ [])
+
+pub spoken : (core : Core) (address other : ℕ → ℕ) (base : ℕ) → IsMap (library ∷ core ∷ []) (record { places = address ∷ other ∷ []; stack_base = base })
+    → (static : ℕ → Bool) (text : ℕ → Option (List ℕ)) (place : ℕ → ℕ) → ((m : ℕ) (bytes : List ℕ) → text m ≡ Some bytes → are_bytes (length bytes ∷ bytes) ≡ true)
+    → (d g m n room : ℕ) (bytes : List ℕ) → library_speaks g bytes n ≡ Some room → text m ≡ Some bytes
+    → (g < 512) × (library_fixed g ≡ true) × CanSay library_fixed static text place (library_global address) room n (place m) (calls (program_of core address other) d (library_global address g))
+spoken core address other base map_is static text place fine d g m n room bytes e et = by (g == 22) ((g == 25) && (nat_le n 4 && (are_bytes (length bytes ∷ bytes) && fits_format false bytes n))) refl refl e where
+  number_of : Option ℕ → ℕ
+  number_of o = elim o as (λ z. ℕ) [ Some k ↦ k | None ↦ 0 ]
+
+  at : (h : ℕ) → g ≡ h → (h < 512) × (library_fixed h ≡ true) × CanSay library_fixed static text place (library_global address) room n (place m) (calls (program_of core address other) d (library_global address h))
+      → (g < 512) × (library_fixed g ≡ true) × CanSay library_fixed static text place (library_global address) room n (place m) (calls (program_of core address other) d (library_global address g))
+  at h eg k = subst (λ (z : ℕ). (z < 512) × (library_fixed z ≡ true) × CanSay library_fixed static text place (library_global address) room n (place m) (calls (program_of core address other) d (library_global address z))) (sym eg) k
+
+  writes : n ≡ 0 → 15 ≡ room → CanSay library_fixed static text place (library_global address) room n (place m) (calls (program_of core address other) d (address 3))
+  writes en er (v ∷ vs) f σ args ground gone top = absurd (omega (arith, args.0, en))
+  writes en er [] f σ args ground gone top =
+      by_law σ (program_of core address other) (address 3) f d (2 + 3 * length bytes) 0 (place m ∷ []) (omega arith) (after_writes bytes) (λ cells i streams t.
+      writes_law (place m) bytes (core ∷ []) address (other ∷ []) base map_is cells streams f d t
+      (ready static text place address σ f 15 ground gone (omega (arith, er, top)) cells i)
+      (string_held σ cells i (place m) bytes (fine m bytes et) (ground.texts m bytes et)))
+
+  writef : n ≤ 4 → fits_format false bytes n ≡ true → 37 ≡ room → CanSay library_fixed static text place (library_global address) room n (place m) (calls (program_of core address other) d (address 6))
+  writef few format er vs f σ args ground gone top =
+      let r = reads false bytes n vs format args.0 args.1 in
+      subst (λ (z : List ℕ). Runs σ IsWord σ (calls (program_of core address other) d (address 6) (place m ∷ z) f)) (sym r.taken)
+      (by_law σ (program_of core address other) (address 6) f d (2 + turns_by r.pieces) 0 (place m ∷ (taken_by r.pieces ++ r.more)) (omega arith) (after_writes (written_by r.pieces)) (λ cells i streams t.
+      writef_law (place m) r.pieces r.more (taken_few (taken_by r.pieces) r.more 4 (subst (λ (z : List ℕ). length z ≤ 4) r.taken (omega (arith, args.0, few)))) (core ∷ []) address (other ∷ []) base map_is cells streams f d t
+      (ready static text place address σ f 37 ground gone (omega (arith, er, top)) cells i)
+      (subst (λ (z : List ℕ). HoldsString cells (place m) z) (sym r.format) (string_held σ cells i (place m) bytes (fine m bytes et) (ground.texts m bytes et)), r.are cells)))
+
+  of_writes : (x : Bool) → (n == 0) ≡ x → elim x as (λ z. Option ℕ) [ true ↦ Some 15 | false ↦ None ] ≡ Some room → CanSay library_fixed static text place (library_global address) room n (place m) (calls (program_of core address other) d (address 3))
+  of_writes true ex e1 = writes (same_true n 0 ex) (ap number_of e1)
+  of_writes false ex e1 = let z : ⊥ = cc in absurd z
+
+  by : (x y : Bool) → (g == 22) ≡ x → ((g == 25) && (nat_le n 4 && (are_bytes (length bytes ∷ bytes) && fits_format false bytes n))) ≡ y
+      → elim x as (λ z. Option ℕ) [ true ↦ elim (n == 0) as (λ z. Option ℕ) [ true ↦ Some 15 | false ↦ None ] | false ↦ elim y as (λ z. Option ℕ) [ true ↦ Some 37 | false ↦ None ] ] ≡ Some room
+      → (g < 512) × (library_fixed g ≡ true) × CanSay library_fixed static text place (library_global address) room n (place m) (calls (program_of core address other) d (library_global address g))
+  by true y ex ey e1 = at 22 (same_true g 22 ex) (omega arith, refl, of_writes (n == 0) refl e1)
+  by false true ex ey e1 =
+      let o1 = both_true (g == 25) (nat_le n 4 && (are_bytes (length bytes ∷ bytes) && fits_format false bytes n)) ey in
+      let o2 = both_true (nat_le n 4) (are_bytes (length bytes ∷ bytes) && fits_format false bytes n) o1.1 in
+      let o3 = both_true (are_bytes (length bytes ∷ bytes)) (fits_format false bytes n) o2.1 in
+      at 25 (same_true g 25 o1.0) (omega arith, refl, writef (at_most_true n 4 o2.0) o3.1 (ap number_of e1))
+  by false false ex ey e1 = let z : ⊥ = cc in absurd z
