@@ -11,7 +11,9 @@ use bc_word::{Memory, Op};
 /// The current work: an expression to evaluate, or an answer to give to the innermost frame.
 #[derive(Clone, Copy)]
 pub(crate) enum Work<'c> {
+    /// Evaluates an expression for its value.
     Evaluate(&'c CoreExp),
+    /// Evaluates an expression for its truth.
     Decide(&'c CoreExp),
     Number(u16),
     Verdict(bool),

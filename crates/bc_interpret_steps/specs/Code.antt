@@ -50,12 +50,12 @@ entry_of (entries.AtCase v) = lists.AtCase v
 entry_of entries.AtDefault = lists.AtDefault
 entry_of (entries.AtLabel l) = lists.AtLabel l
 
--- the arguments given so far: none if the call is fresh, else these
+-- the arguments already given: none if the call is fresh, else these
 abbrev pub given_for : (fresh : Bool) → List ℕ → List ℕ
 given_for true vs = []
 given_for false vs = vs
 
--- the work as the machine's, with the arguments given so far
+-- the work as the machine's, with the arguments already given
 abbrev pub work_of : List ℕ → Work → machine.Work
 work_of vs (works.Evaluate E e s) = machine.Evaluate (spot_of E) (exp e.now) s
 work_of vs (works.Decide E e s) = machine.Decide (spot_of E) (exp e.now) s

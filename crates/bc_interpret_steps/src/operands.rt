@@ -14,12 +14,16 @@ use crate::state::{Stacks, State};
 use bc_core::CoreExp;
 use bc_word::{Memory, Op};
 
-/// An operator that waits for its first operand: where it is evaluated, its second operand, and its level.
+/// An operator that waits for its first operand.
 #[derive(Clone, Copy)]
 pub(crate) struct Operator<'c> {
+    /// Where it is evaluated.
     pub(crate) spot: Spot<'c>,
+    /// The operator.
     pub(crate) op: Op,
+    /// Its second operand.
     pub(crate) second: &'c CoreExp,
+    /// Its level.
     pub(crate) s: u32,
 }
 

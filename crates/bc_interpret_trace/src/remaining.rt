@@ -53,6 +53,7 @@ pub(crate) fn clue_of(rest: &Rest<'_>) -> Clue {
     }
 }
 
+/// What a frame that takes a number inside an expression says.
 fn of_number(rest: &NumberRest<'_>) -> Clue {
     match rest {
         NumberRest::Operates(spot, _, _, _) => at(spot, 0),
@@ -65,6 +66,7 @@ fn of_number(rest: &NumberRest<'_>) -> Clue {
     }
 }
 
+/// What a frame that takes the number of an expression in a command says.
 fn of_value(rest: &ValueRest<'_>) -> Clue {
     match rest {
         ValueRest::Stores(spot, _, _) => at(spot, 0),
@@ -76,6 +78,7 @@ fn of_value(rest: &ValueRest<'_>) -> Clue {
     }
 }
 
+/// What a frame that takes a truth says.
 fn of_truth(rest: &TruthRest<'_>) -> Clue {
     match rest {
         TruthRest::Opposes => only(0),
@@ -93,6 +96,7 @@ fn of_truth(rest: &TruthRest<'_>) -> Clue {
     }
 }
 
+/// What a frame that follows an assignment or an initialiser says.
 fn of_nothing(rest: &NothingRest<'_>) -> Clue {
     match rest {
         NothingRest::Passes => only(0),
@@ -108,6 +112,7 @@ fn of_nothing(rest: &NothingRest<'_>) -> Clue {
     }
 }
 
+/// What a frame that takes an exit says.
 fn of_exit(rest: &ExitRest<'_>) -> Clue {
     match rest {
         ExitRest::Returns | ExitRest::Results => BOTTOM,

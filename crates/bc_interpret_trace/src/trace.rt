@@ -167,6 +167,7 @@ struct Above {
 }
 
 impl Above {
+    /// Nothing has been read yet: the next frame to read is the one below index `next`.
     fn new(next: usize) -> Above {
         Above {
             next,
@@ -186,6 +187,7 @@ impl Above {
         self.next = to;
     }
 
+    /// Reads one frame, unless the body's outermost frame has been read.
     fn look(&mut self, rest: &Rest<'_>) {
         if self.is_done {
             return;
@@ -206,6 +208,7 @@ impl Above {
         }
     }
 
+    /// Where the run is in the call whose frames have been read.
     fn standing(&self, routine: u16, frame: usize) -> Standing {
         Standing {
             routine,

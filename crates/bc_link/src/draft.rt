@@ -70,7 +70,7 @@ fn fill_up(words: &mut Vec<Word>, length: usize) -> Result<(), Memory>
     Ok(())
 }
 
-/// The parts of an image for the segments added so far.
+/// The parts of an image for the segments that have been added.
 #[derive(Drop)]
 pub struct Draft {
     /// The 512 cells of the globals.

@@ -15,7 +15,9 @@ use std::marker::Model;
 /// In contracts the table is a list of pairs of a label and its address. Of several pairs with one label, the first counts.
 #[derive(Drop)]
 pub struct LabelTable {
+    /// All pairs, in order.
     pairs: Vec<(Word, Word)>,
+    /// The address of each label, from its first pair.
     addresses: IndexMap<Word, Word>,
 }
 
