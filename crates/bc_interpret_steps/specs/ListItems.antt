@@ -26,10 +26,11 @@ abbrev pub IsAlong :
 IsAlong E first following s at before old (forms.On next) p after new =
     (after ≡ before)
     × ((rs : List machine.Rest) (streams : Content)
-    → list_step E (items_before first (items following)) s (entry_of at) rs (state_of old streams) ≡ list_step E (items following) s (entry_of next) rs (state_of new
-    streams))
+    → list_step E (items_before first (items following)) s (entry_of at) rs (state_of old streams)
+    ≡ list_step E (items following) s (entry_of next) rs (state_of new streams))
     × Stood old.store new.store
-IsAlong E first following s at before old forms.Over p after new = Goes (list_step E (items_before first (items following)) s (entry_of at)) before old p after new
+IsAlong E first following s at before old forms.Over p after new =
+    Goes (list_step E (items_before first (items following)) s (entry_of at)) before old p after new
 
 -- whether the item is the place at which a list is entered, which isn't its beginning
 abbrev pub IsEntry : Bool → ListItem → Entry → Type 0
