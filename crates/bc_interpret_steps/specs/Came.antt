@@ -32,9 +32,11 @@ use Rattle.bc_interpret_defs.specs.Machine.{give, following, frame_taken}
 use Rattle.bc_interpret_steps.specs.declared.continuations.Rest.{Rest}
 use Rattle.bc_interpret_steps.specs.Code.{work_of, exit_of, stacked, then_given, stack, given}
 
+-- the state of the code, over these streams, as the definitions have it
 abbrev pub state_of : State → Content → outcomes.State
 state_of st streams = record { cells = st.store; streams = streams; turns = st.turns }
 
+-- a primitive, as the definitions have it
 abbrev pub primitive_of : Primitive → primitives.Primitive
 primitive_of (primitive_forms.Select side) = primitives.Select side
 primitive_of primitive_forms.ReadByte = primitives.ReadByte

@@ -25,6 +25,7 @@ use Rattle.bc_interpret_steps.specs.declared.continuations.ExitRest.TheVariants 
 use Rattle.bc_interpret_steps.specs.declared.continuations.Rest.{Rest}
 use Rattle.bc_interpret_steps.specs.declared.continuations.Rest.TheVariants as rests
 
+-- where a part is evaluated, as the definitions have it
 abbrev pub spot_of : Spot → machine.Spot
 spot_of E =
     record {
@@ -35,6 +36,7 @@ spot_of E =
           E.frame;
     }
 
+-- an exit, as the definitions have it
 abbrev pub exit_of : Exit → exits.Exit
 exit_of exit_forms.Past = exits.Past
 exit_of exit_forms.Broke = exits.Broke
@@ -44,6 +46,7 @@ exit_of exit_forms.Returned = exits.Returned
 exit_of (exit_forms.Resulted v) = exits.Resulted v
 exit_of (exit_forms.Jumped l) = exits.Jumped l
 
+-- where a list is entered, as the definitions have it
 abbrev pub entry_of : Entry → lists.Entry
 entry_of entries.Beginning = lists.Beginning
 entry_of (entries.AtCase v) = lists.AtCase v
@@ -75,6 +78,7 @@ work_of vs (works.Verdict t) = machine.Give (machine.Verdict t)
 work_of vs works.Nothing = machine.Give machine.Nothing
 work_of vs (works.Left x) = machine.Give (machine.Left (exit_of x))
 
+-- the frames, kind by kind, as the definitions have them; vs are the arguments already given
 abbrev pub number_rest : List ℕ → NumberRest → machine.Rest
 number_rest vs number_rests.Loads = machine.Loads
 number_rest vs number_rests.Negates = machine.Negates

@@ -46,6 +46,7 @@ abbrev pub Proceeds :
     → Type 0
 Proceeds f before old result p after new = OnOk result (Goes f before.items old p after.items new)
 
+-- the same, where the step may be malformed
 abbrev pub ProceedsOrMalformed :
     {A E : Type 0}
     → (List machine.Rest → machine.Step) → (before : Vec Rest Global) → (old : State) → Result A E → Progress → (after : Vec Rest Global) → (new : State)
@@ -58,6 +59,7 @@ abbrev pub Takes :
     → machine.Rest → machine.Answer → (before : Vec Rest Global) → (old : State) → Result A E → Progress → (after : Vec Rest Global) → (new : State) → Type 0
 Takes r a before old result p after new = (program : List Placed) → OnOk result (Goes (next program r a) before.items old p after.items new)
 
+-- the same, where the step may be malformed
 abbrev pub TakesOrMalformed :
     {A E : Type 0}
     → machine.Rest → machine.Answer → (before : Vec Rest Global) → (old : State) → Result A E → Progress → (after : Vec Rest Global) → (new : State) → Type 0
@@ -68,9 +70,11 @@ TakesOrMalformed r a before old result p after new =
 abbrev pub Gives : machine.Rest → machine.Answer → (old : State) → Progress → (new : State) → Type 0
 Gives r a old p new = (program : List Placed) (rs : List machine.Rest) (vs : List ℕ) → Came (next program r a rs) old p rs vs new
 
+-- the same, where the step may be malformed
 abbrev pub GivesOrMalformed : machine.Rest → machine.Answer → (old : State) → Progress → (new : State) → Type 0
 GivesOrMalformed r a old p new = (program : List Placed) (rs : List machine.Rest) (vs : List ℕ) → CameOrMalformed (next program r a rs) old p rs vs new
 
+-- the same as a result, unless memory ran out
 abbrev pub GivesIfOk : {E : Type 0} → machine.Rest → machine.Answer → (old : State) → Result Progress E → (new : State) → Type 0
 GivesIfOk r a old result new = (program : List Placed) (rs : List machine.Rest) (vs : List ℕ) → IfOk result (λ p. Came (next program r a rs) old p rs vs new)
 

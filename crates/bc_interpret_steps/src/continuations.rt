@@ -122,7 +122,7 @@ pub enum Rest<'c> {
     Exit(ExitRest<'c>),
     /// Frees this many cells from this address on, and passes the answer on.
     Closes(u32, u32),
-    /// No frame, but an evaluated argument of the call whose frame comes after it, and whether it is the first argument.
+    /// Not a frame, but an evaluated argument of the call whose frame is pushed after it, and whether it is the first argument.
     Given(u16, bool),
 }
 

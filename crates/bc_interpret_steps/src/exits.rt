@@ -1,4 +1,5 @@
-//! Giving an exit to a continuation frame: what happens when control leaves a command. Also the frames that follow an assignment.
+//! Giving an exit to a continuation frame: what happens when control leaves a command. Also continuing the frames that follow an
+//! assignment or an initialiser.
 
 ghost use Rattle.std.specs.Prelude.{ℕ, List};
 ghost use Rattle.bc_core.specs.Exit.{Past};
@@ -83,8 +84,8 @@ fn is_left(items: &[ListItem], exit: Exit) -> bool
     }
 }
 
-/// The exit that a frame passes on without doing anything; `None` if it does something. The former are a list's last command, any command
-/// that control doesn't go on after, a list that isn't left by a jump, and a SWITCHON.
+/// The exit that a frame passes on without doing anything; `None` if it does something. These frames do nothing: the one after a command,
+/// if no item follows or control doesn't go on there; that of a whole list, unless it is left by a jump; and that of a SWITCHON.
 #[inline(always)]
 fn handed_on(rest: &ExitRest<'_>, exit: Exit) -> Option<Exit>
     ensures { IsHandedOn (exit_of exit) rest.now result }

@@ -113,7 +113,7 @@ fn is_entry(item: &ListItem, at: Entry) -> bool
     }
 }
 
-/// The items after the case, default or label `at`; none if the list doesn't have it. `at` must not be `Beginning`.
+/// The items after the case, default or label `at`; none if the list doesn't have it. Promises nothing for `Beginning`.
 fn after_entry<'c>(items: &'c [ListItem], at: Entry) -> &'c [ListItem]
     ensures { IsAfterEntry result.now items.now at }
 {

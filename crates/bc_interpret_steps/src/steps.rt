@@ -1,4 +1,4 @@
-//! The public call: one step of a run, or several where nothing observable happens between them.
+//! The public call: one step of a run, or several of which all but the last change no cell and take no turn.
 
 ghost use Rattle.bc_interpret_steps.specs.Code.{work_of, given};
 ghost use Rattle.bc_interpret_steps.specs.Passing.{RunsOver, work_next};
