@@ -69,7 +69,7 @@ Goes f before old p after new = Came (f (stack before)) old p (stack after) (giv
 abbrev pub GoesOrMalformed : (List machine.Rest → machine.Step) → (before : List Rest) → (old : State) → Progress → (after : List Rest) → (new : State) → Type 0
 GoesOrMalformed f before old p after new = CameOrMalformed (f (stack before)) old p (stack after) (given after) new
 
--- next comes next, after which the frame r takes its answer
+-- what comes next is `next`, and the frame r takes its answer
 abbrev pub StandsAfter : Rest → Progress → (before : List Rest) → Progress → (after : List Rest) → Type 0
 StandsAfter r next before p after =
     (stack after ≡ stacked (stack before) (given before) r) × (given after ≡ then_given (given before) r) × (p ≡ next)

@@ -258,7 +258,7 @@ impl Streams for MemoryStreams {
         Err(DeviceFault)
     }
 
-    /// It never fails.
+    /// Never fails.
     fn end(&mut self, side: Side) -> Result<(), DeviceFault>
         ensures ended { result ≡ Ok tt }
         ensures content { memory_content self.new ≡ end_stream side (memory_content self.old) }

@@ -15,7 +15,7 @@ abbrev pub first_number : {X : Type 0} → List X → ℕ
 first_number [] = 0
 first_number (x ∷ xs) = 1
 
--- input 1 and output 1 are selected, where they exist
+-- input 1 and output 1 are selected, if they exist
 abbrev pub opened : List Input → List Output → Content
 opened inputs outputs = record {
   inputs = inputs;
