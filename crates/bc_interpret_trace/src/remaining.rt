@@ -53,7 +53,7 @@ pub(crate) fn clue_of(rest: &Rest<'_>) -> Clue {
     }
 }
 
-/// What a frame that takes a number inside an expression says.
+/// The clue of a frame that takes a number inside an expression.
 fn of_number(rest: &NumberRest<'_>) -> Clue {
     match rest {
         NumberRest::Operates(spot, _, _, _) => at(spot, 0),
@@ -66,7 +66,7 @@ fn of_number(rest: &NumberRest<'_>) -> Clue {
     }
 }
 
-/// What a frame that takes the number of an expression in a command says.
+/// The clue of a frame that takes the number of an expression in a command.
 fn of_value(rest: &ValueRest<'_>) -> Clue {
     match rest {
         ValueRest::Stores(spot, _, _) => at(spot, 0),
@@ -78,7 +78,7 @@ fn of_value(rest: &ValueRest<'_>) -> Clue {
     }
 }
 
-/// What a frame that takes a truth says.
+/// The clue of a frame that takes a truth.
 fn of_truth(rest: &TruthRest<'_>) -> Clue {
     match rest {
         TruthRest::Opposes => only(0),
@@ -96,7 +96,7 @@ fn of_truth(rest: &TruthRest<'_>) -> Clue {
     }
 }
 
-/// What a frame that follows an assignment or an initialiser says.
+/// The clue of a frame that follows an assignment or an initialiser.
 fn of_nothing(rest: &NothingRest<'_>) -> Clue {
     match rest {
         NothingRest::Passes => only(0),
@@ -112,7 +112,7 @@ fn of_nothing(rest: &NothingRest<'_>) -> Clue {
     }
 }
 
-/// What a frame that takes an exit says.
+/// The clue of a frame that takes an exit.
 fn of_exit(rest: &ExitRest<'_>) -> Clue {
     match rest {
         ExitRest::Returns | ExitRest::Results => BOTTOM,

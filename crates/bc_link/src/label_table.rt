@@ -12,7 +12,7 @@ use std::marker::Model;
 
 /// Labels with their addresses. A look-up takes constant time.
 ///
-/// In contracts the table is a list of pairs of a label and its address. Of several pairs with one label, the first counts.
+/// In contracts the table is a list of pairs of a label and its address. The first of several pairs with one label counts.
 #[derive(Drop)]
 pub struct LabelTable {
     /// All pairs, in order.

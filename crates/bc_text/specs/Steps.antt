@@ -1,4 +1,4 @@
--- For proofs: the reader as a pure function, byte by byte. The code is proved equal to it. What texts and faults are is defined without it.
+-- For proofs: the reader as a pure function, byte by byte. The code is proved equal to it. Texts and faults are defined without it.
 use Rattle.std.specs.Prelude.{ℕ, ◌+◌, ◌-◌, ◌*◌, ◌%◌, ◌==◌, List, [], ◌∷◌, ◌++◌, Bool, true, false, ◌&&◌, cond, min, nat_lt, nat_le, Option, Some, None, Result, Ok, Err}
 use Rattle.std.specs.Char.{is_ascii_digit}
 use Rattle.bc_text_items.specs.declared.item.Item.{Item}
