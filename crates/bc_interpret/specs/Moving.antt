@@ -38,7 +38,7 @@ use Rattle.bc_interpret.specs.Results.{IsResult, Names}
 abbrev pub HasProgram : List Callable → Type 0
 HasProgram table = (program : List Placed) × IsTable program table
 
--- the machine's state: this work, with these frames
+-- the machine's state: this work, with these continuations
 abbrev pub at_of : Work → List Rest → machine.At
 at_of w rests = at (given rests) w (stack rests)
 

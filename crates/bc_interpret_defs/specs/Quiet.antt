@@ -99,7 +99,7 @@ worth S (Bin op a b) = operator_worths op (worth S a) (worth S b)
 worth S (Cond c x y) = by_worth (chained (worth S c).truth (λ t. cond t (worth S x).value (worth S y).value))
 worth S _ = by_worth (Fails Malformed)
 
--- the machine: its answers, its current work, and its continuation frames
+-- the machine: its answers, its current work, and its continuations
 pub data QuietAnswer : Type 0 where
   Number : ℕ → QuietAnswer
   Verdict : Bool → QuietAnswer
@@ -111,7 +111,7 @@ pub data QuietWork : Type 0 where
   -- a zero divisor has occurred
   Divided : QuietWork
 
--- the continuation frames
+-- the continuations
 pub data QuietRest : Type 0 where
   Loads : QuietRest
   Negates : QuietRest
@@ -173,7 +173,7 @@ as_number w = chained w (λ v. Is (Number v))
 abbrev pub as_verdict : Worth Bool → Worth QuietAnswer
 as_verdict w = chained w (λ t. Is (Verdict t))
 
--- gives a number to this frame
+-- gives a number to this continuation
 abbrev pub number_taken : Sight → QuietRest → ℕ → List QuietRest → QuietStep
 number_taken S Loads v rs = gives (as_number (found v (cell_at S.cells v))) rs
 number_taken S Negates v rs = on (Give (Number (negated v))) rs
@@ -184,7 +184,7 @@ number_taken S (Operated op x) v rs = gives (as_number (combined op x v)) rs
 number_taken S Beside v rs = on Divided rs
 number_taken S _ v rs = Stops Malformed
 
--- gives a truth to this frame
+-- gives a truth to this continuation
 abbrev pub verdict_taken : QuietRest → Bool → List QuietRest → QuietStep
 verdict_taken Opposes t rs = on (Give (Verdict (not t))) rs
 verdict_taken (Conjoins b) t rs = cond t (on (Decide b) rs) (on (Give (Verdict false)) rs)
@@ -192,7 +192,7 @@ verdict_taken (Disjoins b) t rs = cond t (on (Give (Verdict true)) rs) (on (Deci
 verdict_taken (Selects x y) t rs = cond t (on (Evaluate x) rs) (on (Evaluate y) rs)
 verdict_taken _ t rs = Stops Malformed
 
--- passes a zero divisor to this frame
+-- passes a zero divisor to this continuation
 abbrev pub divided : QuietRest → List QuietRest → QuietStep
 divided (Operates op b) rs = on (Evaluate b) (Beside ∷ rs)
 divided _ rs = on Divided rs
@@ -209,7 +209,7 @@ abbrev pub divided_given : List QuietRest → QuietStep
 divided_given [] = on Divided []
 divided_given (r ∷ rs) = divided r rs
 
--- one step; where the continuation is empty the state doesn't change
+-- one step; without continuations an answer changes nothing
 abbrev pub quiet_step : Sight → QuietWork → List QuietRest → QuietStep
 quiet_step S (Evaluate e) rs = evaluates S e rs
 quiet_step S (Decide e) rs = decides e rs

@@ -14,7 +14,7 @@ from_step (Ended e streams) f = Some (Ended e streams)
 from_step (Going streams) f = Some (Going streams)
 from_step Wild f = Some Wild
 
--- the answer of the whole run if the continuation is empty, else o
+-- the answer of the whole run if there are no continuations, else o
 abbrev pub last_or : Work → List Rest → State → Option (Outcome Answer) → Option (Outcome Answer)
 last_or (Give a) [] st o = Some (Done a st)
 last_or w rs st o = o

@@ -30,7 +30,7 @@ work_of (works.Number v) = quiet.Give (quiet.Number v)
 work_of (works.Verdict t) = quiet.Give (quiet.Verdict t)
 work_of works.Divided = quiet.Divided
 
--- a continuation frame, as the definitions have it
+-- a continuation, as the definitions have it
 abbrev pub rest_of : Rest → QuietRest
 rest_of rests.Loads = quiet.Loads
 rest_of rests.Negates = quiet.Negates
@@ -44,16 +44,16 @@ rest_of (rests.Conjoins e) = quiet.Conjoins (exp e.now)
 rest_of (rests.Disjoins e) = quiet.Disjoins (exp e.now)
 rest_of (rests.Selects x y) = quiet.Selects (exp x.now) (exp y.now)
 
--- the frames as a list: the last one pushed comes first
+-- the continuations as a list, put on rs: the last one pushed comes first
 abbrev pub stack_on : List QuietRest → List Rest → List QuietRest
 stack_on rs [] = rs
 stack_on rs (x ∷ xs) = stack_on (rest_of x ∷ rs) xs
 
--- the continuation that the vector of frames represents
+-- the continuations as a list
 abbrev pub stack : List Rest → List QuietRest
 stack xs = stack_on [] xs
 
--- the innermost frame was popped, or there was none
+-- the innermost continuation was popped, or there was none
 abbrev pub Popped : Option Rest → List QuietRest → List QuietRest → Type 0
 Popped None old new = (old ≡ []) × (new ≡ [])
 Popped (Some r) old new = old ≡ rest_of r ∷ new
@@ -80,7 +80,7 @@ abbrev pub IsTruth : quiet.Sight → Exp → Option Truth → Type 0
 IsTruth S e (Some t) = (has_call e ≡ false) × (seen_truth t ≡ (worth S e).truth)
 IsTruth S e None = has_call e ≡ true
 
--- the code's step is the definition's step o, with these frames left
+-- the code's step is the definition's step o, with these continuations left
 abbrev pub Came : Step → QuietStep → List QuietRest → Type 0
 Came (steps.On w) o rs = o ≡ on (work_of w) rs
 Came (steps.Number v) o rs = ⊥

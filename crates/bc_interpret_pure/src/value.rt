@@ -1,4 +1,4 @@
-//! The machine for pure expressions: evaluates one step after another, with its continuation frames in a list.
+//! The machine for pure expressions: evaluates one step after another, with its continuations in a list.
 
 ghost use Rattle.std.specs.Prelude.{◌≡◌, IfOk};
 ghost use Rattle.bc_core.specs.View.{exp};

@@ -18,8 +18,8 @@ use Rattle.bc_interpret_steps.specs.declared.lists.Along.TheVariants as forms
 use Rattle.bc_interpret_steps.specs.Code.{entry_of}
 use Rattle.bc_interpret_steps.specs.Came.{state_of, Goes}
 
--- the items after it are entered at `next`, the frames are unchanged, and what is unset or not live was so before; or the step is over
--- with this outcome
+-- the items after it are entered at `next`, the continuations are unchanged, and what is unset or not live was so before; or the step is
+-- over with this outcome
 abbrev pub IsAlong :
     machine.Spot → (first : ListItem) → (following : List ListItem) → (s : ℕ) → Entry → (before : List Rest) → (old : State) → Along → Progress
     → (after : List Rest) → (new : State) → Type 0

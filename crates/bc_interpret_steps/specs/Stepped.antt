@@ -39,7 +39,7 @@ Stepped program w rs old (progress.Wild c) rs1 vs1 new =
     Moves w rs × ((streams : Content) → step program w rs (state_of old streams) ≡ outcomes.Wild) × Meets program w rs old.store (cause_of c)
 Stepped program w rs old p rs1 vs1 new = Moves w rs × Came (step program w rs) old p rs1 vs1 new
 
--- unless memory ran out: the outcome of a step that is a function of the continuation
+-- unless memory ran out: the outcome of a step that is a function of the continuations
 abbrev pub Proceeds :
     {A E : Type 0}
     → (List machine.Rest → machine.Step) → (before : Vec Rest Global) → (old : State) → Result A E → Progress → (after : Vec Rest Global) → (new : State)
@@ -53,7 +53,7 @@ abbrev pub ProceedsOrMalformed :
     → Type 0
 ProceedsOrMalformed f before old result p after new = OnOk result (GoesOrMalformed f before.items old p after.items new)
 
--- the outcome of giving an answer to a popped frame
+-- the outcome of giving an answer to a popped continuation
 abbrev pub Takes :
     {A E : Type 0}
     → machine.Rest → machine.Answer → (before : Vec Rest Global) → (old : State) → Result A E → Progress → (after : Vec Rest Global) → (new : State) → Type 0
@@ -66,7 +66,7 @@ abbrev pub TakesOrMalformed :
 TakesOrMalformed r a before old result p after new =
     (program : List Placed) → OnOk result (GoesOrMalformed (next program r a) before.items old p after.items new)
 
--- the same where the frame doesn't change the frames after it
+-- the same where the continuation doesn't change the continuations after it
 abbrev pub Gives : machine.Rest → machine.Answer → (old : State) → Progress → (new : State) → Type 0
 Gives r a old p new = (program : List Placed) (rs : List machine.Rest) (vs : List ℕ) → Came (next program r a rs) old p rs vs new
 

@@ -137,7 +137,7 @@ fn enter_routine<'c>(
     }
 }
 
-/// Calls a value, in the frame at this address, with the arguments that were pushed as frames; with none if the call is `fresh`.
+/// Calls a value, in the frame at this address, with the arguments that were pushed; with none if the call is `fresh`.
 ///
 /// `Memory` if an allocation fails.
 pub(crate) fn arrive<'c>(

@@ -305,7 +305,8 @@ fn enter_any<'c>(
     }
 }
 
-/// Begins a conditional expression whose condition isn't pure: decides the condition next, and pushes the frame that selects a branch.
+/// Begins a conditional expression whose condition isn't pure: decides the condition next, and pushes the continuation that selects a
+/// branch.
 pub(crate) fn selects<'c>(
     spot: Spot<'c>,
     condition: &'c CoreExp,

@@ -67,8 +67,8 @@ pub struct Arguments<'c> {
     pub fresh: bool,
 }
 
-/// The current work: what to do next, or the answer to give to the innermost frame. A field of type `u32` that isn't explained is the
-/// level: the first free offset of the frame.
+/// The current work: what to do next, or the answer to give to the innermost continuation. A field of type `u32` that isn't explained is
+/// the level: the first free offset of the frame.
 #[derive(Clone, Copy)]
 pub enum Work<'c> {
     /// Evaluates an expression for its value.

@@ -139,8 +139,8 @@ fn entered<'c>(items: &'c [ListItem], at: Entry) -> &'c [ListItem]
     }
 }
 
-/// Pushes the frames that would follow a failed assignment. The run ends there; `bc_interpret_trace` uses the frames to find where the
-/// assignment is.
+/// Pushes the continuations that would follow a failed assignment. The run ends there; `bc_interpret_trace` finds the place of the
+/// assignment by them.
 fn stop<'c>(
     spot: Spot<'c>,
     following: &'c [ListItem],

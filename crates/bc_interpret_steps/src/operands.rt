@@ -1,5 +1,5 @@
-//! Giving a number to the innermost frame. If that is an operator which waits for its first operand, the second one is begun in the
-//! same step.
+//! Giving a number to the innermost continuation. If that is an operator which waits for its first operand, the second one is begun in
+//! the same step.
 
 ghost use Rattle.std.specs.Prelude.{Some};
 ghost use Rattle.bc_interpret_defs.specs.Machine as machine;
@@ -27,7 +27,7 @@ pub(crate) struct Operator<'c> {
     pub(crate) s: u32,
 }
 
-/// The operator that waits for its first operand, if the innermost frame is one.
+/// The operator that waits for its first operand, if the innermost continuation is one.
 #[inline(always)]
 fn waiting<'c>(rests: &[Rest<'c>]) -> Option<Operator<'c>>
     ensures { IsOperator result rests.now }
@@ -43,8 +43,8 @@ fn waiting<'c>(rests: &[Rest<'c>]) -> Option<Operator<'c>>
     }
 }
 
-/// Gives a number to the innermost frame; if that takes it as an operator's first operand, also begins the second one. Not inlined,
-/// so that `step` stays small enough to be inlined into the loop around it.
+/// Gives a number to the innermost continuation; if that takes it as an operator's first operand, also begins the second one. Not
+/// inlined, so that `step` stays small enough to be inlined into the loop around it.
 #[inline(never)]
 pub(crate) fn hand_number<'c>(
     table: &[Callable<'c>],
@@ -60,7 +60,7 @@ pub(crate) fn hand_number<'c>(
     }
 }
 
-/// Gives an operator its first operand `v`, and begins the second one. The operator must be the innermost frame.
+/// Gives an operator its first operand `v`, and begins the second one. The operator must be the innermost continuation.
 #[inline(always)]
 fn second<'c>(
     table: &[Callable<'c>],

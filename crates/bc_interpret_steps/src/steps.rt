@@ -23,7 +23,7 @@ use bc_word::Memory;
 /// operator is begun together with the call that is its first operand; a call with pure arguments is begun together with its routine.
 /// If the step calls something, `stacks.called` says what.
 ///
-/// If `stacks.next` holds no work, the answer `Nothing` is given to the innermost frame, so no precondition is needed.
+/// If `stacks.next` holds no work, the answer `Nothing` is given to the innermost continuation, so no precondition is needed.
 ///
 /// `Memory` if an allocation fails.
 #[inline(always)]
