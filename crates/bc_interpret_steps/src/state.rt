@@ -9,7 +9,7 @@ use bc_interpret_pure::{Cause, Room};
 use bc_interpret_store::Store;
 use bc_word::Memory;
 
-/// What a step changes apart from the continuation.
+/// The part of a run's state that isn't control: a step changes it beside `Stacks`.
 #[derive(Drop)]
 pub struct State {
     /// The cells.

@@ -1,7 +1,7 @@
 //! What a continuation says about the current place: how much of the body follows it.
 //!
-//! A root is an expression, test or assignment as a whole. A rest is what is usually
-//! called a continuation frame, and here a continuation.
+//! A root is an expression, test or assignment as a whole. A rest is what is usually called a continuation frame, and here a
+//! continuation.
 
 use crate::roots::{roots_of_block, roots_of_declarations, roots_of_items, roots_of_variables};
 use bc_interpret_steps::{ExitRest, NothingRest, NumberRest, Rest, Spot, TruthRest, ValueRest};
