@@ -9,7 +9,7 @@ use bc_interpret_pure::{Cause, Room};
 use bc_interpret_store::Store;
 use bc_word::Memory;
 
-/// The part of a run's state that isn't control: a step changes it beside `Stacks`.
+/// The store and the remaining turns: the part of a run's state that isn't control.
 #[derive(Drop)]
 pub struct State {
     /// The cells.
