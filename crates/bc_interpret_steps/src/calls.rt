@@ -45,7 +45,7 @@ fn take_room(frame: u32, size: usize, state: &mut State) -> Result<Fit, Memory>
     Ok(Fit::Fits)
 }
 
-/// The primitive whose code is at this address.
+/// The primitive whose code is at this address. The primitives are the first segment of every image, which begins at address 520.
 fn primitive_at(address: u16) -> Option<Primitive>
     ensures { IsPrimitive result address }
 {
