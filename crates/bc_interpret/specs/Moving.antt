@@ -38,7 +38,7 @@ use Rattle.bc_interpret.specs.Results.{IsResult, Names}
 abbrev pub HasProgram : List Callable → Type 0
 HasProgram table = (program : List Placed) × IsTable program table
 
--- the machine's state: this work, with these frames
+-- the machine's state: this work, with these continuations
 abbrev pub at_of : Work → List Rest → machine.At
 at_of w rests = at (given rests) w (stack rests)
 
@@ -130,18 +130,19 @@ pub record Completed (table : List Callable) (w : Work) (old : Run)
   pub failed : outcome ≡ outs.Device → Rose failures risen
   pub counted : failures ≤ risen
 
--- the same for streams, given what is known of them, what they hold and how often they failed
-
+-- one step, given what is known of the streams, what they hold and how often they failed
 abbrev pub AdvancedOn :
     {T : Type 0} → (T → Type 0) → (T → Content) → (T → ℕ) → List Callable → Work → (old new : Run) → T → T → Moved → Type 0
 AdvancedOn {T} known content failures table w old new streams streams_new moved =
     Advanced table w old new (known streams) (known streams_new) (content streams) (content streams_new) (failures streams) (failures streams_new) moved
 
+-- the same of the steps up to the first one that takes a turn
 abbrev pub StretchedOn :
     {T : Type 0} → (T → Type 0) → (T → Content) → (T → ℕ) → List Callable → Work → (old new : Run) → T → T → Moved → Type 0
 StretchedOn {T} known content failures table w old new streams streams_new moved =
     Stretched table w old new (known streams) (known streams_new) (content streams) (content streams_new) (failures streams) (failures streams_new) moved
 
+-- the same of a run to its end
 abbrev pub CompletedOn :
     {T : Type 0} → (T → Type 0) → (T → Content) → (T → ℕ) → List Callable → Work → Run → T → T → Outcome → Type 0
 CompletedOn {T} known content failures table w old streams streams_new outcome =
@@ -156,6 +157,7 @@ pub record RunOf (program : List Placed) (stack_base turns : ℕ)
   pub failed : outcome ≡ outs.Device → Rose failures risen
   pub counted : failures ≤ risen
 
+-- the same of a program's run, given what is known of the streams, what they hold and how often they failed
 abbrev pub RunOn :
     {T : Type 0} → (T → Type 0) → (T → Content) → (T → ℕ) → List Placed → ℕ → ℕ → T → T → Outcome → Type 0
 RunOn {T} known content failures program stack_base turns streams streams_new outcome =

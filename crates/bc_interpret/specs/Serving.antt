@@ -72,6 +72,7 @@ ServesAt known content failures argument q st streams streams_new served =
 abbrev pub serving : Primitive → ℕ → Run ℕ
 serving q f = λ st. left 1 (f + 2) (primitive_work q f st)
 
+-- a primitive in the frame at f, after which the cell of its argument is freed
 abbrev pub ServesIn :
     {T : Type 0} → (T → Type 0) → (T → Content) → (T → ℕ) → Primitive → (f : ℕ) → (old new : State) → T → T → Served → Type 0
 ServesIn known content failures q f old new streams streams_new served =

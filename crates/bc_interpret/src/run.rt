@@ -30,7 +30,7 @@ pub enum Outcome {
 pub(crate) struct Run<'c> {
     /// The store and the remaining turns.
     pub state: State,
-    /// The next work and the continuation frames.
+    /// The next work and the continuations.
     pub stacks: Stacks<'c>,
     /// A buffer for the names of streams.
     pub name: Vec<u8>,

@@ -21,7 +21,7 @@ use bc_machine::{Image, Streams};
 use bc_word::Memory;
 use std::alloc::Global;
 
-/// A run over this store that is about to give the address of global 1's cell (9), with no continuation frames yet.
+/// A run over this store that is about to give the address of global 1's cell (9), with no continuations yet.
 fn run_over<'c>(alloc: Global, store: Store, turns: u64) -> Run<'c>
     ensures store { result.state.store ≡ store }
     ensures turns { result.state.turns ≡ turns }

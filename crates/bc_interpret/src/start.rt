@@ -209,7 +209,7 @@ fn setting_in(section: &Section<'_>, global: u16) -> Result<Option<u16>, Memory>
     Ok(None)
 }
 
-/// The address of the primitive that is in this global at the start, if there is one.
+/// The address of the primitive to which this global is set, if there is one. The segment of the primitives begins at address 520.
 fn primitive_of(global: u16) -> Option<u16>
     ensures { result ≡ address_among primitives global }
 {

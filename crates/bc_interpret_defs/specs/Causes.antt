@@ -15,7 +15,7 @@ pub data Cause : Type 0 where
   NotRoutine : ℕ → Cause
   -- a routine is called whose frame would begin at this address and extend past address 65,535
   FrameTooLarge : ℕ → Cause
-  -- a form that no source produces, or an answer of the wrong kind for its continuation frame
+  -- a form that no source produces, or an answer of the wrong kind for its continuation
   Malformed : Cause
 
 -- the cause is an access to a cell, and the cell is in the state that it names

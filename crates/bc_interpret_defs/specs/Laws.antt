@@ -20,7 +20,7 @@ FuelNeverEnds =
     (program : List Placed) (n m a : ℕ) (arguments : List ℕ) (frame : ℕ) (st : State)
     → st.turns < n → st.turns < m → calls program n a arguments frame st ≡ calls program m a arguments frame st
 
--- each step preserves the meaning of the work followed by its continuation
+-- each step preserves the meaning of the work followed by its continuations
 abbrev pub StepsKeep : Type 0
 StepsKeep =
     (program : List Placed) (n : ℕ) (w : Work) (rs : List Rest) (st : State) → st.turns < n

@@ -21,16 +21,19 @@ pub data Worth (A : Type 0) : Type 0 where
   Divides : Worth A
   Fails : Cause → Worth A
 
+-- a worth as a run that changes nothing
 abbrev pub settled : {A : Type 0} → Worth A → Run A
 settled (Is x) = Done x
 settled Divides = ends ZeroDivide
 settled (Fails c) = wild
 
+-- continues with a result; a zero divisor or a wild access stays
 abbrev pub chained : {A B : Type 0} → Worth A → (A → Worth B) → Worth B
 chained (Is x) f = f x
 chained Divides f = Divides
 chained (Fails c) f = Fails c
 
+-- the worth of an operand that is evaluated beside a zero divisor: its wild access, else the zero divisor
 abbrev pub beside : {A B : Type 0} → Worth A → Worth B
 beside (Is x) = Divides
 beside Divides = Divides
@@ -96,7 +99,7 @@ worth S (Bin op a b) = operator_worths op (worth S a) (worth S b)
 worth S (Cond c x y) = by_worth (chained (worth S c).truth (λ t. cond t (worth S x).value (worth S y).value))
 worth S _ = by_worth (Fails Malformed)
 
--- the machine: its answers, its current work, and its continuation frames
+-- the machine: its answers, its current work, and its continuations
 pub data QuietAnswer : Type 0 where
   Number : ℕ → QuietAnswer
   Verdict : Bool → QuietAnswer
@@ -108,6 +111,7 @@ pub data QuietWork : Type 0 where
   -- a zero divisor has occurred
   Divided : QuietWork
 
+-- the continuations
 pub data QuietRest : Type 0 where
   Loads : QuietRest
   Negates : QuietRest
@@ -134,6 +138,7 @@ pub data QuietStep : Type 0 where
 abbrev pub on : QuietWork → List QuietRest → QuietStep
 on w rs = On (record { work = w; rests = rs })
 
+-- begins to evaluate an expression for its value
 abbrev pub evaluates : Sight → Exp → List QuietRest → QuietStep
 evaluates S (Num n) rs = on (Give (Number n)) rs
 evaluates S (Frame k) rs = on (Give (Number ((S.frame + k) % 65536))) rs
@@ -151,6 +156,7 @@ decides_operator And a b rs = on (Decide a) (Conjoins b ∷ rs)
 decides_operator Or a b rs = on (Decide a) (Disjoins b ∷ rs)
 decides_operator op a b rs = on (Evaluate (Bin op a b)) (Tests ∷ rs)
 
+-- begins to evaluate an expression for its truth
 abbrev pub decides : Exp → List QuietRest → QuietStep
 decides (Not e) rs = on (Decide e) (Opposes ∷ rs)
 decides (Bin op a b) rs = decides_operator op a b rs
@@ -167,6 +173,7 @@ as_number w = chained w (λ v. Is (Number v))
 abbrev pub as_verdict : Worth Bool → Worth QuietAnswer
 as_verdict w = chained w (λ t. Is (Verdict t))
 
+-- gives a number to this continuation
 abbrev pub number_taken : Sight → QuietRest → ℕ → List QuietRest → QuietStep
 number_taken S Loads v rs = gives (as_number (found v (cell_at S.cells v))) rs
 number_taken S Negates v rs = on (Give (Number (negated v))) rs
@@ -177,6 +184,7 @@ number_taken S (Operated op x) v rs = gives (as_number (combined op x v)) rs
 number_taken S Beside v rs = on Divided rs
 number_taken S _ v rs = Stops Malformed
 
+-- gives a truth to this continuation
 abbrev pub verdict_taken : QuietRest → Bool → List QuietRest → QuietStep
 verdict_taken Opposes t rs = on (Give (Verdict (not t))) rs
 verdict_taken (Conjoins b) t rs = cond t (on (Decide b) rs) (on (Give (Verdict false)) rs)
@@ -184,6 +192,7 @@ verdict_taken (Disjoins b) t rs = cond t (on (Give (Verdict true)) rs) (on (Deci
 verdict_taken (Selects x y) t rs = cond t (on (Evaluate x) rs) (on (Evaluate y) rs)
 verdict_taken _ t rs = Stops Malformed
 
+-- passes a zero divisor to this continuation
 abbrev pub divided : QuietRest → List QuietRest → QuietStep
 divided (Operates op b) rs = on (Evaluate b) (Beside ∷ rs)
 divided _ rs = on Divided rs
@@ -200,7 +209,7 @@ abbrev pub divided_given : List QuietRest → QuietStep
 divided_given [] = on Divided []
 divided_given (r ∷ rs) = divided r rs
 
--- one step; where the continuation is empty the state doesn't change
+-- one step; without continuations an answer changes nothing
 abbrev pub quiet_step : Sight → QuietWork → List QuietRest → QuietStep
 quiet_step S (Evaluate e) rs = evaluates S e rs
 quiet_step S (Decide e) rs = decides e rs

@@ -1,4 +1,4 @@
--- For proofs: the meaning of the machine's work and of its continuation, in terms of bc_core.
+-- For proofs: the meaning of the machine's work and of its continuations, in terms of bc_core.
 use Rattle.std.specs.Prelude.{ℕ, ◌+◌, Bool, true, false, not, List, [], ◌∷◌, ◌++◌}
 use Rattle.bc_word.specs.Words.{value_of, negated, complemented, holds}
 use Rattle.bc_core.specs.Tree.{Exp, Frame, Load}
@@ -74,7 +74,7 @@ doing call (machine.Listing E is s at) = then_do (perform_items (context_at call
 doing call (machine.Round E limit by b s) = then_do (repeated (for_round (context_at call E) limit by b E.frame s) tt) out
 doing call (machine.Give a) = Done a
 
--- the meaning of a continuation frame, given its answer
+-- the meaning of a continuation, given its answer
 abbrev pub rest : Call → Rest → Answer → Run Answer
 rest call machine.Loads a = on_number (λ v. then_do (read v) number) a
 rest call machine.Negates a = on_number (λ v. number (negated v)) a
@@ -137,6 +137,6 @@ abbrev pub resume : Call → List Rest → Answer → Run Answer
 resume call [] a = Done a
 resume call (r ∷ rs) a = then_do (rest call r a) (resume call rs)
 
--- the meaning of a state: its work, and then its continuation
+-- the meaning of a state: its work, and then its continuations
 abbrev pub meant : Call → At → Run Answer
 meant call at = then_do (doing call at.work) (resume call at.rests)

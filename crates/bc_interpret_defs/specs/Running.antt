@@ -14,7 +14,7 @@ from_step (Ended e streams) f = Some (Ended e streams)
 from_step (Going streams) f = Some (Going streams)
 from_step Wild f = Some Wild
 
--- the answer of the whole run if the continuation is empty, else o
+-- the answer of the whole run if there are no continuations, else o
 abbrev pub last_or : Work → List Rest → State → Option (Outcome Answer) → Option (Outcome Answer)
 last_or (Give a) [] st o = Some (Done a st)
 last_or w rs st o = o
@@ -28,6 +28,7 @@ ran program (suc k) at st = last_or at.work at.rests st (from_step (step program
 abbrev pub start_at : (stack_base : ℕ) → At
 start_at stack_base = record { work = Give (Number 9); rests = Loads ∷ Calls [] (stack_base + 2) ∷ [] }
 
+-- the state in which a run of this program begins, with n turns
 abbrev pub start_state : List Placed → Content → ℕ → State
 start_state program streams n = record { cells = start_cells (standing program); streams = streams; turns = n }
 
@@ -36,6 +37,7 @@ abbrev pub Moves : Work → List Rest → Type 0
 Moves (Give a) [] = ⊥
 Moves w rs = Unit {0}
 
+-- the result of a finished run
 abbrev pub result_if : Option (Outcome Answer) → Option Result
 result_if None = None
 result_if (Some o) = Some (result_of o)

@@ -8,7 +8,7 @@ pub fn fuel_never_ends()
     ensures { FuelNeverEnds }
 {}
 
-/// Each step of the machine preserves the meaning of the current work followed by its continuation.
+/// Each step of the machine preserves the meaning of the current work followed by its continuations.
 pub fn steps_keep()
     ensures { StepsKeep }
 {}

@@ -9,19 +9,28 @@ use bc_word::Memory;
 /// The VALOFs inside a part of a routine, and the number of the first one.
 #[derive(Clone, Copy)]
 pub(crate) struct Within<'c> {
+    /// The number of the first VALOF.
     pub first: usize,
+    /// The VALOFs from the first one on.
     pub valofs: &'c [Valof],
 }
 
 /// A part of a routine, with the level at which it begins.
 #[derive(Clone, Copy)]
 pub(crate) enum Part<'c> {
+    /// An expression.
     Expression(Within<'c>, &'c CoreExp, usize),
+    /// The remaining arguments of a call; the level is that of the first one.
     Arguments(Within<'c>, &'c [CoreExp], usize),
+    /// A command.
     Command(Within<'c>, &'c Command, usize),
+    /// A block.
     Block(Within<'c>, &'c Block, usize),
+    /// The remaining declarations of a block.
     Declarations(Within<'c>, &'c [Declaration], usize),
+    /// The remaining variables of a declaration; the level is the one after all of its variables.
     Variables(Within<'c>, &'c [Variable], usize),
+    /// The remaining items of a list.
     Items(Within<'c>, &'c [ListItem], usize),
 }
 

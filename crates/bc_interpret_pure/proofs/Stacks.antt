@@ -1,4 +1,4 @@
--- The continuation frames as the code keeps them: the innermost last.
+-- The continuations as the code keeps them: the innermost last.
 use Rattle.std.proofs.Common.{◌≡◌, List, [], ◌∷◌, ◌++◌, refl}
 use Rattle.bc_interpret_defs.specs.Quiet.{QuietRest}
 use Rattle.bc_interpret_pure.specs.declared.forms.Rest.{Rest}

@@ -10,6 +10,7 @@ use Rattle.bc_interpret_defs.specs.Quiet.{Sight, Is, found, worth, chained, comb
 use Rattle.bc_interpret_pure.specs.declared.fast_path.Quick.{Quick}
 use Rattle.bc_interpret_pure.specs.declared.fast_path.Quick.TheVariants as quick
 
+-- the answer is right about the value of the expression
 abbrev pub IsQuickValue : Sight → Exp → Quick → Type 0
 IsQuickValue S e (quick.Is v) = (has_call e ≡ false) × ((worth S e).value ≡ Is v)
 IsQuickValue S e quick.Calls = has_call e ≡ true
@@ -27,11 +28,13 @@ IsQuickLeaf S e (quick.Is v) = (has_call e ≡ false) × ((worth S e).value ≡ 
 IsQuickLeaf S e quick.Calls = Unit {0}
 IsQuickLeaf S e quick.Unknown = Unit {0}
 
+-- the answer is right about the word of the cell at this address
 abbrev pub IsWordAt : Sight → ℕ → Quick → Type 0
 IsWordAt S a (quick.Is w) = found a (cell_at S.cells a) ≡ Is w
 IsWordAt S a quick.Calls = ⊥
 IsWordAt S a quick.Unknown = Unit {0}
 
+-- the answer is right about the result of an operator on two numbers
 abbrev pub IsMadeOf : Op → ℕ → ℕ → Quick → Type 0
 IsMadeOf op x y (quick.Is w) = operator_value op x y ≡ Some w
 IsMadeOf op x y quick.Calls = ⊥

@@ -18,9 +18,11 @@ use Rattle.bc_interpret_pure.specs.declared.value.Worth.TheVariants as worth_for
 use Rattle.bc_interpret_defs.specs.Quiet.{worth, QuietWork, QuietRest, QuietStep, Stops, on, quiet_meant, quiet_weight}
 use Rattle.bc_interpret_defs.specs.Quiet as quiet
 
+-- the context of an evaluation, as the definitions have it
 abbrev pub sight_of : Sight → quiet.Sight
 sight_of S = record { cells = S.store.now; address = λ l. slice_index_or S.addresses.now l 0; frame = S.frame }
 
+-- the current work, as the definitions have it
 abbrev pub work_of : Work → QuietWork
 work_of (works.Evaluate e) = quiet.Evaluate (exp e.now)
 work_of (works.Decide e) = quiet.Decide (exp e.now)
@@ -28,6 +30,7 @@ work_of (works.Number v) = quiet.Give (quiet.Number v)
 work_of (works.Verdict t) = quiet.Give (quiet.Verdict t)
 work_of works.Divided = quiet.Divided
 
+-- a continuation, as the definitions have it
 abbrev pub rest_of : Rest → QuietRest
 rest_of rests.Loads = quiet.Loads
 rest_of rests.Negates = quiet.Negates
@@ -41,14 +44,16 @@ rest_of (rests.Conjoins e) = quiet.Conjoins (exp e.now)
 rest_of (rests.Disjoins e) = quiet.Disjoins (exp e.now)
 rest_of (rests.Selects x y) = quiet.Selects (exp x.now) (exp y.now)
 
--- the frames as a list: the last one pushed comes first
+-- the continuations as a list, put on rs: the last one pushed comes first
 abbrev pub stack_on : List QuietRest → List Rest → List QuietRest
 stack_on rs [] = rs
 stack_on rs (x ∷ xs) = stack_on (rest_of x ∷ rs) xs
 
+-- the continuations as a list
 abbrev pub stack : List Rest → List QuietRest
 stack xs = stack_on [] xs
 
+-- the innermost continuation was popped, or there was none
 abbrev pub Popped : Option Rest → List QuietRest → List QuietRest → Type 0
 Popped None old new = (old ≡ []) × (new ≡ [])
 Popped (Some r) old new = old ≡ rest_of r ∷ new
@@ -70,11 +75,12 @@ abbrev pub IsWorth : quiet.Sight → Exp → Option Worth → Type 0
 IsWorth S e (Some w) = (has_call e ≡ false) × (seen w ≡ (worth S e).value)
 IsWorth S e None = has_call e ≡ true
 
+-- the expression is pure and has this truth, or it contains a call
 abbrev pub IsTruth : quiet.Sight → Exp → Option Truth → Type 0
 IsTruth S e (Some t) = (has_call e ≡ false) × (seen_truth t ≡ (worth S e).truth)
 IsTruth S e None = has_call e ≡ true
 
--- the code's step is the definition's step o, with these frames left
+-- the code's step is the definition's step o, with these continuations left
 abbrev pub Came : Step → QuietStep → List QuietRest → Type 0
 Came (steps.On w) o rs = o ≡ on (work_of w) rs
 Came (steps.Number v) o rs = ⊥

@@ -1,4 +1,4 @@
-//! Popping a continuation frame: what it does with a number, with a truth, and after a zero divisor.
+//! Popping a continuation: what it does with a number, with a truth, and after a zero divisor.
 
 ghost use Rattle.std.specs.Prelude.{List, IfOk};
 ghost use Rattle.bc_interpret_defs.specs.Quiet.{QuietRest, Loads, number_taken as takes_number, verdict_taken as takes_verdict, divided as divides};
@@ -22,7 +22,7 @@ fn load<'c>(sight: &Sight<'_>, address: u16) -> Step<'c>
     }
 }
 
-/// Gives a number to this frame, which was popped off `rests`. A frame that takes a truth fails as `Malformed`.
+/// Gives a number to this continuation, which was popped off `rests`. A continuation that takes a truth fails as `Malformed`.
 ///
 /// `Memory` if an allocation fails.
 #[tactic(auto, using(crate::proofs::Steps::operated, crate::proofs::Steps::not_operated))]
@@ -54,7 +54,7 @@ pub(crate) fn number_taken<'c>(
     }
 }
 
-/// Gives a truth to this frame. A frame that takes a number fails as `Malformed`.
+/// Gives a truth to this continuation. A continuation that takes a number fails as `Malformed`.
 pub(crate) fn verdict_taken<'c>(rest: &Rest<'c>, t: bool) -> Step<'c>
     ensures { (rs : List QuietRest) → Came result (takes_verdict (rest_of rest.now) t rs) rs }
 {
@@ -81,8 +81,8 @@ pub(crate) fn verdict_taken<'c>(rest: &Rest<'c>, t: bool) -> Step<'c>
     }
 }
 
-/// Passes a zero divisor to this frame. If it holds a second operand, that is still evaluated, since a wild access in it takes
-/// precedence; every other frame is dropped.
+/// Passes a zero divisor to this continuation. If it holds a second operand, that is still evaluated, since a wild access in it takes
+/// precedence; every other continuation is dropped.
 ///
 /// `Memory` if an allocation fails.
 pub(crate) fn divided<'c>(rest: &Rest<'c>, rests: &mut Vec<Rest<'c>>) -> Result<Step<'c>, Memory>

@@ -1,4 +1,4 @@
-//! One step into an expression: pushes the frame for the rest of it and goes on with its first part.
+//! One step into an expression: pushes the continuation for its other parts, and goes on with its first part.
 
 ghost use Rattle.std.specs.Prelude.{IfOk};
 ghost use Rattle.bc_core.specs.View.{exp};

@@ -1,5 +1,6 @@
 //! The machine's current work, its steps, and its rests. A rest is what is usually called a continuation frame: what is left to do
-//! with an answer. The frames are kept in a vector, with the innermost last.
+//! with an answer. Comments call it a continuation, since a frame here is that of a routine. The continuations are in a vector, with
+//! the innermost last.
 
 ghost use Rattle.std.specs.Prelude.{◌≡◌, ◌∷◌, OnOk};
 ghost use Rattle.bc_interpret_pure.specs.Views.{rest_of, stack, Popped};
@@ -8,10 +9,12 @@ use crate::context::Cause;
 use bc_core::CoreExp;
 use bc_word::{Memory, Op};
 
-/// The current work: an expression to evaluate, or an answer to give to the innermost frame.
+/// The current work: an expression to evaluate, or an answer to give to the innermost continuation.
 #[derive(Clone, Copy)]
 pub(crate) enum Work<'c> {
+    /// Evaluates an expression for its value.
     Evaluate(&'c CoreExp),
+    /// Evaluates an expression for its truth.
     Decide(&'c CoreExp),
     Number(u16),
     Verdict(bool),
@@ -19,7 +22,7 @@ pub(crate) enum Work<'c> {
     Divided,
 }
 
-/// A continuation frame: what is left to do with a number or a truth.
+/// A continuation: what is left to do with a number or a truth.
 #[derive(Clone, Copy)]
 pub enum Rest<'c> {
     /// Reads the cell at the address that is the answer.
@@ -61,7 +64,7 @@ pub(crate) enum Step<'c> {
     Fails(Cause),
 }
 
-/// Pushes a continuation frame.
+/// Pushes a continuation.
 ///
 /// `Memory` if an allocation fails.
 #[inline(always)]
@@ -73,7 +76,7 @@ pub(crate) fn put<'c>(rest: Rest<'c>, rests: &mut Vec<Rest<'c>>) -> Result<(), M
     Ok(())
 }
 
-/// Pops the innermost continuation frame; `None` if the continuation is empty.
+/// Pops the innermost continuation; `None` if there is none.
 #[inline(always)]
 #[tactic(auto, using(crate::proofs::Stacks::stacked))]
 pub(crate) fn take<'c>(rests: &mut Vec<Rest<'c>>) -> Option<Rest<'c>>

@@ -1,7 +1,7 @@
 //! Evaluates pure expressions, and decides whether an expression is pure. An expression is pure if it contains no call and no VALOF.
 //!
 //! Expressions up to 16 levels deep are evaluated by recursion (`fast_path.rt`). Deeper ones are evaluated by the small-step machine of
-//! `bc_interpret_defs` (`value.rt`), which keeps its continuation frames in a list, so that no native stack is used for them.
+//! `bc_interpret_defs` (`value.rt`), which keeps its continuations in a list, so that they use no native stack.
 #![tactic(auto)]
 
 mod apply;

@@ -15,7 +15,7 @@ use bc_word::Memory;
 /// Buffers that successive evaluations reuse, so that nothing is allocated once they have grown.
 #[derive(Drop)]
 pub struct Room<'c> {
-    /// The continuation frames of the machine.
+    /// The continuations of the machine.
     pub rests: Vec<Rest<'c>>,
     /// The expressions that `has_call` has still to visit.
     pub waiting: Vec<&'c CoreExp>,

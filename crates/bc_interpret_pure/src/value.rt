@@ -1,4 +1,4 @@
-//! The machine for pure expressions: evaluates one step after another, with its continuation frames in a list.
+//! The machine for pure expressions: evaluates one step after another, with its continuations in a list.
 
 ghost use Rattle.std.specs.Prelude.{◌≡◌, IfOk};
 ghost use Rattle.bc_core.specs.View.{exp};
@@ -58,8 +58,8 @@ fn step<'c>(sight: &Sight<'_>, now: Work<'c>, rests: &mut Vec<Rest<'c>>) -> Resu
     }
 }
 
-/// The worth of a pure expression; one that isn't pure fails as `Malformed`. The former contents of `rests` are lost; it is passed in
-/// so that its memory is reused. Uses no native stack for the depth of the tree.
+/// The worth of a pure expression; a call or VALOF that is reached fails as `Malformed`. The former contents of `rests` are lost; it is
+/// passed in so that its memory is reused. Uses no native stack for the depth of the tree.
 ///
 /// `Memory` if an allocation fails.
 #[tactic(auto, using(crate::proofs::Kept::number_is, crate::proofs::Kept::divides_is, crate::proofs::Kept::fails_is, crate::proofs::Kept::no_verdict))]
@@ -83,8 +83,8 @@ pub(crate) fn value_of<'c>(
     }
 }
 
-/// The truth of a pure expression; one that isn't pure fails as `Malformed`. The former contents of `rests` are lost; it is passed in
-/// so that its memory is reused. Uses no native stack for the depth of the tree.
+/// The truth of a pure expression; a call or VALOF that is reached fails as `Malformed`. The former contents of `rests` are lost; it is
+/// passed in so that its memory is reused. Uses no native stack for the depth of the tree.
 ///
 /// `Memory` if an allocation fails.
 #[tactic(auto, using(crate::proofs::Kept::truth_is, crate::proofs::Kept::not_divided, crate::proofs::Kept::not_failed, crate::proofs::Kept::no_number))]

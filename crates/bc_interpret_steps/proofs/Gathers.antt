@@ -1,4 +1,4 @@
--- Gathering the arguments of a call from the frames.
+-- Gathering the arguments of a call from the continuations.
 use Rattle.std.proofs.Common.{◌≡◌, ℕ, Bool, true, false, not, List, [], ◌∷◌, ◌++◌, reverse, refl, sym, ap, subst, ◌∙◌, append_assoc}
 use Rattle.std.proofs.lemmas.List.{append-nil, reverse-append}
 use Rattle.bc_interpret_steps.specs.declared.continuations.Rest.{Rest}

@@ -54,7 +54,7 @@ last_is all below top r split e =
     let here : slice_get all (length all - 1) ≡ Some top = ap (λ n. slice_get all n) size ∙ (ap (λ xs. slice_get xs (length below)) split ∙ there) in
     cc
 
--- the frames that pass an exit on
+-- the continuations that pass an exit on
 
 pub none_follows : (E : machine.Spot) (s : ℕ) (x : exits.Exit) (rs : List machine.Rest) → PassesOn x (machine.Follows E no_item s ∷ rs) x rs
 none_follows E s exits.Past rs program old =
@@ -123,7 +123,7 @@ passes_more x y z rs rs1 rs2 h k program old =
     let k0 = k program old in
     (k0.0 ++ h0.0, append program old (leaving x rs) (leaving y rs1) (leaving z rs2) h0.0 k0.0 h0.1 k0.1)
 
--- the innermost frame is popped
+-- the innermost continuation is popped
 pub passed_top : (x : exits.Exit) (all : List Rest) (r : ExitRest) (found : Option Exit) → slice_get all (length all - 1) ≡ Some (rests.Exit r) → IsHandedOn x r found → IsPassed x all found
 passed_top x all r None e h = tt
 passed_top x all r (Some y) e h = (

@@ -51,7 +51,7 @@ IsGivenOne a first following before st forms.Over p after =
     before st p after st
 
 -- A primitive is called: its turn has been taken and its argument passed. The machine goes on with its work, then frees the cell of its
--- argument, then continues with the frames.
+-- argument, then goes on with the continuations.
 pub record IsServed (r : machine.Step) (called : Option Callee) (arguments : List ℕ) (f : ℕ) (q : primitives.Primitive) (g : ℕ)
     (old : State) (rs : List machine.Rest) (new : State) : Type 0 where
   pub comes : (streams : Content)

@@ -63,8 +63,8 @@ IsDone E c old (Some done) new =
 -- what comes next in a list that begins with this item and is entered at `at`
 abbrev pub IsNext : Next → ListItem → Entry → Type 0
 IsNext (nexts.Passes next) i at =
-    (E : machine.Spot) (following : Items) (s : ℕ) (rs : List machine.Rest) → list_step E (items_before i following) s (entry_of at) rs ≡ list_step E following s
-    (entry_of next) rs
+    (E : machine.Spot) (following : Items) (s : ℕ) (rs : List machine.Rest)
+    → list_step E (items_before i following) s (entry_of at) rs ≡ list_step E following s (entry_of next) rs
 IsNext (nexts.Does c) i at =
     (E : machine.Spot) (following : Items) (s : ℕ) (rs : List machine.Rest)
     → list_step E (items_before i following) s (entry_of at) rs ≡ first_command E (command_view c.now) following s rs (list_step E following s Beginning rs)

@@ -32,9 +32,11 @@ use Rattle.bc_interpret_defs.specs.Machine.{give, following, frame_taken}
 use Rattle.bc_interpret_steps.specs.declared.continuations.Rest.{Rest}
 use Rattle.bc_interpret_steps.specs.Code.{work_of, exit_of, stacked, then_given, stack, given}
 
+-- the state of the code, over these streams, as the definitions have it
 abbrev pub state_of : State → Content → outcomes.State
 state_of st streams = record { cells = st.store; streams = streams; turns = st.turns }
 
+-- a primitive, as the definitions have it
 abbrev pub primitive_of : Primitive → primitives.Primitive
 primitive_of (primitive_forms.Select side) = primitives.Select side
 primitive_of primitive_forms.ReadByte = primitives.ReadByte
@@ -45,8 +47,8 @@ primitive_of (primitive_forms.EndStream side) = primitives.EndStream side
 abbrev pub at : List ℕ → Work → List machine.Rest → machine.At
 at vs w rs = record { work = work_of vs w; rests = rs }
 
--- Whatever the streams hold: the code reports the outcome of a step that calls nothing, with the frames, the given arguments and the
--- state after it. If the step is wild, the cause names a cell that was in that state when the step began.
+-- Whatever the streams hold: the code reports the outcome of a step that calls nothing, with the continuations, the given arguments and
+-- the state after it. If the step is wild, the cause names a cell that was in that state when the step began.
 abbrev pub Came : machine.Step → (old : State) → Progress → List machine.Rest → List ℕ → (new : State) → Type 0
 Came r old (progress.On w) rs vs new = (streams : Content) → r (state_of old streams) ≡ outcomes.Done (at vs w rs) (state_of new streams)
 Came r old (progress.Serve q f) rs vs new = ⊥
@@ -60,14 +62,14 @@ abbrev pub CameOrMalformed : machine.Step → (old : State) → Progress → Lis
 CameOrMalformed r old (progress.Wild causes.Malformed) rs vs new = (st : outcomes.State) → r st ≡ outcomes.Wild
 CameOrMalformed r old p rs vs new = Came r old p rs vs new
 
--- the same with the frames as the interpreter keeps them
+-- the same with the continuations as the interpreter keeps them
 abbrev pub Goes : (List machine.Rest → machine.Step) → (before : List Rest) → (old : State) → Progress → (after : List Rest) → (new : State) → Type 0
 Goes f before old p after new = Came (f (stack before)) old p (stack after) (given after) new
 
 abbrev pub GoesOrMalformed : (List machine.Rest → machine.Step) → (before : List Rest) → (old : State) → Progress → (after : List Rest) → (new : State) → Type 0
 GoesOrMalformed f before old p after new = CameOrMalformed (f (stack before)) old p (stack after) (given after) new
 
--- next comes next, after which the frame r takes its answer
+-- what comes next is `next`, and the continuation r takes its answer
 abbrev pub StandsAfter : Rest → Progress → (before : List Rest) → Progress → (after : List Rest) → Type 0
 StandsAfter r next before p after =
     (stack after ≡ stacked (stack before) (given before) r) × (given after ≡ then_given (given before) r) × (p ≡ next)

@@ -18,18 +18,19 @@ use Rattle.bc_interpret_steps.specs.declared.lists.Along.TheVariants as forms
 use Rattle.bc_interpret_steps.specs.Code.{entry_of}
 use Rattle.bc_interpret_steps.specs.Came.{state_of, Goes}
 
--- the items after it are entered at `next`, the frames are unchanged, and what is unset or not live was so before; or the step is over
--- with this outcome
+-- the items after it are entered at `next`, the continuations are unchanged, and what is unset or not live was so before; or the step is
+-- over with this outcome
 abbrev pub IsAlong :
     machine.Spot → (first : ListItem) → (following : List ListItem) → (s : ℕ) → Entry → (before : List Rest) → (old : State) → Along → Progress
     → (after : List Rest) → (new : State) → Type 0
 IsAlong E first following s at before old (forms.On next) p after new =
     (after ≡ before)
     × ((rs : List machine.Rest) (streams : Content)
-    → list_step E (items_before first (items following)) s (entry_of at) rs (state_of old streams) ≡ list_step E (items following) s (entry_of next) rs (state_of new
-    streams))
+    → list_step E (items_before first (items following)) s (entry_of at) rs (state_of old streams)
+    ≡ list_step E (items following) s (entry_of next) rs (state_of new streams))
     × Stood old.store new.store
-IsAlong E first following s at before old forms.Over p after new = Goes (list_step E (items_before first (items following)) s (entry_of at)) before old p after new
+IsAlong E first following s at before old forms.Over p after new =
+    Goes (list_step E (items_before first (items following)) s (entry_of at)) before old p after new
 
 -- whether the item is the place at which a list is entered, which isn't its beginning
 abbrev pub IsEntry : Bool → ListItem → Entry → Type 0

@@ -94,16 +94,16 @@ abbrev pub IsFirstCall : Exp → Option FirstCall → Type 0
 IsFirstCall e None = Unit {0}
 IsFirstCall e (Some o) = first_called o ≡ e
 
--- the innermost frame is this operator, which waits for its first operand
+-- the innermost continuation is this operator, which waits for its first operand
 abbrev pub IsOperator : Option Operator → List Rest → Type 0
 IsOperator None all = Unit {0}
 IsOperator (Some o) all = slice_get all (length all - 1) ≡ Some (rests.Number (number_rests.Operates o.spot o.op o.second o.s))
 
--- the machine is about to give this exit to the innermost frame
+-- the machine is about to give this exit to the innermost continuation
 abbrev pub leaving : exits.Exit → List machine.Rest → machine.At
 leaving x rs = record { work = machine.Give (machine.Left x); rests = rs }
 
--- in every state, giving the exit x to the frames rs leads to giving y to the frames rs1
+-- in every state, giving the exit x to the continuations rs leads to giving y to the continuations rs1
 abbrev pub PassesOn : exits.Exit → List machine.Rest → exits.Exit → List machine.Rest → Type 0
 PassesOn x rs y rs1 = (program : List Placed) (old : State) → (along : List machine.At) × Passes program old (leaving x rs) along (leaving y rs1)
 
@@ -112,17 +112,17 @@ abbrev pub IsLeft : Items → exits.Exit → Bool → Type 0
 IsLeft is x false = Unit {0}
 IsLeft is x true = (E : machine.Spot) (s : ℕ) (rs : List machine.Rest) → PassesOn x (machine.Follows E is s ∷ rs) x rs
 
--- the frame passes on this exit, whatever frames come after it
+-- the continuation passes on this exit, whatever continuations come after it
 abbrev pub IsHandedOn : exits.Exit → ExitRest → Option Exit → Type 0
 IsHandedOn x r None = Unit {0}
 IsHandedOn x r (Some y) = (rs : List machine.Rest) → PassesOn x (exit_rest r ∷ rs) (exit_of y) rs
 
--- the frame passes on this exit, and it is the one that is reported
+-- the continuation passes on this exit, and it is the one that is reported
 abbrev pub IsPassedBy : exits.Exit → Rest → Exit → Type 0
 IsPassedBy x (rests.Exit r) y = IsHandedOn x r (Some y)
 IsPassedBy x r y = ⊥
 
--- if an exit is reported, the innermost frame passes it on
+-- if an exit is reported, the innermost continuation passes it on
 abbrev pub IsPassed : exits.Exit → List Rest → Option Exit → Type 0
 IsPassed x all None = Unit {0}
 IsPassed x all (Some y) = (0 < length all) × ((below : List Rest) (top : Rest) → all ≡ below ++ top ∷ [] → IsPassedBy x top y)

@@ -9,12 +9,15 @@ use Rattle.bc_core.specs.Primitive.{primitives, primitive_among}
 use Rattle.bc_interpret_steps.specs.declared.sections.Section.{Section}
 use Rattle.bc_interpret_steps.specs.declared.sections.Callable.{Callable}
 
+-- a section, with the addresses of its labels
 abbrev pub placed_of : Section → Placed
 placed_of s = record { core = view.section (s.places.now, s.valofs.now); address = λ l. slice_index_or s.addresses.now l 0 }
 
+-- the program of these sections
 abbrev pub program_of : List Section → List Placed
 program_of ss = map placed_of ss
 
+-- the routine of an entry, as the definitions have it
 abbrev pub callee_of : Callable → Callee
 callee_of e = OfSection (placed_of e.section.now) (routine_of e.routine.now)
 

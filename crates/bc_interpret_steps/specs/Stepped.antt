@@ -39,38 +39,42 @@ Stepped program w rs old (progress.Wild c) rs1 vs1 new =
     Moves w rs × ((streams : Content) → step program w rs (state_of old streams) ≡ outcomes.Wild) × Meets program w rs old.store (cause_of c)
 Stepped program w rs old p rs1 vs1 new = Moves w rs × Came (step program w rs) old p rs1 vs1 new
 
--- unless memory ran out: the outcome of a step that is a function of the continuation
+-- unless memory ran out: the outcome of a step that is a function of the continuations
 abbrev pub Proceeds :
     {A E : Type 0}
     → (List machine.Rest → machine.Step) → (before : Vec Rest Global) → (old : State) → Result A E → Progress → (after : Vec Rest Global) → (new : State)
     → Type 0
 Proceeds f before old result p after new = OnOk result (Goes f before.items old p after.items new)
 
+-- the same, where the step may be malformed
 abbrev pub ProceedsOrMalformed :
     {A E : Type 0}
     → (List machine.Rest → machine.Step) → (before : Vec Rest Global) → (old : State) → Result A E → Progress → (after : Vec Rest Global) → (new : State)
     → Type 0
 ProceedsOrMalformed f before old result p after new = OnOk result (GoesOrMalformed f before.items old p after.items new)
 
--- the outcome of giving an answer to a popped frame
+-- the outcome of giving an answer to a popped continuation
 abbrev pub Takes :
     {A E : Type 0}
     → machine.Rest → machine.Answer → (before : Vec Rest Global) → (old : State) → Result A E → Progress → (after : Vec Rest Global) → (new : State) → Type 0
 Takes r a before old result p after new = (program : List Placed) → OnOk result (Goes (next program r a) before.items old p after.items new)
 
+-- the same, where the step may be malformed
 abbrev pub TakesOrMalformed :
     {A E : Type 0}
     → machine.Rest → machine.Answer → (before : Vec Rest Global) → (old : State) → Result A E → Progress → (after : Vec Rest Global) → (new : State) → Type 0
 TakesOrMalformed r a before old result p after new =
     (program : List Placed) → OnOk result (GoesOrMalformed (next program r a) before.items old p after.items new)
 
--- the same where the frame doesn't change the frames after it
+-- the same where the continuation doesn't change the continuations after it
 abbrev pub Gives : machine.Rest → machine.Answer → (old : State) → Progress → (new : State) → Type 0
 Gives r a old p new = (program : List Placed) (rs : List machine.Rest) (vs : List ℕ) → Came (next program r a rs) old p rs vs new
 
+-- the same, where the step may be malformed
 abbrev pub GivesOrMalformed : machine.Rest → machine.Answer → (old : State) → Progress → (new : State) → Type 0
 GivesOrMalformed r a old p new = (program : List Placed) (rs : List machine.Rest) (vs : List ℕ) → CameOrMalformed (next program r a rs) old p rs vs new
 
+-- the same as a result, unless memory ran out
 abbrev pub GivesIfOk : {E : Type 0} → machine.Rest → machine.Answer → (old : State) → Result Progress E → (new : State) → Type 0
 GivesIfOk r a old result new = (program : List Placed) (rs : List machine.Rest) (vs : List ℕ) → IfOk result (λ p. Came (next program r a rs) old p rs vs new)
 

@@ -1,4 +1,4 @@
-//! Giving an answer to the innermost continuation frame. An answer of the wrong kind is wild (`Malformed`). Each call returns `Memory`
+//! Giving an answer to the innermost continuation. An answer of the wrong kind is wild (`Malformed`). Each call returns `Memory`
 //! if an allocation fails.
 
 ghost use Rattle.bc_interpret_defs.specs.Machine as machine;
@@ -17,7 +17,7 @@ use crate::state::{Stacks, State};
 use bc_interpret_pure::Cause;
 use bc_word::Memory;
 
-/// Gives a number to the innermost frame.
+/// Gives a number to the innermost continuation.
 pub(crate) fn give_number<'c>(
     table: &[Callable<'c>],
     v: u16,
@@ -46,7 +46,7 @@ pub(crate) fn give_number<'c>(
     }
 }
 
-/// Gives a truth to the innermost frame.
+/// Gives a truth to the innermost continuation.
 pub(crate) fn give_verdict<'c>(
     table: &[Callable<'c>],
     t: bool,
@@ -80,7 +80,7 @@ pub(crate) fn give_verdict<'c>(
     }
 }
 
-/// Gives the answer of an assignment or an initialiser to the innermost frame.
+/// Gives the answer of an assignment or an initialiser to the innermost continuation.
 pub(crate) fn give_nothing<'c>(
     table: &[Callable<'c>],
     stacks: &mut Stacks<'c>,
@@ -113,7 +113,7 @@ pub(crate) fn give_nothing<'c>(
     }
 }
 
-/// Gives an exit to the innermost frame, after popping the frames that only pass it on.
+/// Gives an exit to the innermost continuation, after popping the continuations that only pass it on.
 #[inline(always)]
 pub(crate) fn give_exit<'c>(
     table: &[Callable<'c>],
@@ -127,7 +127,7 @@ pub(crate) fn give_exit<'c>(
     hand_exit(table, out, stacks, state)
 }
 
-/// Gives an exit to the innermost frame.
+/// Gives an exit to the innermost continuation.
 #[inline(always)]
 fn hand_exit<'c>(
     table: &[Callable<'c>],

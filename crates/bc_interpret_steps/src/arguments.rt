@@ -87,7 +87,7 @@ fn give_argument<'c>(
     }
 }
 
-/// Pushes the frame that takes the value of the first remaining argument.
+/// Pushes the continuation that takes the value of the first remaining argument.
 fn put_argues<'c>(
     arguments: Arguments<'c>,
     following: &'c [CoreExp],
@@ -132,7 +132,7 @@ fn argue_routine<'c>(
     }
 }
 
-/// The value of an argument, and whether it is the first one of its call; `None` for a real frame.
+/// The value of an argument, and whether it is the first one of its call; `None` for a continuation.
 fn given_by(rest: &Rest<'_>) -> Option<(u16, bool)>
     ensures { IsGiven result rest.now }
 {
@@ -170,7 +170,7 @@ fn take_given<'c>(rests: &mut Vec<Rest<'c>>, arguments: &mut Vec<u16>) -> Result
     }
 }
 
-/// Pops the arguments of a call off the frames, the last one first. There are none if the call is `fresh`.
+/// Pops the arguments of a call off the continuations, the last one first. There are none if the call is `fresh`.
 fn gather<'c>(
     fresh: bool,
     rests: &mut Vec<Rest<'c>>,
@@ -239,7 +239,8 @@ impl<'c> Stacks<'c> {
         }
     }
 
-    /// Pops the arguments of a call off the frames into `self.arguments`, the last one first. There are none if the call is `fresh`.
+    /// Pops the arguments of a call off the continuations into `self.arguments`, the last one first. There are none if the call is
+    /// `fresh`.
     ///
     /// `Memory` if an allocation fails.
     pub(crate) fn gather(&mut self, fresh: bool) -> Result<(), Memory>
@@ -248,7 +249,7 @@ impl<'c> Stacks<'c> {
         gather(fresh, &mut self.rests, &mut self.arguments)
     }
 
-    /// Pops the innermost frame; `None` if there is none. Arguments that no call has taken are dropped.
+    /// Pops the innermost continuation; `None` if there is none. Arguments that no call has taken are dropped.
     pub(crate) fn take(&mut self) -> Option<Rest<'c>>
         ensures { Taken result self.old.rests.items self.new.rests.items }
     {

@@ -45,7 +45,7 @@ fn take_room(frame: u32, size: usize, state: &mut State) -> Result<Fit, Memory>
     Ok(Fit::Fits)
 }
 
-/// The primitive whose code is at this address.
+/// The primitive whose code is at this address. The primitives are the first segment of every image, which begins at address 520.
 fn primitive_at(address: u16) -> Option<Primitive>
     ensures { IsPrimitive result address }
 {
@@ -137,7 +137,7 @@ fn enter_routine<'c>(
     }
 }
 
-/// Calls a value, in the frame at this address, with the arguments that were pushed as frames; with none if the call is `fresh`.
+/// Calls a value, in the frame at this address, with the arguments that were pushed; with none if the call is `fresh`.
 ///
 /// `Memory` if an allocation fails.
 pub(crate) fn arrive<'c>(

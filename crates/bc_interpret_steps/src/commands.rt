@@ -28,7 +28,7 @@ use bc_interpret_pure::{Cause, Truth, cell_of};
 use bc_interpret_store::Cell;
 use bc_word::Memory;
 
-/// Begins an assignment, and pushes the frame that leaves it.
+/// Begins an assignment, and pushes the continuation that leaves it.
 #[inline(always)]
 fn assign<'c>(
     spot: Spot<'c>,
@@ -149,7 +149,7 @@ fn for_loop<'c>(
     Ok(())
 }
 
-/// Pushes a frame, and begins the expression whose value it takes.
+/// Pushes a continuation, and begins the expression whose value it takes.
 fn after_value<'c>(
     rest: ValueRest<'c>,
     spot: Spot<'c>,
@@ -230,7 +230,7 @@ pub(crate) fn enter_either<'c>(
     Ok(enter(spot, that, s, stacks, state)?)
 }
 
-/// Enters the body of a WHILE or UNTIL, and pushes the frame that continues the loop.
+/// Enters the body of a WHILE or UNTIL, and pushes the continuation that goes on with the loop.
 #[inline(always)]
 fn while_body<'c>(
     spot: Spot<'c>,
@@ -614,7 +614,7 @@ pub(crate) fn round<'c>(
     }
 }
 
-/// Enters the body of a FOR, and pushes the frame that continues the loop. `bounds` has the limit and the step.
+/// Enters the body of a FOR, and pushes the continuation that goes on with the loop. `bounds` has the limit and the step.
 #[inline(always)]
 fn for_body<'c>(
     spot: Spot<'c>,

@@ -1,4 +1,4 @@
-//! Giving a truth to a continuation frame.
+//! Giving a truth to a continuation.
 
 ghost use Rattle.std.specs.Prelude.{◌≡◌};
 ghost use Rattle.bc_core.specs.Loop.{agrees as agrees_with};
@@ -106,7 +106,7 @@ fn repeats<'c>(
     Progress::On(Work::RepeatWhile(spot, body, condition, s))
 }
 
-/// Gives a truth to this frame, which was popped.
+/// Gives a truth to this continuation, which was popped.
 ///
 /// `Memory` if an allocation fails.
 pub(crate) fn truth_taken<'c>(

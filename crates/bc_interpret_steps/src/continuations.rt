@@ -1,5 +1,5 @@
-//! The rests. A rest is what is usually called a continuation frame: what is left to do with an answer. The frames are kept in a
-//! vector, with the innermost last.
+//! The rests. A rest is what is usually called a continuation frame: what is left to do with an answer. Comments call it a continuation,
+//! since a frame here is that of a routine. The continuations are in a vector, with the innermost last.
 //!
 //! Each kind of answer has its own enum. A field of type `u32` that isn't explained is the level: the first free offset of the frame.
 
@@ -10,7 +10,7 @@ use crate::forms::{Arguments, Spot};
 use bc_core::{Block, Condition, CoreExp, Declaration, ListItem, Variable};
 use bc_word::{Memory, Op};
 
-/// A frame inside an expression that takes a number.
+/// A continuation inside an expression, which takes a number.
 #[derive(Clone, Copy)]
 pub enum NumberRest<'c> {
     /// Reads the cell at the address that is the number.
@@ -29,7 +29,7 @@ pub enum NumberRest<'c> {
     Argues(Arguments<'c>),
 }
 
-/// A frame of a command or declaration that takes the number of its expression.
+/// A continuation of a command or declaration, which takes the number of its expression.
 #[derive(Clone, Copy)]
 pub enum ValueRest<'c> {
     /// The number is to be assigned; evaluates the address, this expression, next.
@@ -48,7 +48,7 @@ pub enum ValueRest<'c> {
     Leaves,
 }
 
-/// A frame that takes a truth.
+/// A continuation that takes a truth.
 #[derive(Clone, Copy)]
 pub enum TruthRest<'c> {
     /// Negates the truth.
@@ -69,7 +69,7 @@ pub enum TruthRest<'c> {
     RepeatWhiles(Spot<'c>, &'c Block, &'c Condition, u32),
 }
 
-/// A frame that follows an assignment or an initialiser.
+/// A continuation that follows an assignment or an initialiser.
 #[derive(Clone, Copy)]
 pub enum NothingRest<'c> {
     /// Leaves the assignment.
@@ -82,7 +82,7 @@ pub enum NothingRest<'c> {
     Initialises(Spot<'c>, &'c [Variable], u32, u32),
 }
 
-/// A frame that takes an exit: how control leaves a command.
+/// A continuation that takes an exit: how control leaves a command.
 #[derive(Clone, Copy)]
 pub enum ExitRest<'c> {
     /// Returns from a routine whose body is a command.
@@ -105,7 +105,7 @@ pub enum ExitRest<'c> {
     Listed(Spot<'c>, &'c [ListItem], u32),
 }
 
-/// A continuation frame: what is left to do with an answer.
+/// A continuation: what is left to do with an answer.
 #[derive(Clone, Copy)]
 pub enum Rest<'c> {
     /// Takes a number inside an expression.
@@ -122,11 +122,11 @@ pub enum Rest<'c> {
     Exit(ExitRest<'c>),
     /// Frees this many cells from this address on, and passes the answer on.
     Closes(u32, u32),
-    /// No frame, but an evaluated argument of the call whose frame comes after it, and whether it is the first argument.
+    /// Not a continuation, but an evaluated argument of the call whose continuation is pushed after it, and whether it is the first one.
     Given(u16, bool),
 }
 
-/// Pushes a continuation frame.
+/// Pushes a continuation.
 ///
 /// `Memory` if an allocation fails.
 #[inline(always)]
@@ -139,7 +139,7 @@ pub fn put<'c>(rest: Rest<'c>, rests: &mut Vec<Rest<'c>>) -> Result<(), Memory>
     Ok(())
 }
 
-/// Pops the innermost frame; `None` if there is none. Arguments that no call has taken are dropped.
+/// Pops the innermost continuation; `None` if there is none. Arguments that no call has taken are dropped.
 #[tactic(auto, using(crate::proofs::Piles::stack_more, crate::proofs::Piles::given_more))]
 pub(crate) fn take<'c>(rests: &mut Vec<Rest<'c>>) -> Option<Rest<'c>>
     ensures { Taken result rests.old.items rests.new.items }

@@ -115,9 +115,13 @@ pub(crate) fn go_over<'c>(
 /// An operator whose first operand is a call.
 #[derive(Clone, Copy)]
 pub(crate) struct FirstCall<'c> {
+    /// The operator.
     pub(crate) op: Op,
+    /// The arguments of the call.
     pub(crate) arguments: &'c [CoreExp],
+    /// The expression whose value is called.
     pub(crate) routine: &'c CoreExp,
+    /// The second operand.
     pub(crate) second: &'c CoreExp,
 }
 
@@ -301,7 +305,8 @@ fn enter_any<'c>(
     }
 }
 
-/// Begins a conditional expression whose condition isn't pure: decides the condition next, and pushes the frame that selects a branch.
+/// Begins a conditional expression whose condition isn't pure: decides the condition next, and pushes the continuation that selects a
+/// branch.
 pub(crate) fn selects<'c>(
     spot: Spot<'c>,
     condition: &'c CoreExp,

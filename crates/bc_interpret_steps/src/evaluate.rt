@@ -1,5 +1,5 @@
-//! One step into an expression: evaluates it if it is pure, else pushes a frame and begins its first part. Each call returns `Memory` if
-//! an allocation fails.
+//! One step into an expression: evaluates it if it is pure, else pushes a continuation and begins its first part. Each call returns
+//! `Memory` if an allocation fails.
 
 ghost use Rattle.std.specs.Prelude.{◌≡◌, ◌∷◌, IfOk};
 ghost use Rattle.bc_core.specs.View.{exp, args};
@@ -105,7 +105,7 @@ pub(crate) fn evaluate<'c>(
     }
 }
 
-/// Evaluates an operand next, and pushes the frame that takes its value.
+/// Evaluates an operand next, and pushes the continuation that takes its value.
 #[inline(always)]
 fn part_of<'c>(
     rest: NumberRest<'c>,
@@ -281,7 +281,7 @@ pub(crate) fn decide<'c>(
     }
 }
 
-/// Decides an operand next, and pushes the frame that takes its truth.
+/// Decides an operand next, and pushes the continuation that takes its truth.
 #[inline(always)]
 pub(crate) fn decide_part<'c>(
     rest: TruthRest<'c>,

@@ -1,4 +1,5 @@
-//! Giving an exit to a continuation frame: what happens when control leaves a command. Also the frames that follow an assignment.
+//! Giving an exit to a continuation: what happens when control leaves a command. Also resuming the continuations that follow an
+//! assignment or an initialiser.
 
 ghost use Rattle.std.specs.Prelude.{ℕ, List};
 ghost use Rattle.bc_core.specs.Exit.{Past};
@@ -83,8 +84,9 @@ fn is_left(items: &[ListItem], exit: Exit) -> bool
     }
 }
 
-/// The exit that a frame passes on without doing anything; `None` if it does something. The former are a list's last command, any command
-/// that control doesn't go on after, a list that isn't left by a jump, and a SWITCHON.
+/// The exit that a continuation passes on without doing anything; `None` if it does something. These do nothing: the continuation after
+/// a command, if no item follows or control doesn't go on there; that of a whole list, unless it is left by a jump; and that of a
+/// SWITCHON.
 #[inline(always)]
 fn handed_on(rest: &ExitRest<'_>, exit: Exit) -> Option<Exit>
     ensures { IsHandedOn (exit_of exit) rest.now result }
@@ -116,7 +118,7 @@ fn handed_on(rest: &ExitRest<'_>, exit: Exit) -> Option<Exit>
     }
 }
 
-/// The exit that the innermost frame passes on without doing anything; `None` if it does something.
+/// The exit that the innermost continuation passes on without doing anything; `None` if it does something.
 #[inline(always)]
 fn passed(exit: Exit, rests: &[Rest<'_>]) -> Option<Exit>
     ensures { IsPassed (exit_of exit) rests.now result }
@@ -127,7 +129,7 @@ fn passed(exit: Exit, rests: &[Rest<'_>]) -> Option<Exit>
     }
 }
 
-/// Pops the frames that only pass an exit on, and returns the exit that the last of them passes on.
+/// Pops the continuations that only pass an exit on, and returns the exit that the last of them passes on.
 #[inline(always)]
 fn pass<'c>(exit: Exit, rests: &mut Vec<Rest<'c>>) -> Exit
     ensures { PassesOn (exit_of exit) (stack rests.old.items) (exit_of result) (stack rests.new.items) }
@@ -141,7 +143,7 @@ fn pass<'c>(exit: Exit, rests: &mut Vec<Rest<'c>>) -> Exit
 }
 
 impl<'c> Stacks<'c> {
-    /// Pops the frames that only pass an exit on, and returns the exit that the last of them passes on.
+    /// Pops the continuations that only pass an exit on, and returns the exit that the last of them passes on.
     #[inline(always)]
     pub(crate) fn pass(&mut self, exit: Exit) -> Exit
         ensures { PassesOn (exit_of exit) (stack self.old.rests.items) (exit_of result) (stack self.new.rests.items) }
@@ -150,7 +152,7 @@ impl<'c> Stacks<'c> {
     }
 }
 
-/// Gives an exit to this frame, which was popped.
+/// Gives an exit to this continuation, which was popped.
 ///
 /// `Memory` if an allocation fails.
 pub(crate) fn exit_taken<'c>(
@@ -382,7 +384,7 @@ fn limits<'c>(
     Ok(())
 }
 
-/// Continues this frame, which was popped, after an assignment or an initialiser.
+/// Resumes this continuation, which was popped, after an assignment or an initialiser.
 ///
 /// `Memory` if an allocation fails.
 pub(crate) fn nothing_taken<'c>(

@@ -67,8 +67,8 @@ pub struct Arguments<'c> {
     pub fresh: bool,
 }
 
-/// The current work: what to do next, or the answer to give to the innermost frame. A field of type `u32` that isn't explained is the
-/// level: the first free offset of the frame.
+/// The current work: what to do next, or the answer to give to the innermost continuation. A field of type `u32` that isn't explained is
+/// the level: the first free offset of the frame.
 #[derive(Clone, Copy)]
 pub enum Work<'c> {
     /// Evaluates an expression for its value.
@@ -81,11 +81,11 @@ pub enum Work<'c> {
     Store(Spot<'c>, &'c CoreExp, &'c CoreExp, u32),
     /// Performs a command.
     Perform(Spot<'c>, &'c Command, u32),
-    /// Performs a WHILE or UNTIL.
+    /// Performs a WHILE or UNTIL. After a round its continuation has only its parts and not the command, so this isn't `Perform`.
     While(Spot<'c>, &'c Condition, &'c Block, u32),
-    /// Performs a REPEAT.
+    /// Performs a REPEAT, likewise.
     Repeat(Spot<'c>, &'c Block, u32),
-    /// Performs a REPEATWHILE or REPEATUNTIL.
+    /// Performs a REPEATWHILE or REPEATUNTIL, likewise.
     RepeatWhile(Spot<'c>, &'c Block, &'c Condition, u32),
     /// Performs a block.
     Enter(Spot<'c>, &'c Block, u32),

@@ -113,7 +113,7 @@ fn is_entry(item: &ListItem, at: Entry) -> bool
     }
 }
 
-/// The items after the case, default or label `at`; none if the list doesn't have it. `at` must not be `Beginning`.
+/// The items after the case, default or label `at`; none if the list doesn't have it. Promises nothing for `Beginning`.
 fn after_entry<'c>(items: &'c [ListItem], at: Entry) -> &'c [ListItem]
     ensures { IsAfterEntry result.now items.now at }
 {
@@ -139,8 +139,8 @@ fn entered<'c>(items: &'c [ListItem], at: Entry) -> &'c [ListItem]
     }
 }
 
-/// Pushes the frames that would follow a failed assignment. The run ends there; `bc_interpret_trace` uses the frames to find where the
-/// assignment is.
+/// Pushes the continuations that would follow a failed assignment. The run ends there; `bc_interpret_trace` finds the place of the
+/// assignment by them.
 fn stop<'c>(
     spot: Spot<'c>,
     following: &'c [ListItem],

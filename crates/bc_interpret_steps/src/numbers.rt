@@ -1,4 +1,4 @@
-//! Giving a number to a continuation frame.
+//! Giving a number to a continuation.
 
 ghost use Rattle.std.specs.Prelude.{◌≡◌, IfOk};
 ghost use Rattle.bc_core.specs.Level.{side_level as level_of_side};
@@ -79,7 +79,7 @@ fn argues<'c>(arguments: &Arguments<'c>, v: u16, stacks: &mut Stacks<'c>) -> Res
     Ok(())
 }
 
-/// Gives a number to this frame of an expression, which was popped.
+/// Gives a number to this continuation inside an expression, which was popped.
 ///
 /// `Memory` if an allocation fails.
 pub(crate) fn number_taken<'c>(
@@ -192,7 +192,7 @@ fn switches<'c>(
     Ok(())
 }
 
-/// Gives the value of an expression in a command to this frame, which was popped.
+/// Gives the value of an expression in a command to this continuation, which was popped.
 ///
 /// `Memory` if an allocation fails.
 pub(crate) fn value_taken<'c>(

@@ -1,4 +1,4 @@
-//! The state of a run: its store and turns, its continuation frames, and buffers that are reused.
+//! The state of a run: its store and turns, its continuations, and buffers that are reused.
 
 ghost use Rattle.std.specs.Prelude.{◌≡◌, OnOk};
 ghost use Rattle.bc_interpret_steps.specs.Came.{Turned, Wrote, StandsAfter};
@@ -9,7 +9,7 @@ use bc_interpret_pure::{Cause, Room};
 use bc_interpret_store::Store;
 use bc_word::Memory;
 
-/// What a step changes apart from the continuation.
+/// The store and the remaining turns: the part of a run's state that isn't control.
 #[derive(Drop)]
 pub struct State {
     /// The cells.
@@ -21,7 +21,7 @@ pub struct State {
 /// The call that a step made. No contract speaks of it: it is for `bc_interpret_trace`.
 #[derive(Clone, Copy)]
 pub struct Called {
-    /// The least length of the vector of frames while the run is inside the called routine; 0 if the step made no call.
+    /// The least length of the stack of continuations while the run is inside the called routine; 0 if the step made no call.
     pub least: usize,
     /// The address of the frame of the called routine.
     pub frame: u32,
@@ -36,7 +36,7 @@ pub struct Stacks<'c> {
     pub next: Progress<'c>,
     /// The call that the last step made.
     pub called: Called,
-    /// The continuation frames, with the innermost last.
+    /// The continuations, with the innermost last.
     pub rests: Vec<Rest<'c>>,
     /// Buffers for evaluating pure expressions.
     pub room: Room<'c>,
@@ -71,7 +71,7 @@ pub(crate) fn put_word(state: &mut State, address: u16, word: u16) -> Option<Cau
     }
 }
 
-/// Pushes a continuation frame and sets what comes next.
+/// Pushes a continuation and sets what comes next.
 ///
 /// `Memory` if an allocation fails.
 #[inline(always)]

@@ -1,4 +1,4 @@
-//! The public call: one step of a run, or several where nothing observable happens between them.
+//! The public call: one step of a run, or several of which all but the last change no cell and take no turn.
 
 ghost use Rattle.bc_interpret_steps.specs.Code.{work_of, given};
 ghost use Rattle.bc_interpret_steps.specs.Passing.{RunsOver, work_next};
@@ -23,7 +23,7 @@ use bc_word::Memory;
 /// operator is begun together with the call that is its first operand; a call with pure arguments is begun together with its routine.
 /// If the step calls something, `stacks.called` says what.
 ///
-/// If `stacks.next` holds no work, the answer `Nothing` is given to the innermost frame, so no precondition is needed.
+/// If `stacks.next` holds no work, the answer `Nothing` is given to the innermost continuation, so no precondition is needed.
 ///
 /// `Memory` if an allocation fails.
 #[inline(always)]

@@ -122,7 +122,7 @@ impl Store {
 
     /// Makes `count` cells from address `from` on live and fills them with the arguments. `arguments` is in reverse order: its last
     /// element is the first argument. If there are fewer arguments than cells, the last cells are unset. Surplus arguments are ignored.
-    /// What `arguments` holds afterwards is unspecified.
+    /// The contents of `arguments` afterwards are unspecified.
     #[tactic(auto, using(crate::proofs::Cells::passed_beyond))]
     pub fn pass(&mut self, count: usize, from: usize, arguments: &mut Vec<u16>)
         ensures { self.new ≡ passed count from (reverse arguments.old.items) self.old }

@@ -1,5 +1,5 @@
-//! Follows a run through its calls and through the first branches of TESTs. The continuation frames don't show the latter: once a TEST
-//! has taken a branch, its frame is gone, but the other branch still follows in the text.
+//! Follows a run through its calls and through the first branches of TESTs. The continuations don't show the latter: once a TEST
+//! has taken a branch, its continuation is gone, but the other branch still follows in the text.
 
 use crate::remaining::clue_of;
 use crate::roots::roots_of_block;
@@ -17,7 +17,7 @@ enum Within<'c> {
     Branch(&'c Block),
 }
 
-/// Something that a run has entered. The run is inside it while the vector of continuation frames has at least `least` entries.
+/// Something that a run has entered. The run is inside it while the stack of continuations has at least `least` entries.
 #[derive(Clone, Copy)]
 struct Mark<'c> {
     least: usize,
@@ -88,7 +88,7 @@ impl<'c> Trace<'c> {
         )
     }
 
-    /// Drops the marks that the run has left, given the number of continuation frames.
+    /// Drops the marks that the run has left, given the number of continuations.
     fn forget(&mut self, left: usize) {
         for _each in 0..self.marks.len() {
             let least = match self.marks.last() {
@@ -111,7 +111,7 @@ impl<'c> Trace<'c> {
         Ok(())
     }
 
-    /// Notes that a TEST takes its first branch, if the innermost frame is a TEST. The truth given to it is true.
+    /// Notes that a TEST takes its first branch, if the innermost continuation is a TEST. The truth given to it is true.
     fn branch(&mut self, rests: &[Rest<'c>]) -> Result<(), Memory> {
         let Some(Rest::Truth(TruthRest::Chooses(_, _, that, _))) = rests.last() else {
             return Ok(());
@@ -130,7 +130,7 @@ impl<'c> Trace<'c> {
         calls
     }
 
-    /// Where the run is in its newest calls: at most `most` of them, the newest first. `rests` must be the run's continuation frames.
+    /// Where the run is in its newest calls: at most `most` of them, the newest first. `rests` must be the run's continuations.
     ///
     /// `Memory` if an allocation fails.
     pub fn standings(
@@ -157,7 +157,7 @@ impl<'c> Trace<'c> {
     }
 }
 
-/// What the frames of one call have shown, from the innermost one down to index `next`.
+/// What the continuations of one call have shown, from the innermost one down to index `next`.
 #[derive(Clone, Copy)]
 struct Above {
     next: usize,
@@ -167,6 +167,7 @@ struct Above {
 }
 
 impl Above {
+    /// Nothing has been read yet: the next continuation to read is the one below index `next`.
     fn new(next: usize) -> Above {
         Above {
             next,
@@ -176,7 +177,7 @@ impl Above {
         }
     }
 
-    /// Reads the frames down to this index.
+    /// Reads the continuations down to this index.
     fn down_to(&mut self, place: usize, rests: &[Rest<'_>]) {
         let from = self.next.min(rests.len());
         let to = place.min(from);
@@ -186,6 +187,7 @@ impl Above {
         self.next = to;
     }
 
+    /// Reads one continuation, unless the body's outermost continuation has been read.
     fn look(&mut self, rest: &Rest<'_>) {
         if self.is_done {
             return;
@@ -198,7 +200,7 @@ impl Above {
         self.is_done = clue.is_bottom;
     }
 
-    /// Reads the frames down to this index, at which the run entered the first branch of a TEST. The block is the other branch.
+    /// Reads the continuations down to this index, at which the run entered the first branch of a TEST. The block is the other branch.
     fn branch(&mut self, place: usize, that: &Block, rests: &[Rest<'_>]) {
         self.down_to(place, rests);
         if !self.is_done {
@@ -206,6 +208,7 @@ impl Above {
         }
     }
 
+    /// Where the run is in the call whose frames have been read.
     fn standing(&self, routine: u16, frame: usize) -> Standing {
         Standing {
             routine,

@@ -1,4 +1,4 @@
--- For proofs: the parts of an image for the segments added so far.
+-- For proofs: the parts of an image for the segments that have been added.
 use Rattle.std.specs.Prelude.{ℕ, ◌≡◌, ◌+◌, ◌-◌, replicate, List, [], ◌∷◌, ◌++◌, None, vec_len}
 use Rattle.bc_text_items.specs.Sizes.{size_of_all}
 use Rattle.bc_text_items.specs.Assembled.{assembled, label_places, global_settings}

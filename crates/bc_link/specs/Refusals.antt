@@ -19,6 +19,7 @@ abbrev pub repeated_after : List ℕ → List ℕ → Option ℕ
 repeated_after before [] = None
 repeated_after before (x ∷ xs) = cond (list_any (λ y. x == y) before) (Some x) (repeated_after (before ++ x ∷ []) xs)
 
+-- the first number that occurs earlier in the list
 abbrev pub first_repeated : List ℕ → Option ℕ
 first_repeated xs = repeated_after [] xs
 

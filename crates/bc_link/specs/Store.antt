@@ -13,6 +13,7 @@ use Rattle.bc_link.specs.Layout.{stack_base_of}
 abbrev pub boot_items : List Item
 boot_items = Operation functions.Load true bases.G 1 ∷ Operation functions.Call false bases.Number 2 ∷ Operation functions.Execute false bases.Number 22 ∷ []
 
+-- the boot words, at address 0
 abbrev pub boot : List ℕ
 boot = assembled (λ label. 0) boot_items
 

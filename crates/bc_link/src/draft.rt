@@ -52,8 +52,11 @@ fn boot_words(alloc: Global) -> Result<Vec<Word>, Memory>
     ensures length { IfOk result (λ words. vec_len words ≡ 3) }
 {
     let mut words = Vec::with_capacity(alloc, 65_536)?;
+    // LIG1: function 0, indirect 4096, base G 1024, address 1
     words.push(Word::new(5121))?;
+    // K2: function 6 times 8192, address 2
     words.push(Word::new(49_154))?;
+    // X22: function 7 times 8192, operation 22
     words.push(Word::new(57_366))?;
     Ok(words)
 }
@@ -70,7 +73,7 @@ fn fill_up(words: &mut Vec<Word>, length: usize) -> Result<(), Memory>
     Ok(())
 }
 
-/// The parts of an image for the segments added so far.
+/// The parts of an image for the segments that have been added.
 #[derive(Drop)]
 pub struct Draft {
     /// The 512 cells of the globals.

@@ -12,10 +12,12 @@ use std::marker::Model;
 
 /// Labels with their addresses. A look-up takes constant time.
 ///
-/// In contracts the table is a list of pairs of a label and its address. Of several pairs with one label, the first counts.
+/// In contracts the table is a list of pairs of a label and its address. The first of several pairs with one label counts.
 #[derive(Drop)]
 pub struct LabelTable {
+    /// All pairs, in order.
     pairs: Vec<(Word, Word)>,
+    /// The address of each label, from its first pair.
     addresses: IndexMap<Word, Word>,
 }
 

@@ -29,7 +29,7 @@ fn refuse_repeated_labels(alloc: Global, segments: &[Segment]) -> Result<(), Lin
 /// to 2, the cells of the globals at 8 to 519, and 0 everywhere else. Each segment has its own labels. A global that no segment sets
 /// holds 0, even global 1 (START).
 ///
-/// If there are several errors, `LabelTwice` takes precedence, then `GlobalTwice`, then `TooLarge`, then `LabelUnset`. Of one kind, the
+/// If there are several errors, `LabelTwice` takes precedence, then `GlobalTwice`, then `TooLarge`, then `LabelUnset`. Within one kind, the
 /// first in the order of segments and items is reported; a repetition counts at the item that repeats. `Memory` if an allocation fails.
 pub fn link(alloc: Global, segments: &[Segment]) -> Result<Image, LinkError>
     ensures accepted { OnOk result (refusal_of segments.now ≡ None) }

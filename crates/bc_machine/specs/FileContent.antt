@@ -13,6 +13,7 @@ abbrev pub told : Option (List ℕ) → List ℕ
 told None = []
 told (Some bytes) = bytes
 
+-- an input: its name, what remains of its reader, and whether it has been ended
 abbrev pub file_input : {R : Type 0} → (R → Option (List ℕ)) → FileInput R → Input
 file_input remaining i = record { name = i.name.items; rest = cond i.at_end [] (told (remaining i.reader)); ended = i.ended }
 
@@ -23,6 +24,7 @@ file_outputs (o ∷ os) [] = []
 file_outputs (o ∷ os) (bytes ∷ written) =
     record { name = o.name.items; written = told bytes; ended = o.ended } ∷ file_outputs os written
 
+-- the content of the streams
 abbrev pub file_content : {R W : Type 0} → (R → Option (List ℕ)) → (W → Option (List ℕ)) → FileStreams R W → Content
 file_content remaining contents f = record {
   inputs = map (file_input remaining) f.inputs.items;
@@ -44,6 +46,7 @@ IsKnown remaining contents f = AllTold remaining contents f × HoldBytes (file_c
 abbrev pub file_writers : {R W : Type 0} → FileStreams R W → List W
 file_writers f = f.writers.items
 
+-- how often a device has failed
 abbrev pub file_failures : {R W : Type 0} → FileStreams R W → ℕ
 file_failures f = f.failures
 
@@ -55,6 +58,7 @@ fresh_inputs {R} remaining named = map (λ (n : Named R). fresh_input n.name.ite
 abbrev pub fresh_outputs : {W : Type 0} → (W → Option (List ℕ)) → List (Named W) → List Output
 fresh_outputs {W} contents named = map (λ (n : Named W). record { name = n.name.items; written = told (contents n.device); ended = false }) named
 
+-- the devices of these streams, in order
 abbrev pub devices : {W : Type 0} → List (Named W) → List W
 devices {W} named = map (λ (n : Named W). n.device) named
 

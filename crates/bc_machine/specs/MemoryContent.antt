@@ -5,6 +5,7 @@ use Rattle.bc_machine.specs.declared.memory.MemoryInput.{MemoryInput}
 use Rattle.bc_machine.specs.declared.names.NamedOutput.{NamedOutput}
 use Rattle.bc_machine.specs.declared.memory.MemoryStreams.{MemoryStreams}
 
+-- an input: its name, its remaining bytes, and whether it has been ended
 abbrev pub memory_input : MemoryInput → Input
 memory_input i = record { name = i.name.items; rest = drop i.at i.bytes.items; ended = i.ended }
 
@@ -18,6 +19,7 @@ memory_outputs number written [] = []
 memory_outputs number written (o ∷ os) =
     record { name = o.name.items; written = bytes_to number written; ended = o.ended } ∷ memory_outputs (number + 1) written os
 
+-- the content of the streams
 abbrev pub memory_content : MemoryStreams → Content
 memory_content m = record {
   inputs = map memory_input m.inputs.items;

@@ -7,9 +7,11 @@ use Rattle.bc_machine.specs.declared.names.Named.{Named}
 abbrev pub Bytes : Type 0
 Bytes = Vec ℕ Global
 
+-- the names of these devices
 abbrev pub given_names : {T : Type 0} → List (Named T) → List (List ℕ)
 given_names {T} named = map (λ (n : Named T). n.name.items) named
 
+-- the bytes of these names
 abbrev pub bytes_of : List Bytes → List (List ℕ)
 bytes_of names = map (λ (name : Bytes). name.items) names
 

@@ -13,6 +13,7 @@ refusal_from before (name ∷ names) =
     cond (list_any (λ known. bytes_eq known name) before) (Some NameTwice) (
     refusal_from (before ++ name ∷ []) names))
 
+-- the first wrong name of a table
 abbrev pub refusal_in : List (List ℕ) → Option StreamsError
 refusal_in names = refusal_from [] names
 

@@ -99,8 +99,10 @@ pub struct FileStreams<R, W> {
     inputs: Vec<FileInput<R>>,
     outputs: Vec<NamedOutput>,
     writers: Vec<W>,
+    /// The numbers of the selected input and output, 0 if none is selected.
     input: u16,
     output: u16,
+    /// How often a device has failed; saturates at 2^64 - 1.
     failures: u64,
     ghost input_exists: { input ≤ vec_len inputs },
     ghost output_exists: { output ≤ vec_len outputs },

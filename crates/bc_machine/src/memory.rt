@@ -111,10 +111,14 @@ fn room_for(alloc: Global, room: usize) -> Result<Vec<(Word, u8)>, Memory>
 pub struct MemoryStreams {
     inputs: Vec<MemoryInput>,
     outputs: Vec<NamedOutput>,
+    /// The bytes that have been written, each with the number of its output.
     written: Vec<(Word, u8)>,
+    /// The greatest number of bytes in `written`.
     room: usize,
+    /// The numbers of the selected input and output, 0 if none is selected.
     input: u16,
     output: u16,
+    /// How often no room was left; saturates at 2^64 - 1.
     failures: u64,
     ghost input_exists: { input ≤ vec_len inputs },
     ghost output_exists: { output ≤ vec_len outputs },
@@ -130,8 +134,8 @@ impl MemoryStreams {
     ghost use Rattle.bc_machine.specs.Names.{given_names, bytes_of, named_bytes};
     ghost use Rattle.bc_machine.specs.MemoryContent.{memory_content, memory_written, memory_room, memory_failures, IsKnown};
 
-    /// The streams with inputs of these names and bytes and outputs of these names. Input 1 and output 1 are selected if they exist. There is
-    /// room for `room` bytes of output in all.
+    /// The streams with inputs of these names and bytes and outputs of these names. Input 1 and output 1 are selected if they exist.
+    /// There is room for `room` bytes of output in all.
     ///
     /// The names are checked in order, the inputs first: `NameTooLong` for a name of more than 255 bytes, `NameTwice` for one that
     /// already occurred in its table. `Memory` if an allocation fails.
@@ -254,7 +258,7 @@ impl Streams for MemoryStreams {
         Err(DeviceFault)
     }
 
-    /// It never fails.
+    /// Never fails.
     fn end(&mut self, side: Side) -> Result<(), DeviceFault>
         ensures ended { result ≡ Ok tt }
         ensures content { memory_content self.new ≡ end_stream side (memory_content self.old) }

@@ -2,9 +2,11 @@
 use Rattle.std.specs.Prelude.{ℕ, List, [], ◌∷◌, map, false}
 use Rattle.bc_machine_defs.specs.Streams.{Input, Output, Content}
 
+-- an input before anything has been read
 abbrev pub fresh_input : List ℕ → List ℕ → Input
 fresh_input name bytes = record { name = name; rest = bytes; ended = false }
 
+-- an output before anything has been written
 abbrev pub fresh_output : List ℕ → Output
 fresh_output name = record { name = name; written = []; ended = false }
 
@@ -13,7 +15,7 @@ abbrev pub first_number : {X : Type 0} → List X → ℕ
 first_number [] = 0
 first_number (x ∷ xs) = 1
 
--- input 1 and output 1 are selected, where they exist
+-- input 1 and output 1 are selected, if they exist
 abbrev pub opened : List Input → List Output → Content
 opened inputs outputs = record {
   inputs = inputs;

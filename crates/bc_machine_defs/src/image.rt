@@ -92,7 +92,7 @@ impl Labels {
         self.pairs.as_slice()
     }
 
-    /// The address of this label, or `None` if the segment doesn't set it. Of several pairs with the label, the first counts.
+    /// The address of this label, or `None` if the segment doesn't set it. The first of several pairs with the label counts.
     pub fn address(&self, label: Word) -> Option<Word>
         ensures { result ≡ address_in label self.now }
     {

@@ -34,6 +34,7 @@ routines =
 abbrev pub settings : List Item
 settings = Global 11 1 ∷ Global 12 2 ∷ Global 13 3 ∷ Global 14 4 ∷ Global 15 5 ∷ Global 16 6 ∷ Global 17 7 ∷ Global 18 8 ∷ []
 
+-- the items of the segment of the primitives
 abbrev pub primitive_items : List Item
 primitive_items = routines ++ settings
 

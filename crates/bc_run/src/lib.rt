@@ -1,5 +1,5 @@
-//! The primitives as a segment, and running an INTCODE text: it is read, linked after the primitives, and run. Also re-exports the source of
-//! the library.
+//! The primitives as a segment, and a call that reads an INTCODE text, links it after the primitives, and runs it. Also re-exports the
+//! source of the library.
 #![tactic(auto)]
 
 mod primitive;

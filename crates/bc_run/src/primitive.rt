@@ -62,8 +62,8 @@ fn setting(number: u16, label: u16) -> Item
     }
 }
 
-/// The segment of the primitives, 26 words: the routines SELECTINPUT, SELECTOUTPUT, RDCH, WRCH, FINDINPUT, FINDOUTPUT, ENDREAD and ENDWRITE,
-/// in the globals 11 to 18. Each has a frame of 3 cells.
+/// The segment of the primitives, 26 words: the routines SELECTINPUT, SELECTOUTPUT, RDCH, WRCH, FINDINPUT, FINDOUTPUT, ENDREAD and
+/// ENDWRITE, in the globals 11 to 18. Each has a frame of 3 cells.
 ///
 /// `Memory` if an allocation fails.
 pub fn primitives(alloc: alloc::Global) -> Result<Segment, Memory>

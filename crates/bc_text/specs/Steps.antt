@@ -1,4 +1,4 @@
--- For proofs: the reader as a pure function, byte by byte. The code is proved equal to it. What texts and faults are is defined without it.
+-- For proofs: the reader as a pure function, byte by byte. The code is proved equal to it. Texts and faults are defined without it.
 use Rattle.std.specs.Prelude.{ℕ, ◌+◌, ◌-◌, ◌*◌, ◌%◌, ◌==◌, List, [], ◌∷◌, ◌++◌, Bool, true, false, ◌&&◌, cond, min, nat_lt, nat_le, Option, Some, None, Result, Ok, Err}
 use Rattle.std.specs.Char.{is_ascii_digit}
 use Rattle.bc_text_items.specs.declared.item.Item.{Item}
@@ -24,6 +24,7 @@ pub record Progress : Type 0 where
   pub place : Place
   pub at : ℕ
 
+-- the state before the first byte
 abbrev pub start : Progress
 start = record { segments = []; items = []; place = places.Between; at = 0 }
 
@@ -122,6 +123,7 @@ ended_number (heads.GlobalLabel number) negative value = ended.Item (Global numb
 abbrev pub placed : Progress → Place → Progress
 placed p place = record p { place = place }
 
+-- the state with the next place, or the fault
 abbrev pub placed_at : Progress → Result Place TextError → Result Progress TextError
 placed_at p (Ok place) = Ok (placed p place)
 placed_at p (Err fault) = Err fault
@@ -177,6 +179,7 @@ finished_at places.Between [] segments = Ok segments
 finished_at places.Comment [] segments = Ok segments
 finished_at place items segments = Err errors.Unended
 
+-- the segments of a reader at the end of the bytes
 abbrev pub finished : Progress → Result (List (List Item)) TextError
 finished p = finished_at p.place p.items p.segments
 

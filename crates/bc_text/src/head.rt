@@ -61,7 +61,7 @@ pub enum Place {
         from: u64,
         /// Whether the number began with `-`.
         negative: bool,
-        /// The value of the digits read so far.
+        /// The value of the digits read up to here.
         value: u16,
     },
 }

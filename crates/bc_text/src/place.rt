@@ -131,7 +131,7 @@ pub fn with_digit(
     })
 }
 
-/// The state after a byte that follows a head. `BadNumber` if the head allows neither this byte nor is it a digit.
+/// The state after a byte that follows a head. `BadNumber` unless it is a digit or a byte that the head allows.
 #[inline]
 pub fn after_head(head: &Head, byte: u8, at: u64) -> Result<Place, TextError>
     ensures is { result ≡ after_head head.now byte at }

@@ -1,4 +1,4 @@
-//! What a reader has read so far, and how one more byte changes it.
+//! The state of a reader after the bytes that it has read, and how one more byte changes it.
 
 ghost use Rattle.std.specs.Prelude.{◌≡◌, ◌⊎◌, Ok, Err, MatchResult, IfOk, IsTrue};
 ghost use Rattle.bc_text.specs.Steps.{is_in_range, start, step, run, finished, begun, closed, placed_at, after_number};
@@ -13,9 +13,13 @@ use std::mem;
 /// The state of a reader: complete segments, the items after them, the state between two bytes, and the number of bytes read.
 #[derive(Drop)]
 pub struct Progress {
+    /// The complete segments.
     segments: Vec<Segment>,
+    /// The items after the last complete segment.
     items: Vec<Item>,
+    /// The state between two bytes.
     place: Place,
+    /// The number of bytes read; saturates at 2^64 - 1.
     at: u64,
     alloc: Global,
     ghost in_range: { IsTrue (is_in_range place) },

@@ -15,6 +15,7 @@ use std::marker::Model;
 /// call that passes the byte at which it is known, and how the bytes are split into pieces makes no difference.
 #[derive(Drop)]
 pub struct Reader {
+    /// `None` after an error.
     progress: Option<Progress>,
 }
 
@@ -54,10 +55,10 @@ impl Reader {
 
     /// Takes the next piece of the text.
     ///
-    /// The error is the first fault of the bytes so far, reported by the call that passes the byte at which it is known, or `Memory` if
+    /// The error is the first fault of the bytes up to here, reported by the call that passes the byte at which it is known, or `Memory` if
     /// an allocation fails. After an error, each further call returns `Failed`.
     pub fn feed(&mut self, piece: &[u8]) -> Result<(), TextError>
-        // Ok exactly if the bytes so far can be continued to a text, else their first fault (or Memory).
+        // Ok exactly if the bytes up to here can be continued to a text, else their first fault (or Memory).
         ensures answer { (bytes : List ℕ) → HasRead self.old bytes → IsAnswer (bytes ++ piece.now) result }
         ensures read { (bytes : List ℕ) → HasRead self.old bytes → OnOk result (HasRead self.new (bytes ++ piece.now)) }
         ensures failed { OnErr result (HasFailed self.new) }
