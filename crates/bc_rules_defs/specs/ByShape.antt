@@ -1,4 +1,4 @@
--- For proofs: the code and the labels of a tree of rules at an expression, by computing.
+-- For proofs: the code and the labels of a tree of rule names at an expression, as functions.
 use Rattle.std.specs.Prelude.{ℕ, ◌+◌, Bool, true, false, not, cond, Option, Some, None, List, [], ◌∷◌, ◌++◌}
 use Rattle.bc_word.specs.declared.operator.Op.{Op}
 use Rattle.bc_word.specs.Mirror.{mirror_of}
@@ -18,7 +18,7 @@ use Rattle.bc_rules_defs.specs.Piece.{L, S, A, A_number, SP, LIP, AIP, SIP, X, K
 use Rattle.bc_rules_defs.specs.Rules.{Tree, Trees, by, no_part, part}
 use Rattle.bc_rules_defs.specs.Parts.{Parts, leaf, single, pair, triple, called, parts_of, assignment_parts}
 
--- a rule's own labels, where it has parts
+-- the number of a rule's own labels, if it has parts
 abbrev pub own_labels : Rule → ℕ
 own_labels V20 = 2
 own_labels V21 = 2
@@ -26,7 +26,7 @@ own_labels J3 = 1
 own_labels J5 = 1
 own_labels _ = 0
 
--- the level of a rule's only part
+-- the level of the part of a rule that has one part
 abbrev pub part_level : Rule → ℕ → ℕ
 part_level V0 s = s
 part_level V2 s = s
@@ -90,7 +90,7 @@ leaf_code r aim (Num n) t f = number_jump aim n t
 leaf_code r aim (Valof n) t f = Body n ∷ label f ∷ []
 leaf_code r aim e t f = []
 
--- what stands after an only part
+-- what follows the part of a rule that has one part
 abbrev pub after_single : Rule → Aim → Exp → (t : ℕ) → List Piece
 after_single V2 aim e t = X 1 ∷ []
 after_single V3 aim e t = X 2 ∷ []
@@ -105,7 +105,7 @@ after_single J8 aim e t = jump_at aim false t
 after_single J9 aim e t = jump_at aim true t
 after_single _ aim e t = []
 
--- between two parts, and after them
+-- what comes between two parts, and after them
 abbrev pub between : Rule → ℕ → List Piece
 between V15 s = SP s ∷ []
 between V16 s = SP s ∷ []
@@ -127,7 +127,7 @@ after_pair J3 e s f = label f ∷ []
 after_pair J5 e s f = label f ∷ []
 after_pair _ e s f = []
 
--- the labels that the code takes
+-- the number of labels of the code
 abbrev mutual
   pub labels_by : Tree → Aim → Exp → ℕ
   labels_by (by r ds) aim e = labels_of_parts r (parts_of r aim e) ds
@@ -142,7 +142,7 @@ abbrev mutual
   labels_of_parts r (called i (argument a es) e) (part d ds) = labels_by d (Gets Any) a + labels_of_parts r (called (i + 1) es e) ds
   labels_of_parts r p ds = 0
 
--- the code at level s, with target t, and with the labels from f on
+-- the code at level s, with target t, and with labels from f on
 abbrev mutual
   pub code_by : Tree → Aim → Exp → (s t f : ℕ) → List Piece
   code_by (by r ds) aim e s t f = code_of_parts r aim e (parts_of r aim e) ds s t f
@@ -161,7 +161,7 @@ abbrev mutual
       code_by d (Gets Any) a (s + 2 + i) t f ++ SP (s + 2 + i) ∷ code_of_parts r aim e (called (i + 1) es h) ds s t (f + labels_by d (Gets Any) a)
   code_of_parts r aim e p ds s t f = []
 
--- the same of a root
+-- the labels and the code of a root
 abbrev pub labels_of_sides : Parts → Trees → ℕ
 labels_of_sides (single m a) (part d no_part) = labels_by d m a
 labels_of_sides (pair m a n b) (part d (part c no_part)) = labels_by d m a + labels_by c n b
@@ -172,7 +172,7 @@ root_labels_by (Value s e) x = labels_by x (Gets Any) e
 root_labels_by (Test s sense e) x = labels_by x (Jumps sense) e
 root_labels_by (Assign s v a) (by r ds) = labels_of_sides (assignment_parts r v a) ds
 
--- what stands after the two sides of an assignment
+-- what follows the two sides of an assignment
 abbrev pub after_sides : Rule → ℕ → List Piece
 after_sides A2 s = SIP s ∷ []
 after_sides _ s = SP (s + 1) ∷ LIP s ∷ SIP (s + 1) ∷ []

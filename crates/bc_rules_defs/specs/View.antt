@@ -1,4 +1,4 @@
--- What the program's trees of rules and entries mean.
+-- Views: what the program's derivations and entries are in the definitions.
 use Rattle.std.specs.Prelude.{List, [], ◌∷◌}
 use Rattle.bc_core.specs.View.{root}
 use Rattle.bc_rules_defs.specs.declared.derivation.Derivation.{Derivation, Derivation', Row_of-Derivation, end_of-Derivation, more_of-Derivation}
