@@ -1,4 +1,4 @@
--- For proofs: whether a tree of rules is a derivation, by computing.
+-- For proofs: whether a tree of rule names is a derivation, as a Boolean function.
 use Rattle.std.specs.Prelude.{◌+◌, Bool, true, false, ◌&&◌, ◌||◌, not, cond, Option, Some, None}
 use Rattle.bc_core.specs.Tree.{Exp, Bin, no_argument, argument, Root, Value, Test, Assign}
 use Rattle.bc_core.specs.Value.{has_call}
@@ -22,7 +22,7 @@ in_table T J8 = is_two T
 in_table T J9 = is_two T
 in_table T r = true
 
--- the rules that compute the right operand first
+-- the rules that evaluate the right operand first
 abbrev pub turns : Rule → Bool
 turns V7 = true
 turns V11 = true
@@ -36,7 +36,7 @@ abbrev pub has_direct_side : Exp → Bool
 has_direct_side (Bin op a b) = is_direct a || is_direct b
 has_direct_side _ = false
 
--- a rule that turns its operands round has free ones
+-- a rule that reverses its operands has free ones
 abbrev pub turns_freely : Rule → (calls : Bool) → Exp → Bool
 turns_freely r calls e = not (turns r && calls) || has_direct_side e
 
@@ -56,7 +56,7 @@ abbrev mutual
   parts_fit T (called i (argument a es) e) (part d ds) = fits T d (Gets Any) a && parts_fit T (called (i + 1) es e) ds
   parts_fit T p ds = false
 
--- whether a call or a VALOF stands in the parts
+-- whether the parts contain a call or a VALOF
 abbrev pub parts_call : Parts → Bool
 parts_call (leaf valof) = valof
 parts_call (single m a) = has_call a
@@ -65,7 +65,7 @@ parts_call (triple m c n x l y) = has_call c || has_call x || has_call y
 parts_call (called i es e) = true
 parts_call no_rule = false
 
--- where trees are derivations, whether a call or a VALOF stands in what they derive
+-- None if trees are no derivations, else whether a call or a VALOF is in what they derive
 abbrev pub found : (fit calls : Bool) → Option Bool
 found fit calls = cond fit (Some calls) None
 

@@ -1,4 +1,4 @@
--- For proofs: what the parts that the program works with mean.
+-- For proofs: the views of the program's parts.
 use Rattle.std.specs.Prelude.{Option, Some, None}
 use Rattle.std.specs.Borrow.{Bor}
 use Rattle.bc_core.specs.declared.expression.CoreExp.{CoreExp}

@@ -1,4 +1,4 @@
--- For proofs: the words of the rest of a list of pieces, where the last byte may share its word.
+-- For proofs: the words of the remaining pieces of a list, whose first byte may share a word with the byte before it.
 use Rattle.std.specs.Prelude.{ℕ, Bool, true, false, not, cond, List, ◌∷◌}
 use Rattle.bc_text_items.specs.declared.item.Item.TheVariants.{Byte}
 use Rattle.bc_rules_defs.specs.declared.piece.Piece.{Piece}
@@ -11,7 +11,7 @@ rest_words false ps = words ps
 rest_words true (Item (Byte low) ∷ ps) = words ps
 rest_words true ps = words ps
 
--- the words that a piece adds, and whether it leaves half a word
+-- the words that a piece adds, and whether its last word has room for one more byte
 abbrev pub added_words : (half : Bool) → Piece → ℕ
 added_words half (Item (Byte b)) = cond half 0 1
 added_words half (Item i) = size i

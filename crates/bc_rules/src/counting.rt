@@ -1,3 +1,5 @@
+//! The number of labels of a derivation. Counts stop at 65,537, so sums can't overflow, however large the root is.
+
 ghost use Rattle.std.specs.Prelude.{◌≡◌, ◌≤◌, ◌+◌, min};
 ghost use Rattle.bc_core.specs.Tree.{Assign};
 ghost use Rattle.bc_core.specs.View.{exp, args, root as root_of};
@@ -11,7 +13,7 @@ use crate::parts::{Part, Parts};
 use bc_core::{CoreExp, Root};
 use bc_rules_defs::{Aim, Derivation, Mode, Rule};
 
-/// A sum of labels; past 65,536 always 65,537.
+/// A sum of labels, capped at 65,537.
 fn sum(a: u32, b: u32) -> u32
     requires first { a ≤ 65537 }
     requires second { b ≤ 65537 }
@@ -20,7 +22,7 @@ fn sum(a: u32, b: u32) -> u32
     (a + b).min(65_537)
 }
 
-/// The labels of a rule's own, where it has two or three parts.
+/// The number of a rule's own labels, for rules with two or three parts.
 pub fn own_labels(rule: Rule) -> u32
     ensures { result ≡ own_labels_of rule }
 {
@@ -31,7 +33,7 @@ pub fn own_labels(rule: Rule) -> u32
     }
 }
 
-/// The labels that a derivation's code takes; past 65,536 always 65,537.
+/// The number of labels that a derivation's code takes, capped at 65,537.
 #[cycle(counting)]
 #[tactic(auto, using(crate::proofs::Counts::labels_seen))]
 fn labels(d: &Derivation, aim: Aim, e: &CoreExp) -> u32
@@ -102,7 +104,7 @@ fn call(rule: Rule, trees: &[Derivation], arguments: &[CoreExp], routine: &CoreE
     sum(total, labels(&trees[n], any, routine))
 }
 
-/// The labels of a root's derivation; past 65,536 always 65,537.
+/// The number of labels of a root's derivation, capped at 65,537.
 pub fn root_labels(root: &Root, d: &Derivation) -> u32
     ensures { result ≡ min (root_labels_by (root_of root.now) (derivation d.now)) 65537 }
 {
@@ -117,7 +119,7 @@ pub fn root_labels(root: &Root, d: &Derivation) -> u32
     }
 }
 
-/// The labels of an assignment's derivation.
+/// The number of labels of an assignment's derivation.
 #[tactic(auto, using(crate::proofs::Counts::sides_labels))]
 fn sides(d: &Derivation, value: &CoreExp, address: &CoreExp) -> u32
     ensures { result ≡ min (root_labels_by (Assign 0 (exp value.now) (exp address.now)) (derivation d.now)) 65537 }

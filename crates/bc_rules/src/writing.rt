@@ -1,4 +1,6 @@
-//! The code of a derivation, rule by rule.
+//! Writes the code of an expression's or test's derivation, by the number of parts of each rule.
+//!
+//! The rules' own pieces are written by `emission.rt`.
 
 ghost use Rattle.std.specs.Prelude.{◌≡◌, ◌+◌};
 ghost use Rattle.bc_core.specs.View.{exp, args};
@@ -20,14 +22,16 @@ use bc_rules_defs::{Aim, Derivation, Mode, Rule};
 use bc_text_items::Function;
 use bc_word::Word;
 
-/// Where the code of a part stands: its level, and the label that it jumps to.
+/// The level of a part, and the label to which its code jumps.
 #[derive(Clone, Copy)]
 pub struct Place {
+    /// The first free offset of the frame.
     pub level: u32,
+    /// The target of a test; values don't use it.
     pub target: u16,
 }
 
-/// The level of a rule's only part.
+/// The level of the part of a rule with one part.
 fn part_level(rule: Rule, level: u32) -> Result<u32, CodeFault>
     ensures { OkOrLacks result (λ it. it ≡ part_level_of rule level) (held_cells rule level) }
 {
@@ -37,7 +41,7 @@ fn part_level(rule: Rule, level: u32) -> Result<u32, CodeFault>
     }
 }
 
-/// The label that the first of two parts jumps to.
+/// The label to which the first of two parts jumps.
 fn first_target(rule: Rule, target: u16, first: u32) -> Result<u16, CodeFault>
     ensures { OkOrLacks result (λ it. it ≡ first_target_of rule target first) (first + own_labels_of rule) }
 {
@@ -47,7 +51,7 @@ fn first_target(rule: Rule, target: u16, first: u32) -> Result<u16, CodeFault>
     }
 }
 
-/// What gets code: an expression for an aim by a rule, at a level, and the label that it jumps to.
+/// What code is written for: an expression with its aim, rule, level and target.
 #[derive(Clone, Copy)]
 struct Node<'a> {
     rule: Rule,
@@ -57,14 +61,16 @@ struct Node<'a> {
     target: u16,
 }
 
-/// Two parts.
+/// Two parts, in the order of the code.
 #[derive(Clone, Copy)]
 pub struct Sides<'a> {
+    /// The first part.
     pub a: Part<'a>,
+    /// The second part.
     pub b: Part<'a>,
 }
 
-/// Three parts.
+/// Three parts, in the order of the code.
 #[derive(Clone, Copy)]
 struct Three<'a> {
     a: Part<'a>,
@@ -72,14 +78,15 @@ struct Three<'a> {
     c: Part<'a>,
 }
 
-/// The arguments of a call, and the routine.
+/// The arguments of a call and the routine.
 #[derive(Clone, Copy)]
 struct CallOf<'a> {
     arguments: &'a [CoreExp],
     routine: &'a CoreExp,
 }
 
-/// Writes the code of a derivation.
+/// Writes the code of a derivation `d` of the part, at this level and with this target. Trees that are no derivation give
+/// incomplete code, as `code_by` defines it.
 #[cycle(writing)]
 #[tactic(auto, using(crate::proofs::Written::tree_writes))]
 pub fn write(w: &mut Writer, d: &Derivation, part: Part, place: Place) -> Result<(), CodeFault>
@@ -97,7 +104,7 @@ pub fn write(w: &mut Writer, d: &Derivation, part: Part, place: Place) -> Result
     write_parts(w, &d.parts, node, parts_of(d.rule, part.aim, part.of))
 }
 
-/// Writes the code of a rule over its parts.
+/// Writes the code of a rule, given its parts at the node.
 #[cycle(writing)]
 #[tactic(auto, using(crate::proofs::Written::none_writes))]
 fn write_parts(w: &mut Writer, trees: &[Derivation], node: Node, of: Parts) -> Result<(), CodeFault>
