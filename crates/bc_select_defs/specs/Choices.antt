@@ -1,4 +1,4 @@
--- For proofs: the choices of a node, from those of its parts. Each list of candidates has the rules that a node may
+-- For proofs: the choices of a node, computed from those of its parts. Each list of candidates has the rules that a node may
 -- have for an aim, in the order of their numbers.
 use Rattle.std.specs.Prelude.{ℕ, ◌+◌, ◌*◌, ◌==◌, Bool, true, false, not, ◌||◌, cond, List, [], ◌∷◌, ◌++◌, Option, Some, None, is_some}
 use Rattle.bc_word.specs.declared.operator.Op.{Op}
@@ -34,8 +34,8 @@ choice_for (Jumps true) c = c.on_true
 abbrev pub words_for : Aim → Choices → Option ℕ
 words_for aim c = words_of (choice_for aim c)
 
--- the choices of a node: an operand is pushed by V1, a pushed value is a value by V0, and a test may be made of a
--- value
+-- The choices of a node from the candidates of its own rules. V1 loads an operand in mode Push, V0 makes a value in mode Push one in
+-- mode Any, and the tests are given the words of the value in mode Any.
 abbrev pub line : Option Operand → (pushes values : List Candidate) → (tests : Option ℕ → Bool → List Candidate) → Choices
 line o pushes values tests =
     let push = least_from None (candidate V1 (operand_cost o) ∷ pushes) in
@@ -47,7 +47,7 @@ line o pushes values tests =
       on_true = least_from None (tests (words_of any) true);
     }
 
--- the test of a value
+-- a test by J6, from the words of the value
 abbrev pub by_value : Option ℕ → Bool → List Candidate
 by_value any sense = candidate J6 (plus any 2) ∷ []
 
@@ -60,7 +60,7 @@ number_tests n any sense = candidate J6 (plus any 2) ∷ candidate J7 (Some (con
 abbrev pub number_choices : Option Operand → ℕ → Choices
 number_choices o n = line o [] [] (number_tests n)
 
--- a rule on the one part
+-- a form with one part, by its rule
 abbrev pub unary_choices : Rule → Option Operand → Choices → Choices
 unary_choices rule o c = line o (candidate rule (plus (words_of c.push) 1) ∷ []) (candidate rule (plus (words_of c.any) 1) ∷ []) by_value
 
@@ -70,7 +70,7 @@ not_tests c any sense = candidate J1 (words_for (Jumps (not sense)) c) ∷ []
 abbrev pub not_choices : Choices → Choices
 not_choices c = line None (candidate V4 (plus (words_of c.push) 1) ∷ []) (candidate V4 (plus (words_of c.any) 1) ∷ []) (not_tests c)
 
--- two operands
+-- whether two operands are free
 abbrev pub free : Asked → Asked → Bool
 free a b = not (a.calls || b.calls) || direct_operand a.operand || direct_operand b.operand
 
@@ -82,7 +82,7 @@ unfoldable pub number_cost : Option ℕ → Option ℕ
 number_cost None = None
 number_cost (Some n) = Some (w (negated n))
 
--- of x and y, that of the operand beside a 0
+-- of x and y, the one that belongs to the operand beside a 0
 abbrev pub beside : Asked → Asked → (x y : Option ℕ) → Option ℕ
 beside a b x y = cond (zero_number b.number) x (cond (zero_number a.number) y None)
 
@@ -91,7 +91,7 @@ without Add a b x y = beside a b x y
 without Subtract a b x y = cond (zero_number b.number) x None
 without _ a b x y = None
 
--- the rules by which one operand stays in the instruction; x and y are the words of the operands in the mode
+-- the rules that have one operand in an instruction; x and y are the words of the operands in the mode
 abbrev pub mixed : Op → Asked → Asked → (x y : Option ℕ) → List Candidate
 mixed op a b x y =
     candidate V6 (only Add op (sum x (operand_cost b.operand)))
@@ -102,7 +102,7 @@ mixed op a b x y =
     ∷ candidate V11 (only Subtract op (given (free a b) (sum y (more 1 (operand_cost a.operand)))))
     ∷ []
 
--- the rules by which both operands are computed
+-- the rules that evaluate both operands
 abbrev pub worked : Op → Asked → Asked → (s : ℕ) → List Candidate
 worked op a b s =
     let x = words_of a.choices.any in
@@ -150,7 +150,7 @@ cond_choices c x y =
     line None [] (candidate V20 (plus (sum (sum (words_of c.on_false) (words_of x.any)) (words_of y.any)) 2)
     ∷ candidate V21 (plus (sum (sum (words_of c.on_true) (words_of y.any)) (words_of x.any)) 2) ∷ []) by_value
 
--- from the words of all arguments, and the routine
+-- a call, from the words of all its arguments and the choices of its routine
 abbrev pub call_choices : Option ℕ → Choices → ℕ → Choices
 call_choices arguments routine s = line None [] (candidate V22 (plus (sum arguments (words_of routine.any)) (w s)) ∷ []) by_value
 

@@ -1,5 +1,5 @@
 -- The nodes of an expression and of a root, each with its level: parts before wholes, a call's arguments before its
--- routine, an assignment's value before its address. It is the order of the node lines of a certificate.
+-- routine, an assignment's value before its address. A certificate lists its node lines in this order.
 use Rattle.std.specs.Prelude.{ℕ, ◌+◌, List, [], ◌∷◌, ◌++◌}
 use Rattle.bc_core.specs.Tree.{Exp, Load, Neg, Not, Bin, Cond, Call, Args, no_argument, argument, count, Root, Value, Test, Assign}
 use Rattle.bc_core.specs.Level.{side_level}
@@ -24,7 +24,7 @@ root_in_order (Value s e) = in_order e s
 root_in_order (Test s sense e) = in_order e s
 root_in_order (Assign s v a) = in_order v (side_level a s) ++ in_order a (side_level a s)
 
--- how many they are
+-- the number of a root's nodes
 abbrev pub root_nodes : Root → ℕ
 root_nodes (Value s e) = nodes e
 root_nodes (Test s sense e) = nodes e

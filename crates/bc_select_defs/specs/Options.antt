@@ -1,4 +1,4 @@
--- For proofs: words that may be missing, where no derivation is.
+-- For proofs: arithmetic on numbers of words that are missing if there is no derivation.
 use Rattle.std.specs.Prelude.{ℕ, ◌+◌, ◌==◌, Bool, true, false, cond, nat_lt, List, [], ◌∷◌, Option, Some, None}
 use Rattle.bc_word.specs.declared.operator.Op.{Op}
 use Rattle.bc_word.specs.Words.{number_of}
@@ -8,7 +8,7 @@ use Rattle.bc_rules_defs.specs.Piece.{operand_words}
 use Rattle.bc_select_defs.specs.declared.choice.Choice.{Choice}
 use Rattle.bc_select_defs.specs.declared.choice.Candidate.{Candidate}
 
--- so many words more
+-- k words more
 unfoldable pub plus : Option ℕ → ℕ → Option ℕ
 plus None k = None
 plus (Some x) k = Some (x + k)
@@ -26,7 +26,7 @@ unfoldable pub given : Bool → Option ℕ → Option ℕ
 given true x = x
 given false x = None
 
--- only at this operator
+-- the words, if the operator is this one
 abbrev pub only : Op → Op → Option ℕ → Option ℕ
 only wanted op x = given (number_of op == number_of wanted) x
 
@@ -48,7 +48,7 @@ choice r n = record { words = n; rule = r }
 abbrev pub candidate : Rule → Option ℕ → Candidate
 candidate r x = record { rule = r; words = x }
 
--- the first one of the least words
+-- the better of a choice and a rule's words; the choice if they are equal
 unfoldable pub better : Option Choice → Rule → Option ℕ → Option Choice
 better best r None = best
 better None r (Some n) = Some (choice r n)
