@@ -1,4 +1,4 @@
--- For proofs: a count that stops at the greatest number of 64 bits.
+-- For proofs: a count that saturates at 2^64 - 1: it is at most the number, and equal to it below that bound.
 use Rattle.std.specs.Prelude.{◌≡◌, ℕ, ◌+◌, ◌<◌, ◌≤◌, ◌^◌}
 
 pub record Counts (counted : ℕ) (number : ℕ) : Type 0 where

@@ -1,4 +1,4 @@
--- For proofs: a list that is cut in two.
+-- For proofs: a list split in two.
 use Rattle.std.specs.Prelude.{◌≡◌, List}
 use Rattle.bc_select.specs.declared.node.Part.{Part}
 

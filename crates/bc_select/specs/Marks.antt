@@ -1,4 +1,4 @@
--- For proofs: trees as the list of their rules, wholes before parts and the last part first, each with the number of its parts.
+-- For proofs: trees as a list of rules, wholes before parts and the last part first, each with the number of its parts.
 use Rattle.std.specs.Prelude.{ℕ, zero, suc, ◌+◌, ◌-◌, List, [], ◌∷◌, ◌++◌}
 use Rattle.bc_rules_defs.specs.Rules.{Tree, Trees, by, no_part, part, end_with}
 use Rattle.bc_select.specs.declared.derivations.Mark.{Mark}
@@ -25,7 +25,7 @@ rest zero ts = ts
 rest (suc n) no_part = no_part
 rest (suc n) (part t ts) = rest n ts
 
--- a mark takes the last trees as its parts; and what marks do, from the last to the first
+-- a mark takes the last trees as its parts; and the effect of all marks, from the last to the first
 abbrev pub close : Mark → Trees → Trees
 close m ts = let k = size ts - m.parts in end_with (first k ts) (by m.rule (rest k ts))
 

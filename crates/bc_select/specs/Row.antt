@@ -1,4 +1,4 @@
--- For proofs: the row of a node, and the node that a row and a span mean.
+-- For proofs: the row of a node, and the node that a row and a span represent.
 use Rattle.std.specs.Prelude.{ℕ, List, [], ◌∷◌, ◌≡◌, map, Option, Some, None}
 use Rattle.bc_rules_defs.specs.declared.rule.Rule.{Rule}
 use Rattle.bc_select_defs.specs.declared.choice.Choice.{Choice}
@@ -15,7 +15,7 @@ row_of c = record {
   rules = rule_of c.any ∷ rule_of c.push ∷ rule_of c.on_false ∷ rule_of c.on_true ∷ [];
 }
 
--- the rules by which a node gets its code
+-- the chosen rules, with V1 where there is no choice
 abbrev pub rules_of : Choices → List Rule
 rules_of c = rule_or_v1 c.any ∷ rule_or_v1 c.push ∷ rule_or_v1 c.on_false ∷ rule_or_v1 c.on_true ∷ []
 
@@ -40,7 +40,7 @@ abbrev pub parts_in : List Row → List Span → List Part
 parts_in (row ∷ rows) (span ∷ spans) = part_in row span ∷ parts_in rows spans
 parts_in _ _ = []
 
--- as many of the one as of the other, and each row has a rule just where it has words
+-- there are as many rows as spans, and each row has a rule exactly where it has words
 pub record AreParts (rows : List Row) (spans : List Span) : Type 0 where
   pub rows_are : rows ≡ map row_of_part (parts_in rows spans)
   pub spans_are : spans ≡ map span_of (parts_in rows spans)

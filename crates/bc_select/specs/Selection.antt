@@ -1,4 +1,4 @@
--- For proofs: the words of a choice, and the nodes of a root.
+-- For proofs: the words of a choice, and the table of a root's nodes.
 use Rattle.std.specs.Prelude.{ℕ, List, ◌++◌, Option, Some, None}
 use Rattle.bc_core.specs.Tree.{Root, Value, Test, Assign}
 use Rattle.bc_core.specs.Level.{side_level}

@@ -1,4 +1,4 @@
--- For proofs: words that are far from any bound of the machine's numbers.
+-- For proofs: numbers of words that are far below the limit of 64 bits.
 use Rattle.std.specs.Prelude.{ℕ, ◌<◌, ◌≤◌, ◌^◌, Option, Some, None}
 use Rattle.bc_select_defs.specs.declared.choice.Choices.{Choices}
 use Rattle.bc_select_defs.specs.Options.{words_of}

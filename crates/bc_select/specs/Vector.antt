@@ -1,4 +1,4 @@
--- For proofs: the nodes of an expression as one list, parts before wholes.
+-- For proofs: the nodes of an expression as a list, parts before wholes.
 use Rattle.std.specs.Prelude.{ℕ, ◌+◌, List, [], ◌∷◌, ◌++◌, ◌||◌, Option}
 use Rattle.bc_core.specs.Tree.{Exp, Load, Neg, Not, Bin, Cond, Call, Args, no_argument, argument, count}
 use Rattle.bc_rules_defs.specs.declared.rule.Table.TheVariants.{Two}
@@ -23,7 +23,7 @@ part_of_pair p o = record { choices = pair_choices Two p.op o p.left p.right p.l
 abbrev pub ending : List Part → Exp → ℕ → List Part
 ending ns e s = ns ++ (node e s ∷ [])
 
--- the nodes of its parts
+-- the nodes of an expression's parts
 abbrev mutual
   pub before : Exp → ℕ → List Part
   before (Load e) s = ending (before e s) e s

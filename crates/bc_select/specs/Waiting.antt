@@ -1,4 +1,4 @@
--- For proofs: expressions that wait until their derivations are read.
+-- For proofs: expressions that wait until their derivations are read off the table.
 use Rattle.std.specs.Prelude.{◌≡◌, ◌+◌, ◌*◌, ◌≤◌, ◌^◌, List, [], ◌∷◌, ◌++◌}
 use Rattle.bc_core.specs.View.{exp}
 use Rattle.bc_core.specs.WellFormed.{nodes}
@@ -19,7 +19,7 @@ abbrev pub trees_of : List Waiting → Trees
 trees_of [] = no_part
 trees_of (t ∷ ts) = part (tree_of t) (trees_of ts)
 
--- these are a root's nodes
+-- the waiting expression's nodes are among these nodes, at its place
 pub record IsReady (all : List Part) (t : Waiting) : Type 0 where
   pub fits : t.step.place.level + 2 * nodes (exp t.e.now) ≤ 2 ^ 40
   pub nodes_are : EndsAt all t.step.place.end (vector (exp t.e.now) t.step.place.level)
