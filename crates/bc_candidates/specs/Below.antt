@@ -1,4 +1,4 @@
--- For proofs: what is known of a node's parts, and which candidates were put after others.
+-- For proofs: what the walk knows of a node after its parts, and which candidates it has appended.
 use Rattle.std.specs.Prelude.{◌≡◌, ℕ, ◌+◌, List, ◌++◌, map}
 use Rattle.bc_core.specs.Tree.{Exp, Args}
 use Rattle.bc_core.specs.Value.{has_call}
@@ -27,11 +27,11 @@ pub record AreArguments (a : Arguments) (es : Args) (s : ℕ) : Type 0 where
   pub words : a.words ≡ words_of_all Two es s
   pub nodes : a.nodes ≡ nodes_of_args es
 
--- the candidates of these nodes were put after the others
+-- the candidates of these nodes were appended
 pub record Adds (old new : List ForAims) (nodes : List (Exp × ℕ)) : Type 0 where
   pub is : new ≡ old ++ map candidates_at nodes
 
--- some arguments of a call were walked over, and these are left
+-- some arguments of a call were walked, and these remain
 pub record IsOnTheWay (a : Arguments) (old new : List ForAims) (left es : Args) (level first : ℕ) : Type 0 where
   pub words : sum a.words (words_of_all Two left level) ≡ words_of_all Two es first
   pub nodes : a.nodes + nodes_of_args left ≡ nodes_of_args es

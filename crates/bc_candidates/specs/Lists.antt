@@ -1,4 +1,4 @@
--- For proofs: the rules that a node may have for each aim, with their words where they apply, from the choices of its parts.
+-- For proofs: the candidate rules of a node for each aim, from the choices of its parts. A candidate without words doesn't apply.
 use Rattle.std.specs.Prelude.{ℕ, ◌+◌, Bool, true, false, List, [], ◌∷◌, ◌++◌, Option, Some, None}
 use Rattle.bc_core.specs.declared.operands.Operand.{Operand}
 use Rattle.bc_core.specs.Tree.{Exp, Num, Frame, Glob, Place, Load, Neg, Not, Bin, Cond, Call, Valof, count}
@@ -32,7 +32,7 @@ list_for (Gets Push) f = f.push
 list_for (Jumps false) f = f.on_false
 list_for (Jumps true) f = f.on_true
 
--- those of values: an operand is pushed by V1, and a pushed value is a value by V0
+-- the candidates of values: V1 loads an operand in mode Push, V0 makes a value in mode Push one in mode Any
 abbrev pub pushes : Option Operand → List Candidate → List Candidate
 pushes o own = candidate V1 (operand_cost o) ∷ own
 
@@ -81,7 +81,7 @@ lists T (Valof n) s = line None [] (candidate V22 (Some 0) ∷ []) by_value
 abbrev pub choices_of : Lists → Choices
 choices_of f = record { any = least_from None f.any; push = least_from None f.push; on_false = least_from None f.on_false; on_true = least_from None f.on_true }
 
--- those that apply
+-- the candidates that apply
 abbrev pub applying : Rule → Option ℕ → List Beginning → List Beginning
 applying r None bs = bs
 applying r (Some n) bs = record { rule = r; words = n } ∷ bs
