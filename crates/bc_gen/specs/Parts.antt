@@ -1,4 +1,4 @@
--- What the program's parts of code mean.
+-- The views of the program's marks and parts of code.
 use Rattle.std.specs.Prelude.{List, map}
 use Rattle.bc_core.specs.View.{root}
 use Rattle.bc_rules_defs.specs.View.{derivation}
