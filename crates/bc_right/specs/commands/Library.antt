@@ -1,4 +1,4 @@
--- The code of the primitives.
+-- The code of the primitives, and that it does what they mean.
 use Rattle.std.specs.Prelude.{ℕ, ◌≡◌, true, List, [], ◌∷◌, Some}
 use Rattle.bc_text_items.specs.declared.item.Item.{Item}
 use Rattle.bc_text_items.specs.declared.item.Item.TheVariants.{Operation}

@@ -1,4 +1,4 @@
--- Sections whose routines' code stands in the store.
+-- Sections whose routines' code is in the store.
 use Rattle.std.specs.Prelude.{ℕ, List, [], ◌∷◌}
 use Rattle.bc_core.specs.Commands as commands
 use Rattle.bc_core.specs.Commands.{Place}
@@ -18,7 +18,7 @@ PlacesLevelled levels (commands.Static w ∷ places) = PlacesLevelled levels pla
 PlacesLevelled levels (commands.Table ws ∷ places) = PlacesLevelled levels places
 PlacesLevelled levels (commands.Text bytes ∷ places) = PlacesLevelled levels places
 
--- the routines' code of a section stands somewhere, and its labels are the section's places
+-- The code of a section's routines is somewhere in the store, and its labels are the section's places.
 pub record SectionStands (S : Moment) (section : Placed) : Type 0 where
   pub over : BodiesCode → Roots
   pub begin : ℕ
