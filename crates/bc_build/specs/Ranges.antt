@@ -1,4 +1,4 @@
--- For proofs: numbers of entries that their types keep small.
+-- For proofs: the numbers of entries are in the ranges of their types.
 use Rattle.std.specs.Prelude.{◌≤◌, ◌<◌, ◌^◌, All}
 use Rattle.bc_core.specs.Tree.{Exp, Num, Frame, Glob, Place, Load, Neg, Not, Bin, Cond, Call, Valof, Args, no_argument, argument, Root, Value, Test, Assign}
 use Rattle.bc_rules_defs.specs.Entry.{Entry}
