@@ -19,7 +19,9 @@ use std::alloc::Global;
 /// The derivation of a root with the fewest words, and the rows of the root's nodes.
 #[derive(Drop)]
 pub(crate) struct Choice {
+    /// The derivation.
     pub(crate) derivation: Derivation,
+    /// A row for each node, as `select` returns them.
     pub(crate) rows: Vec<Row>,
 }
 

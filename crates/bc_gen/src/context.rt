@@ -8,7 +8,9 @@ use bc_core::Valof;
 /// A label of the source, by its number, with its label among the items.
 #[derive(Clone, Copy, Debug)]
 pub(crate) struct Numbered {
+    /// The number of the source's label.
     pub(crate) number: u16,
+    /// Its label among the items.
     pub(crate) label: u16,
 }
 

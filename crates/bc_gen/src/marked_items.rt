@@ -16,7 +16,9 @@ use std::alloc::Global;
 /// An item, or the mark where a root's code begins.
 #[derive(Debug, Drop)]
 pub(crate) enum Part {
+    /// An item.
     Item(Item),
+    /// The code of a root begins here.
     Begins(Box<Mark>),
 }
 
@@ -37,8 +39,11 @@ pub(crate) fn count_items(parts: &[Part]) -> u64
 /// A section's items, the entries of its roots, and the workings of each entry.
 #[derive(Drop)]
 pub(crate) struct Apart {
+    /// The items.
     pub(crate) items: Vec<Item>,
+    /// The entries, in the order of the code.
     pub(crate) entries: Vec<Entry>,
+    /// The workings of each entry, at the same index.
     pub(crate) workings: Vec<Workings>,
 }
 

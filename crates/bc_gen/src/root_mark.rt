@@ -14,7 +14,9 @@ pub(crate) struct Mark {
     pub(crate) target: u16,
     /// The first of the derivation's own labels.
     pub(crate) first: u16,
+    /// The expression, test or assignment.
     pub(crate) root: Root,
+    /// The derivation that gives its code.
     pub(crate) derivation: Derivation,
     /// The number of items of the body of each of its VALOFs, in the order of the code.
     pub(crate) bodies: Vec<u64>,

@@ -58,6 +58,7 @@ fn without_zero<'a>(op: Op, a: &'a CoreExp, b: &'a CoreExp) -> Option<&'a CoreEx
     }
 }
 
+/// A part with its aim.
 fn part<'a>(aim: Aim, of: &'a CoreExp) -> Part<'a>
     ensures which { result.aim ≡ aim }
     ensures whose { exp result.of.now ≡ exp of.now }

@@ -100,12 +100,14 @@ pub fn parts_derive(table: Table, trees: &[Derivation], of: Parts) -> Option<boo
     }
 }
 
+/// `a || b` as a call, which the lemmas on lists of parts can name.
 fn either(a: bool, b: bool) -> bool
     ensures { result ≡ (a || b) }
 {
     a || b
 }
 
+/// Checks one part.
 #[cycle(deriving)]
 fn part(table: Table, d: &Derivation, a: Part) -> Option<bool>
     ensures { result ≡ found (fits table (derivation d.now) a.entry.aim (exp a.entry.of.now)) (has_call (exp a.entry.of.now)) }
@@ -113,6 +115,7 @@ fn part(table: Table, d: &Derivation, a: Part) -> Option<bool>
     derives(table, d, a.aim, a.of)
 }
 
+/// Checks the part of a rule with one part.
 #[cycle(deriving)]
 #[tactic(auto, using(crate::proofs::Fitting::misfit_one, crate::proofs::Fitting::fit_one))]
 fn single(table: Table, trees: &[Derivation], a: Part) -> Option<bool>
@@ -124,6 +127,7 @@ fn single(table: Table, trees: &[Derivation], a: Part) -> Option<bool>
     part(table, &trees[0], a)
 }
 
+/// Checks the parts of a rule with two parts.
 #[cycle(deriving)]
 #[tactic(auto, using(crate::proofs::Fitting::misfit_two, crate::proofs::Fitting::pair_no_first, crate::proofs::Fitting::pair_no_second, crate::proofs::Fitting::pair_both))]
 fn pair(table: Table, trees: &[Derivation], a: Part, b: Part) -> Option<bool>
@@ -138,6 +142,7 @@ fn pair(table: Table, trees: &[Derivation], a: Part, b: Part) -> Option<bool>
     Some(either(first, second))
 }
 
+/// Checks the parts of a rule with three parts.
 #[cycle(deriving)]
 #[tactic(auto, using(crate::proofs::Fitting::misfit_three, crate::proofs::Fitting::triple_no_first, crate::proofs::Fitting::triple_no_second, crate::proofs::Fitting::triple_no_third, crate::proofs::Fitting::triple_all))]
 fn triple(table: Table, trees: &[Derivation], a: Part, b: Part, c: Part) -> Option<bool>
@@ -154,6 +159,7 @@ fn triple(table: Table, trees: &[Derivation], a: Part, b: Part, c: Part) -> Opti
     Some(either(either(first, second), third))
 }
 
+/// Checks the arguments and the routine of a call.
 #[cycle(deriving)]
 #[tactic(auto, using(crate::proofs::Fitting::call_next, crate::proofs::Fitting::call_stops, crate::proofs::Fitting::call_short))]
 fn call(

@@ -191,6 +191,7 @@ fn write_sides(w: &mut Writer, trees: &[Derivation], to: To, of: Parts) -> Resul
     }
 }
 
+/// Writes the code of A1.
 #[tactic(auto, using(crate::proofs::Written::side_writes, crate::proofs::Counts::one_side_labels))]
 fn one_side(w: &mut Writer, trees: &[Derivation], to: To, a: Part) -> Result<(), CodeFault>
     ensures { WritesOrLacks result w.old w.new
@@ -207,6 +208,7 @@ fn one_side(w: &mut Writer, trees: &[Derivation], to: To, a: Part) -> Result<(),
     Ok(())
 }
 
+/// Writes the code of A2 or A3.
 #[tactic(auto, using(crate::proofs::Written::sides_write, crate::proofs::Counts::two_sides_labels))]
 fn two_sides(w: &mut Writer, trees: &[Derivation], to: To, of: Sides) -> Result<(), CodeFault>
     ensures { WritesOrLacks result w.old w.new

@@ -42,6 +42,7 @@ fn labels(d: &Derivation, aim: Aim, e: &CoreExp) -> u32
     labels_of(d.rule, &d.parts, parts_of(d.rule, aim, e))
 }
 
+/// The number of labels of a rule with these parts: its own and those of the parts, capped at 65,537.
 #[cycle(counting)]
 #[tactic(auto, using(crate::proofs::Counts::one_labels, crate::proofs::Counts::no_one_labels, crate::proofs::Counts::two_labels, crate::proofs::Counts::no_two_labels, crate::proofs::Counts::three_labels, crate::proofs::Counts::no_three_labels, crate::proofs::Counts::no_leaf_labels))]
 fn labels_of(rule: Rule, trees: &[Derivation], of: Parts) -> u32
@@ -77,6 +78,7 @@ fn labels_of(rule: Rule, trees: &[Derivation], of: Parts) -> u32
     }
 }
 
+/// The number of labels of one part, capped at 65,537.
 #[cycle(counting)]
 fn part(d: &Derivation, a: Part) -> u32
     ensures { result ≡ min (labels_by (derivation d.now) a.entry.aim (exp a.entry.of.now)) 65537 }
@@ -84,6 +86,7 @@ fn part(d: &Derivation, a: Part) -> u32
     labels(d, a.aim, a.of)
 }
 
+/// The number of labels of a call's arguments and routine, capped at 65,537.
 #[cycle(counting)]
 #[tactic(auto, using(crate::proofs::Counts::call_labels_next, crate::proofs::Counts::call_labels_short))]
 fn call(rule: Rule, trees: &[Derivation], arguments: &[CoreExp], routine: &CoreExp) -> u32

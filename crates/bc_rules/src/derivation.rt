@@ -29,6 +29,7 @@ pub fn is_derivation_by(table: Table, root: &Root, derivation: &Derivation) -> b
     root_derives(table, root, derivation)
 }
 
+/// The check for both public calls.
 #[tactic(auto, using(crate::proofs::Fitting::is_found))]
 fn root_derives(table: Table, root: &Root, derivation: &Derivation) -> bool
     ensures { result ≡ root_fits table (root_of root.now) (tree derivation.now) }

@@ -15,6 +15,7 @@ use bc_rules_defs::{Aim, Piece, Rule, jumps};
 use bc_text_items::Function;
 use bc_word::{Memory, Word, mirror};
 
+/// The left side of a binary operator, if it is an operand.
 fn left_operand(e: &CoreExp) -> Option<Operand>
     ensures { result ≡ left_operand_of (exp e.now) }
 {
@@ -24,6 +25,7 @@ fn left_operand(e: &CoreExp) -> Option<Operand>
     }
 }
 
+/// The right side of a binary operator, if it is an operand.
 fn right_operand(e: &CoreExp) -> Option<Operand>
     ensures { result ≡ right_operand_of (exp e.now) }
 {
@@ -33,6 +35,7 @@ fn right_operand(e: &CoreExp) -> Option<Operand>
     }
 }
 
+/// The right side of a binary operator, if it is a number.
 fn right_constant(e: &CoreExp) -> Option<Word>
     ensures { result ≡ right_constant_of (exp e.now) }
 {

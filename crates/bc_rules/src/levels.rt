@@ -58,6 +58,7 @@ fn after_arguments(level: u32, count: usize) -> Option<u32>
     Some(level + 2 + count as u32)
 }
 
+/// The number of cells that the arguments of a call use, where the first one is at this level. Capped at 65,537.
 #[cycle(cells)]
 #[tactic(auto, using(crate::proofs::Counts::cells_next, crate::proofs::Counts::cells_end))]
 fn cells_of_arguments(arguments: &[CoreExp], level: u32) -> u32
@@ -92,6 +93,7 @@ pub fn offsets_are_words(root: &Root) -> bool
     }
 }
 
+/// The number of cells that the sides of an assignment use. Capped at 65,537.
 fn sides(level: u32, value: &CoreExp, address: &CoreExp) -> u32
     requires { level ≤ 65535 }
     ensures { result ≡ min (cells_of_root (Assign level (exp value.now) (exp address.now))) 65537 }

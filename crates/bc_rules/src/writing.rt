@@ -124,6 +124,7 @@ fn write_parts(w: &mut Writer, trees: &[Derivation], node: Node, of: Parts) -> R
     }
 }
 
+/// Writes the code of a rule without parts.
 #[tactic(auto, using(crate::proofs::Written::leaf_writes, crate::proofs::Counts::leaf_labels))]
 fn no_parts(w: &mut Writer, trees: &[Derivation], node: Node, valof: bool) -> Result<(), CodeFault>
     requires { leaf_of valof ≡ parts_by node.rule node.aim (exp node.of.now) }
@@ -144,6 +145,7 @@ fn no_parts(w: &mut Writer, trees: &[Derivation], node: Node, valof: bool) -> Re
     Ok(())
 }
 
+/// Writes the code of a rule with one part.
 #[cycle(writing)]
 #[tactic(auto, using(crate::proofs::Counts::one_labels))]
 fn one_part(w: &mut Writer, trees: &[Derivation], node: Node, a: Part) -> Result<(), CodeFault>
@@ -174,6 +176,7 @@ fn one_part(w: &mut Writer, trees: &[Derivation], node: Node, a: Part) -> Result
     Ok(())
 }
 
+/// Writes the code of a rule with two parts.
 #[cycle(writing)]
 #[tactic(auto, using(crate::proofs::Counts::two_own, crate::proofs::Counts::two_labels))]
 fn two_parts(w: &mut Writer, trees: &[Derivation], node: Node, of: Sides) -> Result<(), CodeFault>
@@ -205,6 +208,7 @@ fn two_parts(w: &mut Writer, trees: &[Derivation], node: Node, of: Sides) -> Res
     Ok(())
 }
 
+/// Writes the code of a rule with three parts, V20 or V21.
 #[cycle(writing)]
 #[tactic(auto, using(crate::proofs::Counts::three_own, crate::proofs::Counts::three_labels))]
 fn three_parts(w: &mut Writer, trees: &[Derivation], node: Node, of: Three) -> Result<(), CodeFault>
@@ -237,6 +241,7 @@ fn three_parts(w: &mut Writer, trees: &[Derivation], node: Node, of: Three) -> R
     Ok(())
 }
 
+/// Writes the code of a call.
 #[cycle(writing)]
 #[tactic(auto, using(crate::proofs::Counts::count_args, crate::proofs::Counts::call_labels_next, crate::proofs::Counts::call_labels_last, crate::proofs::Counts::argument_cells))]
 fn call(w: &mut Writer, trees: &[Derivation], node: Node, of: CallOf) -> Result<(), CodeFault>
