@@ -100,7 +100,7 @@ pub fn parts_derive(table: Table, trees: &[Derivation], of: Parts) -> Option<boo
     }
 }
 
-/// `a || b` as a call, which the lemmas on lists of parts can name.
+/// Whether `a` or `b` holds. It is a call so that its callers have no branch.
 fn either(a: bool, b: bool) -> bool
     ensures { result ≡ (a || b) }
 {
