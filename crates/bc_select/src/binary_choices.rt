@@ -184,7 +184,7 @@ fn zero_test(pair: &Pair) -> Option<u64>
     plus(beside(pair, x, y), 2)
 }
 
-/// The choice of a jump on false; `any` has the words of the value in mode Any. The operators without rules of their own have three
+/// The choice of a jump on false; `any` has the words of the value in mode Any. The operators without rules of their own have four
 /// arms, because a single arm for all of them was not proved.
 fn tests_on_false(pair: &Pair, any: Option<u64>) -> Option<Choice>
     requires first { AreSmall pair.now.left.choices }

@@ -1,4 +1,4 @@
-//! Rows: the least words and rules of a node, in the form that `select` returns and certificates print.
+//! Rows: the least words and rules of a node, in the form that `select` returns.
 
 ghost use Rattle.std.specs.Prelude.{◌≡◌, List, ◌∷◌, [], ◌++◌};
 ghost use Rattle.bc_select.specs.Row.{row_of, rules_of, choice_in};
