@@ -15,7 +15,7 @@ use bc_word::Memory;
 use std::alloc::{AllocError, AllocFailed, Global};
 use thiserror::Error;
 
-/// What is wrong with the scopes of a main. It is a `ScopeError` that owns the name, so it can outlive the section.
+/// A fault of a main's scopes. It is a `ScopeError` that owns the name, so it can outlive the section.
 #[derive(Debug, Drop, PartialEq, Eq, Error)]
 pub enum ScopeFault {
     /// The name is not in scope.

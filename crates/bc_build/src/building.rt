@@ -38,7 +38,7 @@ pub struct Built {
     pub segments: Vec<Segment>,
     /// The entries of all mains, in the order of the mains. Their `segment` counts the mains from 0.
     pub entries: Vec<Entry>,
-    /// For each entry, at the same index, what the writer of the certificate needs besides.
+    /// For each entry, at the same index, data that the writer of the certificate would otherwise compute again.
     pub workings: Vec<Workings>,
     /// The image of the primitives followed by the segments.
     pub image: Image,

@@ -12,7 +12,7 @@ use bc_select::{Pair, alone, any_words, free, given, number_cost, only};
 use bc_select_defs::{Candidate, is_zero_number};
 use bc_word::{Memory, Op, mirror};
 
-/// Of the words x and y of two operands, those of the operand beside a 0. Of two zeros the right one is dropped.
+/// The words of the operand beside a 0, where x and y are the words of the two operands. Of two zeros the right one is dropped.
 fn beside(pair: &Pair, x: Option<u64>, y: Option<u64>) -> Option<u64>
     ensures { result ≡ beside_of pair.now.left pair.now.right x y }
 {

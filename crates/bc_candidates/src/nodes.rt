@@ -36,7 +36,7 @@ struct Whole {
     level: u64,
 }
 
-/// What is known of an expression after its parts were walked.
+/// The result for an expression, after its parts were walked.
 #[derive(Drop)]
 pub struct Below {
     lists: Lists,
@@ -46,7 +46,7 @@ pub struct Below {
     nodes: usize,
 }
 
-/// What the enclosing expression needs to know: the choices, whether there is a call or a VALOF, and the number of nodes.
+/// The facts about an expression that the enclosing one needs: its choices, whether it has a call or a VALOF, the number of its nodes.
 #[derive(Clone, Copy)]
 pub struct Part {
     choices: Choices,
@@ -84,7 +84,7 @@ fn leaf(lists: Lists, calls: bool) -> Below
     }
 }
 
-/// What the rules need to know of an operand of a binary operator.
+/// The facts about an operand of a binary operator that the rules need.
 fn operand_node(e: &CoreExp, part: &Part) -> Asked
     ensures { result ≡ record {
       choices = part.now.choices;

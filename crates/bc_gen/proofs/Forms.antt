@@ -153,7 +153,7 @@ append_nothing (x ∷ xs) = ap (λ (ys : List Marked). x ∷ ys) (append_nothing
 pub writes_nothing : (w : Writer) (code : Code Marked) → code ≡ ([], w.next) → Wrote w w code
 writes_nothing w code e = (sym (append_nothing (there w)) ∙ ap (λ (c : Code Marked). there w ++ c.0) (sym e), ap (λ (c : Code Marked). c.1) (sym e))
 
--- what was appended comes after what was there
+-- the parts that were appended come after those that were there
 pub grown : (w w1 : Writer) (ps : List Marked) → there w1 ≡ there w ++ ps → length w.parts.items ≤ length w1.parts.items
 grown w w1 ps h = let e = ap (λ (xs : List Marked). length xs) h in omega (arith, simp (length-map, length-append) at e)
 

@@ -32,7 +32,7 @@ pub struct Generated {
     pub items: Segment,
     /// An entry for each root in the order of the code, a root before those in its VALOFs. Their `segment` is 0.
     pub entries: Vec<Entry>,
-    /// For each entry what the writer of the certificate needs besides, so that it isn't computed twice.
+    /// For each entry, data that the writer of the certificate would otherwise compute again.
     pub workings: Vec<Workings>,
 }
 

@@ -7,7 +7,7 @@ use bc_cert_write::Workings;
 use bc_core::Root;
 use bc_rules_defs::Derivation;
 
-/// A root with its derivation, and what is needed for its entry. `worked` says that the workings belong to the root.
+/// A root with its derivation and the other data of its entry. `worked` says that the workings belong to the root.
 #[derive(Debug, Drop)]
 pub(crate) struct Mark {
     /// The label to which a test jumps; 0 for other roots.
@@ -20,7 +20,7 @@ pub(crate) struct Mark {
     pub(crate) derivation: Derivation,
     /// The number of items of the body of each of its VALOFs, in the order of the code.
     pub(crate) bodies: Vec<u64>,
-    /// What the writer of the certificate needs besides.
+    /// Further data for the writer of the certificate.
     pub(crate) workings: Workings,
     ghost worked: { ∥ AreWorkings (root_view root) (derivation_view derivation) target first workings ∥₁ },
 }

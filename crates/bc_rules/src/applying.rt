@@ -81,7 +81,7 @@ fn of_one<'a>(takes: Takes, a: &'a CoreExp) -> Parts<'a>
     }
 }
 
-/// Those of a node's two parts that the rule takes, in the order of the code.
+/// The parts that the rule takes of a node with two parts, in the order of the code.
 fn of_two<'a>(takes: Takes, a: &'a CoreExp, b: &'a CoreExp) -> Parts<'a>
     ensures { parts result ≡ two_taken takes (exp a.now) (exp b.now) }
 {

@@ -6,7 +6,7 @@ use bc_rules_defs::Aim;
 /// A part of an expression with its aim.
 #[derive(Clone, Copy)]
 pub struct Part<'a> {
-    /// What the part's code is for.
+    /// The purpose of the part's code.
     pub aim: Aim,
     /// The part.
     pub of: &'a CoreExp,

@@ -51,7 +51,7 @@ fn first_target(rule: Rule, target: u16, first: u32) -> Result<u16, CodeFault>
     }
 }
 
-/// What code is written for: an expression with its aim, rule, level and target.
+/// An expression for which code is written, with its aim, rule, level and target.
 #[derive(Clone, Copy)]
 struct Node<'a> {
     rule: Rule,

@@ -18,7 +18,7 @@ pub enum Mode {
     Push,
 }
 
-/// What the code of an expression is for.
+/// The purpose of an expression's code.
 #[derive(Clone, Copy, Debug, PartialEq, Eq)]
 pub enum Aim {
     /// It loads the expression's value, in this mode.

@@ -55,7 +55,7 @@ pub fn only(wanted: Op, op: Op, x: Option<u64>) -> Option<u64>
     given(is(op, wanted), x)
 }
 
-/// Of the words x and y of two operands, those of the operand beside a 0. Of two zeros the right one is dropped.
+/// The words of the operand beside a 0, where x and y are the words of the two operands. Of two zeros the right one is dropped.
 fn beside(pair: &Pair, x: Option<u64>, y: Option<u64>) -> Option<u64>
     requires first { Small x }
     requires second { Small y }

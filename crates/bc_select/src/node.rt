@@ -10,7 +10,7 @@ ghost use Rattle.bc_core.specs.Operand.{operand_of, content_of};
 use bc_core::{CoreExp, Operand, content, operand};
 use bc_select_defs::Choices;
 
-/// What the enclosing expression needs to know of a node.
+/// The facts about a node that the enclosing expression needs.
 #[derive(Clone, Copy)]
 pub struct Part {
     /// Its least words and rules.

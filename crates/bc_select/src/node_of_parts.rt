@@ -82,7 +82,7 @@ fn not_part(part: &Part) -> Part
     }
 }
 
-/// What the rules need to know of an operand, from the expression and its node.
+/// The facts about an operand that the rules need, from the expression and its node.
 #[inline(always)]
 pub fn operand_node(e: &CoreExp, part: &Part) -> Asked
     ensures { result ≡ record { choices = part.now.choices; operand = operand_of (exp e.now); number = constant_of (exp e.now); calls = part.now.calls; nodes = part.now.nodes } }

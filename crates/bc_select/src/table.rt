@@ -12,8 +12,8 @@ use bc_word::Memory;
 use std::alloc::Global;
 use std::marker::Model;
 
-/// What is needed of a node besides its row. The rules are stored again here, so that reading a derivation doesn't touch the rows. The
-/// fields are in the order that takes the least memory: 16 bytes.
+/// The facts about a node that are needed besides its row. The rules are stored again here, so that reading a derivation doesn't touch
+/// the rows. The fields are in the order that takes the least memory: 16 bytes.
 #[derive(Clone, Copy)]
 pub struct Span {
     /// The number of the node's nodes, itself included.

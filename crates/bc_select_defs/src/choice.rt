@@ -35,7 +35,7 @@ pub struct Choices {
     pub on_true: Option<Choice>,
 }
 
-/// What the rules for an operator or assignment need to know of one of its operands.
+/// The facts about an operand that the rules for its operator or assignment need.
 #[derive(Clone, Copy, Debug, PartialEq, Eq)]
 pub struct Asked {
     /// Its least words and rules.

@@ -204,7 +204,7 @@ known_stands S (k ∷ ks) v q h e = by (λ g. known_stands S ks v q h.1 g) (k.ad
 no_routine : (s : Placed) (r : commands.Routine) (q : Primitive) → Some (OfSection s r) ≡ Some (OfLibrary q) → ⊥
 no_routine s r q e = let f : OfSection s r ≡ OfLibrary q = cc in cc
 
--- what a section calls among its places is no primitive
+-- a call that finds its routine among a section's places is no call of a primitive
 no_primitive : (section : Placed) (l : ℕ) (ps : List Place) (v : ℕ) (q : Primitive) → callee_among section l ps v ≡ Some (OfLibrary q) → ⊥
 no_primitive section l [] v q e = let f : None ≡ Some (OfLibrary q) = e in cc
 no_primitive section l (commands.Code r ∷ ps) v q e = by (no_primitive section (l + 1) ps v q) (section.address l == v) e where

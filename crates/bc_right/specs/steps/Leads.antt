@@ -9,8 +9,8 @@ use Rattle.bc_machine_defs.specs.Run.{runs}
 abbrev pub machine : (a b c p : ℕ) → List ℕ → Content → State
 machine a b c p store streams = state (record { a = a; b = b; c = c; p = p }) store streams
 
--- What the machine does from y in k instructions, it does from x in more instructions: at least one more for each turn by which the
--- remaining turns fell from t to t1.
+-- A run of k instructions from y ends like a run of j instructions from x, where j exceeds k by at least the number of turns taken, by
+-- which the remaining turns fell from t to t1.
 pub record Ahead (x : State) (t : ℕ) (y : State) (t1 : ℕ) : Type 0 where
   pub by : (k : ℕ) → (j : ℕ) × (k + t ≤ j + t1) × (runs j x ≡ runs k y)
 
