@@ -12,9 +12,11 @@ use Rattle.bc_gen_defs.specs.Entries.{section_entries}
 use Rattle.bc_gen.specs.Chosen.{coding}
 use Rattle.bc_build.specs.Compiled.{IsAccepted}
 
+-- The items of a section.
 abbrev pub items_of : Declarations → List Item
 items_of section = section_items coding (core_of section)
 
+-- the entry as one of the segment k
 abbrev pub in_segment : ℕ → Entry → Entry
 in_segment k e = record e { segment = k }
 

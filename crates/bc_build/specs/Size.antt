@@ -18,6 +18,7 @@ section_roots section = roots_of (in_code (least_derivation Two)) (core_of secti
 abbrev pub section_words : Declarations → ℕ
 section_words section = fixed_words (core_of section) + sum_by (λ r. root_cost (least_derivation Two r)) (section_roots section)
 
+-- the words of all sections
 abbrev pub words_of : List Declarations → ℕ
 words_of [] = 0
 words_of (section ∷ sections) = section_words section + words_of sections

@@ -14,6 +14,7 @@ pub record ForAims : Type 0 where
   pub on_false : List Beginning
   pub on_true : List Beginning
 
+-- the list for an aim
 abbrev pub for_aim : Aim → ForAims → List Beginning
 for_aim (Gets Any) f = f.any
 for_aim (Gets Push) f = f.push

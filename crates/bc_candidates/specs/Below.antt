@@ -13,16 +13,19 @@ use Rattle.bc_candidates.specs.declared.nodes.Arguments.{Arguments}
 use Rattle.bc_candidates.specs.Aims.{ForAims}
 use Rattle.bc_candidates.specs.Lists.{lists, candidates_at}
 
+-- the walk's result for an expression is right
 pub record IsBelow (b : Below) (e : Exp) (s : ℕ) : Type 0 where
   pub lists : b.lists ≡ lists Two e s
   pub calls : b.calls ≡ has_call e
   pub nodes : b.nodes ≡ nodes e
 
+-- the facts that the walk passes up are those of the expression
 pub record IsPart (p : Part) (e : Exp) (s : ℕ) : Type 0 where
   pub choices : p.choices ≡ choices Two e s
   pub calls : p.calls ≡ has_call e
   pub nodes : p.nodes ≡ nodes e
 
+-- the totals are those of the arguments
 pub record AreArguments (a : Arguments) (es : Args) (s : ℕ) : Type 0 where
   pub words : a.words ≡ words_of_all Two es s
   pub nodes : a.nodes ≡ nodes_of_args es

@@ -20,6 +20,7 @@ use Rattle.bc_gen.specs.declared.context.Around.{Around}
 abbrev pub Bodies : Type 1
 Bodies = ℕ → Type 0
 
+-- a piece has room if it is an item, or a body that has room
 abbrev pub PieceHasRoom : Bodies → Piece → Type 0
 PieceHasRoom B (pieces.Item i) = Unit {0}
 PieceHasRoom B (pieces.Body n) = B n
@@ -63,6 +64,7 @@ abbrev mutual
   pub BlockHasRoom : Bodies → Block → ℕ → Type 0
   BlockHasRoom B (block ds is) s = DeclarationsHaveRoom B ds s × (entries_in is ≡ 0) × ItemsHaveRoom B is (s + cells_declared ds)
 
+  -- the items of a list
   pub ItemsHaveRoom : Bodies → Items → ℕ → Type 0
   ItemsHaveRoom B no_item s = Unit {0}
   ItemsHaveRoom B (command c is) s = CommandHasRoom B c s × ItemsHaveRoom B is s
@@ -77,13 +79,16 @@ ValofHasRoom first (v ∷ vs) n =
     let inner = ValofHasRoom (first + 1) vs in
     elim (n == first) [ true ↦ BlockHasRoom inner v.body v.level | false ↦ inner n ]
 
+-- the bodies of the VALOFs that may occur in a context
 abbrev pub room_in : Around → Bodies
 room_in a = ValofHasRoom a.least (drop a.least (valofs_in a.valofs.now))
 
+-- the body of a routine, where s is the next free offset of the frame
 abbrev pub BodyHasRoom : Bodies → Body → ℕ → Type 0
 BodyHasRoom B (Gives e) s = RootHasRoom B (Value s e)
 BodyHasRoom B (Does b) s = BlockHasRoom B b s
 
+-- the routine of a place, if it has one
 abbrev pub RoutineHasRoom : Bodies → Place → Type 0
 RoutineHasRoom B (Code r) = let s = level_after_parameters r.parameters in (s ≤ 65535) × BodyHasRoom B r.body s
 RoutineHasRoom B _ = Unit {0}

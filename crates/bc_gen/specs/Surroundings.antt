@@ -16,6 +16,7 @@ use Rattle.bc_gen.specs.Chosen.{coding}
 use Rattle.bc_gen.specs.declared.context.Numbered.{Numbered}
 use Rattle.bc_gen.specs.declared.context.Around.{Around}
 
+-- the label of the first entry with the number n, or `without` if there is none
 abbrev pub label_in : List Numbered → ℕ → ℕ → ℕ
 label_in [] n without = without
 label_in (e ∷ es) n without = cond (e.number == n) e.label (label_in es n without)
@@ -35,6 +36,7 @@ next_entry (entries.Case k) f = f + 1
 next_entry entries.Default f = f + 1
 next_entry (entries.Label k) f = f
 
+-- the exits that a context has
 abbrev pub exits_of : Around → Exits
 exits_of a = record {
   broken = a.broken;
@@ -48,6 +50,7 @@ exits_of a = record {
 abbrev pub bodies_of : List commands.Valof → ℕ → BodiesCode Marked
 bodies_of valofs least = bodies_from Plain (marked_over coding (level_of valofs)) least (drop least valofs)
 
+-- the code of roots in which the VALOFs are numbered from `least` on
 abbrev pub roots_of : List commands.Valof → ℕ → Roots Marked
 roots_of valofs least = marked_over coding (level_of valofs) (bodies_of valofs least)
 
@@ -61,8 +64,10 @@ abbrev pub one_piece : (ℕ → ℕ) → BodiesCode Marked → Piece → (label 
 one_piece levels bodies (pieces.Item i) l f = (Plain i ∷ [], f, [])
 one_piece levels bodies (pieces.Body n) l f = let b = bodies n (levels n) l f in (b.0, b.1, b.0 ∷ [])
 
+-- the views of the VALOFs
 abbrev pub valofs_in : List Valof → List commands.Valof
 valofs_in vs = map valof_of vs
 
+-- the code of roots in a context
 abbrev pub roots_in : Around → Roots Marked
 roots_in a = roots_of (valofs_in a.valofs.now) a.least

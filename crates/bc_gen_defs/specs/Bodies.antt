@@ -69,6 +69,7 @@ abbrev pub emit_body : {X : Type 0} → (Item → X) → Roots X → Body → (s
 emit_body of roots (Gives e) s f = let v = roots (Value s e) 0 f in (v.0 ++ of (execute 4) ∷ [], v.1)
 emit_body of roots (Does b) s f = let x = emit_block of roots b s (body_exits 0) f in (x.0 ++ of zero_item ∷ of (execute 4) ∷ [], x.1)
 
+-- the level of the VALOF with the number n
 abbrev pub level_of : List Valof → ℕ → ℕ
 level_of [] n = 0
 level_of (v ∷ vs) zero = v.level

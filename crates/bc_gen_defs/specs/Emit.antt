@@ -31,12 +31,15 @@ pub record Exits : Type 0 where
   pub result : ℕ
   pub labels : ℕ → ℕ
 
+-- `JLl`
 abbrev pub jump : ℕ → Item
 jump l = Operation functions.Jump false bases.Label l
 
+-- `Xn`
 abbrev pub execute : ℕ → Item
 execute n = Operation functions.Execute false bases.Number n
 
+-- `L0`
 abbrev pub zero_item : Item
 zero_item = Operation functions.Load false bases.Number 0
 
@@ -48,6 +51,7 @@ labelled (case k is) f outer l = labelled is f outer l
 labelled (default is) f outer l = labelled is f outer l
 labelled (label k is) f outer l = cond (k == l) f (labelled is (f + 1) outer l)
 
+-- the number of labels of a list
 abbrev pub labels_in : Items → ℕ
 labels_in no_item = 0
 labels_in (command c is) = labels_in is
@@ -63,6 +67,7 @@ defaulted (case k is) f without = defaulted is (f + 1) without
 defaulted (default is) f without = f
 defaulted (label k is) f without = defaulted is f without
 
+-- the number of CASEs in a list
 abbrev pub cases_in : Items → ℕ
 cases_in no_item = 0
 cases_in (command c is) = cases_in is
@@ -70,6 +75,7 @@ cases_in (case k is) = suc (cases_in is)
 cases_in (default is) = cases_in is
 cases_in (label k is) = cases_in is
 
+-- the number of CASEs and DEFAULTs in a list
 abbrev pub entries_in : Items → ℕ
 entries_in no_item = 0
 entries_in (command c is) = entries_in is
@@ -90,6 +96,7 @@ abbrev pub emit_variable : {X : Type 0} → Roots X → Variable → (k s f : �
 emit_variable roots (Initial e) k s f = roots (Assign s e (Frame k)) 0 f
 emit_variable roots (Vector n) k s f = roots (Assign s (Frame (k + 1)) (Frame k)) 0 f
 
+-- the variables of a declaration, whose cells begin at offset k
 abbrev pub emit_variables : {X : Type 0} → Roots X → List Variable → (k s f : ℕ) → Code X
 emit_variables roots [] k s f = ([], f)
 emit_variables roots (v ∷ vs) k s f =
@@ -97,6 +104,7 @@ emit_variables roots (v ∷ vs) k s f =
     let y = emit_variables roots vs (k + cells_of v) s x.1 in
     (x.0 ++ y.0, y.1)
 
+-- the declarations of a block, one after the other
 abbrev pub emit_declarations : {X : Type 0} → Roots X → List (List Variable) → (s f : ℕ) → Code X
 emit_declarations roots [] s f = ([], f)
 emit_declarations roots (vs ∷ ds) s f =
@@ -109,6 +117,7 @@ emit_declarations roots (vs ∷ ds) s f =
 abbrev pub end_operator : ℕ → Op
 end_operator by = cond (nat_le 32768 by) operators.Less operators.Greater
 
+-- the test of a FOR with the step `by`, whose variable is at offset s and its limit at the next offset
 abbrev pub end_of_for : ℕ → ℕ → Exp
 end_of_for by s = Bin (end_operator by) (Load (Frame s)) (Load (Frame (s + 1)))
 

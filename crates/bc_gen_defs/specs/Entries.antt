@@ -23,11 +23,13 @@ pub data Marked : Type 0 where
   Plain : Item → Marked
   Begins : Mark → Marked
 
+-- the items without the marks
 abbrev pub plain_items : List Marked → List Item
 plain_items [] = []
 plain_items (Plain i ∷ ps) = i ∷ plain_items ps
 plain_items (Begins m ∷ ps) = plain_items ps
 
+-- the number of items without the marks
 abbrev pub count_items : List Marked → ℕ
 count_items [] = 0
 count_items (Plain i ∷ ps) = count_items ps + 1
@@ -39,6 +41,7 @@ marked_over coding levels bodies r target f =
     let x = fill Plain levels bodies (coding.pieces r target f) (f + coding.labels r) in
     (Begins (record { target = target; first = f; root = r; derivation = coding.derivation r; bodies = map count_items x.2 }) ∷ x.0, x.1)
 
+-- the code of a section's routines with its marks
 abbrev pub marked_code : Coding → Core → List Marked
 marked_code coding core = (routines_over Plain (marked_over coding (level_of core.valofs)) core).0
 

@@ -18,6 +18,7 @@ abbrev pub RiseFrom : ℕ → List Entry → Type 0
 RiseFrom k [] = Unit {0}
 RiseFrom k (e ∷ es) = (k ≤ e.item) × RiseFrom e.item es
 
+-- The items of the entries never decrease, for every choice of code and every section.
 abbrev pub EntriesRise : Type 0
 EntriesRise = (coding : Coding) (core : Core) → RiseFrom 0 (section_entries coding core)
 
@@ -33,9 +34,11 @@ Begin (pieces.Body n ∷ ps) (count ∷ counts) is = (count ≤ length is) × Be
 abbrev pub StandsAt : Coding → List Item → Entry → Type 0
 StandsAt coding items e = (e.derivation ≡ coding.derivation e.root) × Begin (coding.pieces e.root e.target e.first) e.bodies (drop e.item items)
 
+-- all entries have their derivations and their code
 abbrev pub AllStandAt : Coding → List Item → List Entry → Type 0
 AllStandAt coding items [] = Unit {0}
 AllStandAt coding items (e ∷ es) = StandsAt coding items e × AllStandAt coding items es
 
+-- This holds of the entries of every section, for every choice of code.
 abbrev pub EntriesStand : Type 0
 EntriesStand = (coding : Coding) (core : Core) → AllStandAt coding (section_items coding core) (section_entries coding core)

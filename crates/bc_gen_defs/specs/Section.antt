@@ -32,6 +32,7 @@ abbrev pub setting : Option ℕ → ℕ → List Item
 setting None l = []
 setting (Some n) l = Global n l ∷ []
 
+-- the settings of globals by the places, the first of which has label j + 1
 abbrev pub setting_items : (j : ℕ) → List Place → List Item
 setting_items j [] = []
 setting_items j (commands.Code r ∷ places) = setting r.global (j + 1) ++ setting_items (j + 1) places
@@ -44,6 +45,7 @@ abbrev pub routines_over : {X : Type 0} → (Item → X) → (BodiesCode X → R
 routines_over of roots_over core =
     emit_routines of (roots_over (bodies_from of roots_over 0 core.valofs)) 0 core.places (length core.places + 1)
 
+-- the items of all routines, and the next free label
 abbrev pub routines_code : Coding → Core → Code Item
 routines_code coding core = routines_over (λ i. i) (over coding (level_of core.valofs)) core
 

@@ -17,6 +17,7 @@ abbrev pub is_two : Table → Bool
 is_two One = false
 is_two Two = true
 
+-- whether the table has the rule
 abbrev pub in_table : Table → Rule → Bool
 in_table T J8 = is_two T
 in_table T J9 = is_two T
@@ -32,6 +33,7 @@ turns V16 = true
 turns A2 = true
 turns _ = false
 
+-- whether an operator has a direct operand
 abbrev pub has_direct_side : Exp → Bool
 has_direct_side (Bin op a b) = is_direct a || is_direct b
 has_direct_side _ = false
@@ -40,13 +42,16 @@ has_direct_side _ = false
 abbrev pub turns_freely : Rule → (calls : Bool) → Exp → Bool
 turns_freely r calls e = not (turns r && calls) || has_direct_side e
 
+-- whether the rule's order of evaluation is allowed at an expression
 abbrev pub may_turn : Rule → Exp → Bool
 may_turn r e = turns_freely r (has_call e) e
 
 abbrev mutual
+  -- whether the tree is a derivation of the expression for the aim
   pub fits : Table → Tree → Aim → Exp → Bool
   fits T (by r ds) aim e = in_table T r && (may_turn r e && parts_fit T (parts_of r aim e) ds)
 
+  -- whether the trees are derivations of the parts
   pub parts_fit : Table → Parts → Trees → Bool
   parts_fit T (leaf valof) no_part = true
   parts_fit T (single m a) (part d no_part) = fits T d m a
@@ -69,15 +74,19 @@ parts_call no_rule = false
 abbrev pub found : (fit calls : Bool) → Option Bool
 found fit calls = cond fit (Some calls) None
 
+-- whether the sides of an assignment are free, if its rule reverses them
 abbrev pub sides_free : Rule → Exp → Exp → Bool
 sides_free r v a = not (turns r) || are_free v a
 
+-- the same, given whether the sides contain a call or a VALOF
 abbrev pub sides_turn : Rule → (calls : Bool) → Exp → Exp → Bool
 sides_turn r calls v a = not (turns r && calls) || is_direct v || is_direct a
 
+-- whether the tree is a derivation of an assignment
 abbrev pub assignment_fits : Table → Tree → Exp → Exp → Bool
 assignment_fits T (by r ds) v a = sides_free r v a && parts_fit T (assignment_parts r v a) ds
 
+-- whether the tree is a derivation of the root
 abbrev pub root_fits : Table → Root → Tree → Bool
 root_fits T (Value s e) x = fits T x (Gets Any) e
 root_fits T (Test s sense e) x = fits T x (Jumps sense) e

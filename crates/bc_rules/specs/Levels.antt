@@ -7,9 +7,11 @@ use Rattle.bc_rules_defs.specs.declared.rule.Rule.TheVariants.{V0, V2, V3, V4, J
 use Rattle.bc_rules_defs.specs.Parts.{Parts, single, pair, triple, called}
 use Rattle.bc_rules_defs.specs.ByShape.{part_level}
 
+-- the number of cells that an expression at level s uses, without the bodies of its VALOFs
 abbrev pub cells : Exp → ℕ → ℕ
 cells e s = cells_of_exp (λ n s. 0) e s
 
+-- the same for the arguments of a call
 abbrev pub cells_of_all : Args → ℕ → ℕ
 cells_of_all es s = cells_of_args (λ n s. 0) es s
 

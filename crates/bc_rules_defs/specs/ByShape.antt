@@ -42,31 +42,38 @@ first_target J3 t f = f
 first_target J5 t f = f
 first_target _ t f = t
 
+-- an operation on an operand, if there is one, before the other pieces
 abbrev pub with_operand : (Operand → Piece) → Option Operand → List Piece → List Piece
 with_operand i None ps = ps
 with_operand i (Some o) ps = i o ∷ ps
 
+-- `A` with the negation of a number, if there is one
 abbrev pub less_constant : Option ℕ → List Piece
 less_constant None = []
 less_constant (Some n) = A_number (negated n) ∷ []
 
+-- the left side of an operator, if it is an operand
 abbrev pub left_operand : Exp → Option Operand
 left_operand (Bin op a b) = operand_of a
 left_operand _ = None
 
+-- the right side of an operator, if it is an operand
 abbrev pub right_operand : Exp → Option Operand
 right_operand (Bin op a b) = operand_of b
 right_operand _ = None
 
+-- the right side of an operator, if it is a number
 abbrev pub right_constant : Exp → Option ℕ
 right_constant (Bin op a b) = constant_of b
 right_constant _ = None
 
+-- the jump of a test on its sense, or on the opposite
 abbrev pub jump_at : Aim → (same : Bool) → ℕ → List Piece
 jump_at (Gets m) same t = []
 jump_at (Jumps sense) true t = jump_if sense t ∷ []
 jump_at (Jumps sense) false t = jump_if (not sense) t ∷ []
 
+-- the operation of an operator
 abbrev pub operator_number : Exp → List Piece
 operator_number (Bin op a b) = X (number_of op) ∷ []
 operator_number _ = []
@@ -75,6 +82,7 @@ abbrev pub mirror_number : Option Op → List Piece
 mirror_number None = []
 mirror_number (Some q) = X (number_of q) ∷ []
 
+-- the operation of an operator's mirror
 abbrev pub operator_mirror : Exp → List Piece
 operator_mirror (Bin op a b) = mirror_number (mirror_of op)
 operator_mirror _ = []
@@ -84,6 +92,7 @@ abbrev pub number_jump : Aim → ℕ → ℕ → List Piece
 number_jump (Gets m) n t = []
 number_jump (Jumps sense) n t = cond (jumps_at sense n) (J t ∷ []) []
 
+-- the whole code of a rule without parts; f is the label after the body of a VALOF
 abbrev pub leaf_code : Rule → Aim → Exp → (t f : ℕ) → List Piece
 leaf_code V1 aim e t f = with_operand L (operand_of e) []
 leaf_code r aim (Num n) t f = number_jump aim n t
@@ -114,6 +123,7 @@ between V18 s = SP s ∷ []
 between V19 s = SP s ∷ []
 between _ s = []
 
+-- the pieces after both parts
 abbrev pub after_pair : Rule → Exp → (s f : ℕ) → List Piece
 after_pair V12 e s f = operator_number e
 after_pair V13 e s f = operator_mirror e
@@ -132,6 +142,7 @@ abbrev mutual
   pub labels_by : Tree → Aim → Exp → ℕ
   labels_by (by r ds) aim e = labels_of_parts r (parts_of r aim e) ds
 
+  -- the labels of a rule with these parts
   pub labels_of_parts : Rule → Parts → Trees → ℕ
   labels_of_parts r (leaf valof) no_part = cond valof 1 0
   labels_of_parts r (single m a) (part d no_part) = labels_by d m a
@@ -147,6 +158,7 @@ abbrev mutual
   pub code_by : Tree → Aim → Exp → (s t f : ℕ) → List Piece
   code_by (by r ds) aim e s t f = code_of_parts r aim e (parts_of r aim e) ds s t f
 
+  -- the code of a rule with these parts
   pub code_of_parts : Rule → Aim → Exp → Parts → Trees → (s t f : ℕ) → List Piece
   code_of_parts r aim e (leaf valof) no_part s t f = leaf_code r aim e t f
   code_of_parts r aim e (single m a) (part d no_part) s t f = code_by d m a (part_level r s) t f ++ after_single r aim e t
@@ -167,6 +179,7 @@ labels_of_sides (single m a) (part d no_part) = labels_by d m a
 labels_of_sides (pair m a n b) (part d (part c no_part)) = labels_by d m a + labels_by c n b
 labels_of_sides p ds = 0
 
+-- the labels of a root, given the tree of its derivation
 abbrev pub root_labels_by : Root → Tree → ℕ
 root_labels_by (Value s e) x = labels_by x (Gets Any) e
 root_labels_by (Test s sense e) x = labels_by x (Jumps sense) e
@@ -177,12 +190,14 @@ abbrev pub after_sides : Rule → ℕ → List Piece
 after_sides A2 s = SIP s ∷ []
 after_sides _ s = SP (s + 1) ∷ LIP s ∷ SIP (s + 1) ∷ []
 
+-- the code of an assignment whose rule has these parts
 abbrev pub code_of_sides : Rule → Exp → Parts → Trees → (s t f : ℕ) → List Piece
 code_of_sides r address (single m a) (part d no_part) s t f = code_by d m a s t f ++ with_operand S (operand_of address) []
 code_of_sides r address (pair m a n b) (part d (part c no_part)) s t f =
     code_by d m a (s + 1) t f ++ SP s ∷ code_by c n b (s + 1) t (f + labels_by d m a) ++ after_sides r s
 code_of_sides r address p ds s t f = []
 
+-- the code of a root, given the tree of its derivation
 abbrev pub root_code_by : Root → Tree → (t f : ℕ) → List Piece
 root_code_by (Value s e) x t f = code_by x (Gets Any) e s t f
 root_code_by (Test s sense e) x t f = code_by x (Jumps sense) e s t f

@@ -144,6 +144,7 @@ root_labels (a1 h v) = labels v
 root_labels (a2 h free a v) = labels a + labels v
 root_labels (a3 h v a) = labels v + labels a
 
+-- the code, with target t and labels from f on
 abbrev pub root_code : {T : Table} {r : Root} → RootDerives T r → (t f : ℕ) → List Piece
 root_code (value {s = s} d) t f = code d s t f
 root_code (test {s = s} d) t f = code d s t f
@@ -151,6 +152,7 @@ root_code (a1 {s = s} {o = o} h v) t f = code v s t f ++ S o ∷ []
 root_code (a2 {s = s} h free a v) t f = code a (s + 1) t f ++ SP s ∷ code v (s + 1) t (f + labels a) ++ SIP s ∷ []
 root_code (a3 {s = s} h v a) t f = code v (s + 1) t f ++ SP s ∷ code a (s + 1) t (f + labels v) ++ SP (s + 1) ∷ LIP s ∷ SIP (s + 1) ∷ []
 
+-- the words of the code
 abbrev pub root_cost : {T : Table} {r : Root} → RootDerives T r → ℕ
 root_cost (value {s = s} d) = cost d s
 root_cost (test {s = s} d) = cost d s

@@ -20,12 +20,13 @@ is_direct e = direct_operand (operand_of e)
 abbrev pub are_free : Exp → Exp → Bool
 are_free a b = not (has_call a || has_call b) || is_direct a || is_direct b
 
--- whether a test of an expression may test its value: it has no NOT, `&` or `|` on top
+-- whether a test of an expression with this operator on top may test its value: it isn't `&` or `|`
 abbrev pub is_plain_operator : Op → Bool
 is_plain_operator And = false
 is_plain_operator Or = false
 is_plain_operator _ = true
 
+-- whether a test of an expression may test its value: it has no NOT, `&` or `|` on top
 abbrev pub is_plain : Exp → Bool
 is_plain (Not e) = false
 is_plain (Bin op a b) = is_plain_operator op

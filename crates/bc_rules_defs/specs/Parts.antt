@@ -34,6 +34,7 @@ abbrev pub where_some : {A : Type 0} → Option A → Parts → Parts
 where_some None p = no_rule
 where_some (Some x) p = p
 
+-- the parts of a rule that exists only in mode Any
 abbrev pub in_any : Mode → Parts → Parts
 in_any Any p = p
 in_any Push p = no_rule
@@ -94,6 +95,7 @@ test_parts J8 sense op a b = for_equal op (single_if (Gets Any) (beside_zero a b
 test_parts J9 sense op a b = for_not_equal op (single_if (Gets Any) (beside_zero a b))
 test_parts _ sense op a b = no_rule
 
+-- the rules for an operator
 abbrev pub operator_parts : Rule → Aim → Op → (left right : Exp) → Parts
 operator_parts r (Gets m) op a b = value_parts r m op a b
 operator_parts r (Jumps sense) op a b = test_parts r sense op a b
@@ -129,6 +131,7 @@ abbrev pub valof_parts : Rule → Aim → Parts
 valof_parts V22 (Gets Any) = leaf true
 valof_parts _ _ = no_rule
 
+-- the parts of a rule other than V0, V1 and J6, by the form of the expression
 abbrev pub node_parts : Rule → Aim → Exp → Parts
 node_parts r aim (Num n) = number_parts r aim
 node_parts r aim (Frame k) = no_rule
@@ -167,6 +170,7 @@ abbrev pub where_none : {A : Type 0} → Option A → Parts → Parts
 where_none None p = p
 where_none (Some x) p = no_rule
 
+-- the parts of a rule at an assignment
 abbrev pub assignment_parts : Rule → (value address : Exp) → Parts
 assignment_parts A1 v a = where_some (operand_of a) (single (Gets Any) v)
 assignment_parts A2 v a = where_none (operand_of a) (pair (Gets Any) a (Gets Any) v)

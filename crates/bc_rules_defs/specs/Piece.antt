@@ -51,10 +51,12 @@ K s = Item (Operation Call false Number s)
 abbrev pub J : ℕ → Piece
 J t = Item (Operation Jump false Label t)
 
+-- a jump if A has this truth
 abbrev pub jump_if : (sense : Bool) → ℕ → Piece
 jump_if true t = Item (Operation JumpIfTrue false Label t)
 jump_if false t = Item (Operation JumpIfFalse false Label t)
 
+-- the label itself
 abbrev pub label : ℕ → Piece
 label n = Item (items.Label n)
 
@@ -62,6 +64,7 @@ label n = Item (items.Label n)
 abbrev pub w : ℕ → ℕ
 w n = cond (nat_le n 511) 1 2
 
+-- the words of an instruction with this operand
 abbrev pub operand_words : Operand → ℕ
 operand_words o = operation_size o.base o.n
 

@@ -95,10 +95,12 @@ mutual
   pub data Tree : Type 0 where
     by : Rule → Trees → Tree
 
+  -- a list of trees
   pub data Trees : Type 0 where
     no_part : Trees
     part : Tree → Trees → Trees
 
+-- lists of one, two and three trees
 abbrev pub one : Tree → Trees
 one x = part x no_part
 
@@ -108,6 +110,7 @@ two x y = part x (one y)
 abbrev pub three : Tree → Tree → Tree → Trees
 three x y z = part x (two y z)
 
+-- a tree appended to a list
 abbrev pub end_with : Trees → Tree → Trees
 end_with no_part y = one y
 end_with (part x xs) y = part x (end_with xs y)
@@ -152,6 +155,7 @@ abbrev mutual
   shapes no_more = no_part
   shapes (one_more d ds) = part (shape d) (shapes ds)
 
+-- the rule names of a root's derivation
 abbrev pub root_shape : {T : Table} {r : Root} → RootDerives T r → Tree
 root_shape (value d) = shape d
 root_shape (test d) = shape d

@@ -77,6 +77,7 @@ abbrev pub of_one : Takes → Exp → Parts
 of_one (First aim) e = single aim e
 of_one t e = leaf false
 
+-- at a node with two parts
 abbrev pub of_two : Takes → Exp → Exp → Parts
 of_two (First aim) a b = single aim a
 of_two (Second aim) a b = single aim b
@@ -84,11 +85,13 @@ of_two (InOrder f g) a b = pair f a g b
 of_two (Turned f g) a b = pair g b f a
 of_two t a b = leaf false
 
+-- at a condition with two values
 abbrev pub of_choice : Takes → (condition this that : Exp) → Parts
 of_choice (Choice false) c x y = triple (Jumps false) c (Gets Any) x (Gets Any) y
 of_choice (Choice true) c x y = triple (Jumps true) c (Gets Any) y (Gets Any) x
 of_choice t c x y = leaf false
 
+-- at a call
 abbrev pub of_call : Takes → Args → Exp → Parts
 of_call all.Call es f = called 0 es f
 of_call t es f = leaf false
@@ -104,6 +107,7 @@ own_by_table r aim (Call es f) = of_call (takes r aim false) es f
 own_by_table r aim (Valof n) = leaf true
 own_by_table r aim _ = leaf false
 
+-- the same with V0 and J6
 abbrev pub by_table : Rule → Aim → Exp → Parts
 by_table V0 aim e = single (Gets Push) e
 by_table J6 aim e = single (Gets Any) e

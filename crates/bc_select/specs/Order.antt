@@ -9,9 +9,11 @@ use Rattle.bc_select.specs.declared.node.Part.{Part}
 use Rattle.bc_select.specs.Laid.{EndsInParts}
 use Rattle.bc_select.specs.Vector.{node}
 
+-- an expression with its level
 abbrev pub expression_at : AtLevel → Exp × ℕ
 expression_at x = (exp x.e.now, x.level)
 
+-- the listed expressions, read from the end of the list
 abbrev pub from_the_end : List AtLevel → List (Exp × ℕ)
 from_the_end xs = map expression_at (reverse xs)
 
@@ -30,13 +32,16 @@ parts_in_order (Cond c x y) s = (in_order c s ++ in_order x s) ++ in_order y s
 parts_in_order (Call es f) s = all_in_order es (s + 2) ++ in_order f (s + 2 + count es)
 parts_in_order _ s = []
 
+-- the expression and its level are small enough for all sums
 pub record Fits (x : AtLevel) : Type 0 where
   pub is : x.level + 2 * nodes (exp x.e.now) ≤ 2 ^ 40
 
+-- all of them fit
 abbrev pub AllFit : List AtLevel → Type 0
 AllFit [] = Unit {0}
 AllFit (x ∷ xs) = Fits x × AllFit xs
 
+-- a list of the expression, if there is one
 abbrev pub listed : Option AtLevel → List AtLevel
 listed None = []
 listed (Some x) = x ∷ []
@@ -60,6 +65,7 @@ pub record PartsPut (old new : List AtLevel) (last : Option AtLevel) (whole : At
   pub fit : AllFit (added ++ listed last)
   pub order : in_order_of (added ++ listed last) ≡ parts_in_order (exp whole.e.now) whole.level
 
+-- the node of an expression at a level
 abbrev pub node_at : Exp × ℕ → Part
 node_at at = node at.0 at.1
 
@@ -68,6 +74,7 @@ pub record IsNext (made : List Part) (at : Exp × ℕ) : Type 0 where
   pub fits : at.1 + 2 * nodes at.0 ≤ 2 ^ 40
   pub laid : EndsInParts made at.0 at.1
 
+-- the nodes of these expressions can be made one after the other
 abbrev pub CanFollow : List Part → List (Exp × ℕ) → Type 0
 CanFollow made [] = Unit {0}
 CanFollow made (at ∷ ats) = IsNext made at × CanFollow (made ++ (node_at at ∷ [])) ats

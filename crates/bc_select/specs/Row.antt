@@ -9,6 +9,7 @@ use Rattle.bc_select.specs.declared.node.Part.{Part}
 use Rattle.bc_select.specs.declared.row.Row.{Row}
 use Rattle.bc_select.specs.declared.table.Span.{Span}
 
+-- the row of a node with these choices
 abbrev pub row_of : Choices → Row
 row_of c = record {
   costs = words_of c.any ∷ words_of c.push ∷ words_of c.on_false ∷ words_of c.on_true ∷ [];
@@ -19,23 +20,29 @@ row_of c = record {
 abbrev pub rules_of : Choices → List Rule
 rules_of c = rule_or_v1 c.any ∷ rule_or_v1 c.push ∷ rule_or_v1 c.on_false ∷ rule_or_v1 c.on_true ∷ []
 
+-- the row of a node
 abbrev pub row_of_part : Part → Row
 row_of_part p = row_of p.choices
 
+-- the span of a node
 abbrev pub span_of : Part → Span
 span_of p = record { nodes = p.nodes; rules = rules_of p.choices; calls = p.calls }
 
+-- the choice that words and a rule represent
 abbrev pub choice_in : Option ℕ → Option Rule → Option Choice
 choice_in (Some w) (Some r) = Some (record { words = w; rule = r })
 choice_in _ _ = None
 
+-- the choices that a row's lists represent
 abbrev pub choices_in : List (Option ℕ) → List (Option Rule) → Choices
 choices_in (a ∷ b ∷ c ∷ d ∷ []) (p ∷ q ∷ r ∷ t ∷ []) = record { any = choice_in a p; push = choice_in b q; on_false = choice_in c r; on_true = choice_in d t }
 choices_in _ _ = record { any = None; push = None; on_false = None; on_true = None }
 
+-- the node that a row and a span represent
 abbrev pub part_in : Row → Span → Part
 part_in row span = record { choices = choices_in row.costs row.rules; calls = span.calls; nodes = span.nodes }
 
+-- the nodes that rows and spans represent
 abbrev pub parts_in : List Row → List Span → List Part
 parts_in (row ∷ rows) (span ∷ spans) = part_in row span ∷ parts_in rows spans
 parts_in _ _ = []

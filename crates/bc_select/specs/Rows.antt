@@ -20,6 +20,7 @@ AreRules e s (any ∷ push ∷ on_false ∷ on_true ∷ []) =
     IsLeastRule Two e (Gets Any) s any × IsLeastRule Two e (Gets Push) s push × IsLeastRule Two e (Jumps false) s on_false × IsLeastRule Two e (Jumps true) s on_true
 AreRules e s _ = ⊥
 
+-- The row has the least words and the rules of the node, an expression at a level.
 pub record IsRowOf (node : Exp × ℕ) (row : Row) : Type 0 where
   pub costs : AreCosts node.0 node.1 row.costs
   pub rules : AreRules node.0 node.1 row.rules

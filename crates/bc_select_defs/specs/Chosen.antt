@@ -40,14 +40,17 @@ assign_choice None v a s =
     ∷ candidate rule.A3 (plus (sum (words_of v.choices.any) (words_of a.choices.any)) (2 * w s + 2 * w (s + 1)))
     ∷ [])
 
+-- the choice of a root
 abbrev pub root_choice : Table → Root → Option Choice
 root_choice T (Value s e) = (choices T e s).any
 root_choice T (Test s sense e) = choice_for (Jumps sense) (choices T e s)
 root_choice T (Assign s v a) = assign_choice (operand_of a) (node_of T v (side_level a s)) (node_of T a (side_level a s)) s
 
+-- the trees of the sides that an assignment's rule takes
 abbrev pub assign_parts : (value address : Readings) → Rule → Trees
 assign_parts v a r = two_taken (takes r (Gets Any) false) v a
 
+-- the tree to which the choices of a root lead
 abbrev pub root_reading : Table → Root → Tree
 root_reading T (Value s e) = (readings T e s).any
 root_reading T (Test s sense e) = tree_for (Jumps sense) (readings T e s)

@@ -6,6 +6,7 @@ use Rattle.bc_core.specs.Level.{side_level}
 use Rattle.bc_core.specs.WellFormed.{nodes}
 
 abbrev mutual
+  -- the nodes of an expression at level s
   pub in_order : Exp → ℕ → List (Exp × ℕ)
   in_order (Load e) s = in_order e s ++ ((Load e, s) ∷ [])
   in_order (Neg e) s = in_order e s ++ ((Neg e, s) ∷ [])
@@ -15,10 +16,12 @@ abbrev mutual
   in_order (Call es f) s = (all_in_order es (s + 2) ++ in_order f (s + 2 + count es)) ++ ((Call es f, s) ∷ [])
   in_order e s = (e, s) ∷ []
 
+  -- the nodes of the arguments of a call
   pub all_in_order : Args → ℕ → List (Exp × ℕ)
   all_in_order no_argument s = []
   all_in_order (argument e es) s = in_order e s ++ all_in_order es (s + 1)
 
+-- the nodes of a root
 abbrev pub root_in_order : Root → List (Exp × ℕ)
 root_in_order (Value s e) = in_order e s
 root_in_order (Test s sense e) = in_order e s

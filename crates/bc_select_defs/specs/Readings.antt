@@ -23,6 +23,7 @@ pub record Readings : Type 0 where
   pub on_false : Tree
   pub on_true : Tree
 
+-- the tree for an aim
 abbrev pub tree_for : Aim → Readings → Tree
 tree_for (Gets Any) r = r.any
 tree_for (Gets Push) r = r.push
@@ -67,6 +68,7 @@ abbrev pub one_taken : Takes → Readings → Trees
 one_taken (taken.First aim) e = one (tree_for aim e)
 one_taken _ e = no_part
 
+-- at a node with two parts
 abbrev pub two_taken : Takes → (a b : Readings) → Trees
 two_taken (taken.First aim) a b = one (tree_for aim a)
 two_taken (taken.Second aim) a b = one (tree_for aim b)
@@ -79,6 +81,7 @@ choice_taken (taken.Choice false) c x y = three c.on_false x.any y.any
 choice_taken (taken.Choice true) c x y = three c.on_true y.any x.any
 choice_taken _ c x y = no_part
 
+-- the trees of a node with one part
 abbrev pub part_parts : Readings → Aim → Rule → Trees
 part_parts e aim r = one_taken (takes r aim false) e
 
@@ -86,6 +89,7 @@ part_parts e aim r = one_taken (takes r aim false) e
 abbrev pub pair_parts : (drops : Bool) → (a b : Readings) → Aim → Rule → Trees
 pair_parts drops a b aim r = two_taken (takes r aim drops) a b
 
+-- the trees of a condition with two values
 abbrev pub cond_parts : (c x y : Readings) → Aim → Rule → Trees
 cond_parts c x y aim r = choice_taken (takes r aim false) c x y
 
@@ -93,6 +97,7 @@ abbrev pub call_parts : Trees → Readings → Aim → Rule → Trees
 call_parts arguments routine aim r = end_with arguments routine.any
 
 abbrev mutual
+  -- the trees of an expression at level s
   pub readings : Table → Exp → ℕ → Readings
   readings T (Num n) s = read_line (choices T (Num n) s) leaf_parts
   readings T (Frame k) s = read_line (choices T (Frame k) s) leaf_parts
@@ -106,6 +111,7 @@ abbrev mutual
   readings T (Call es f) s = read_line (choices T (Call es f) s) (call_parts (readings_of_all T es (s + 2)) (readings T f (s + 2 + count es)))
   readings T (Valof n) s = read_line (choices T (Valof n) s) leaf_parts
 
+  -- the trees of the arguments of a call
   pub readings_of_all : Table → Args → ℕ → Trees
   readings_of_all T no_argument s = no_part
   readings_of_all T (argument e es) s = part (readings T e s).any (readings_of_all T es (s + 1))

@@ -41,5 +41,6 @@ abbrev pub LibraryStands : Moment → List Placed → Type 0
 LibraryStands S program =
     (v : ℕ) (q : Primitive) → callee program v ≡ Some (OfLibrary q) → (end : ℕ) × Stands (λ l. 0) S v (primitive_items q) end
 
+-- If the primitives' code is in the store, each does what it means.
 abbrev pub PrimitivesLand : Type 0
 PrimitivesLand = (S : Moment) (program : List Placed) → LibraryStands S program → LibraryLands S program

@@ -30,9 +30,11 @@ pub record SectionStands (S : Moment) (section : Placed) : Type 0 where
   pub stands : Stands section.address S begin
       (emit_routines (λ i. i) (over (bodies_from (λ i. i) over 0 section.core.valofs)) 0 section.core.places first).0 end
 
+-- all sections' code is in the store
 abbrev pub AllStand : Moment → List Placed → Type 0
 AllStand S [] = Unit {0}
 AllStand S (section ∷ sections) = SectionStands S section × AllStand S sections
 
+-- If all sections' code is in the store, the program is as the law of calls needs it.
 abbrev pub SectionsStand : Type 0
 SectionsStand = (S : Moment) (program : List Placed) → AllStand S program → ProgramStands S program

@@ -125,6 +125,7 @@ pub record EachIsRight (address levels : ℕ → ℕ) (S : Moment) (most : ℕ) 
       → (middle : ℕ) × Stands address S middle (hold_item (s + 1) ∷ []) end
       × DoesTheSame (x.p + (s + 2)) x (has_value Any x.a middle) (value C e x.p (s + 2) x.source)
 
+-- Each derivation is right, if labels have the addresses of places, and calls and the bodies of VALOFs are right.
 abbrev pub EachDerivationIsRight : Type 0
 EachDerivationIsRight =
     (address levels : ℕ → ℕ) (S : Moment) (most : ℕ) (C : Context) (V : Bodies) (bodies : BodiesCode Item)
