@@ -1,4 +1,4 @@
--- A section's code, put together.
+-- The code of a whole section, from its parts.
 use Rattle.std.proofs.Common.{ℕ, ◌+◌, ◌≤◌, ◌≡◌, List, [], ◌++◌, map, length, Vec, Global, refl, ap, ◌∙◌, append_assoc, arith}
 use Rattle.std.proofs.lemmas.List.{length-map}
 use Rattle.bc_text_items.specs.declared.item.Item.{Item}
@@ -51,7 +51,7 @@ items_are core ps w is0 is1 is2 is3 ep ew h0 h1 h2 h3 =
 same_up : (n m : ℕ) → n ≡ m → n ≤ m
 same_up n m h = omega arith
 
--- the labels of a section are no fewer than those of its places, and just those of its routines
+-- a section takes at least the labels of its places, and exactly those of its routines
 pub places_up : (core : Section) (ps : List Place) (n : ℕ) → ps ≡ core.0 → n ≡ 1 + length ps → n ≤ (routines_code coding (section core)).1
 places_up core ps n ep h =
     let c = section core in

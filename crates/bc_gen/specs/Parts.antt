@@ -1,4 +1,4 @@
--- What the program's parts of code mean.
+-- The views of the program's marks and parts of code.
 use Rattle.std.specs.Prelude.{List, map}
 use Rattle.bc_core.specs.View.{root}
 use Rattle.bc_rules_defs.specs.View.{derivation}
@@ -8,6 +8,7 @@ use Rattle.bc_gen.specs.declared.root_mark.Mark.{Mark}
 use Rattle.bc_gen.specs.declared.marked_items.Part.{Part}
 use Rattle.bc_gen.specs.declared.marked_items.Part.TheVariants as variants
 
+-- the view of a mark
 abbrev pub mark : Mark → entries.Mark
 mark m = record { target = m.target; first = m.first; root = root m.root; derivation = derivation m.derivation; bodies = m.bodies.items }
 
@@ -15,5 +16,6 @@ abbrev pub part : Part → Marked
 part (variants.Item i) = Plain i
 part (variants.Begins m) = Begins (mark m.value)
 
+-- the view of parts
 abbrev pub parts : List Part → List Marked
 parts ps = map part ps

@@ -1,4 +1,4 @@
-//! Code with a mark where that of each root begins.
+//! Code with a mark where each root's code begins, and the pass that separates items and entries.
 ghost use Rattle.std.specs.Prelude.{◌≡◌, IfOk, map};
 ghost use Rattle.std.specs.List.{AllZip};
 ghost use Rattle.bc_rules_defs.specs.View.{entry as entry_view};
@@ -13,14 +13,16 @@ use bc_text_items::Item;
 use bc_word::Memory;
 use std::alloc::Global;
 
-/// An item, or the place where a root's code begins.
+/// An item, or the mark where a root's code begins.
 #[derive(Debug, Drop)]
 pub(crate) enum Part {
+    /// An item.
     Item(Item),
+    /// The code of a root begins here.
     Begins(Box<Mark>),
 }
 
-/// How many items there are among these.
+/// The number of items among these parts.
 pub(crate) fn count_items(parts: &[Part]) -> u64
     ensures { result ≡ count_of (parts_view parts.now) }
 {
@@ -34,15 +36,18 @@ pub(crate) fn count_items(parts: &[Part]) -> u64
     count
 }
 
-/// A section's items apart from the entries of its roots, and the workings of each entry.
+/// A section's items, the entries of its roots, and the workings of each entry.
 #[derive(Drop)]
 pub(crate) struct Apart {
+    /// The items.
     pub(crate) items: Vec<Item>,
+    /// The entries, in the order of the code.
     pub(crate) entries: Vec<Entry>,
+    /// The workings of each entry, at the same index.
     pub(crate) workings: Vec<Workings>,
 }
 
-/// The items, and the entries of the roots with their workings.
+/// Separates the items from the entries of the roots and their workings.
 pub(crate) fn separated(alloc: Global, parts: Vec<Part>) -> Result<Apart, Memory>
     ensures items { IfOk result (λ r. r.items.items ≡ plain_items (parts_view parts.items)) }
     ensures entries { IfOk result (λ r. map entry_view r.entries.items ≡ entries_from 0 (parts_view parts.items)) }
@@ -70,7 +75,7 @@ pub(crate) fn separated(alloc: Global, parts: Vec<Part>) -> Result<Apart, Memory
     })
 }
 
-/// The entry of a root whose code begins at this item, and the workings of the entry.
+/// The entry of a root whose code begins at the item with this index, and its workings.
 fn entry(item: u64, mark: Mark) -> (Entry, Workings)
     ensures entry { entry_view result.0 ≡ entry_at item (mark_view mark) }
     ensures worked { WorkedOut (entry_view result.0) result.1 }

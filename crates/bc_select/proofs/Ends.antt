@@ -1,15 +1,15 @@
--- Where the nodes of expressions end among those of a root.
+-- Where the nodes of an expression and of its parts end among those of a root.
 use Rattle.std.proofs.Common.{◌≡◌, ℕ, ◌+◌, ◌-◌, List, [], ◌∷◌, ◌++◌, length, ap, sym, ◌∙◌, arith, length-append, append_assoc, append-nil}
 use Rattle.bc_core.specs.Tree.{Exp}
 use Rattle.bc_select.specs.declared.node.Part.{Part}
 use Rattle.bc_select.specs.Ends.{EndsAt}
 use Rattle.bc_select.specs.Vector.{node, before, vector}
 
--- all of them end after the last
+-- all nodes end after the last
 pub all_end : (ns ys : List Part) (end : ℕ) → ns ≡ ys → end ≡ length ns → EndsAt ns end ys
 all_end ns ys end h i = record { front = []; following = []; is = h ∙ sym (append-nil ys); count = omega (arith, i, ap length h) }
 
--- of parts side by side the last ends where all end
+-- of adjacent parts the last one ends where all end
 pub last_part : (ns : List Part) (end : ℕ) (xs ys : List Part) → EndsAt ns end (xs ++ ys) → EndsAt ns end ys
 last_part ns end xs ys h = record {
   front = h.front ++ xs;
@@ -18,7 +18,7 @@ last_part ns end xs ys h = record {
   count = omega (arith, h.count, length-append xs ys, length-append h.front xs);
 }
 
--- and those before it end where it begins
+-- the parts before it end where it begins
 pub first_part : (ns : List Part) (end start : ℕ) (xs ys : List Part) → EndsAt ns end (xs ++ ys) → start ≡ end - length ys → EndsAt ns start xs
 first_part ns end start xs ys h i = record {
   front = h.front;

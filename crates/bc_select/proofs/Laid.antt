@@ -1,4 +1,4 @@
--- Where the nodes of parts end, and the words of arguments from the last to the first.
+-- Where the nodes of parts end, and the words of arguments, summed from the last to the first.
 use Rattle.std.proofs.Common.{◌≡◌, ◌||◌, ℕ, ◌+◌, ◌*◌, ◌≤◌, ◌^◌, List, [], ◌∷◌, ◌++◌, length, Option, Some, Result, Ok, Err, refl, ap, sym, ◌∙◌, arith, append_assoc}
 use Rattle.std.specs.Prelude.{OnOk}
 use Rattle.bc_word.specs.declared.operator.Op.{Op}
@@ -52,7 +52,7 @@ few_bound a h = record { fact = h.words }
 pub few_small : (a : Arguments) → AreFew a → a.nodes ≤ 2 ^ 40 → Small a.words
 few_small a h i = small_bound a.words (16 * a.nodes) (few_bound a h) (omega arith)
 
--- one argument more in front
+-- with one more argument before the others
 pub few_more : (a b : Arguments) (e : Exp) (s : ℕ) → AreFew a → b.words ≡ sum (plus (words_of (choices Two e s).any) (w s)) a.words → b.nodes ≡ nodes e + a.nodes → AreFew b
 unfolding stored
 few_more a b e s h i j =
@@ -60,7 +60,7 @@ few_more a b e s h i j =
     let all : Bound (sum (stored e s) a.words) (16 * (nodes e + a.nodes)) = wider _ (n + w s + 16 * a.nodes) _ (sum_bound _ a.words (n + w s) (16 * a.nodes) (plus_bound _ n (w s) k.any) (few_bound a h)) (omega arith) in
     record { words = rw (i, j) all.fact }
 
--- the last argument's nodes stand last
+-- the last argument's nodes are the last
 pub last_argument : (ns : List Part) (es others : List CoreExp) (e : CoreExp) (s : ℕ) (h : EndsInArguments ns (args es) s) → es ≡ others ++ (e ∷ []) → ns ≡ (h.front ++ before_all (args others) s) ++ vector (exp e) (s + length others)
 last_argument ns es others e s h i =
     h.is ∙ ap (λ x. h.front ++ before_all x s) (ap args i ∙ args_append others e) ∙ ap (λ x. h.front ++ x) (before_all-then (args others) (exp e) s)
@@ -74,7 +74,7 @@ last_words es others e s following h =
     ap (λ x. words_before x s following) (ap args h ∙ args_append others e) ∙ words_before-then (args others) (exp e) s following
     ∙ ap (λ m. words_before (args others) s (sum (plus (words_of (choices Two (exp e) (s + m)).any) (w (s + m))) following)) (args_count others)
 
--- what `last` and `cut` say of some nodes
+-- what `last` and `cut` say about nodes
 abbrev pub CutOf : List Part → List Part → List Part → Type 0
 CutOf ns front back = (xs : List Part) (e : Exp) (s : ℕ) → ns ≡ xs ++ vector e s → IsCut front back xs (vector e s)
 

@@ -1,4 +1,4 @@
--- The marks of trees make these trees.
+-- Building from the marks of trees gives these trees.
 use Rattle.std.proofs.Common.{◌≡◌, ℕ, zero, suc, ◌+◌, ◌-◌, ◌<◌, refl, ap, sym, ◌∙◌, List, [], ◌∷◌, ◌++◌, length, take, drop, append-nil, append_assoc, length-append, arith, add-one}
 use Rattle.bc_rules_defs.specs.declared.derivation.Derivation.{Derivation}
 use Rattle.bc_rules_defs.specs.declared.rule.Rule.{Rule}
@@ -11,7 +11,7 @@ use Rattle.bc_select.specs.Marks.{size, marks, marks_of_all, first, rest, close,
 use Rattle.bc_select.specs.Waiting.{tree_of, trees_of, Added}
 use Rattle.bc_select.proofs.Waits.{joined, joined_nothing, joined_shift, joined_size, trees_append, trees_size}
 
--- so many at the front
+-- the first trees of a joined list
 first_joined : (ts us : Trees) → first (size ts) (joined ts us) ≡ ts
 first_joined no_part us = refl
 first_joined (part t ts) us = rw (add-one (size ts)) (ap (part t) (first_joined ts us))
@@ -67,7 +67,7 @@ pub derivations_size : (ds : List Derivation) → size (derivations ds) ≡ leng
 derivations_size [] = refl
 derivations_size (d ∷ ds) = omega (arith, derivations_size ds)
 
--- one mark more: the last that waits is taken, and its parts wait in its place
+-- one step of the loop: the last waiting expression is taken and replaced by its parts
 pub listed_more : (nodes : List Part) (old left new : List Waiting) (next : Waiting) (rule : Rule) (ts : Trees) (done all : List Mark) (n : ℕ) → old ≡ left ++ (next ∷ []) → Added nodes left new ts → by rule ts ≡ tree_of next → n + length left ≡ length new → done ++ marks_of_all (trees_of old) ≡ all → (done ++ (record { rule = rule; parts = n } ∷ [])) ++ marks_of_all (trees_of new) ≡ all
 listed_more nodes old left new next rule ts done all n h i j k l =
     let few : n ≡ size ts = omega (arith, ap length i.is, length-append left i.added, trees_size i.added, ap size i.trees_are, k) in
@@ -79,7 +79,7 @@ listed_more nodes old left new next rule ts done all n h i j k l =
     ∙ ap (λ x. done ++ (record { rule = rule; parts = size ts } ∷ x)) (ap marks_of_all now ∙ marks_joined (trees_of left) ts)
     ∙ ap (λ x. done ++ x) (sym (ap marks_of_all was ∙ marks_joined (trees_of left) (one (by rule ts)))) ∙ l
 
--- a list of marks with one more is longer
+-- with one mark more, fewer remain
 pub fewer : (done more all : List Mark) (m : Mark) (us : List Mark) → (done ++ (m ∷ [])) ++ us ≡ all → more ≡ done ++ (m ∷ []) → length all - length more < length all - length done
 fewer done more all m us h i =
     omega (arith, sym (ap length h), length-append (done ++ (m ∷ [])) us, length-append done (m ∷ []), ap length i)

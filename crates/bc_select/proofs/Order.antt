@@ -1,4 +1,4 @@
--- Expressions in the order of their nodes, and the nodes one after the other.
+-- Expressions in the order of their nodes, and making the nodes one after the other.
 use Rattle.std.proofs.Common.{◌≡◌, ℕ, ◌+◌, ◌*◌, ◌-◌, ◌≤◌, ◌<◌, ◌^◌, List, [], ◌∷◌, ◌++◌, length, map, reverse, Option, Some, Result, Ok, Err, refl, ap, sym, subst, ◌∙◌, arith, append-nil, append_assoc, length-append}
 use Rattle.std.specs.Prelude.{IfOk}
 use Rattle.std.proofs.lemmas.List.{reverse-append, length-map, length-reverse}
@@ -13,7 +13,7 @@ use Rattle.bc_select.specs.Selection.{root_vector}
 use Rattle.bc_select.proofs.Bounds.{some_node, count_of_args}
 use Rattle.bc_select.proofs.Vectors.{before_is, root_vector_is}
 
--- an expression comes after what stands below it
+-- an expression comes after all its parts
 whole_last : (e : Exp) (s : ℕ) → in_order e s ≡ parts_in_order e s ++ ((e, s) ∷ [])
 whole_last (Num n) s = refl
 whole_last (Frame k) s = refl
@@ -49,7 +49,7 @@ fit_last (y ∷ xs) x h = fit_last xs x h.1
 end_more : (xs : List AtLevel) (x : AtLevel) → from_the_end (xs ++ (x ∷ [])) ≡ expression_at x ∷ from_the_end xs
 end_more xs x = ap (map expression_at) (reverse-append xs (x ∷ []))
 
--- the arguments of a call are put after what waits, and its routine is the last part
+-- the arguments of a call are appended, and its routine is the last part
 pub call_parts : (old new : List AtLevel) (es : Args) (f : Exp) (s : ℕ) (x whole : AtLevel) → exp whole.e.now ≡ Call es f → whole.level ≡ s → ArgumentsPut old new es (s + 2) → exp x.e.now ≡ f → x.level ≡ s + 2 + count es → Fits whole → PartsPut old new (Some x) whole
 call_parts old new es f s x whole h i j k l m =
     let few = count_of_args es in let n : nodes (exp whole.e.now) ≡ 1 + nodes_of_args es + nodes f = ap nodes h in let o : nodes (exp x.e.now) ≡ nodes f = ap nodes k in let p = m.is in
@@ -63,7 +63,7 @@ call_parts old new es f s x whole h i j k l m =
           ∙ sym (ap (λ y. parts_in_order y whole.level) h ∙ ap (parts_in_order (Call es f)) i);
     }
 
--- one expression is listed, and its parts wait in its place
+-- one step of the loop: an expression is listed and replaced by its parts
 pub fit_more : (old new : List AtLevel) (last : Option AtLevel) (x : AtLevel) → PartsPut old new last x → AllFit (old ++ (x ∷ [])) → AllFit (new ++ listed last)
 fit_more old new last x h i =
     subst AllFit (sym (ap (λ y. y ++ listed last) h.is ∙ append_assoc old h.added (listed last))) (fit_append old (h.added ++ listed last) (fit_front old (x ∷ []) i) h.fit)
@@ -84,12 +84,12 @@ order_more old new order last x all h i =
 end_length : (xs : List AtLevel) → length (from_the_end xs) ≡ length xs
 end_length xs = length-map (reverse xs) expression_at ∙ length-reverse xs
 
--- a list of the same expressions with one more is longer
+-- with one expression more listed, fewer remain
 pub fewer : (order more : List AtLevel) (front all : List (Exp × ℕ)) (x : AtLevel) → more ≡ order ++ (x ∷ []) → front ++ from_the_end more ≡ all → length all - length more < length all - length order
 fewer order more front all x h i =
     omega (arith, sym (ap length i), length-append front (from_the_end more), end_length more, ap length h, length-append order (x ∷ []))
 
--- nodes one after the other, and then others
+-- making nodes one after the other, and then further ones
 follow_then : (made : List Part) (xs ys : List (Exp × ℕ)) → CanFollow made xs → CanFollow (made ++ map node_at xs) ys → CanFollow made (xs ++ ys)
 follow_then made [] ys h i = subst (λ m. CanFollow m ys) (append-nil made) i
 follow_then made (x ∷ xs) ys h i = (h.0, follow_then (made ++ (node_at x ∷ [])) xs ys h.1 (subst (λ m. CanFollow m ys) (sym (append_assoc made (node_at x ∷ []) (map node_at xs))) i))

@@ -1,4 +1,4 @@
--- Rows and spans mean nodes.
+-- Rows and spans represent nodes.
 use Rattle.std.proofs.Common.{◌≡◌, ℕ, List, [], ◌∷◌, ◌++◌, length, map, take, drop, Option, Some, None, refl, ap, sym, ◌∙◌}
 use Rattle.std.proofs.lemmas.List.{take-map, drop-map, map-append, length-map}
 use Rattle.bc_select_defs.specs.declared.choice.Choice.{Choice}
@@ -36,14 +36,14 @@ are_parts rows spans ps h i =
     let same = sym (stand_for rows spans ps h i) in
     record { rows_are = h ∙ ap (map row_of_part) same; spans_are = i ∙ ap (map span_of) same }
 
--- one node more
+-- after one node is appended
 pub rows_more : (rows more : List Row) (spans : List Span) (p : Part) → AreParts rows spans → more ≡ rows ++ (row_of_part p ∷ []) → more ≡ map row_of_part (parts_in rows spans ++ (p ∷ []))
 rows_more rows more spans p h i = i ∙ ap (λ x. x ++ (row_of_part p ∷ [])) h.rows_are ∙ sym (map-append row_of_part (parts_in rows spans) (p ∷ []))
 
 pub spans_more : (rows : List Row) (spans more : List Span) (p : Part) → AreParts rows spans → more ≡ spans ++ (span_of p ∷ []) → more ≡ map span_of (parts_in rows spans ++ (p ∷ []))
 spans_more rows spans more p h i = i ∙ ap (λ x. x ++ (span_of p ∷ [])) h.spans_are ∙ sym (map-append span_of (parts_in rows spans) (p ∷ []))
 
--- the first nodes, and the others
+-- after the nodes are split
 pub rows_take : (rows : List Row) (spans : List Span) (n : ℕ) → AreParts rows spans → take n rows ≡ map row_of_part (take n (parts_in rows spans))
 rows_take rows spans n h = ap (take n) h.rows_are ∙ take-map row_of_part n (parts_in rows spans)
 
@@ -62,7 +62,7 @@ rows_length rows spans h = ap length h.rows_are ∙ length-map (parts_in rows sp
 pub spans_length : (rows : List Row) (spans : List Span) → AreParts rows spans → length spans ≡ length (parts_in rows spans)
 spans_length rows spans h = ap length h.spans_are ∙ length-map (parts_in rows spans) span_of
 
--- the last one
+-- the last node
 pub last_row : (rows : List Row) (spans : List Span) (xs : List Part) (p : Part) → AreParts rows spans → parts_in rows spans ≡ xs ++ (p ∷ []) → rows ≡ map row_of_part xs ++ (row_of_part p ∷ [])
 last_row rows spans xs p h i = h.rows_are ∙ ap (map row_of_part) i ∙ map-append row_of_part xs (p ∷ [])
 

@@ -1,4 +1,4 @@
--- The rows of the nodes say what they are to say.
+-- The rows of the nodes have the least words and rules of their expressions.
 use Rattle.std.proofs.Common.{◌≡◌, ℕ, ◌+◌, List, [], ◌∷◌, ◌++◌, map, Option, Some, None, refl, ap, sym, subst, ◌∙◌}
 use Rattle.std.proofs.lemmas.List.{map-append}
 use Rattle.std.specs.Prelude.{true, false}
@@ -40,7 +40,7 @@ both xs ys ats bts h i = ap (λ zs. zs ++ ys) h ∙ ap (λ zs. map node_at ats +
 following : (xs : List Part) (e : Exp) (s : ℕ) (ats : List (Exp × ℕ)) → xs ≡ map node_at ats → xs ++ (node e s ∷ []) ≡ map node_at (ats ++ ((e, s) ∷ []))
 following xs e s ats h = both xs (node e s ∷ []) ats ((e, s) ∷ []) h refl
 
--- the nodes are those of the expressions in their order
+-- the nodes belong to the expressions in their order
 mutual
   pub before_is : (e : Exp) (s : ℕ) → before e s ≡ map node_at (parts_in_order e s)
   before_is (Num n) s = refl

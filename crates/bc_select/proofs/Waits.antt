@@ -1,4 +1,4 @@
--- What is put after expressions that wait.
+-- Appending to the waiting expressions.
 use Rattle.std.proofs.Common.{◌≡◌, ◌+◌, refl, ap, sym, ◌∙◌, List, [], ◌∷◌, ◌++◌, length, append-nil, append_assoc, arith}
 use Rattle.bc_rules_defs.specs.Rules.{Tree, Trees, no_part, part, one, two, three, end_with}
 use Rattle.bc_select.specs.declared.node.Part.{Part}
@@ -18,7 +18,7 @@ pub joined_nothing : (ts : Trees) → joined ts no_part ≡ ts
 joined_nothing no_part = refl
 joined_nothing (part x ts) = ap (part x) (joined_nothing ts)
 
--- a tree at the end of these is one before those
+-- a tree can be moved from the end of one list to the start of the next
 pub joined_shift : (us ts : Trees) (t : Tree) → joined (end_with us t) ts ≡ joined us (part t ts)
 joined_shift no_part ts t = refl
 joined_shift (part x us) ts t = ap (part x) (joined_shift us ts t)

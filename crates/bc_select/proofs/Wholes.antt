@@ -1,4 +1,4 @@
--- Wholes from their parts.
+-- The node of each form, from the nodes of its parts.
 use Rattle.std.proofs.Common.{◌≡◌, ℕ, ◌+◌, ◌≤◌, ◌^◌, List, [], ◌∷◌, length, true, Option, None, refl, ap, sym, ◌∙◌, arith}
 use Rattle.bc_word.specs.declared.operator.Op.{Op}
 use Rattle.bc_core.specs.declared.expression.CoreExp.{CoreExp}
@@ -31,7 +31,7 @@ pub args_count : (es : List CoreExp) → count (args es) ≡ length es
 args_count [] = refl
 args_count (e ∷ es) = omega (arith, args_count es)
 
--- the own value of each form is small
+-- the value of each form takes a small number of words
 pub load_small : (p : Part) (o : Option Operand) (e : Exp) (s : ℕ) → nodes (tree.Load e) ≤ 2 ^ 40 → p ≡ node e s → o ≡ operand_of (tree.Load e) → Small (words_of (unary_choices V2 o p.choices).any)
 load_small p o e s h i j = value_small Two (unary_choices V2 o p.choices) (tree.Load e) s h (ap (λ q. unary_choices V2 o q.choices) i ∙ ap (λ q. unary_choices V2 q (choices Two e s)) j)
 

@@ -1,4 +1,4 @@
-// A node from those of its parts.
+//! Computes a node from those of its parts, which are the last ones in the table.
 
 ghost use Rattle.std.specs.Prelude.{◌≡◌, ◌<◌, ◌≤◌, ◌+◌, ◌*◌, ◌^◌, ◌||◌, true, false};
 ghost use Rattle.bc_core.specs.Tree as tree;
@@ -26,14 +26,16 @@ use bc_rules_defs::{Rule, number_words};
 use bc_select_defs::{Asked, Choices};
 use bc_word::Op;
 
-/// Arguments of a call: the words of them all, each stored in its cell, and how many nodes they have.
+/// The totals of some arguments of a call.
 #[derive(Clone, Copy)]
 pub struct Arguments {
+    /// The words to evaluate each and to store it in its cell.
     pub words: Option<u64>,
+    /// The number of their nodes.
     pub nodes: usize,
 }
 
-/// A binary operator, the operand that it is with its own operands, and its level.
+/// A binary operator, the operand that the whole expression is, and its level.
 #[derive(Clone, Copy)]
 struct Operator {
     op: Op,
@@ -52,7 +54,7 @@ fn leaf(choices: Choices) -> Part
     }
 }
 
-/// The node of a form with one part, which this rule is for.
+/// The node of a form with one part, given the form's rule.
 #[inline(always)]
 fn unary_part(rule: Rule, operand: Option<Operand>, part: &Part) -> Part
     requires part { AreSmall part.now.choices }
@@ -67,7 +69,7 @@ fn unary_part(rule: Rule, operand: Option<Operand>, part: &Part) -> Part
     }
 }
 
-/// That of NOT.
+/// The node of NOT.
 fn not_part(part: &Part) -> Part
     requires part { AreSmall part.now.choices }
     requires fits { part.now.nodes < 2 ^ 40 }
@@ -80,7 +82,7 @@ fn not_part(part: &Part) -> Part
     }
 }
 
-/// An operand of a binary operator.
+/// The facts about an operand that the rules need, from the expression and its node.
 #[inline(always)]
 pub fn operand_node(e: &CoreExp, part: &Part) -> Asked
     ensures { result ≡ record { choices = part.now.choices; operand = operand_of (exp e.now); number = constant_of (exp e.now); calls = part.now.calls; nodes = part.now.nodes } }
@@ -94,7 +96,7 @@ pub fn operand_node(e: &CoreExp, part: &Part) -> Asked
     }
 }
 
-/// The node of a binary operator, which is this operand.
+/// The node of a binary operator with these operands. `operand` is the operand that the whole expression is, if any.
 #[inline(always)]
 fn pair_part(pair: &Pair, operand: Option<Operand>) -> Part
     requires first { AreSmall pair.now.left.choices }
@@ -111,7 +113,7 @@ fn pair_part(pair: &Pair, operand: Option<Operand>) -> Part
     }
 }
 
-/// The node of a binary operator.
+/// The node of a binary operator, whose operands' nodes are the last in `below`.
 fn pair_node(operator: &Operator, left: &CoreExp, right: &CoreExp, below: &Nodes) -> Part
     requires operand { operator.now.operand ≡ operand_of (tree.Bin operator.now.op (exp left.now) (exp right.now)) }
     requires fits { operator.now.level + 2 * nodes_in (tree.Bin operator.now.op (exp left.now) (exp right.now)) ≤ 2 ^ 40 }
@@ -128,7 +130,7 @@ fn pair_node(operator: &Operator, left: &CoreExp, right: &CoreExp, below: &Nodes
     pair_part(&pair, operator.operand)
 }
 
-/// That of `condition -> this, that`.
+/// The node of `condition -> this, that`.
 fn cond_part(condition: &Part, this: &Part, that: &Part) -> Part
     requires condition { AreSmall condition.now.choices }
     requires this { AreSmall this.now.choices }
@@ -144,7 +146,7 @@ fn cond_part(condition: &Part, this: &Part, that: &Part) -> Part
     }
 }
 
-/// Arguments with those after them, where these are the nodes of the arguments and what stands before them.
+/// The totals of these arguments and of those that follow them. The nodes of these arguments are the last in `below`.
 fn with_arguments(
     arguments: &[CoreExp],
     level: u64,
@@ -173,7 +175,7 @@ fn with_arguments(
     with_arguments(others, level, &front, following)
 }
 
-/// The node of a call, from its arguments and its routine.
+/// The node of a call, from the totals of its arguments and the node of its routine.
 fn call_part(arguments: &Arguments, routine: &Part, level: u64) -> Part
     requires arguments { Small arguments.now.words }
     requires routine { AreSmall routine.now.choices }
@@ -188,7 +190,7 @@ fn call_part(arguments: &Arguments, routine: &Part, level: u64) -> Part
     }
 }
 
-/// The node of an expression, with those of its parts below.
+/// The node of an expression, whose parts' nodes are the last in `below`.
 #[tactic(auto, using(bc_core::proofs::Rows::call_view))]
 pub fn node(e: &CoreExp, level: u64, below: &Nodes) -> Part
     requires fits { level + 2 * nodes_in (exp e.now) ≤ 2 ^ 40 }

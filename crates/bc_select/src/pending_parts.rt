@@ -1,4 +1,4 @@
-// The parts that a rule has, put after what waits to be read.
+//! Appends the parts of a rule to the expressions that wait to be read, in the order of the rule's code.
 
 ghost use Rattle.std.specs.Prelude.{◌≡◌, ℕ, List, ◌≤◌, ◌+◌, ◌*◌, ◌^◌, ◌++◌, OnOk};
 ghost use Rattle.bc_core.specs.Tree as tree;
@@ -24,9 +24,10 @@ use bc_rules_defs::{Aim, Mode, Rule, Takes};
 use bc_select_defs::is_zero_number;
 use bc_word::Memory;
 
+/// The aim of a value in mode Any.
 pub const ANY: Aim = Aim::Gets(Mode::Any);
 
-/// Where the nodes of an expression's parts end, at its level.
+/// The position at which the nodes of an expression's parts end: just before its own node.
 fn below(place: Place) -> Place
     ensures level { result.level ≡ place.level }
     ensures end { (nodes : List Part) (e : Exp) (s : ℕ) → EndsAt nodes place.end (vector e s) → EndsAt nodes result.end (before e s) }
@@ -37,7 +38,7 @@ fn below(place: Place) -> Place
     }
 }
 
-/// How many nodes stand before those of the part that ends there.
+/// The index of the first node of the part whose nodes end at `end`.
 #[inline(always)]
 fn start(nodes: &Nodes, end: usize) -> usize
     ensures { (xs : List Part) (e : Exp) (s : ℕ) → EndsAt nodes.now end (xs ++ vector e s) → EndsAt nodes.now result xs }
@@ -45,7 +46,7 @@ fn start(nodes: &Nodes, end: usize) -> usize
     end.saturating_sub(nodes.count_at(end))
 }
 
-/// Puts the parts of a step after what waits.
+/// Appends the parts of a step to the waiting expressions. This and the functions below return `Memory` if an allocation failed.
 #[tactic(auto, using(crate::proofs::Waits::added_nothing))]
 pub fn parts<'a>(
     e: &'a CoreExp,
@@ -67,7 +68,7 @@ pub fn parts<'a>(
     }
 }
 
-/// The parts that the own rules of an expression have.
+/// The parts for the rules other than V0, V1, J6 and J7, by the form of the expression.
 #[tactic(auto, using(bc_core::proofs::Rows::call_view, crate::proofs::Waits::added_nothing))]
 fn own<'a>(
     e: &'a CoreExp,
@@ -102,7 +103,7 @@ fn own<'a>(
     }
 }
 
-/// The one part, whose nodes end at the step's place.
+/// The part of a form with one part. Its nodes end at the step's place.
 #[tactic(auto, using(crate::proofs::Waits::added_nothing))]
 fn one_read<'a>(
     part: &'a CoreExp,
@@ -125,14 +126,14 @@ fn one_read<'a>(
     }
 }
 
-/// What is taken of two parts at a level, and where the nodes of both end.
+/// Which of two parts a rule takes, and the place at which the nodes of both end.
 #[derive(Clone, Copy)]
 struct Taken {
     takes: Takes,
     place: Place,
 }
 
-/// Two parts at one level.
+/// Two parts at the same level.
 #[tactic(auto, using(crate::proofs::Ends::last_part, crate::proofs::Waits::added_nothing, crate::proofs::Waits::added_two))]
 fn two_read<'a>(
     first: &'a CoreExp,
@@ -166,7 +167,7 @@ fn two_read<'a>(
     Ok(())
 }
 
-/// The parts of a binary operator, whose nodes end at the step's place.
+/// The parts of a binary operator. Their nodes end at the step's place.
 fn pair_read<'a>(
     left: &'a CoreExp,
     right: &'a CoreExp,
@@ -188,14 +189,14 @@ fn pair_read<'a>(
     two_read(left, right, nodes, taken, waiting)
 }
 
-/// The branches of `condition -> this, that`.
+/// The two values of `condition -> this, that`.
 #[derive(Clone, Copy)]
 struct Branches<'a> {
     this: &'a CoreExp,
     that: &'a CoreExp,
 }
 
-/// The parts of `condition -> this, that`, whose nodes end at the step's place.
+/// The parts of `condition -> this, that`. Their nodes end at the step's place.
 #[tactic(auto, using(crate::proofs::Ends::last_part, crate::proofs::Waits::added_nothing, crate::proofs::Waits::added_three))]
 fn cond_read<'a>(
     condition: &'a CoreExp,
@@ -239,7 +240,7 @@ fn cond_read<'a>(
     Ok(())
 }
 
-/// The parts of a call at a level, whose nodes end at this place.
+/// The parts of a call. Their nodes end at this place, which has the level of the call.
 fn call_read<'a>(
     arguments: &'a [CoreExp],
     routine: &'a CoreExp,
@@ -264,7 +265,7 @@ fn call_read<'a>(
     wait(routine, following, ANY, nodes, waiting)
 }
 
-/// Arguments of a call, the first of which stands at this level.
+/// The arguments of a call. Their nodes end at this place, which has the level of the first.
 #[tactic(auto, using(crate::proofs::Waits::added_nothing))]
 fn all_read<'a>(
     arguments: &'a [CoreExp],
@@ -291,7 +292,7 @@ fn all_read<'a>(
     wait(last, following, ANY, nodes, waiting)
 }
 
-/// The parts of an assignment, both sides of which stand at the step's level.
+/// The parts of an assignment. Both sides are at the step's level.
 pub fn sides_read<'a>(
     value: &'a CoreExp,
     address: &'a CoreExp,

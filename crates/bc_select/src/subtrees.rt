@@ -1,4 +1,4 @@
-// The nodes of an expression, cut at its parts.
+//! Splits the nodes of an expression at those of its parts.
 
 ghost use Rattle.std.specs.Prelude.{◌≡◌, ℕ, List, ◌++◌};
 ghost use Rattle.bc_core.specs.Tree.{Exp};
@@ -11,7 +11,7 @@ use crate::table::Nodes;
 use bc_rules_defs::{Aim, Mode};
 use bc_select_defs::{Choice, Choices};
 
-/// The choice for an aim.
+/// The choice for this aim.
 pub fn choice_for(choices: &Choices, aim: Aim) -> Option<Choice>
     ensures { result ≡ choice_of aim choices.now }
 {
@@ -23,7 +23,7 @@ pub fn choice_for(choices: &Choices, aim: Aim) -> Option<Choice>
     }
 }
 
-/// The nodes before those of the last part, and the nodes of that part.
+/// Splits off the nodes of the last part: returns the nodes before them, and them.
 pub fn cut<'a>(nodes: &Nodes<'a>) -> (Nodes<'a>, Nodes<'a>)
     ensures { (xs : List Part) (e : Exp) (s : ℕ) → nodes.now ≡ xs ++ vector e s → IsCut result.0 result.1 xs (vector e s) }
 {

@@ -1,4 +1,4 @@
-// The nodes of expressions in two vectors: their rows, and what their wholes ask besides.
+//! The table of nodes, stored as two parallel vectors: the rows, which `select` returns, and the spans, which only this crate uses.
 
 ghost use Rattle.std.specs.Prelude.{◌≡◌, ◌≤◌, ◌+◌, ◌++◌, ◌∷◌, [], List, IfOk, OnOk, length, map, take, drop};
 ghost use Rattle.bc_select_defs.specs.Choices.{choice_for as choice_of};
@@ -12,25 +12,26 @@ use bc_word::Memory;
 use std::alloc::Global;
 use std::marker::Model;
 
-/// What a whole asks of a part besides its row, and what is asked where its derivation is read off. It has the order that takes the least room.
+/// The facts about a node that are needed besides its row. The rules are stored again here, so that reading a derivation doesn't touch
+/// the rows. The fields are in the order that takes the least memory: 16 bytes.
 #[derive(Clone, Copy)]
 pub struct Span {
-    /// How many nodes the part has.
+    /// The number of the node's nodes, itself included.
     pub nodes: usize,
-    /// The rules by which it gets its code.
+    /// The chosen rules, in the order of a row, with V1 where there is none.
     pub rules: [Rule; 4],
-    /// Whether a call or a VALOF stands in it.
+    /// Whether the node contains a call or a VALOF.
     pub calls: bool,
 }
 
-/// The span of no node.
+/// The span returned if there is no node.
 const NO_SPAN: Span = Span {
     nodes: 0,
     rules: [Rule::V1; 4],
     calls: false,
 };
 
-/// The last span.
+/// The last span, or `NO_SPAN`.
 #[inline(always)]
 fn last_span(spans: &[Span]) -> Span
     ensures { (xs : List Span) (p : Span) → spans.now ≡ xs ++ (p ∷ []) → result ≡ p }
@@ -41,7 +42,7 @@ fn last_span(spans: &[Span]) -> Span
     }
 }
 
-/// The span after which so many end.
+/// The span before the index `end`, or `NO_SPAN`.
 #[inline(always)]
 fn span_at(spans: &[Span], end: usize) -> Span
     ensures { (xs ys : List Span) (p : Span) → spans.now ≡ (xs ++ (p ∷ [])) ++ ys → end ≡ length xs + 1 → result ≡ p }
@@ -52,9 +53,7 @@ fn span_at(spans: &[Span], end: usize) -> Span
     }
 }
 
-/// The nodes of expressions, parts before wholes.
-///
-/// Contracts see them as the list.
+/// The nodes of expressions, parts before wholes. Its view in contracts is a list of `Part`.
 #[derive(Drop)]
 pub struct Table {
     rows: Vec<Row>,
@@ -73,9 +72,7 @@ impl Model for Table {
     ghost invariant = { λ t. AreParts t.rows.items t.spans.items };
 }
 
-/// Some of a table's nodes, which lie side by side.
-///
-/// Contracts see them as the list.
+/// A contiguous range of a table's nodes. Its view in contracts is a list of `Part`.
 #[derive(Drop)]
 pub struct Nodes<'a> {
     rows: &'a [Row],
@@ -95,9 +92,7 @@ impl<'a> Model for Nodes<'a> {
 }
 
 impl Table {
-    /// No nodes, with room for so many.
-    ///
-    /// `Memory` comes where an allocation was refused.
+    /// An empty table with capacity for `count` nodes. Returns `Memory` if an allocation failed.
     pub fn with_capacity(alloc: Global, count: usize) -> Result<Table, Memory>
         ensures { IfOk result (λ nodes. nodes ≡ []) }
     {
@@ -106,7 +101,7 @@ impl Table {
         Ok(Table { rows, spans })
     }
 
-    /// The nodes.
+    /// All nodes of the table.
     pub fn nodes(&self) -> Nodes<'_>
         ensures { result ≡ self.now }
     {
@@ -116,9 +111,7 @@ impl Table {
         }
     }
 
-    /// Puts a node after the others.
-    ///
-    /// `Memory` comes where a vector could not grow.
+    /// Appends a node. Returns `Memory` if a vector could not grow; the table is then unchanged.
     pub fn push(&mut self, node: &Part) -> Result<(), Memory>
         ensures { OnOk result (self.new ≡ self.old ++ (node.now ∷ [])) }
     {
@@ -138,7 +131,7 @@ impl Table {
         }
     }
 
-    /// The rows of the nodes.
+    /// The rows of all nodes.
     pub fn into_rows(self) -> Vec<Row>
         ensures { result.items ≡ map row_of_part self }
     {
@@ -148,14 +141,14 @@ impl Table {
 }
 
 impl<'a> Nodes<'a> {
-    /// How many nodes there are.
+    /// The number of nodes.
     pub fn len(&self) -> usize
         ensures { result ≡ length self.now }
     {
         self.spans.len()
     }
 
-    /// The first nodes, so many, and the others.
+    /// The first `count` nodes, and the others.
     pub fn split_at(&self, count: usize) -> (Nodes<'a>, Nodes<'a>)
         requires { count ≤ length self.now }
         ensures front { result.0 ≡ take count self.now }
@@ -187,14 +180,14 @@ impl<'a> Nodes<'a> {
         }
     }
 
-    /// How many nodes the last one has below it and with itself.
+    /// The number of nodes of the last node, itself included.
     pub fn last_count(&self) -> usize
         ensures { (xs : List Part) (p : Part) → self.now ≡ xs ++ (p ∷ []) → result ≡ p.nodes }
     {
         last_span(self.spans).nodes
     }
 
-    /// How many nodes the one has, below it and with itself, after which so many end.
+    /// The number of nodes, itself included, of the node before the index `end`.
     #[inline(always)]
     pub fn count_at(&self, end: usize) -> usize
         ensures { (xs ys : List Part) (p : Part) → self.now ≡ (xs ++ (p ∷ [])) ++ ys → end ≡ length xs + 1 → result ≡ p.nodes }
@@ -202,7 +195,7 @@ impl<'a> Nodes<'a> {
         span_at(self.spans, end).nodes
     }
 
-    /// The rule for an aim by which the node gets its code after which so many end.
+    /// The rule chosen for an aim at the node before the index `end`; V1 if there is none.
     #[inline(always)]
     pub fn rule_at(&self, end: usize, aim: Aim) -> Rule
         ensures { (xs ys : List Part) (p : Part) → self.now ≡ (xs ++ (p ∷ [])) ++ ys → end ≡ length xs + 1 → result ≡ rule_or_v1 (choice_of aim p.choices) }

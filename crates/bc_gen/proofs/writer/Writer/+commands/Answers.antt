@@ -276,7 +276,7 @@ valof-returns-in_ok-block-in-Some t c =
     c.args.self.now c.block.new.self c.zero.new.self c.if-number-around.false c.in-Some.ensures.lookup.3.0 c.in-Some.ensures.lookup.1 c.body-within.ensures.roots c.body-within.ensures.exits
     c.in_ok-block-in-Some.ensures c.zero.ensures
 
--- where labels run out in a part of a form
+-- if labels run out in a part of a form
 pub if_command-returns-in_err-past : goal.if_command-returns-in_err-past
 if_command-returns-in_err-past t c =
     fails c.from_residual.result c.in_err-past.field-0.0 c.args.self.now c.take.new.self (c.args.self.now.next + 1)
