@@ -8,7 +8,7 @@ use Rattle.bc_select_defs.specs.Options.{sum}
 use Rattle.bc_select_defs.specs.Choices.{choices, words_of_all}
 use Rattle.bc_select_defs.specs.Nodes.{all_in_order}
 use Rattle.bc_candidates.specs.declared.nodes.Below.{Below}
-use Rattle.bc_candidates.specs.declared.nodes.Part.{Part}
+use Rattle.bc_candidates.specs.declared.nodes.NodeParts.{NodeParts}
 use Rattle.bc_candidates.specs.declared.nodes.Arguments.{Arguments}
 use Rattle.bc_candidates.specs.Aims.{ForAims}
 use Rattle.bc_candidates.specs.Lists.{lists, candidates_at}
@@ -20,7 +20,7 @@ pub record IsBelow (b : Below) (e : Exp) (s : ℕ) : Type 0 where
   pub nodes : b.nodes ≡ nodes e
 
 -- the facts that the walk passes up are those of the expression
-pub record IsPart (p : Part) (e : Exp) (s : ℕ) : Type 0 where
+pub record IsPart (p : NodeParts) (e : Exp) (s : ℕ) : Type 0 where
   pub choices : p.choices ≡ choices Two e s
   pub calls : p.calls ≡ has_call e
   pub nodes : p.nodes ≡ nodes e

@@ -1,6 +1,6 @@
 //! Walks an expression and collects the candidates of its nodes, parts before wholes.
 //!
-//! The walk passes up `Part`, which has no operand: the prover failed where such a struct of another crate was moved through a cycle
+//! The walk passes up `NodeParts`, which has no operand: the prover failed where such a struct of another crate was moved through a cycle
 //! of calls. Operands are computed again where they are needed.
 
 ghost use Rattle.std.specs.Prelude.{◌≡◌, ◌+◌, ◌∷◌, [], ◌++◌, None, IfOk, OnOk};
@@ -48,7 +48,7 @@ pub struct Below {
 
 /// The facts about an expression that the enclosing one needs: its choices, whether it has a call or a VALOF, the number of its nodes.
 #[derive(Clone, Copy)]
-pub struct Part {
+pub struct NodeParts {
     choices: Choices,
     calls: bool,
     nodes: usize,
@@ -85,7 +85,7 @@ fn leaf(lists: Lists, calls: bool) -> Below
 }
 
 /// The facts about an operand of a binary operator that the rules need.
-fn operand_node(e: &CoreExp, part: &Part) -> Asked
+fn operand_node(e: &CoreExp, part: &NodeParts) -> Asked
     ensures { result ≡ record {
       choices = part.now.choices;
       operand = operand_of (exp e.now);
@@ -193,13 +193,13 @@ impl Gathered {
 
     /// Appends the candidates of an expression's nodes, and returns what the enclosing expression needs.
     #[cycle(gathering)]
-    fn part(&mut self, e: &CoreExp, level: u64) -> Result<Part, Memory>
+    fn part(&mut self, e: &CoreExp, level: u64) -> Result<NodeParts, Memory>
         ensures part { IfOk result (λ p. IsPart p (exp e.now) level) }
         ensures found { OnOk result (Adds self.old.found.items self.new.found.items (in_order (exp e.now) level)) }
     {
         let below = self.below(e, level)?;
         self.close(&below.lists)?;
-        Ok(Part {
+        Ok(NodeParts {
             choices: below.lists.choices(),
             calls: below.calls,
             nodes: below.nodes,

@@ -17,7 +17,7 @@ use Rattle.bc_gen.specs.declared.context.Numbered.{Numbered}
 use Rattle.bc_gen.specs.declared.context.Around.{Around}
 use Rattle.bc_gen.specs.declared.gen_error.GenError.{GenError}
 use Rattle.bc_gen.specs.declared.writer.Writer.{Writer}
-use Rattle.bc_gen.specs.declared.marked_items.Part.{Part}
+use Rattle.bc_gen.specs.declared.marked_items.MarkedItem.{MarkedItem}
 use Rattle.bc_gen.specs.Parts.{part, parts}
 use Rattle.bc_gen.specs.Chosen.{coding}
 use Rattle.bc_gen.specs.Room.{Bodies, CommandHasRoom}
@@ -157,7 +157,7 @@ writes_nothing w code e = (sym (append_nothing (there w)) ∙ ap (λ (c : Code M
 pub grown : (w w1 : Writer) (ps : List Marked) → there w1 ≡ there w ++ ps → length w.parts.items ≤ length w1.parts.items
 grown w w1 ps h = let e = ap (λ (xs : List Marked). length xs) h in omega (arith, simp (length-map, length-append) at e)
 
-drop_parts : (xs : List Part) (n : ℕ) → parts (drop n xs) ≡ drop n (parts xs)
+drop_parts : (xs : List MarkedItem) (n : ℕ) → parts (drop n xs) ≡ drop n (parts xs)
 drop_parts xs zero = refl
 drop_parts [] (suc n) = refl
 drop_parts (x ∷ xs) (suc n) = drop_parts xs n
@@ -168,7 +168,7 @@ written_is w w1 ps h =
     ∙ ap (λ (n : ℕ). drop n (there w ++ ps)) (sym (length-map w.parts.items part)) ∙ drop-append_seam (there w) ps
 
 -- a part inserted before what was appended
-pub marked_in : (w w1 : Writer) (p : Part) (at : ℕ) (ps : List Marked) → there w1 ≡ there w ++ ps → at ≡ length w.parts.items → parts (insert w1.parts.items at p) ≡ there w ++ part p ∷ ps
+pub marked_in : (w w1 : Writer) (p : MarkedItem) (at : ℕ) (ps : List Marked) → there w1 ≡ there w ++ ps → at ≡ length w.parts.items → parts (insert w1.parts.items at p) ≡ there w ++ part p ∷ ps
 marked_in w w1 p at ps h e =
     let is = w1.parts.items in
     let n = length w.parts.items in
@@ -177,7 +177,7 @@ marked_in w w1 p at ps h e =
     ∙ ap (λ (xs : List Marked). xs ++ part p ∷ parts (drop n is)) front ∙ ap (λ (ys : List Marked). there w ++ part p ∷ ys) (written_is w w1 ps h)
 
 -- a root's code with the mark before it
-pub root_marked : (a : Around) (r : Root) (t : ℕ) (d : Tree) (ps : List Piece) (bs : List ℕ) (w0 w1 w2 : Writer) (ws : List Part) (p : Part) (at : ℕ)
+pub root_marked : (a : Around) (r : Root) (t : ℕ) (d : Tree) (ps : List Piece) (bs : List ℕ) (w0 w1 w2 : Writer) (ws : List MarkedItem) (p : MarkedItem) (at : ℕ)
     → d ≡ coding.derivation r → ps ≡ coding.pieces r t w0.next → w1.next ≡ w0.next + coding.labels r → w1.parts ≡ w0.parts
     → (let x = fill Plain (level_of (valofs_in a.valofs.now)) (bodies_of (valofs_in a.valofs.now) a.least) ps w1.next in Wrote w1 w2 (x.0, x.1) × (bs ≡ map count_items x.2))
     → part p ≡ Begins (record { target = t; first = w0.next; root = r; derivation = d; bodies = bs }) → at ≡ length w1.parts.items → ws ≡ insert w2.parts.items at p

@@ -6,7 +6,7 @@ ghost use Rattle.bc_gen_defs.specs.Entries.{Plain};
 ghost use Rattle.bc_gen.specs.Writing.{Puts, RunsOut};
 
 use crate::gen_error::GenError;
-use crate::marked_items::Part;
+use crate::marked_items::MarkedItem;
 use crate::writer::Writer;
 use bc_text_items::{Base, Function, Item};
 use bc_word::Word;
@@ -46,7 +46,7 @@ impl Writer {
     pub(crate) fn put(&mut self, item: Item) -> Result<(), GenError>
         ensures { Puts result self.old self.new (Plain item ∷ []) }
     {
-        Ok(self.parts.push(Part::Item(item))?)
+        Ok(self.parts.push(MarkedItem::Item(item))?)
     }
 
     /// Appends a label.

@@ -9,7 +9,7 @@ use bc_rules_defs::Derivation;
 
 /// A root with its derivation and the other data of its entry. `worked` says that the workings belong to the root.
 #[derive(Debug, Drop)]
-pub(crate) struct Mark {
+pub(crate) struct RootMark {
     /// The label to which a test jumps; 0 for other roots.
     pub(crate) target: u16,
     /// The first of the derivation's own labels.

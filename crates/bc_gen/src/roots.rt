@@ -16,8 +16,8 @@ ghost use Rattle.bc_gen.specs.Writing.{RunsOut, Writes};
 use crate::choice::{Choice, chosen, pieces_of};
 use crate::context::Around;
 use crate::gen_error::GenError;
-use crate::marked_items::{Part, count_items};
-use crate::root_mark::Mark;
+use crate::marked_items::{MarkedItem, count_items};
+use crate::root_mark::RootMark;
 use crate::writer::Writer;
 use bc_cert_write::Workings;
 use bc_core::{CoreExp, Root, copy_expression};
@@ -97,7 +97,7 @@ impl Writer {
         let code = self.coded(&root, &derivation, target)?;
         let at = self.parts.len();
         let bodies = self.fill(around, &code)?;
-        let mark = Mark {
+        let mark = RootMark {
             target,
             first,
             root,
@@ -105,7 +105,7 @@ impl Writer {
             bodies,
             workings: Workings { rows, code },
         };
-        let begins = Part::Begins(Box::new(self.alloc, mark)?);
+        let begins = MarkedItem::Begins(Box::new(self.alloc, mark)?);
         Ok(self.parts.insert(at, begins)?)
     }
 

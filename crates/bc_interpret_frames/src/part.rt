@@ -17,7 +17,7 @@ pub(crate) struct Within<'c> {
 
 /// A part of a routine, with the level at which it begins.
 #[derive(Clone, Copy)]
-pub(crate) enum Part<'c> {
+pub(crate) enum Construct<'c> {
     /// An expression.
     Expression(Within<'c>, &'c CoreExp, usize),
     /// The remaining arguments of a call; the level is that of the first one.
@@ -38,7 +38,7 @@ pub(crate) enum Part<'c> {
 ///
 /// `Memory` if an allocation fails.
 #[tactic(auto, using(crate::proofs::Waits::greatest_more, crate::proofs::Waits::weight_more))]
-pub(crate) fn put<'c>(part: Part<'c>, waiting: &mut Vec<Part<'c>>) -> Result<(), Memory>
+pub(crate) fn put<'c>(part: Construct<'c>, waiting: &mut Vec<Construct<'c>>) -> Result<(), Memory>
     ensures greatest { OnOk result (greatest waiting.new.items ≡ max (cells_of part.entry) (greatest waiting.old.items)) }
     ensures weight { OnOk result (weight_of_all waiting.new.items ≡ weight_of_part part.entry + 1 + weight_of_all waiting.old.items) }
 {
@@ -51,9 +51,9 @@ pub(crate) fn put<'c>(part: Part<'c>, waiting: &mut Vec<Part<'c>>) -> Result<(),
 /// `Memory` if an allocation fails.
 #[tactic(auto, using(crate::proofs::Waits::grown))]
 pub(crate) fn put_both<'c>(
-    first: Part<'c>,
-    second: Part<'c>,
-    waiting: &mut Vec<Part<'c>>,
+    first: Construct<'c>,
+    second: Construct<'c>,
+    waiting: &mut Vec<Construct<'c>>,
 ) -> Result<(), Memory>
     ensures greatest { OnOk result (greatest waiting.new.items ≡ max (cells_of_both first.entry second.entry) (greatest waiting.old.items)) }
     ensures weight { OnOk result (weight_of_all waiting.new.items ≡ weight_of_both first.entry second.entry + weight_of_all waiting.old.items) }

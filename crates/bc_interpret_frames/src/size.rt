@@ -6,14 +6,14 @@ ghost use Rattle.bc_core.specs.Layout.{frame_size as size_of_frame, cells_of_bod
 ghost use Rattle.bc_interpret_frames.specs.Parts.{bodies, cells_of, greatest};
 
 use crate::expand::expand;
-use crate::part::{Part, Within, above};
+use crate::part::{Construct, Within, above};
 use bc_core::{Body, Routine, Valof};
 use bc_word::Memory;
 use std::alloc::Global;
 
 /// The greatest extent of the frame that one of the waiting parts or their sub-parts needs, in cells.
 #[tactic(auto, using(crate::proofs::Waits::greatest_more, crate::proofs::Waits::weight_more))]
-fn most<'c>(waiting: &mut Vec<Part<'c>>) -> Result<usize, Memory>
+fn most<'c>(waiting: &mut Vec<Construct<'c>>) -> Result<usize, Memory>
     ensures { IfOk result (λ most. most ≡ greatest waiting.old.items) }
 {
     let mut most = 0;
@@ -27,12 +27,12 @@ fn most<'c>(waiting: &mut Vec<Part<'c>>) -> Result<usize, Memory>
 }
 
 /// The body of a routine as a part.
-fn whole<'c>(within: Within<'c>, body: &'c Body, level: usize) -> Part<'c>
+fn whole<'c>(within: Within<'c>, body: &'c Body, level: usize) -> Construct<'c>
     ensures { cells_of result ≡ cells_of_body (bodies within.entry) (body_of body.now) level }
 {
     match body {
-        Body::Value(e) => Part::Expression(within, e, level),
-        Body::Commands(block) => Part::Block(within, block, level),
+        Body::Value(e) => Construct::Expression(within, e, level),
+        Body::Commands(block) => Construct::Block(within, block, level),
     }
 }
 

@@ -15,7 +15,7 @@ use Rattle.bc_interpret.specs.declared.run.Outcome.{Outcome}
 use Rattle.bc_interpret.specs.declared.run.Outcome.TheVariants as outcomes
 use Rattle.bc_interpret.specs.Results.{IsResult}
 use Rattle.bc_interpret.specs.Interpreted.{NamesFrom}
-use Rattle.bc_interpret_sources.specs.declared.sources.Program.{Program}
+use Rattle.bc_interpret_sources.specs.declared.sources.BuiltProgram.{BuiltProgram}
 
 -- the mains are accepted sections, and the image does what they mean, as the image that `build` returns does
 pub record IsImageOf (files : List File) (mains : List ℕ) (image : Image) : Type 0 where
@@ -32,19 +32,19 @@ RunsTo image turns before (outcomes.Wild cause) after = Unit {0}
 RunsTo image turns before outcomes.Device after = Unit {0}
 
 -- Over streams whose content is known: the outcome and the output are what the mains' sections mean, or a device failed.
-abbrev pub MeansOn : {T : Type 0} → (T → Type 0) → (T → Content) → Program → (turns : ℕ) → T → T → Outcome → Type 0
+abbrev pub MeansOn : {T : Type 0} → (T → Type 0) → (T → Content) → BuiltProgram → (turns : ℕ) → T → T → Outcome → Type 0
 MeansOn known content program turns streams streams_new outcome =
     (sections : List Declarations) → AreAccepted (files_of program.sources.now) program.mains.now sections → known streams
     → IsResult (meant sections program.image.now (content streams) turns) outcome (content streams_new)
 
 -- If a wild access is reported: from the start of the run of the resolved sections, the machine of bc_interpret_defs reaches a step that
 -- is wild with that cause.
-abbrev pub NamesOn : {T : Type 0} → (T → Type 0) → (T → Content) → Program → (turns : ℕ) → T → Outcome → Type 0
+abbrev pub NamesOn : {T : Type 0} → (T → Type 0) → (T → Content) → BuiltProgram → (turns : ℕ) → T → Outcome → Type 0
 NamesOn known content program turns streams outcome =
     (sections : List Declarations) → AreAccepted (files_of program.sources.now) program.mains.now sections → known streams
     → NamesFrom (map core_of sections) (addresses program.image.now) (content streams) turns outcome
 
 -- over streams whose content is known, the machine, started from the image, agrees
-abbrev pub RunsOn : {T : Type 0} → (T → Type 0) → (T → Content) → Program → (turns : ℕ) → T → T → Outcome → Type 0
+abbrev pub RunsOn : {T : Type 0} → (T → Type 0) → (T → Content) → BuiltProgram → (turns : ℕ) → T → T → Outcome → Type 0
 RunsOn known content program turns streams streams_new outcome =
     known streams → RunsTo program.image.now turns (content streams) outcome (content streams_new)

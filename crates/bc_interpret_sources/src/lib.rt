@@ -5,4 +5,4 @@ mod sources;
 
 pub use bc_build::{Image, Source};
 pub use bc_interpret::{Cause, Ending, Interpreted, Outcome, Standing, Trail};
-pub use sources::{Program, interpret};
+pub use sources::{BuiltProgram, interpret};

@@ -24,7 +24,7 @@ use std::alloc::Global;
 
 /// A program that was built.
 #[derive(Clone, Copy)]
-pub struct Program<'p> {
+pub struct BuiltProgram<'p> {
     /// Its sources.
     pub sources: &'p [Source<'p>],
     /// Its mains, as indexes of the sources.
@@ -33,17 +33,21 @@ pub struct Program<'p> {
     pub image: &'p Image,
 }
 
-impl<'p> Program<'p> {
+impl<'p> BuiltProgram<'p> {
     /// The program that `bc_build::build` built from these mains, which are indexes of the sources.
     #[tactic(auto, using(crate::proofs::Resolved::built_is_image))]
-    pub fn built(sources: &'p [Source<'p>], mains: &'p [usize], built: &'p Built) -> Program<'p>
+    pub fn built(
+        sources: &'p [Source<'p>],
+        mains: &'p [usize],
+        built: &'p Built,
+    ) -> BuiltProgram<'p>
         requires built { IsBuilt (files_of sources.now) mains.now built.now }
         requires runs { (sections : List Declarations) → AreAccepted (files_of sources.now) mains.now sections → RunsAsMeant sections built.now.image }
         ensures sources { result.sources.now ≡ sources.now }
         ensures mains { result.mains.now ≡ mains.now }
         ensures image { IsImageOf (files_of result.sources.now) result.mains.now result.image.now }
     {
-        Program {
+        BuiltProgram {
             sources,
             mains,
             image: &built.image,
@@ -94,7 +98,7 @@ fn all_resolved(alloc: Global, sources: &[Source<'_>], mains: &[usize]) -> Resul
 /// `Memory` if an allocation fails.
 pub fn interpret<S: Streams>(
     alloc: Global,
-    program: &Program<'_>,
+    program: &BuiltProgram<'_>,
     streams: &mut S,
     turns: u64,
 ) -> Result<Interpreted, Memory>

@@ -19,7 +19,7 @@ enum Within<'c> {
 
 /// Something that a run has entered. The run is inside it while the stack of continuations has at least `least` entries.
 #[derive(Clone, Copy)]
-struct Mark<'c> {
+struct TraceMark<'c> {
     least: usize,
     within: Within<'c>,
 }
@@ -41,7 +41,7 @@ pub struct Standing {
 #[derive(Drop)]
 pub struct Trace<'c> {
     /// The innermost mark is the last.
-    marks: Vec<Mark<'c>>,
+    marks: Vec<TraceMark<'c>>,
     /// The `least` of the last mark, or 0 if there is none.
     least: usize,
 }
@@ -106,7 +106,7 @@ impl<'c> Trace<'c> {
 
     /// Notes that the run enters something.
     fn mark(&mut self, least: usize, within: Within<'c>) -> Result<(), Memory> {
-        self.marks.push(Mark { least, within })?;
+        self.marks.push(TraceMark { least, within })?;
         self.least = least;
         Ok(())
     }

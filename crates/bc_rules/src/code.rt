@@ -18,7 +18,7 @@ use crate::counting::root_labels;
 use crate::emission::{after_sides, operate};
 use crate::parts::{Part, Parts};
 use crate::writer::{Writer, more};
-use crate::writing::{Place, Sides, write};
+use crate::writing::{CodeContext, Sides, write};
 use bc_core::{CoreExp, Root, operand};
 use bc_rules_defs::{Aim, Derivation, Mode, Piece, Rule};
 use bc_text_items::Function;
@@ -109,7 +109,7 @@ fn write_root(w: &mut Writer, root: &Root, d: &Derivation, target: u16) -> Resul
                     aim,
                     of: expression,
                 },
-                Place { level, target },
+                CodeContext { level, target },
             )
         }
         Root::Test {
@@ -126,7 +126,7 @@ fn write_root(w: &mut Writer, root: &Root, d: &Derivation, target: u16) -> Resul
                     aim,
                     of: expression,
                 },
-                Place { level, target },
+                CodeContext { level, target },
             )
         }
         Root::Assign {
@@ -135,7 +135,12 @@ fn write_root(w: &mut Writer, root: &Root, d: &Derivation, target: u16) -> Resul
             address,
         } => {
             let level = *level as u32;
-            assign(w, d, Assignment { value, address }, Place { level, target })
+            assign(
+                w,
+                d,
+                Assignment { value, address },
+                CodeContext { level, target },
+            )
         }
     }
 }
@@ -149,7 +154,12 @@ struct Assignment<'a> {
 
 /// Writes the code of an assignment's derivation.
 #[tactic(auto, using(crate::proofs::Written::assignment_writes))]
-fn assign(w: &mut Writer, d: &Derivation, of: Assignment, place: Place) -> Result<(), CodeFault>
+fn assign(
+    w: &mut Writer,
+    d: &Derivation,
+    of: Assignment,
+    place: CodeContext,
+) -> Result<(), CodeFault>
     ensures { WritesOrLacks result w.old w.new
         (root_code_by (Assign place.level (exp of.entry.value.now) (exp of.entry.address.now)) (tree d.now) place.target w.old.next)
         (root_labels_by (Assign place.level (exp of.entry.value.now) (exp of.entry.address.now)) (tree d.now))
@@ -173,7 +183,7 @@ fn assign(w: &mut Writer, d: &Derivation, of: Assignment, place: Place) -> Resul
 struct To<'a> {
     rule: Rule,
     address: &'a CoreExp,
-    place: Place,
+    place: CodeContext,
 }
 
 /// Writes the code of an assignment whose rule has these parts.
@@ -221,7 +231,7 @@ fn two_sides(w: &mut Writer, trees: &[Derivation], to: To, of: Sides) -> Result<
         return Ok(());
     }
     let level = more(to.place.level, 1)?;
-    let above = Place {
+    let above = CodeContext {
         level,
         target: to.place.target,
     };

@@ -24,7 +24,7 @@ use bc_word::Word;
 
 /// The level of a part, and the label to which its code jumps.
 #[derive(Clone, Copy)]
-pub struct Place {
+pub struct CodeContext {
     /// The first free offset of the frame.
     pub level: u32,
     /// The target of a test; values don't use it.
@@ -89,7 +89,12 @@ struct CallOf<'a> {
 /// incomplete code, as `code_by` defines it.
 #[cycle(writing)]
 #[tactic(auto, using(crate::proofs::Written::tree_writes))]
-pub fn write(w: &mut Writer, d: &Derivation, part: Part, place: Place) -> Result<(), CodeFault>
+pub fn write(
+    w: &mut Writer,
+    d: &Derivation,
+    part: Part,
+    place: CodeContext,
+) -> Result<(), CodeFault>
     ensures { WritesOrLacks result w.old w.new
         (code_by (derivation d.now) part.entry.aim (exp part.entry.of.now) place.level place.target w.old.next)
         (labels_by (derivation d.now) part.entry.aim (exp part.entry.of.now)) (cells (exp part.entry.of.now) place.level) }
@@ -163,7 +168,7 @@ fn one_part(w: &mut Writer, trees: &[Derivation], node: Node, a: Part) -> Result
         w,
         &trees[0],
         a,
-        Place {
+        CodeContext {
             level,
             target: node.target,
         },
@@ -193,13 +198,13 @@ fn two_parts(w: &mut Writer, trees: &[Derivation], node: Node, of: Sides) -> Res
     let first = w.take(own_labels(node.rule))?;
     let level = more(node.level, 1)?;
     let target = first_target(node.rule, node.target, first)?;
-    write(w, &trees[0], of.a, Place { level, target })?;
+    write(w, &trees[0], of.a, CodeContext { level, target })?;
     between(w, node.rule, node.level)?;
     write(
         w,
         &trees[1],
         of.b,
-        Place {
+        CodeContext {
             level,
             target: node.target,
         },
@@ -225,13 +230,13 @@ fn three_parts(w: &mut Writer, trees: &[Derivation], node: Node, of: Three) -> R
         return Ok(());
     }
     let first = w.take(2)?;
-    let here = Place {
+    let here = CodeContext {
         level: node.level,
         target: node.target,
     };
     let level = node.level;
     let target = as_word(first)?;
-    write(w, &trees[0], of.a, Place { level, target })?;
+    write(w, &trees[0], of.a, CodeContext { level, target })?;
     write(w, &trees[1], of.b, here)?;
     let second = more(first, 1)?;
     w.jump(Function::Jump, as_word(second)?)?;
@@ -257,7 +262,7 @@ fn call(w: &mut Writer, trees: &[Derivation], node: Node, of: CallOf) -> Result<
         if i >= trees.len() {
             return Ok(());
         }
-        let here = Place {
+        let here = CodeContext {
             level,
             target: node.target,
         };
@@ -269,7 +274,7 @@ fn call(w: &mut Writer, trees: &[Derivation], node: Node, of: CallOf) -> Result<
     if trees.len() <= n || trees.len() - n != 1 {
         return Ok(());
     }
-    let here = Place {
+    let here = CodeContext {
         level,
         target: node.target,
     };

@@ -7,7 +7,7 @@ use Rattle.bc_core.specs.View.{exp}
 use Rattle.bc_core.specs.WellFormed.{nodes, nodes_of_args}
 use Rattle.bc_select_defs.specs.Nodes.{in_order, all_in_order}
 use Rattle.bc_select.specs.declared.layout.AtLevel.{AtLevel}
-use Rattle.bc_select.specs.declared.node.Part.{Part}
+use Rattle.bc_select.specs.declared.node.PartNode.{PartNode}
 use Rattle.bc_select.specs.Order.{expression_at, from_the_end, in_order_of, parts_in_order, Fits, AllFit, listed, AreOf, ArgumentsPut, PartsPut, node_at, CanFollow}
 use Rattle.bc_select.specs.Selection.{root_vector}
 use Rattle.bc_select.proofs.Bounds.{some_node, count_of_args}
@@ -90,17 +90,17 @@ fewer order more front all x h i =
     omega (arith, sym (ap length i), length-append front (from_the_end more), end_length more, ap length h, length-append order (x ∷ []))
 
 -- making nodes one after the other, and then further ones
-follow_then : (made : List Part) (xs ys : List (Exp × ℕ)) → CanFollow made xs → CanFollow (made ++ map node_at xs) ys → CanFollow made (xs ++ ys)
+follow_then : (made : List PartNode) (xs ys : List (Exp × ℕ)) → CanFollow made xs → CanFollow (made ++ map node_at xs) ys → CanFollow made (xs ++ ys)
 follow_then made [] ys h i = subst (λ m. CanFollow m ys) (append-nil made) i
 follow_then made (x ∷ xs) ys h i = (h.0, follow_then (made ++ (node_at x ∷ [])) xs ys h.1 (subst (λ m. CanFollow m ys) (sym (append_assoc made (node_at x ∷ []) (map node_at xs))) i))
 
-whole_follows : (made : List Part) (e : Exp) (s : ℕ) → s + 2 * nodes e ≤ 2 ^ 40 → CanFollow made (parts_in_order e s) → CanFollow made (in_order e s)
+whole_follows : (made : List PartNode) (e : Exp) (s : ℕ) → s + 2 * nodes e ≤ 2 ^ 40 → CanFollow made (parts_in_order e s) → CanFollow made (in_order e s)
 whole_follows made e s h i =
     subst (CanFollow made) (sym (whole_last e s))
     (follow_then made (parts_in_order e s) ((e, s) ∷ []) i (record { fits = h; laid = record { front = made; is = ap (λ x. made ++ x) (sym (before_is e s)) } }, tt))
 
 mutual
-  can_follow : (made : List Part) (e : Exp) (s : ℕ) → s + 2 * nodes e ≤ 2 ^ 40 → CanFollow made (in_order e s)
+  can_follow : (made : List PartNode) (e : Exp) (s : ℕ) → s + 2 * nodes e ≤ 2 ^ 40 → CanFollow made (in_order e s)
   can_follow made (Num n) s h = whole_follows made (Num n) s h tt
   can_follow made (Frame k) s h = whole_follows made (Frame k) s h tt
   can_follow made (Glob n) s h = whole_follows made (Glob n) s h tt
@@ -119,17 +119,17 @@ mutual
       (follow_then made (all_in_order es (s + 2)) (in_order f (s + 2 + count es)) (all_can_follow made es (s + 2) (omega arith)) (can_follow _ f (s + 2 + count es) (omega arith)))
   can_follow made (Valof n) s h = whole_follows made (Valof n) s h tt
 
-  all_can_follow : (made : List Part) (es : Args) (s : ℕ) → s + 2 * nodes_of_args es ≤ 2 ^ 40 → CanFollow made (all_in_order es s)
+  all_can_follow : (made : List PartNode) (es : Args) (s : ℕ) → s + 2 * nodes_of_args es ≤ 2 ^ 40 → CanFollow made (all_in_order es s)
   all_can_follow made no_argument s h = tt
   all_can_follow made (argument e es) s h =
       let some = some_node e in
       follow_then made (in_order e s) (all_in_order es (s + 1)) (can_follow made e s (omega arith)) (all_can_follow _ es (s + 1) (omega arith))
 
-pub order_can_follow : (xs : List AtLevel) (made : List Part) → AllFit xs → CanFollow made (in_order_of xs)
+pub order_can_follow : (xs : List AtLevel) (made : List PartNode) → AllFit xs → CanFollow made (in_order_of xs)
 order_can_follow [] made h = tt
 order_can_follow (x ∷ xs) made h = follow_then made (in_order (exp x.e.now) x.level) (in_order_of xs) (can_follow made (exp x.e.now) x.level h.0.is) (order_can_follow xs _ h.1)
 
-pub nodes_of_root : (r : Root) (found : List AtLevel) (made : List Part) → AreOf found r → made ≡ map node_at (in_order_of found) → made ≡ root_vector r
+pub nodes_of_root : (r : Root) (found : List AtLevel) (made : List PartNode) → AreOf found r → made ≡ map node_at (in_order_of found) → made ≡ root_vector r
 nodes_of_root r found made h i = i ∙ ap (map node_at) h.order ∙ sym (root_vector_is r)
 
 pub if_ok : {A E : Type 0} (r : Result A E) (P Q : A → Type 0) → ((x : A) → P x → Q x) → IfOk r P → IfOk r Q

@@ -6,18 +6,18 @@ use Rattle.bc_rules_defs.specs.Piece.{w}
 use Rattle.bc_select_defs.specs.Choices.{choices}
 use Rattle.bc_select_defs.specs.Options.{plus, sum, words_of}
 use Rattle.bc_select.specs.declared.node_of_parts.Arguments.{Arguments}
-use Rattle.bc_select.specs.declared.node.Part.{Part}
+use Rattle.bc_select.specs.declared.node.PartNode.{PartNode}
 use Rattle.bc_select.specs.Small.{UpTo}
 use Rattle.bc_select.specs.Vector.{before, before_all}
 
 -- the nodes end with those of an expression's parts
-pub record EndsInParts (nodes : List Part) (e : Exp) (s : ℕ) : Type 0 where
-  pub front : List Part
+pub record EndsInParts (nodes : List PartNode) (e : Exp) (s : ℕ) : Type 0 where
+  pub front : List PartNode
   pub is : nodes ≡ front ++ before e s
 
 -- the nodes end with those of a call's arguments
-pub record EndsInArguments (nodes : List Part) (es : Args) (s : ℕ) : Type 0 where
-  pub front : List Part
+pub record EndsInArguments (nodes : List PartNode) (es : Args) (s : ℕ) : Type 0 where
+  pub front : List PartNode
   pub is : nodes ≡ front ++ before_all es s
 
 -- the words of these arguments, each stored in its cell, and of those that follow

@@ -1,7 +1,7 @@
 -- For proofs: trees as a list of rules, wholes before parts and the last part first, each with the number of its parts.
 use Rattle.std.specs.Prelude.{ℕ, zero, suc, ◌+◌, ◌-◌, List, [], ◌∷◌, ◌++◌}
 use Rattle.bc_rules_defs.specs.Rules.{Tree, Trees, by, no_part, part, end_with}
-use Rattle.bc_select.specs.declared.derivations.Mark.{Mark}
+use Rattle.bc_select.specs.declared.derivations.RuleMark.{RuleMark}
 
 -- the number of trees
 abbrev pub size : Trees → ℕ
@@ -10,11 +10,11 @@ size (part t ts) = size ts + 1
 
 abbrev mutual
   -- the marks of a tree
-  pub marks : Tree → List Mark
+  pub marks : Tree → List RuleMark
   marks (by r ts) = record { rule = r; parts = size ts } ∷ marks_of_all ts
 
   -- the marks of trees
-  pub marks_of_all : Trees → List Mark
+  pub marks_of_all : Trees → List RuleMark
   marks_of_all no_part = []
   marks_of_all (part t ts) = marks_of_all ts ++ marks t
 
@@ -31,10 +31,10 @@ rest (suc n) no_part = no_part
 rest (suc n) (part t ts) = rest n ts
 
 -- a mark takes the last trees as its parts; and the effect of all marks, from the last to the first
-abbrev pub close : Mark → Trees → Trees
+abbrev pub close : RuleMark → Trees → Trees
 close m ts = let k = size ts - m.parts in end_with (first k ts) (by m.rule (rest k ts))
 
 -- building from all marks
-abbrev pub unwind : List Mark → Trees → Trees
+abbrev pub unwind : List RuleMark → Trees → Trees
 unwind [] ts = ts
 unwind (m ∷ ms) ts = close m (unwind ms ts)

@@ -5,7 +5,7 @@ use Rattle.bc_core.specs.View.{exp}
 use Rattle.bc_core.specs.WellFormed.{nodes}
 use Rattle.bc_select_defs.specs.Nodes.{in_order, all_in_order, root_in_order}
 use Rattle.bc_select.specs.declared.layout.AtLevel.{AtLevel}
-use Rattle.bc_select.specs.declared.node.Part.{Part}
+use Rattle.bc_select.specs.declared.node.PartNode.{PartNode}
 use Rattle.bc_select.specs.Laid.{EndsInParts}
 use Rattle.bc_select.specs.Vector.{node}
 
@@ -66,15 +66,15 @@ pub record PartsPut (old new : List AtLevel) (last : Option AtLevel) (whole : At
   pub order : in_order_of (added ++ listed last) ≡ parts_in_order (exp whole.e.now) whole.level
 
 -- the node of an expression at a level
-abbrev pub node_at : Exp × ℕ → Part
+abbrev pub node_at : Exp × ℕ → PartNode
 node_at at = node at.0 at.1
 
 -- a node can be made next, since those of its parts are there; and the same for a list of nodes, one after the other
-pub record IsNext (made : List Part) (at : Exp × ℕ) : Type 0 where
+pub record IsNext (made : List PartNode) (at : Exp × ℕ) : Type 0 where
   pub fits : at.1 + 2 * nodes at.0 ≤ 2 ^ 40
   pub laid : EndsInParts made at.0 at.1
 
 -- the nodes of these expressions can be made one after the other
-abbrev pub CanFollow : List Part → List (Exp × ℕ) → Type 0
+abbrev pub CanFollow : List PartNode → List (Exp × ℕ) → Type 0
 CanFollow made [] = Unit {0}
 CanFollow made (at ∷ ats) = IsNext made at × CanFollow (made ++ (node_at at ∷ [])) ats

@@ -5,7 +5,7 @@ use Rattle.bc_select_defs.specs.declared.choice.Choice.{Choice}
 use Rattle.bc_select_defs.specs.declared.choice.Choices.{Choices}
 use Rattle.bc_select_defs.specs.Options.{words_of, rule_of}
 use Rattle.bc_select.specs.Reads.{rule_or_v1}
-use Rattle.bc_select.specs.declared.node.Part.{Part}
+use Rattle.bc_select.specs.declared.node.PartNode.{PartNode}
 use Rattle.bc_select.specs.declared.row.Row.{Row}
 use Rattle.bc_select.specs.declared.table.Span.{Span}
 
@@ -21,11 +21,11 @@ abbrev pub rules_of : Choices → List Rule
 rules_of c = rule_or_v1 c.any ∷ rule_or_v1 c.push ∷ rule_or_v1 c.on_false ∷ rule_or_v1 c.on_true ∷ []
 
 -- the row of a node
-abbrev pub row_of_part : Part → Row
+abbrev pub row_of_part : PartNode → Row
 row_of_part p = row_of p.choices
 
 -- the span of a node
-abbrev pub span_of : Part → Span
+abbrev pub span_of : PartNode → Span
 span_of p = record { nodes = p.nodes; rules = rules_of p.choices; calls = p.calls }
 
 -- the choice that words and a rule represent
@@ -39,11 +39,11 @@ choices_in (a ∷ b ∷ c ∷ d ∷ []) (p ∷ q ∷ r ∷ t ∷ []) = record { 
 choices_in _ _ = record { any = None; push = None; on_false = None; on_true = None }
 
 -- the node that a row and a span represent
-abbrev pub part_in : Row → Span → Part
+abbrev pub part_in : Row → Span → PartNode
 part_in row span = record { choices = choices_in row.costs row.rules; calls = span.calls; nodes = span.nodes }
 
 -- the nodes that rows and spans represent
-abbrev pub parts_in : List Row → List Span → List Part
+abbrev pub parts_in : List Row → List Span → List PartNode
 parts_in (row ∷ rows) (span ∷ spans) = part_in row span ∷ parts_in rows spans
 parts_in _ _ = []
 

@@ -19,7 +19,7 @@ use std::alloc::Global;
 
 /// A rule of a derivation with the number of its parts.
 #[derive(Clone, Copy)]
-pub struct Mark {
+pub struct RuleMark {
     /// The rule.
     pub rule: Rule,
     /// How many parts it has.
@@ -33,7 +33,7 @@ fn listed(
     room: usize,
     nodes: &Nodes,
     mut waiting: Vec<Waiting>,
-) -> Result<Vec<Mark>, Memory>
+) -> Result<Vec<RuleMark>, Memory>
     requires { AreReady nodes.now waiting.items }
     ensures { IfOk result (λ marks. marks.items ≡ marks_of_all (trees_of waiting.entry.items)) }
 {
@@ -43,7 +43,7 @@ fn listed(
         let before = waiting.len();
         parts(e, nodes, step, &mut waiting)?;
         match u32::try_from(waiting.len().saturating_sub(before)) {
-            Ok(parts) => marks.push(Mark {
+            Ok(parts) => marks.push(RuleMark {
                 rule: step.rule,
                 parts,
             })?,
@@ -54,7 +54,7 @@ fn listed(
 }
 
 /// Replaces the last trees, as many as the mark has parts, by the tree of the mark's rule over them.
-fn close(mark: Mark, trees: &mut Vec<Derivation>) -> Result<(), Memory>
+fn close(mark: RuleMark, trees: &mut Vec<Derivation>) -> Result<(), Memory>
     ensures { OnOk result (derivations trees.new.items ≡ closed mark (derivations trees.old.items)) }
 {
     let first = trees.len().saturating_sub(mark.parts as usize);
@@ -64,7 +64,7 @@ fn close(mark: Mark, trees: &mut Vec<Derivation>) -> Result<(), Memory>
 }
 
 /// Builds the derivations from the list of their rules.
-fn built(alloc: Global, mut marks: Vec<Mark>) -> Result<Vec<Derivation>, Memory>
+fn built(alloc: Global, mut marks: Vec<RuleMark>) -> Result<Vec<Derivation>, Memory>
     ensures { (ts : Trees) → marks.items ≡ marks_of_all ts → IfOk result (λ v. derivations v.items ≡ ts) }
 {
     let mut trees = Vec::new(alloc);

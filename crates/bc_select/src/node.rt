@@ -12,7 +12,7 @@ use bc_select_defs::Choices;
 
 /// The facts about a node that the enclosing expression needs.
 #[derive(Clone, Copy)]
-pub struct Part {
+pub struct PartNode {
     /// Its least words and rules.
     pub choices: Choices,
     /// Whether it contains a call or a VALOF.
@@ -32,7 +32,7 @@ pub fn cell_operand(address: &CoreExp) -> Option<Operand>
         CoreExp::Num(_)
         | CoreExp::Frame(_)
         | CoreExp::Glob(_)
-        | CoreExp::Place(_)
+        | CoreExp::Site(_)
         | CoreExp::Neg(_)
         | CoreExp::Not(_)
         | CoreExp::Bin(_, _, _)
@@ -51,7 +51,7 @@ pub fn own_operand(e: &CoreExp) -> Option<Operand>
         CoreExp::Num(_)
         | CoreExp::Frame(_)
         | CoreExp::Glob(_)
-        | CoreExp::Place(_)
+        | CoreExp::Site(_)
         | CoreExp::Neg(_)
         | CoreExp::Not(_)
         | CoreExp::Bin(_, _, _)

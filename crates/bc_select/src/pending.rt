@@ -17,7 +17,7 @@ use bc_word::Memory;
 
 /// The position of an expression.
 #[derive(Clone, Copy)]
-pub struct Place {
+pub struct Site {
     /// Its level.
     pub level: u64,
     /// The index after its last node in the table.
@@ -28,7 +28,7 @@ pub struct Place {
 #[derive(Clone, Copy)]
 pub struct Step {
     /// The position of the expression.
-    pub place: Place,
+    pub place: Site,
     /// The aim.
     pub aim: Aim,
     /// The rule.
@@ -48,7 +48,7 @@ pub struct Waiting<'a> {
 #[inline(always)]
 pub fn wait<'a>(
     e: &'a CoreExp,
-    place: Place,
+    place: Site,
     aim: Aim,
     nodes: &Nodes,
     waiting: &mut Vec<Waiting<'a>>,

@@ -13,11 +13,11 @@ ghost use Rattle.bc_core.specs.Operand.{constant_of};
 ghost use Rattle.bc_select_defs.specs.Chosen.{assign_parts};
 ghost use Rattle.bc_select.specs.Ends.{EndsAt};
 ghost use Rattle.bc_select.specs.Waiting.{Added};
-ghost use Rattle.bc_select.specs.declared.node.Part.{Part};
+ghost use Rattle.bc_select.specs.declared.node.PartNode.{PartNode};
 ghost use Rattle.bc_select.specs.Vector.{vector, before, before_all};
 ghost use Rattle.bc_select.specs.Reads.{own_parts, parts_for};
 
-use crate::pending::{Place, Step, Waiting, wait};
+use crate::pending::{Site, Step, Waiting, wait};
 use crate::table::Nodes;
 use bc_core::{CoreExp, constant};
 use bc_rules_defs::{Aim, Mode, Rule, Takes};
@@ -28,11 +28,11 @@ use bc_word::Memory;
 pub const ANY: Aim = Aim::Gets(Mode::Any);
 
 /// The position at which the nodes of an expression's parts end: just before its own node.
-fn below(place: Place) -> Place
+fn below(place: Site) -> Site
     ensures level { result.level ≡ place.level }
-    ensures end { (nodes : List Part) (e : Exp) (s : ℕ) → EndsAt nodes place.end (vector e s) → EndsAt nodes result.end (before e s) }
+    ensures end { (nodes : List PartNode) (e : Exp) (s : ℕ) → EndsAt nodes place.end (vector e s) → EndsAt nodes result.end (before e s) }
 {
-    Place {
+    Site {
         level: place.level,
         end: place.end.saturating_sub(1),
     }
@@ -41,7 +41,7 @@ fn below(place: Place) -> Place
 /// The index of the first node of the part whose nodes end at `end`.
 #[inline(always)]
 fn start(nodes: &Nodes, end: usize) -> usize
-    ensures { (xs : List Part) (e : Exp) (s : ℕ) → EndsAt nodes.now end (xs ++ vector e s) → EndsAt nodes.now result xs }
+    ensures { (xs : List PartNode) (e : Exp) (s : ℕ) → EndsAt nodes.now end (xs ++ vector e s) → EndsAt nodes.now result xs }
 {
     end.saturating_sub(nodes.count_at(end))
 }
@@ -88,7 +88,7 @@ fn own<'a>(
         CoreExp::Num(_)
         | CoreExp::Frame(_)
         | CoreExp::Glob(_)
-        | CoreExp::Place(_)
+        | CoreExp::Site(_)
         | CoreExp::Valof(_) => Ok(()),
         CoreExp::Load(part) => one_read(part, nodes, step, waiting),
         CoreExp::Neg(part) => one_read(part, nodes, step, waiting),
@@ -130,7 +130,7 @@ fn one_read<'a>(
 #[derive(Clone, Copy)]
 struct Taken {
     takes: Takes,
-    place: Place,
+    place: Site,
 }
 
 /// Two parts at the same level.
@@ -147,7 +147,7 @@ fn two_read<'a>(
     ensures { OnOk result (Added nodes.now waiting.old.items waiting.new.items (two_taken taken.takes (readings Two (exp first.now) taken.place.level) (readings Two (exp second.now) taken.place.level))) }
 {
     let following = taken.place;
-    let front = Place {
+    let front = Site {
         level: following.level,
         end: start(nodes, following.end),
     };
@@ -181,7 +181,7 @@ fn pair_read<'a>(
 {
     let taken = Taken {
         takes: step.rule.takes(step.aim, is_zero_number(constant(right))),
-        place: Place {
+        place: Site {
             level: step.place.level + 1,
             end: step.place.end,
         },
@@ -211,11 +211,11 @@ fn cond_read<'a>(
 {
     let level = step.place.level;
     let that = step.place;
-    let this = Place {
+    let this = Site {
         level,
         end: start(nodes, that.end),
     };
-    let test = Place {
+    let test = Site {
         level,
         end: start(nodes, this.end),
     };
@@ -245,7 +245,7 @@ fn call_read<'a>(
     arguments: &'a [CoreExp],
     routine: &'a CoreExp,
     nodes: &Nodes,
-    place: Place,
+    place: Site,
     waiting: &mut Vec<Waiting<'a>>,
 ) -> Result<(), Memory>
     requires fits { place.level + 2 * nodes_in (tree.Call (args arguments.now) (exp routine.now)) ≤ 2 ^ 40 }
@@ -253,11 +253,11 @@ fn call_read<'a>(
     ensures { OnOk result (Added nodes.now waiting.old.items waiting.new.items (end_with (readings_of_all Two (args arguments.now) (place.level + 2)) (readings Two (exp routine.now) (place.level + 2 + count (args arguments.now))).any)) }
 {
     let level = place.level + 2;
-    let following = Place {
+    let following = Site {
         level: level + arguments.len() as u64,
         end: place.end,
     };
-    let front = Place {
+    let front = Site {
         level,
         end: start(nodes, place.end),
     };
@@ -270,7 +270,7 @@ fn call_read<'a>(
 fn all_read<'a>(
     arguments: &'a [CoreExp],
     nodes: &Nodes,
-    place: Place,
+    place: Site,
     waiting: &mut Vec<Waiting<'a>>,
 ) -> Result<(), Memory>
     requires fits { place.level + 2 * nodes_of_args (args arguments.now) ≤ 2 ^ 40 }
@@ -280,11 +280,11 @@ fn all_read<'a>(
     let Some((last, others)) = arguments.split_last() else {
         return Ok(());
     };
-    let following = Place {
+    let following = Site {
         level: place.level + others.len() as u64,
         end: place.end,
     };
-    let front = Place {
+    let front = Site {
         level: place.level,
         end: start(nodes, place.end),
     };

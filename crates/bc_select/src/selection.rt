@@ -24,7 +24,7 @@ use crate::derivations::read;
 use crate::layout::{AtLevel, ROOM, at_level, lay_out};
 use crate::node::own_operand;
 use crate::node_of_parts::operand_node;
-use crate::pending::{Place, Step};
+use crate::pending::{Site, Step};
 use crate::pending_parts::{ANY, parts, sides_read};
 use crate::row::{Row, rule_or_v1};
 use crate::subtrees::{choice_for, cut, last};
@@ -105,7 +105,7 @@ fn expression(
     ensures derivation { IfOk result (λ r. derivation_of r.derivation ≡ tree_for aim (readings Two (exp e.now) level)) }
     ensures words { IfOk result (λ r. r.words ≡ words_or_none (choice_of aim (choices Two (exp e.now) level))) }
 {
-    let place = Place {
+    let place = Site {
         level,
         end: nodes.len(),
     };
@@ -160,7 +160,7 @@ fn assignment(
     let second = operand_node(address, &last(nodes));
     let choice = assign_choice(own_operand(address), &first, &second, level);
     let rule = rule_or_v1(choice);
-    let place = Place {
+    let place = Site {
         level: side,
         end: nodes.len(),
     };

@@ -6,7 +6,7 @@ ghost use Rattle.bc_select_defs.specs.Choices.{choice_for as choice_of};
 ghost use Rattle.bc_select.specs.Vector.{node, vector};
 ghost use Rattle.bc_select.specs.Cut.{IsCut};
 
-use crate::node::Part;
+use crate::node::PartNode;
 use crate::table::Nodes;
 use bc_rules_defs::{Aim, Mode};
 use bc_select_defs::{Choice, Choices};
@@ -25,7 +25,7 @@ pub fn choice_for(choices: &Choices, aim: Aim) -> Option<Choice>
 
 /// Splits off the nodes of the last part: returns the nodes before them, and them.
 pub fn cut<'a>(nodes: &Nodes<'a>) -> (Nodes<'a>, Nodes<'a>)
-    ensures { (xs : List Part) (e : Exp) (s : ℕ) → nodes.now ≡ xs ++ vector e s → IsCut result.0 result.1 xs (vector e s) }
+    ensures { (xs : List PartNode) (e : Exp) (s : ℕ) → nodes.now ≡ xs ++ vector e s → IsCut result.0 result.1 xs (vector e s) }
 {
     let count = nodes.last_count();
     nodes.split_at(nodes.len().saturating_sub(count))
@@ -33,8 +33,8 @@ pub fn cut<'a>(nodes: &Nodes<'a>) -> (Nodes<'a>, Nodes<'a>)
 
 /// The last node.
 #[inline(always)]
-pub fn last(nodes: &Nodes) -> Part
-    ensures { (xs : List Part) (e : Exp) (s : ℕ) → nodes.now ≡ xs ++ vector e s → result ≡ node e s }
+pub fn last(nodes: &Nodes) -> PartNode
+    ensures { (xs : List PartNode) (e : Exp) (s : ℕ) → nodes.now ≡ xs ++ vector e s → result ≡ node e s }
 {
     nodes.last()
 }

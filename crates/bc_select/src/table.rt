@@ -5,7 +5,7 @@ ghost use Rattle.bc_select_defs.specs.Choices.{choice_for as choice_of};
 ghost use Rattle.bc_select.specs.Reads.{rule_or_v1};
 ghost use Rattle.bc_select.specs.Row.{row_of_part};
 
-use crate::node::Part;
+use crate::node::PartNode;
 use crate::row::{Row, last_choices, row_from, rule_for, rules_from};
 use bc_rules_defs::{Aim, Rule};
 use bc_word::Memory;
@@ -53,7 +53,7 @@ fn span_at(spans: &[Span], end: usize) -> Span
     }
 }
 
-/// The nodes of expressions, parts before wholes. Its view in contracts is a list of `Part`.
+/// The nodes of expressions, parts before wholes. Its view in contracts is a list of `PartNode`.
 #[derive(Drop)]
 pub struct Table {
     rows: Vec<Row>,
@@ -62,17 +62,17 @@ pub struct Table {
 
 impl Model for Table {
     ghost use Rattle.std.specs.Prelude.{List};
-    ghost use Rattle.bc_select.specs.declared.node.Part.{Part};
+    ghost use Rattle.bc_select.specs.declared.node.PartNode.{PartNode};
     ghost use Rattle.bc_select.specs.Row.{parts_in, AreParts};
 
-    ghost Value = { List Part };
+    ghost Value = { List PartNode };
 
     ghost view = { λ t. parts_in t.rows.items t.spans.items };
 
     ghost invariant = { λ t. AreParts t.rows.items t.spans.items };
 }
 
-/// A contiguous range of a table's nodes. Its view in contracts is a list of `Part`.
+/// A contiguous range of a table's nodes. Its view in contracts is a list of `PartNode`.
 #[derive(Drop)]
 pub struct Nodes<'a> {
     rows: &'a [Row],
@@ -81,10 +81,10 @@ pub struct Nodes<'a> {
 
 impl<'a> Model for Nodes<'a> {
     ghost use Rattle.std.specs.Prelude.{List};
-    ghost use Rattle.bc_select.specs.declared.node.Part.{Part};
+    ghost use Rattle.bc_select.specs.declared.node.PartNode.{PartNode};
     ghost use Rattle.bc_select.specs.Row.{parts_in, AreParts};
 
-    ghost Value = { List Part };
+    ghost Value = { List PartNode };
 
     ghost view = { λ n. parts_in n.rows.now n.spans.now };
 
@@ -112,7 +112,7 @@ impl Table {
     }
 
     /// Appends a node. Returns `Memory` if a vector could not grow; the table is then unchanged.
-    pub fn push(&mut self, node: &Part) -> Result<(), Memory>
+    pub fn push(&mut self, node: &PartNode) -> Result<(), Memory>
         ensures { OnOk result (self.new ≡ self.old ++ (node.now ∷ [])) }
     {
         let rules = rules_from(&node.choices);
@@ -169,11 +169,11 @@ impl<'a> Nodes<'a> {
 
     /// The last node.
     #[inline(always)]
-    pub fn last(&self) -> Part
-        ensures { (xs : List Part) (p : Part) → self.now ≡ xs ++ (p ∷ []) → result ≡ p }
+    pub fn last(&self) -> PartNode
+        ensures { (xs : List PartNode) (p : PartNode) → self.now ≡ xs ++ (p ∷ []) → result ≡ p }
     {
         let span = last_span(self.spans);
-        Part {
+        PartNode {
             choices: last_choices(self.rows),
             calls: span.calls,
             nodes: span.nodes,
@@ -182,7 +182,7 @@ impl<'a> Nodes<'a> {
 
     /// The number of nodes of the last node, itself included.
     pub fn last_count(&self) -> usize
-        ensures { (xs : List Part) (p : Part) → self.now ≡ xs ++ (p ∷ []) → result ≡ p.nodes }
+        ensures { (xs : List PartNode) (p : PartNode) → self.now ≡ xs ++ (p ∷ []) → result ≡ p.nodes }
     {
         last_span(self.spans).nodes
     }
@@ -190,7 +190,7 @@ impl<'a> Nodes<'a> {
     /// The number of nodes, itself included, of the node before the index `end`.
     #[inline(always)]
     pub fn count_at(&self, end: usize) -> usize
-        ensures { (xs ys : List Part) (p : Part) → self.now ≡ (xs ++ (p ∷ [])) ++ ys → end ≡ length xs + 1 → result ≡ p.nodes }
+        ensures { (xs ys : List PartNode) (p : PartNode) → self.now ≡ (xs ++ (p ∷ [])) ++ ys → end ≡ length xs + 1 → result ≡ p.nodes }
     {
         span_at(self.spans, end).nodes
     }
@@ -198,7 +198,7 @@ impl<'a> Nodes<'a> {
     /// The rule chosen for an aim at the node before the index `end`; V1 if there is none.
     #[inline(always)]
     pub fn rule_at(&self, end: usize, aim: Aim) -> Rule
-        ensures { (xs ys : List Part) (p : Part) → self.now ≡ (xs ++ (p ∷ [])) ++ ys → end ≡ length xs + 1 → result ≡ rule_or_v1 (choice_of aim p.choices) }
+        ensures { (xs ys : List PartNode) (p : PartNode) → self.now ≡ (xs ++ (p ∷ [])) ++ ys → end ≡ length xs + 1 → result ≡ rule_or_v1 (choice_of aim p.choices) }
     {
         rule_for(&span_at(self.spans, end).rules, aim)
     }

@@ -20,8 +20,8 @@ use Rattle.bc_text.specs.Steps.{Progress, at_place, with_digit, if_in_range, gre
 use Rattle.bc_text.specs.declared.head.Head.{Head}
 use Rattle.bc_text.specs.declared.head.Head.TheVariants as heads
 use Rattle.bc_text.specs.declared.head.Ended.TheVariants as ended
-use Rattle.bc_text.specs.declared.head.Place.{Place}
-use Rattle.bc_text.specs.declared.head.Place.TheVariants as places
+use Rattle.bc_text.specs.declared.head.Position.{Position}
+use Rattle.bc_text.specs.declared.head.Position.TheVariants as places
 use Rattle.bc_text.specs.declared.text_error.TextError.{TextError}
 use Rattle.bc_text.specs.declared.text_error.TextError.TheVariants as errors
 use Rattle.bc_text.proofs.States.{state, step-state, answer-step}
@@ -43,7 +43,7 @@ value_from-ge n [] = omega arith
 value_from-ge n (d ∷ digits) = omega (arith, value_from-ge (n * 10 + (d - 48)) digits)
 
 -- the count of bytes may be written in another way
-pub counted : (bytes : List ℕ) (s : List (List Item)) (i : List Item) (place : Place) (m n : ℕ) → m ≡ n
+pub counted : (bytes : List ℕ) (s : List (List Item)) (i : List Item) (place : Position) (m n : ℕ) → m ≡ n
     → answer bytes (state s i place m) ≡ answer bytes (state s i place n)
 counted bytes s i place m n e = ap (λ k. answer bytes (state s i place k)) e
 
@@ -69,7 +69,7 @@ digits_read s i head from negative value n (d ∷ digits) more all fits =
     ∙ counted more s i _ (n + 1 + length digits) (n + length (d ∷ digits)) (omega arith)
 
 -- the place takes a first digit as the beginning of a number after this head
-abbrev pub TakesNumber : Place → Head → ℕ → Bool → ℕ → Type 0
+abbrev pub TakesNumber : Position → Head → ℕ → Bool → ℕ → Type 0
 TakesNumber place head from negative n =
     (s : List (List Item)) (i : List Item) (d : ℕ) → is_ascii_digit d ≡ true
     → at_place (state s i place (n + 1)) place d (capped n) ≡ placed_at (state s i place (n + 1)) (with_digit head from negative 0 d)
@@ -84,7 +84,7 @@ pub minus_takes_number : (head : Head) (from n : ℕ) → TakesNumber (places.Mi
 minus_takes_number head from n s i d h = rw h refl
 
 -- a number is read, up to what follows its digits
-pub number_read : (s : List (List Item)) (i : List Item) (place : Place) (head : Head) (from : ℕ) (negative : Bool) (limit value n : ℕ) (digits more : List ℕ)
+pub number_read : (s : List (List Item)) (i : List Item) (place : Position) (head : Head) (from : ℕ) (negative : Bool) (limit value n : ℕ) (digits more : List ℕ)
     → TakesNumber place head from negative n → limit ≡ greatest head negative → IsNumber limit digits value
     → answer (digits ++ more) (state s i place n) ≡ answer more (state s i (places.Digits head from negative value) (n + length digits))
 number_read s i place head from negative limit value n [] more takes same number = absurd number
@@ -175,11 +175,11 @@ head_read s i (heads.GlobalLabel g) n front more is other =
 -- ---- Items
 
 -- an item may begin after a complete number exactly as between items
-begun-place : (s : List (List Item)) (i : List Item) (place : Place) (n byte at : ℕ)
+begun-place : (s : List (List Item)) (i : List Item) (place : Position) (n byte at : ℕ)
     → begun (state s i place n) byte at ≡ begun (state s i places.Between n) byte at
 begun-place s i place n byte at = go (eqb byte 90) (between byte at)
   where
-    go : (z : Bool) (r : Result Place TextError)
+    go : (z : Bool) (r : Result Position TextError)
         → cond z (Ok (state (s ++ i ∷ []) [] places.Between n)) (placed_at (state s i place n) r)
         ≡ cond z (Ok (state (s ++ i ∷ []) [] places.Between n)) (placed_at (state s i places.Between n) r)
     go true r = refl
@@ -212,7 +212,7 @@ ended_read s i head from negative value n it (byte ∷ more) last made =
     ∙ sym (step-state s (i ++ it ∷ []) places.Between n byte))
 
 -- a number without sign after a head, and its item
-pub unsigned_read : (s : List (List Item)) (i : List Item) (place : Place) (head : Head) (from limit value n : ℕ) (it : Item) (digits more : List ℕ)
+pub unsigned_read : (s : List (List Item)) (i : List Item) (place : Position) (head : Head) (from limit value n : ℕ) (it : Item) (digits more : List ℕ)
     → TakesNumber place head from false n → limit ≡ greatest head false → IsNumber limit digits value → BeginsWithNoDigit more
     → ended_number head false value ≡ ended.Item it
     → answer (digits ++ more) (state s i place n) ≡ answer more (state s (i ++ it ∷ []) places.Between (n + length digits))

@@ -14,8 +14,8 @@ use Rattle.bc_text.specs.Faults.{capped, may_begin, first_letters, Breaks, no_it
 use Rattle.bc_text.specs.Steps.{Progress, at_place, longer, head_of, if_in_range, greatest, placed_at, answer, answer_of, run, start, finished_at}
 use Rattle.bc_text.specs.declared.head.Head.{Head}
 use Rattle.bc_text.specs.declared.head.Head.TheVariants as heads
-use Rattle.bc_text.specs.declared.head.Place.{Place}
-use Rattle.bc_text.specs.declared.head.Place.TheVariants as places
+use Rattle.bc_text.specs.declared.head.Position.{Position}
+use Rattle.bc_text.specs.declared.head.Position.TheVariants as places
 use Rattle.bc_text.specs.declared.text_error.TextError.{TextError}
 use Rattle.bc_text.specs.declared.text_error.TextError.TheVariants as errors
 use Rattle.bc_text.proofs.States.{state, run-stop, answer-step}
@@ -25,7 +25,7 @@ pub or_false : (a b : Bool) → (a || b) ≡ false → (a ≡ false) × (b ≡ f
 or_false true b e = absurd cc
 or_false false b e = (refl, e)
 
-answer-stop : (s : List (List Item)) (i : List Item) (place : Place) (n byte : ℕ) (bytes : List ℕ) (fault : TextError)
+answer-stop : (s : List (List Item)) (i : List Item) (place : Position) (n byte : ℕ) (bytes : List ℕ) (fault : TextError)
     → at_place (state s i place (n + 1)) place byte (capped n) ≡ Err fault → answer (byte ∷ bytes) (state s i place n) ≡ Err fault
 answer-stop s i place n byte bytes fault e = ap answer_of (run-stop s i place n byte bytes fault e)
 
@@ -115,7 +115,7 @@ out_of_range : (head : Head) (from : ℕ) (negative : Bool) (value : ℕ) → gr
 out_of_range head from negative value h = rw (lt-ltb _ _ h) refl
 
 -- a digit that makes a number too large is a fault
-digits_stop : (s : List (List Item)) (i : List Item) (place : Place) (head : Head) (from : ℕ) (negative : Bool) (n d : ℕ) (digits more : List ℕ)
+digits_stop : (s : List (List Item)) (i : List Item) (place : Position) (head : Head) (from : ℕ) (negative : Bool) (n d : ℕ) (digits more : List ℕ)
     → TakesNumber place head from negative n → all_ascii_digits (digits ++ d ∷ []) ≡ true
     → value_of_digits digits ≤ greatest head negative → greatest head negative < value_of_digits (digits ++ d ∷ [])
     → answer (digits ++ d ∷ more) (state s i place n) ≡ Err (errors.BadNumber from)
@@ -204,7 +204,7 @@ breaks_met s i (no_label at byte n more number is d other) =
     not_l byte h = grind (arith, nat_tests)
 
 -- Unended is reported only at the end of the bytes
-pub only_unended : (place : Place) (i : List Item) (s : List (List Item)) (fault : TextError) → finished_at place i s ≡ Err fault → fault ≡ errors.Unended
+pub only_unended : (place : Position) (i : List Item) (s : List (List Item)) (fault : TextError) → finished_at place i s ≡ Err fault → fault ≡ errors.Unended
 only_unended places.Between [] s fault e = absurd cc
 only_unended places.Between (x ∷ i) s fault e = cc
 only_unended places.Comment [] s fault e = absurd cc

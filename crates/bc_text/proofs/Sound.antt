@@ -20,8 +20,8 @@ use Rattle.bc_text.specs.declared.head.Head.{Head}
 use Rattle.bc_text.specs.declared.head.Head.TheVariants as heads
 use Rattle.bc_text.specs.declared.head.Ended.{Ended}
 use Rattle.bc_text.specs.declared.head.Ended.TheVariants as ended
-use Rattle.bc_text.specs.declared.head.Place.{Place}
-use Rattle.bc_text.specs.declared.head.Place.TheVariants as places
+use Rattle.bc_text.specs.declared.head.Position.{Position}
+use Rattle.bc_text.specs.declared.head.Position.TheVariants as places
 use Rattle.bc_text.specs.declared.text_error.TextError.{TextError}
 use Rattle.bc_text.specs.declared.text_error.TextError.TheVariants as errors
 use Rattle.bc_text.proofs.States.{capped-more}
@@ -71,7 +71,7 @@ sign true = 45 ∷ []
 sign false = []
 
 -- the bytes of the incomplete part at a place, which began at position `at`
-abbrev pub IsOpen : Place → ℕ → List ℕ → Type 0
+abbrev pub IsOpen : Position → ℕ → List ℕ → Type 0
 IsOpen places.Between at held = held ≡ []
 IsOpen places.Comment at held = (line : List ℕ) × (held ≡ 47 ∷ line) × HasNoLineEnd line
 IsOpen (places.Head head) at held = IsHead held head × (head ≢ heads.Label)
@@ -124,7 +124,7 @@ meets bytes byte p s = record {
 }
 
 -- the part is still incomplete
-grown : (bytes : List ℕ) (byte : ℕ) (p : Progress) (place : Place) (m : Meets bytes byte p) → IsOpen place (length m.before) (m.held ++ byte ∷ [])
+grown : (bytes : List ℕ) (byte : ℕ) (p : Progress) (place : Position) (m : Meets bytes byte p) → IsOpen place (length m.before) (m.held ++ byte ∷ [])
     → Stands (bytes ++ byte ∷ []) (placed p place)
 grown bytes byte p place m open_now = record {
   before = m.before;
@@ -270,7 +270,7 @@ begun_leads : (bytes : List ℕ) (byte : ℕ) (p : Progress) → AreElements byt
     → LeadsOn bytes byte (begun p byte (capped (length bytes)))
 begun_leads bytes byte p h count =
     let at = capped (length bytes) in
-    let P : Result Place TextError → Type 0 = λ r. LeadsOn bytes byte (placed_at p r) in
+    let P : Result Position TextError → Type 0 = λ r. LeadsOn bytes byte (placed_at p r) in
     by_test (LeadsOn bytes byte) (eqb byte 90) (Ok (closed p)) (placed_at p (between byte at))
     (λ z. passes bytes byte p (closed p) (end_of_segment ∷ []) (meets_at bytes byte p h count) count refl (elements-closed p)
     (λ after. subst (λ b. Begins (b ∷ after) (end_of_segment ∷ []) after) (sym (eqb-true byte 90 z)) (segment_end nothing)))
@@ -292,11 +292,11 @@ no_line_end-more [] byte h e = ((λ is. absurd (lines_differ is)), tt)
 no_line_end-more (b ∷ line) byte h e = (h.0, no_line_end-more line byte h.1 e)
 
 -- a progress by its parts
-abbrev stood : List (List Item) → List Item → Place → ℕ → Progress
+abbrev stood : List (List Item) → List Item → Position → ℕ → Progress
 stood segments i place at = record { segments = segments; items = i; place = place; at = at }
 
 -- what a byte leads to at a place
-abbrev LeadsFrom : List ℕ → ℕ → List (List Item) → List Item → Place → ℕ → Type 0
+abbrev LeadsFrom : List ℕ → ℕ → List (List Item) → List Item → Position → ℕ → Type 0
 LeadsFrom bytes byte segments i place at = LeadsOn bytes byte (at_place (counted (stood segments i place at)) place byte at)
 
 length-whole : (bytes before held : List ℕ) (at : ℕ) → bytes ≡ before ++ held → at ≡ capped (length bytes) → at ≡ capped (length before + length held)
@@ -385,7 +385,7 @@ head_leads bytes byte segments i at head s =
     let p = stood segments i (places.Head head) at in
     let m = meets bytes byte p s in
     let there = length-whole bytes s.before s.held at s.whole s.count in
-    let P : Result Place TextError → Type 0 = λ r. LeadsOn bytes byte (placed_at (counted p) r) in
+    let P : Result Position TextError → Type 0 = λ r. LeadsOn bytes byte (placed_at (counted p) r) in
     by_test P (is_ascii_digit byte) _ _
     (λ d. digit_leads bytes byte (counted p) m head at false 0 s.held [] (sym (append-nil s.held)) s.is_open.0 (λ e. absurd cc) refl refl (omega arith) there d)
     (λ d. by_test P (eqb byte 45 && allows head 45) _ _
@@ -402,7 +402,7 @@ minus_leads bytes byte segments i at head from s =
     let is : s.held ≡ front ++ 45 ∷ [] = s.is_open.1 in
     let there : at ≡ capped (length s.before + length front + 1) =
     length-whole bytes s.before s.held at s.whole s.count ∙ ap capped (omega (arith, ap length is, length-append front (45 ∷ []))) in
-    let P : Result Place TextError → Type 0 = λ r. LeadsOn bytes byte (placed_at (counted p) r) in
+    let P : Result Position TextError → Type 0 = λ r. LeadsOn bytes byte (placed_at (counted p) r) in
     by_test P (is_ascii_digit byte) _ _
     (λ d. digit_leads bytes byte (counted p) m head from true 0 front [] is s.is_open.2 (λ e. s.is_open.3) refl refl (omega arith) s.is_open.4 d)
     (λ d. broken bytes byte (counted p) (errors.BadNumber at) m (λ more.
@@ -486,7 +486,7 @@ pub step_leads : (bytes : List ℕ) (byte : ℕ) (p : Progress) → Stands bytes
 unfolding step
 step_leads bytes byte p s = go p.place s
   where
-    go : (place : Place) → Stands bytes (stood p.segments p.items place p.at) → LeadsFrom bytes byte p.segments p.items place p.at
+    go : (place : Position) → Stands bytes (stood p.segments p.items place p.at) → LeadsFrom bytes byte p.segments p.items place p.at
     go places.Between s = between_leads bytes byte p.segments p.items p.at s
     go places.Comment s = comment_leads bytes byte p.segments p.items p.at s
     go (places.Head head) s = head_leads bytes byte p.segments p.items p.at head s

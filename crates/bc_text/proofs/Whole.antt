@@ -6,8 +6,8 @@ use Rattle.bc_text.specs.Faults.{HasFault, IsUnended, IsFaultOf}
 use Rattle.bc_text.specs.Steps.{Progress, start, step, run, on_ok, finished, finished_at, answer, answer_of}
 use Rattle.bc_text.specs.declared.head.Head.{Head}
 use Rattle.bc_text.specs.declared.head.Head.TheVariants as heads
-use Rattle.bc_text.specs.declared.head.Place.{Place}
-use Rattle.bc_text.specs.declared.head.Place.TheVariants as places
+use Rattle.bc_text.specs.declared.head.Position.{Position}
+use Rattle.bc_text.specs.declared.head.Position.TheVariants as places
 use Rattle.bc_text.specs.declared.text_error.TextError.{TextError}
 use Rattle.bc_text.specs.declared.text_error.TextError.TheVariants as errors
 use Rattle.bc_text.proofs.States.{run-append}
@@ -46,7 +46,7 @@ pub run_tells : (bytes : List ℕ) → RunTells bytes (run bytes start)
 run_tells bytes = run_tells_from [] bytes start start_stands
 
 -- at the end, no part is incomplete and no item follows the last segment
-finished_tells : (bytes : List ℕ) (place : Place) (i : List Item) (s segments : List (List Item)) (at : ℕ)
+finished_tells : (bytes : List ℕ) (place : Position) (i : List Item) (s segments : List (List Item)) (at : ℕ)
     → Stands bytes (record { segments = s; items = i; place = place; at = at }) → finished_at place i s ≡ Ok segments → IsText bytes segments
 finished_tells bytes places.Between [] s segments at stands e =
     let same : s ≡ segments = cc in
@@ -106,7 +106,7 @@ digits_end s i at (heads.Operation function indirect base) from negative value =
 digits_end s i at heads.Global from negative value = (76 ∷ 48 ∷ 90 ∷ [], _, refl)
 digits_end s i at (heads.GlobalLabel g) from negative value = (90 ∷ [], _, refl)
 
-place_ends : (s : List (List Item)) (i : List Item) (at : ℕ) (place : Place) → Ends (record { segments = s; items = i; place = place; at = at })
+place_ends : (s : List (List Item)) (i : List Item) (at : ℕ) (place : Position) → Ends (record { segments = s; items = i; place = place; at = at })
 unfolding run step
 place_ends s i at places.Between = (90 ∷ [], _, refl)
 place_ends s i at places.Comment = (10 ∷ 90 ∷ [], _, refl)

@@ -12,8 +12,8 @@ use Rattle.bc_text.specs.declared.head.Head.{Head}
 use Rattle.bc_text.specs.declared.head.Head.TheVariants as heads
 use Rattle.bc_text.specs.declared.head.Ended.{Ended}
 use Rattle.bc_text.specs.declared.head.Ended.TheVariants as ended
-use Rattle.bc_text.specs.declared.head.Place.{Place}
-use Rattle.bc_text.specs.declared.head.Place.TheVariants as places
+use Rattle.bc_text.specs.declared.head.Position.{Position}
+use Rattle.bc_text.specs.declared.head.Position.TheVariants as places
 use Rattle.bc_text.specs.declared.text_error.TextError.{TextError}
 use Rattle.bc_text.specs.declared.text_error.TextError.TheVariants as errors
 
@@ -21,7 +21,7 @@ use Rattle.bc_text.specs.declared.text_error.TextError.TheVariants as errors
 pub record Progress : Type 0 where
   pub segments : List (List Item)
   pub items : List Item
-  pub place : Place
+  pub place : Position
   pub at : ℕ
 
 -- the state before the first byte
@@ -54,7 +54,7 @@ longer (heads.Operation function indirect bases.Number) byte =
 longer head byte = None
 
 -- the place after a head, or the fault if there is no head
-abbrev pub after_letter : Option Head → TextError → Result Place TextError
+abbrev pub after_letter : Option Head → TextError → Result Position TextError
 after_letter (Some head) fault = Ok (places.Head head)
 after_letter None fault = Err fault
 
@@ -63,7 +63,7 @@ abbrev pub greatest : Head → Bool → ℕ
 greatest head negative = cond negative (min (limit head) 32768) (limit head)
 
 -- a number that is being read is one that may follow its head
-abbrev pub is_in_range : Place → Bool
+abbrev pub is_in_range : Position → Bool
 is_in_range places.Between = true
 is_in_range places.Comment = true
 is_in_range (places.Head head) = true
@@ -71,28 +71,28 @@ is_in_range (places.Minus head from) = true
 is_in_range (places.Digits head from negative value) = nat_le value (limit head)
 
 -- the place in the digits of a number, if it is in range
-abbrev pub if_in_range : Head → ℕ → Bool → ℕ → Result Place TextError
+abbrev pub if_in_range : Head → ℕ → Bool → ℕ → Result Position TextError
 if_in_range head from negative value =
     cond (nat_lt (greatest head negative) value) (Err (errors.BadNumber from)) (Ok (places.Digits head from negative value))
 
 -- the place after one more digit
-abbrev pub with_digit : Head → ℕ → Bool → ℕ → ℕ → Result Place TextError
+abbrev pub with_digit : Head → ℕ → Bool → ℕ → ℕ → Result Position TextError
 with_digit head from negative value byte = if_in_range head from negative (value * 10 + (byte - 48))
 
 -- the place after a byte that follows a head
-abbrev pub after_head : Head → ℕ → ℕ → Result Place TextError
+abbrev pub after_head : Head → ℕ → ℕ → Result Position TextError
 after_head head byte at =
     cond (is_ascii_digit byte) (with_digit head at false 0 byte)
     (cond (byte == 45 && allows head 45) (Ok (places.Minus head at))
     (after_letter (longer head byte) (errors.BadNumber at)))
 
 -- the place after a byte that follows a `-`
-abbrev pub after_minus : Head → ℕ → ℕ → ℕ → Result Place TextError
+abbrev pub after_minus : Head → ℕ → ℕ → ℕ → Result Position TextError
 after_minus head from byte at =
     cond (is_ascii_digit byte) (with_digit head from true 0 byte) (Err (errors.BadNumber at))
 
 -- the place after a byte between items, other than `Z`
-abbrev pub between : ℕ → ℕ → Result Place TextError
+abbrev pub between : ℕ → ℕ → Result Position TextError
 between byte at =
     cond (is_blank byte) (Ok places.Between)
     (cond (byte == 47) (Ok places.Comment)
@@ -100,7 +100,7 @@ between byte at =
     (after_letter (head_of byte) (errors.BadCharacter at))))
 
 -- the place after a byte that follows the number of a global
-abbrev pub after_global : ℕ → ℕ → ℕ → Result Place TextError
+abbrev pub after_global : ℕ → ℕ → ℕ → Result Position TextError
 after_global number byte at =
     cond (byte == 76) (Ok (places.Head (heads.GlobalLabel number))) (Err (errors.MissingLabel at))
 
@@ -120,11 +120,11 @@ ended_number heads.Global negative value = ended.Global value
 ended_number (heads.GlobalLabel number) negative value = ended.Item (Global number (word_of negative value))
 
 -- the state with another place
-abbrev pub placed : Progress → Place → Progress
+abbrev pub placed : Progress → Position → Progress
 placed p place = record p { place = place }
 
 -- the state with the next place, or the fault
-abbrev pub placed_at : Progress → Result Place TextError → Result Progress TextError
+abbrev pub placed_at : Progress → Result Position TextError → Result Progress TextError
 placed_at p (Ok place) = Ok (placed p place)
 placed_at p (Err fault) = Err fault
 
@@ -152,7 +152,7 @@ in_digits p head from negative value byte at =
     (after_number p (ended_number head negative value) byte at)
 
 -- takes a byte at a place
-abbrev pub at_place : Progress → Place → ℕ → ℕ → Result Progress TextError
+abbrev pub at_place : Progress → Position → ℕ → ℕ → Result Progress TextError
 at_place p places.Between byte at = begun p byte at
 at_place p places.Comment byte at = cond (byte == 10) (Ok (placed p places.Between)) (Ok p)
 at_place p (places.Head head) byte at = placed_at p (after_head head byte at)
@@ -174,7 +174,7 @@ run [] p = Ok p
 run (byte ∷ bytes) p = on_ok (step p byte) (run bytes)
 
 -- the segments at the end of the bytes, if no item is incomplete and none follows the last `Z`
-abbrev pub finished_at : Place → List Item → List (List Item) → Result (List (List Item)) TextError
+abbrev pub finished_at : Position → List Item → List (List Item) → Result (List (List Item)) TextError
 finished_at places.Between [] segments = Ok segments
 finished_at places.Comment [] segments = Ok segments
 finished_at place items segments = Err errors.Unended

@@ -39,7 +39,7 @@ pub enum Ended {
 
 /// The state of a reader between two bytes. Positions are counted in bytes from the start of the stream.
 #[derive(Clone, Copy, Debug, PartialEq, Eq)]
-pub enum Place {
+pub enum Position {
     /// Between items.
     Between,
     /// In a comment.

@@ -6,7 +6,7 @@ ghost use Rattle.bc_text.specs.Letters.{is_blank};
 ghost use Rattle.bc_text.specs.Heads.{allows, limit};
 ghost use Rattle.bc_text.specs.Steps.{head_of, longer, greatest, with_digit, after_letter, after_head, after_minus, between, after_global, ended_number, word_of, is_in_range};
 
-use crate::head::{Ended, Head, Place};
+use crate::head::{Ended, Head, Position};
 use crate::text_error::TextError;
 use bc_text_items::{Base, Function, GlobalNumber, Item};
 use bc_word::Word;
@@ -109,7 +109,7 @@ pub fn with_digit(
     negative: bool,
     value: u16,
     byte: u8,
-) -> Result<Place, TextError>
+) -> Result<Position, TextError>
     requires { IsTrue (is_ascii_digit byte) }
     ensures is { result ≡ with_digit head.now from negative value byte }
     ensures in_range { IfOk result (λ place. IsTrue (is_in_range place)) }
@@ -123,7 +123,7 @@ pub fn with_digit(
     if u32::from(greatest) < more {
         return Err(TextError::BadNumber(from));
     }
-    Ok(Place::Digits {
+    Ok(Position::Digits {
         head: *head,
         from,
         negative,
@@ -133,7 +133,7 @@ pub fn with_digit(
 
 /// The state after a byte that follows a head. `BadNumber` unless it is a digit or a byte that the head allows.
 #[inline]
-pub fn after_head(head: &Head, byte: u8, at: u64) -> Result<Place, TextError>
+pub fn after_head(head: &Head, byte: u8, at: u64) -> Result<Position, TextError>
     ensures is { result ≡ after_head head.now byte at }
     ensures in_range { IfOk result (λ place. IsTrue (is_in_range place)) }
 {
@@ -141,20 +141,20 @@ pub fn after_head(head: &Head, byte: u8, at: u64) -> Result<Place, TextError>
         return with_digit(head, at, false, 0, byte);
     }
     if byte == b'-' && allows_minus(head) {
-        return Ok(Place::Minus {
+        return Ok(Position::Minus {
             head: *head,
             from: at,
         });
     }
     match longer(head, byte) {
-        Some(head) => Ok(Place::Head(head)),
+        Some(head) => Ok(Position::Head(head)),
         None => Err(TextError::BadNumber(at)),
     }
 }
 
 /// The state after a byte that follows the `-` of a number. `BadNumber` unless it is a digit.
 #[inline]
-pub fn after_minus(head: &Head, from: u64, byte: u8, at: u64) -> Result<Place, TextError>
+pub fn after_minus(head: &Head, from: u64, byte: u8, at: u64) -> Result<Position, TextError>
     ensures is { result ≡ after_minus head.now from byte at }
     ensures in_range { IfOk result (λ place. IsTrue (is_in_range place)) }
 {
@@ -167,33 +167,33 @@ pub fn after_minus(head: &Head, from: u64, byte: u8, at: u64) -> Result<Place, T
 
 /// The state after a byte between items, other than the `Z` that ends a segment. `BadCharacter` if no item begins with it.
 #[inline]
-pub fn between(byte: u8, at: u64) -> Result<Place, TextError>
+pub fn between(byte: u8, at: u64) -> Result<Position, TextError>
     ensures is { result ≡ between byte at }
     ensures in_range { IfOk result (λ place. IsTrue (is_in_range place)) }
 {
     if is_blank(byte) {
-        return Ok(Place::Between);
+        return Ok(Position::Between);
     }
     if byte == b'/' {
-        return Ok(Place::Comment);
+        return Ok(Position::Comment);
     }
     if byte.is_ascii_digit() {
         return with_digit(&Head::Label, at, false, 0, byte);
     }
     match head_of(byte) {
-        Some(head) => Ok(Place::Head(head)),
+        Some(head) => Ok(Position::Head(head)),
         None => Err(TextError::BadCharacter(at)),
     }
 }
 
 /// The state after a byte that follows the number of a global. `MissingLabel` unless it is `L`.
 #[inline]
-pub fn after_global(number: GlobalNumber, byte: u8, at: u64) -> Result<Place, TextError>
+pub fn after_global(number: GlobalNumber, byte: u8, at: u64) -> Result<Position, TextError>
     ensures is { result ≡ after_global number byte at }
     ensures in_range { IfOk result (λ place. IsTrue (is_in_range place)) }
 {
     if byte == b'L' {
-        Ok(Place::Head(Head::GlobalLabel(number)))
+        Ok(Position::Head(Head::GlobalLabel(number)))
     } else {
         Err(TextError::MissingLabel(at))
     }

@@ -3,7 +3,7 @@
 ghost use Rattle.std.specs.Prelude.{◌≡◌, ◌⊎◌, Ok, Err, MatchResult, IfOk, IsTrue};
 ghost use Rattle.bc_text.specs.Steps.{is_in_range, start, step, run, finished, begun, closed, placed_at, after_number};
 
-use crate::head::{Ended, Place};
+use crate::head::{Ended, Position};
 use crate::place::{after_global, after_head, after_minus, between, ended_number, with_digit};
 use crate::text_error::TextError;
 use bc_text_items::{Item, Segment};
@@ -18,7 +18,7 @@ pub struct Progress {
     /// The items after the last complete segment.
     items: Vec<Item>,
     /// The state between two bytes.
-    place: Place,
+    place: Position,
     /// The number of bytes read; saturates at 2^64 - 1.
     at: u64,
     alloc: Global,
@@ -35,7 +35,7 @@ impl Progress {
         Progress {
             segments: Vec::new(alloc),
             items: Vec::new(alloc),
-            place: Place::Between,
+            place: Position::Between,
             at: 0,
             alloc,
         }
@@ -47,13 +47,13 @@ impl Progress {
     {
         let items = mem::replace(&mut self.items, Vec::new(self.alloc));
         self.segments.push(Segment::new(items))?;
-        self.place = Place::Between;
+        self.place = Position::Between;
         Ok(())
     }
 
     /// Goes to the next place, or returns the fault.
     #[inline]
-    fn go_to(&mut self, place: Result<Place, TextError>) -> Result<(), TextError>
+    fn go_to(&mut self, place: Result<Position, TextError>) -> Result<(), TextError>
         requires { IfOk place (λ place. IsTrue (is_in_range place)) }
         ensures { Reaches result (progress_of self.new) (placed_at (progress_of self.old) place) }
     {
@@ -101,16 +101,16 @@ impl Progress {
         let at = self.at;
         self.at = at.saturating_add(1);
         match self.place {
-            Place::Between => self.begin(byte, at),
-            Place::Comment => {
+            Position::Between => self.begin(byte, at),
+            Position::Comment => {
                 if byte == b'\n' {
-                    self.place = Place::Between;
+                    self.place = Position::Between;
                 }
                 Ok(())
             }
-            Place::Head(head) => self.go_to(after_head(&head, byte, at)),
-            Place::Minus { head, from } => self.go_to(after_minus(&head, from, byte, at)),
-            Place::Digits {
+            Position::Head(head) => self.go_to(after_head(&head, byte, at)),
+            Position::Minus { head, from } => self.go_to(after_minus(&head, from, byte, at)),
+            Position::Digits {
                 head,
                 from,
                 negative,
@@ -139,7 +139,7 @@ impl Progress {
     pub fn finished(self) -> Result<Vec<Segment>, TextError>
         ensures { GivesSegments result (finished (progress_of self)) }
     {
-        let between = matches!(self.place, Place::Between | Place::Comment);
+        let between = matches!(self.place, Position::Between | Position::Comment);
         if between && self.items.is_empty() {
             Ok(self.segments)
         } else {

@@ -9,7 +9,7 @@ use bc_core::Root;
 use bc_text_items::Segment;
 use bc_word::Memory;
 use bcpl_cli::{Cause, Failure, ListOrder};
-use bcpl_list::{Note, Program, image_listing};
+use bcpl_list::{Note, LinkedProgram, image_listing};
 use bcpl_reports::Text;
 use std::alloc::Global;
 use std::io::Write;
@@ -125,7 +125,7 @@ fn listing_of<'p>(
     remarks: &'p [Remark],
 ) -> Result<String, Memory> {
     let notes = notes_of(alloc, remarks)?;
-    let program = Program {
+    let program = LinkedProgram {
         segments: program.segments.as_slice(),
         names,
         image: &program.image,

@@ -1,6 +1,6 @@
 //! The part of the page about a file: its lines with their code, its data, and the sizes of its routines.
 
-use crate::html::{Html, Part};
+use crate::html::{Fragment, Html};
 use crate::items::{add_data, add_items};
 use crate::locals::Locals;
 use crate::names::{GlobalName, Names, globals_of};
@@ -13,7 +13,7 @@ use bc_rules_defs::Entry;
 use bc_text_items::Item;
 use bc_word::Memory;
 use bcpl_show::{
-    Marks, Outline, Owner, Program, Purpose, leaves_of, words_of_items, words_of_pieces,
+    CodeListing, Marks, Outline, Owner, Purpose, leaves_of, words_of_items, words_of_pieces,
 };
 use std::alloc::Global;
 
@@ -48,9 +48,9 @@ fn add_entry(html: &mut Html, entry: &Entry, words: u64, items: &[Item], names: 
     html.mark("<details class=\"root\"><summary>");
     add_items(html, items);
     html.all(&[
-        Part::Mark("<span class=\"words\">"),
-        Part::Words(words),
-        Part::Mark("</span></summary>\n"),
+        Fragment::Mark("<span class=\"words\">"),
+        Fragment::Words(words),
+        Fragment::Mark("</span></summary>\n"),
     ]);
     add_root(html, entry, words, names);
     html.mark("</details>\n");
@@ -66,14 +66,17 @@ pub struct Basis<'p, 's> {
 }
 
 /// The files of a program with their lines, and the leaves of its section. `Memory` if an allocation fails.
-fn ground_of<'p, 's>(alloc: Global, program: Program<'p, 's>) -> Result<Ground<'p, 's>, Memory> {
+fn ground_of<'p, 's>(
+    alloc: Global,
+    program: CodeListing<'p, 's>,
+) -> Result<Ground<'p, 's>, Memory> {
     let leaves = leaves_of(alloc, program.tokens)?;
     Ground::new(alloc, program.files, program.main, leaves)
 }
 
 impl<'p, 's> Basis<'p, 's> {
     /// The basis for the part about a program's file. `Memory` if an allocation fails.
-    pub fn new(alloc: Global, program: Program<'p, 's>) -> Result<Basis<'p, 's>, Memory> {
+    pub fn new(alloc: Global, program: CodeListing<'p, 's>) -> Result<Basis<'p, 's>, Memory> {
         let outline = Outline::new(alloc, program.section)?;
         let marks = Marks::new(alloc, &outline, program.items.len(), program.entries)?;
         let ground = ground_of(alloc, program)?;
@@ -89,7 +92,7 @@ impl<'p, 's> Basis<'p, 's> {
 /// The part of the page about a file.
 #[derive(Drop)]
 pub struct File<'b, 'p, 's> {
-    program: Program<'p, 's>,
+    program: CodeListing<'p, 's>,
     basis: &'b Basis<'p, 's>,
     globals: Vec<GlobalName<'s>>,
     locals: Locals<'s>,
@@ -103,7 +106,7 @@ impl<'b, 'p, 's> File<'b, 'p, 's> {
     /// The part about a file of a program. `Memory` if an allocation fails.
     pub fn new(
         alloc: Global,
-        program: Program<'p, 's>,
+        program: CodeListing<'p, 's>,
         basis: &'b Basis<'p, 's>,
     ) -> Result<File<'b, 'p, 's>, Memory> {
         let globals = globals_of(alloc, program.section)?;
@@ -158,9 +161,9 @@ impl<'b, 'p, 's> File<'b, 'p, 's> {
         html.mark("<div class=\"own\">");
         add_items(html, items);
         html.all(&[
-            Part::Mark("<span>"),
-            Part::Tell(what),
-            Part::Mark("</span></div>\n"),
+            Fragment::Mark("<span>"),
+            Fragment::Tell(what),
+            Fragment::Mark("</span></div>\n"),
         ]);
     }
 
@@ -198,15 +201,15 @@ impl<'b, 'p, 's> File<'b, 'p, 's> {
             None => ("", ""),
         };
         html.all(&[
-            Part::Mark("<div class=\"line\"><pre class=\"source\"><span class=\"number\">"),
-            Part::Tell(path),
-            Part::Mark(sign),
-            Part::Number(spot.line as u64),
-            Part::Mark("</span><span style=\"--in:"),
-            Part::Number(free_columns(text)),
-            Part::Mark("\">"),
-            Part::Say(text),
-            Part::Mark("</span></pre><div class=\"code\">\n"),
+            Fragment::Mark("<div class=\"line\"><pre class=\"source\"><span class=\"number\">"),
+            Fragment::Tell(path),
+            Fragment::Mark(sign),
+            Fragment::Number(spot.line as u64),
+            Fragment::Mark("</span><span style=\"--in:"),
+            Fragment::Number(free_columns(text)),
+            Fragment::Mark("\">"),
+            Fragment::Say(text),
+            Fragment::Mark("</span></pre><div class=\"code\">\n"),
         ]);
     }
 
@@ -258,11 +261,11 @@ impl<'b, 'p, 's> File<'b, 'p, 's> {
     /// Adds the part about the file. `number` is its index among the files.
     pub fn add(&self, html: &mut Html, number: usize) {
         html.all(&[
-            Part::Mark("<h2 id=\"file"),
-            Part::Number(number as u64),
-            Part::Mark("\">"),
-            Part::Tell(self.program.files.path(self.program.main)),
-            Part::Mark("</h2>\n"),
+            Fragment::Mark("<h2 id=\"file"),
+            Fragment::Number(number as u64),
+            Fragment::Mark("\">"),
+            Fragment::Tell(self.program.files.path(self.program.main)),
+            Fragment::Mark("</h2>\n"),
         ]);
         self.add_lines(html);
         self.add_others(html);

@@ -7,7 +7,7 @@ use std::str;
 
 /// A part of a page.
 #[derive(Clone, Copy)]
-pub enum Part<'a> {
+pub enum Fragment<'a> {
     /// Markup.
     Mark(&'a str),
     /// Text, which is escaped.
@@ -123,19 +123,19 @@ impl Html {
     }
 
     /// Adds a part.
-    fn part(&mut self, part: Part<'_>) {
+    fn part(&mut self, part: Fragment<'_>) {
         match part {
-            Part::Mark(markup) => self.mark(markup),
-            Part::Tell(text) => self.tell(text),
-            Part::Say(bytes) => self.say(bytes),
-            Part::Number(number) => self.number(number),
-            Part::Words(words) => self.words(words),
-            Part::Rule(rule) => self.rule(rule),
+            Fragment::Mark(markup) => self.mark(markup),
+            Fragment::Tell(text) => self.tell(text),
+            Fragment::Say(bytes) => self.say(bytes),
+            Fragment::Number(number) => self.number(number),
+            Fragment::Words(words) => self.words(words),
+            Fragment::Rule(rule) => self.rule(rule),
         }
     }
 
     /// Adds these parts in order.
-    pub fn all(&mut self, parts: &[Part<'_>]) {
+    pub fn all(&mut self, parts: &[Fragment<'_>]) {
         for part in parts {
             self.part(*part);
         }
@@ -144,13 +144,13 @@ impl Html {
     /// Adds an element with this tag and text.
     pub fn element<'t>(&mut self, tag: &'t str, text: &'t str) {
         self.all(&[
-            Part::Mark("<"),
-            Part::Mark(tag),
-            Part::Mark(">"),
-            Part::Tell(text),
-            Part::Mark("</"),
-            Part::Mark(tag),
-            Part::Mark(">"),
+            Fragment::Mark("<"),
+            Fragment::Mark(tag),
+            Fragment::Mark(">"),
+            Fragment::Tell(text),
+            Fragment::Mark("</"),
+            Fragment::Mark(tag),
+            Fragment::Mark(">"),
         ]);
     }
 

@@ -1,6 +1,6 @@
 //! Items of INTCODE on the page.
 
-use crate::html::{Html, Part};
+use crate::html::{Fragment, Html};
 use crate::names::place_name;
 use bc_show::ShownItem;
 use bc_text_items::Item;
@@ -51,9 +51,9 @@ fn between(begins_line: bool) -> &'static str {
 /// Begins a line of data, for the place with this name.
 fn begin_data(html: &mut Html, name: &[u8]) {
     html.all(&[
-        Part::Mark("<div class=\"data\"><span class=\"name\">"),
-        Part::Say(name),
-        Part::Mark("</span><code>"),
+        Fragment::Mark("<div class=\"data\"><span class=\"name\">"),
+        Fragment::Say(name),
+        Fragment::Mark("</span><code>"),
     ]);
 }
 

@@ -12,7 +12,7 @@ const PARAMETERS: u16 = 2;
 
 /// What a scope belongs to.
 #[derive(Clone, Copy)]
-enum Kind {
+enum CellKind {
     /// A routine, which has a new frame.
     Routine,
     /// The parameter at this offset.
@@ -27,7 +27,7 @@ struct Local<'s> {
     name: &'s [u8],
     from: usize,
     to: usize,
-    kind: Kind,
+    kind: CellKind,
 }
 
 /// The scopes of a section's parameters and variables. An outer scope comes before the inner ones.
@@ -88,18 +88,18 @@ impl<'s> Locals<'s> {
     }
 
     /// The offset of a cell.
-    fn offset(&self, kind: Kind) -> Option<u16> {
+    fn offset(&self, kind: CellKind) -> Option<u16> {
         match kind {
-            Kind::Routine => None,
-            Kind::Parameter(offset) => Some(offset),
-            Kind::Variable(leaf) => self.offsets.get(leaf).copied().flatten(),
+            CellKind::Routine => None,
+            CellKind::Parameter(offset) => Some(offset),
+            CellKind::Variable(leaf) => self.offsets.get(leaf).copied().flatten(),
         }
     }
 
     /// The name of the cell at this offset inside a scope. `name` is its name outside.
     fn name_after(&self, local: &Local<'s>, name: &'s [u8], offset: u16) -> &'s [u8] {
         match local.kind {
-            Kind::Routine => b"",
+            CellKind::Routine => b"",
             kind if name.is_empty() && self.offset(kind) == Some(offset) => local.name,
             _ => name,
         }
@@ -122,7 +122,7 @@ impl<'s> Locals<'s> {
     }
 
     /// Begins a scope at the next leaf.
-    fn open(&mut self, name: &'s [u8], kind: Kind) {
+    fn open(&mut self, name: &'s [u8], kind: CellKind) {
         let local = Local {
             name,
             from: self.leaves,
@@ -215,10 +215,10 @@ impl<'s> Locals<'s> {
             match definition {
                 Definition::Variables(names, _) => {
                     for name in names {
-                        self.open(*name, Kind::Variable(usize::MAX));
+                        self.open(*name, CellKind::Variable(usize::MAX));
                     }
                 }
-                Definition::Vector(name, _) => self.open(*name, Kind::Variable(usize::MAX)),
+                Definition::Vector(name, _) => self.open(*name, CellKind::Variable(usize::MAX)),
                 Definition::Function(_, _, _) | Definition::Routine(_, _, _) => {}
             }
         }
@@ -229,7 +229,7 @@ impl<'s> Locals<'s> {
     fn set(&mut self, index: usize) -> usize {
         let leaf = self.leaves;
         if let Some(local) = self.locals.get_mut(index) {
-            local.kind = Kind::Variable(leaf);
+            local.kind = CellKind::Variable(leaf);
         }
         index.saturating_add(1)
     }
@@ -287,11 +287,11 @@ impl<'s> Locals<'s> {
     /// Passes the name and parameters of a routine. Returns the index of its scope.
     fn head(&mut self, name: &'s [u8], parameters: &[&'s [u8]]) -> usize {
         let first = self.locals.len();
-        self.open(name, Kind::Routine);
+        self.open(name, CellKind::Routine);
         self.leaf();
         let mut offset = PARAMETERS;
         for parameter in parameters {
-            self.open(*parameter, Kind::Parameter(offset));
+            self.open(*parameter, CellKind::Parameter(offset));
             self.leaf();
             offset = offset.saturating_add(1);
         }
@@ -385,7 +385,7 @@ impl<'s> Locals<'s> {
                 body,
             } => {
                 let first = self.locals.len();
-                self.open(*variable, Kind::Variable(self.leaves));
+                self.open(*variable, CellKind::Variable(self.leaves));
                 self.leaf();
                 self.expression(start);
                 self.expression(limit);

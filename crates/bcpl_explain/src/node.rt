@@ -1,7 +1,7 @@
 //! The row of a node: its least words, all rules that apply, and the rules that the derivation uses there.
 
 use crate::chosen::Chosen;
-use crate::html::{Html, Part};
+use crate::html::{Fragment, Html};
 use crate::names::{Names, cell_name, global_name, place_name};
 use crate::parts::{ANY, At, PUSH};
 use crate::rules::{AIMS, add_name, add_told_name};
@@ -20,7 +20,7 @@ pub struct Row<'e> {
 
 /// What is known about a node.
 #[derive(Clone, Copy)]
-pub struct Known<'k, 's> {
+pub struct NodeContext<'k, 's> {
     /// The rules that apply.
     pub candidates: &'k Candidates,
     /// The rules that the derivation uses.
@@ -32,15 +32,15 @@ pub struct Known<'k, 's> {
 /// Adds the name of a place, a global or a cell.
 fn add_known_name(html: &mut Html, name: &[u8]) {
     html.all(&[
-        Part::Mark(" <span class=\"name\">"),
-        Part::Say(name),
-        Part::Mark("</span>"),
+        Fragment::Mark(" <span class=\"name\">"),
+        Fragment::Say(name),
+        Fragment::Mark("</span>"),
     ]);
 }
 
 /// Adds a letter and a number.
 fn add_address(html: &mut Html, letter: &str, number: u16) {
-    html.all(&[Part::Mark(letter), Part::Number(u64::from(number))]);
+    html.all(&[Fragment::Mark(letter), Fragment::Number(u64::from(number))]);
 }
 
 /// Adds a node without its parts.
@@ -116,16 +116,20 @@ fn add_beginning(html: &mut Html, beginning: &Beginning, chosen: Option<Rule>) {
     html.mark(rule_tag(chosen == Some(beginning.rule)));
     add_name(html, beginning.rule);
     html.all(&[
-        Part::Mark("&nbsp;"),
-        Part::Number(beginning.words),
-        Part::Mark("</span>"),
+        Fragment::Mark("&nbsp;"),
+        Fragment::Number(beginning.words),
+        Fragment::Mark("</span>"),
     ]);
 }
 
 /// Adds the least words, or a dash if there is no code.
 fn add_least(html: &mut Html, words: Option<u64>) {
     match words {
-        Some(words) => html.all(&[Part::Mark("<b>"), Part::Number(words), Part::Mark("</b>")]),
+        Some(words) => html.all(&[
+            Fragment::Mark("<b>"),
+            Fragment::Number(words),
+            Fragment::Mark("</b>"),
+        ]),
         None => html.mark("&ndash;"),
     }
 }
@@ -158,23 +162,23 @@ fn add_chain(html: &mut Html, chosen: Chosen) {
 }
 
 /// Adds the row of a node.
-pub fn add_row(html: &mut Html, row: Row<'_>, known: Known<'_, '_>) {
+pub fn add_row(html: &mut Html, row: Row<'_>, known: NodeContext<'_, '_>) {
     html.all(&[
-        Part::Mark("<tr><th style=\"--depth:"),
-        Part::Number(row.depth.min(24)),
-        Part::Mark("\">"),
+        Fragment::Mark("<tr><th style=\"--depth:"),
+        Fragment::Number(row.depth.min(24)),
+        Fragment::Mark("\">"),
     ]);
     add_head(html, row.at.e, known.names);
     html.all(&[
-        Part::Mark("</th><td>"),
-        Part::Number(row.at.level),
-        Part::Mark("</td>"),
+        Fragment::Mark("</th><td>"),
+        Fragment::Number(row.at.level),
+        Fragment::Mark("</td>"),
     ]);
     add_rules(html, known);
 }
 
 /// Adds the cells with the rules of a node, and ends its row.
-fn add_rules(html: &mut Html, known: Known<'_, '_>) {
+fn add_rules(html: &mut Html, known: NodeContext<'_, '_>) {
     for aim in AIMS {
         add_cell(
             html,

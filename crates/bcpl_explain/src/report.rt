@@ -1,11 +1,11 @@
 //! The page as a whole: how to read it, the files, the rules, and what is proved.
 
 use crate::file::{Basis, File};
-use crate::html::{Html, Part};
+use crate::html::{Fragment, Html};
 use crate::rules::add_table;
 use crate::style::STYLE;
 use bc_word::Memory;
-use bcpl_show::Program;
+use bcpl_show::CodeListing;
 use std::alloc::Global;
 
 /// The result of checking the program's certificate.
@@ -75,49 +75,49 @@ const NUMBERS: &str =
 /// Adds what is proved and what was checked.
 fn add_claims(html: &mut Html, checked: Checked) {
     html.all(&[
-        Part::Mark(THEOREM),
-        Part::Mark(
+        Fragment::Mark(THEOREM),
+        Fragment::Mark(
             "<p>The certificate of this program, including the library, was checked for this page. It has ",
         ),
-        Part::Number(checked.entries),
-        Part::Mark(" expressions, tests and assignments, of "),
-        Part::Words(checked.words),
-        Part::Mark(" in all. None of them has a derivation with fewer words.</p>\n"),
-        Part::Mark(NUMBERS),
+        Fragment::Number(checked.entries),
+        Fragment::Mark(" expressions, tests and assignments, of "),
+        Fragment::Words(checked.words),
+        Fragment::Mark(" in all. None of them has a derivation with fewer words.</p>\n"),
+        Fragment::Mark(NUMBERS),
     ]);
 }
 
 /// Adds the head of the page. Its title begins with this path.
 fn begin(html: &mut Html, path: &str) {
     html.all(&[
-        Part::Mark("<!DOCTYPE html>\n<html lang=\"en\">\n<head>\n<meta charset=\"utf-8\">\n"),
-        Part::Mark(
+        Fragment::Mark("<!DOCTYPE html>\n<html lang=\"en\">\n<head>\n<meta charset=\"utf-8\">\n"),
+        Fragment::Mark(
             "<meta name=\"viewport\" content=\"width=device-width, initial-scale=1\">\n<title>",
         ),
-        Part::Tell(path),
-        Part::Mark(": why its code is not shorter</title>\n<style>"),
-        Part::Mark(STYLE),
-        Part::Mark("</style>\n</head>\n<body>\n<h1>Why this code is not shorter</h1>\n"),
+        Fragment::Tell(path),
+        Fragment::Mark(": why its code is not shorter</title>\n<style>"),
+        Fragment::Mark(STYLE),
+        Fragment::Mark("</style>\n</head>\n<body>\n<h1>Why this code is not shorter</h1>\n"),
     ]);
 }
 
 /// Adds links to the parts of the page.
-fn add_ways(html: &mut Html, programs: &[Program<'_, '_>]) {
+fn add_ways(html: &mut Html, programs: &[CodeListing<'_, '_>]) {
     html.mark("<nav>");
     for (number, program) in programs.iter().enumerate() {
         html.all(&[
-            Part::Mark("<a href=\"#file"),
-            Part::Number(number as u64),
-            Part::Mark("\">"),
-            Part::Tell(program.files.path(program.main)),
-            Part::Mark("</a> "),
+            Fragment::Mark("<a href=\"#file"),
+            Fragment::Number(number as u64),
+            Fragment::Mark("\">"),
+            Fragment::Tell(program.files.path(program.main)),
+            Fragment::Mark("</a> "),
         ]);
     }
     html.mark("<a href=\"#rules\">The rules</a> <a href=\"#proved\">What is proved</a></nav>\n");
 }
 
 /// The path of the first file.
-fn path_of<'a>(programs: &[Program<'a, '_>]) -> &'a str {
+fn path_of<'a>(programs: &[CodeListing<'a, '_>]) -> &'a str {
     match programs.first() {
         Some(program) => program.files.path(program.main),
         None => "",
@@ -129,7 +129,7 @@ fn path_of<'a>(programs: &[Program<'a, '_>]) -> &'a str {
 /// checked. The page refers to nothing outside it. `Memory` if an allocation fails.
 pub fn explanation(
     alloc: Global,
-    programs: &[Program<'_, '_>],
+    programs: &[CodeListing<'_, '_>],
     checked: Checked,
 ) -> Result<Vec<u8>, Memory> {
     let mut html = Html::new(alloc);
@@ -138,7 +138,7 @@ pub fn explanation(
 }
 
 /// Adds the part of a file with this index. Adds its uses of each rule to `used`.
-fn add_file(html: &mut Html, number: usize, program: Program<'_, '_>, used: &mut [u64; 34]) {
+fn add_file(html: &mut Html, number: usize, program: CodeListing<'_, '_>, used: &mut [u64; 34]) {
     let Ok(basis) = Basis::new(html.alloc(), program) else {
         return html.refuse();
     };
@@ -152,7 +152,7 @@ fn add_file(html: &mut Html, number: usize, program: Program<'_, '_>, used: &mut
 }
 
 /// Adds the parts of all files, and the rule table.
-fn add_files(html: &mut Html, programs: &[Program<'_, '_>]) {
+fn add_files(html: &mut Html, programs: &[CodeListing<'_, '_>]) {
     let mut used = [0u64; 34];
     for (number, program) in programs.iter().enumerate() {
         add_file(html, number, *program, &mut used);
@@ -161,10 +161,14 @@ fn add_files(html: &mut Html, programs: &[Program<'_, '_>]) {
 }
 
 /// Adds the whole page.
-fn add_page(html: &mut Html, programs: &[Program<'_, '_>], checked: Checked) {
+fn add_page(html: &mut Html, programs: &[CodeListing<'_, '_>], checked: Checked) {
     begin(html, path_of(programs));
     add_ways(html, programs);
-    html.all(&[Part::Mark(OPENING), Part::Mark(CODE), Part::Mark(TREES)]);
+    html.all(&[
+        Fragment::Mark(OPENING),
+        Fragment::Mark(CODE),
+        Fragment::Mark(TREES),
+    ]);
     add_files(html, programs);
     add_claims(html, checked);
     html.mark("</body>\n</html>\n");

@@ -1,9 +1,9 @@
 //! The explanation of a root's code: its tree, with the rules of each node.
 
 use crate::chosen::{Chosen, chosen_rules, sides, top};
-use crate::html::{Html, Part};
+use crate::html::{Fragment, Html};
 use crate::names::Names;
-use crate::node::{Known, Row, add_row};
+use crate::node::{NodeContext, Row, add_row};
 use crate::parts::{At, parts};
 use crate::rules::{AIMS, add_name, aim_words};
 use bc_candidates::{Candidates, candidates};
@@ -35,7 +35,7 @@ fn add_known(html: &mut Html, row: Row<'_>, nodes: Nodes<'_, '_>) {
         (Some(candidates), Some(chosen)) => add_row(
             html,
             row,
-            Known {
+            NodeContext {
                 candidates,
                 chosen: *chosen,
                 names: nodes.names,
@@ -108,9 +108,9 @@ fn add_assignment(html: &mut Html, rule: Rule, level: u64, words: u64) {
     html.mark("<p><span class=\"chosen\">&#9670;&nbsp;");
     add_name(html, rule);
     html.all(&[
-        Part::Mark("&nbsp;"),
-        Part::Number(words),
-        Part::Mark("</span> "),
+        Fragment::Mark("&nbsp;"),
+        Fragment::Number(words),
+        Fragment::Mark("</span> "),
     ]);
     match rule {
         Rule::A2 => add_either(html, level, words),
@@ -135,9 +135,9 @@ fn add_either(html: &mut Html, level: u64, words: u64) {
     let both = cell_words(level.saturating_add(1)).saturating_mul(2);
     add_name(html, Rule::A3);
     html.all(&[
-        Part::Mark("&nbsp;"),
-        Part::Number(words.saturating_add(both)),
-        Part::Mark(
+        Fragment::Mark("&nbsp;"),
+        Fragment::Number(words.saturating_add(both)),
+        Fragment::Mark(
             " Value and address may be evaluated in either order, so only one of them is kept in a cell. By A3, which applies too, both are.",
         ),
     ]);
@@ -162,11 +162,11 @@ fn add_heads(html: &mut Html) {
 /// Adds what kind of root this is and, for an assignment, why it has its rule.
 fn add_kind(html: &mut Html, entry: &Entry, words: u64) {
     html.all(&[
-        Part::Mark("<p>"),
-        Part::Tell(kind_of(&entry.root)),
-        Part::Mark(", in "),
-        Part::Words(words),
-        Part::Mark(". No derivation has fewer.</p>\n"),
+        Fragment::Mark("<p>"),
+        Fragment::Tell(kind_of(&entry.root)),
+        Fragment::Mark(", in "),
+        Fragment::Words(words),
+        Fragment::Mark(". No derivation has fewer.</p>\n"),
     ]);
     if let Root::Assign { level, .. } = &entry.root {
         add_assignment(html, entry.derivation.rule, u64::from(*level), words);

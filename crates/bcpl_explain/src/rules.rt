@@ -1,6 +1,6 @@
 //! The rule table as text.
 
-use crate::html::{Html, Part};
+use crate::html::{Fragment, Html};
 use bc_rules_defs::{Aim, Mode, RULES, Rule};
 
 /// The four aims, in the order of a certificate's numbers.
@@ -128,47 +128,47 @@ fn code_of_test(rule: Rule) -> &'static str {
 /// Adds the name of a rule, with a link to its line of the table.
 pub fn add_name(html: &mut Html, rule: Rule) {
     html.all(&[
-        Part::Mark("<a href=\"#"),
-        Part::Rule(rule),
-        Part::Mark("\">"),
-        Part::Rule(rule),
-        Part::Mark("</a>"),
+        Fragment::Mark("<a href=\"#"),
+        Fragment::Rule(rule),
+        Fragment::Mark("\">"),
+        Fragment::Rule(rule),
+        Fragment::Mark("</a>"),
     ]);
 }
 
 /// Adds the name of a rule like `add_name`, with a tooltip that says where it applies and which code it has.
 pub fn add_told_name(html: &mut Html, rule: Rule) {
     html.all(&[
-        Part::Mark("<a href=\"#"),
-        Part::Rule(rule),
-        Part::Mark("\" title=\""),
-        Part::Tell(place_of(rule)),
-        Part::Mark(": "),
-        Part::Tell(code_of(rule)),
-        Part::Mark("\">"),
-        Part::Rule(rule),
-        Part::Mark("</a>"),
+        Fragment::Mark("<a href=\"#"),
+        Fragment::Rule(rule),
+        Fragment::Mark("\" title=\""),
+        Fragment::Tell(place_of(rule)),
+        Fragment::Mark(": "),
+        Fragment::Tell(code_of(rule)),
+        Fragment::Mark("\">"),
+        Fragment::Rule(rule),
+        Fragment::Mark("</a>"),
     ]);
 }
 
 /// Adds the line of a rule, with its number of uses.
 fn add_line(html: &mut Html, rule: Rule, count: u64) {
     html.all(&[
-        Part::Mark("<tr id=\""),
-        Part::Rule(rule),
-        Part::Mark("\"><th>"),
-        Part::Rule(rule),
-        Part::Mark("</th><td>"),
-        Part::Tell(aims_of(rule)),
-        Part::Mark("</td><td>"),
-        Part::Tell(place_of(rule)),
+        Fragment::Mark("<tr id=\""),
+        Fragment::Rule(rule),
+        Fragment::Mark("\"><th>"),
+        Fragment::Rule(rule),
+        Fragment::Mark("</th><td>"),
+        Fragment::Tell(aims_of(rule)),
+        Fragment::Mark("</td><td>"),
+        Fragment::Tell(place_of(rule)),
     ]);
     html.all(&[
-        Part::Mark("</td><td><code>"),
-        Part::Tell(code_of(rule)),
-        Part::Mark("</code></td><td>"),
-        Part::Number(count),
-        Part::Mark("</td></tr>\n"),
+        Fragment::Mark("</td><td><code>"),
+        Fragment::Tell(code_of(rule)),
+        Fragment::Mark("</code></td><td>"),
+        Fragment::Number(count),
+        Fragment::Mark("</td></tr>\n"),
     ]);
 }
 

@@ -1,6 +1,6 @@
 //! The sizes of a file's routines, and how often each rule is used.
 
-use crate::html::{Html, Part};
+use crate::html::{Fragment, Html};
 use bc_rules_defs::{Derivation, RULES, Rule};
 use std::alloc::Global;
 
@@ -93,15 +93,15 @@ impl<'s> Totals<'s> {
     /// Adds a line of the table: a name, the words of roots and commands, and their sum.
     fn add_line(html: &mut Html, name: &[u8], roots: u64, commands: u64) {
         html.all(&[
-            Part::Mark("<tr><th>"),
-            Part::Say(name),
-            Part::Mark("</th><td>"),
-            Part::Number(roots),
-            Part::Mark("</td><td>"),
-            Part::Number(commands),
-            Part::Mark("</td><td>"),
-            Part::Number(roots.saturating_add(commands)),
-            Part::Mark("</td></tr>\n"),
+            Fragment::Mark("<tr><th>"),
+            Fragment::Say(name),
+            Fragment::Mark("</th><td>"),
+            Fragment::Number(roots),
+            Fragment::Mark("</td><td>"),
+            Fragment::Number(commands),
+            Fragment::Mark("</td><td>"),
+            Fragment::Number(roots.saturating_add(commands)),
+            Fragment::Mark("</td></tr>\n"),
         ]);
     }
 
@@ -109,15 +109,15 @@ impl<'s> Totals<'s> {
     fn add_sums(&self, html: &mut Html, roots: u64, commands: u64) {
         let all = roots.saturating_add(commands).saturating_add(self.data);
         html.all(&[
-            Part::Mark("<tr><th>data</th><td></td><td></td><td>"),
-            Part::Number(self.data),
-            Part::Mark("</td></tr>\n<tr class=\"sum\"><th>the segment</th><td>"),
-            Part::Number(roots),
-            Part::Mark("</td><td>"),
-            Part::Number(commands),
-            Part::Mark("</td><td>"),
-            Part::Number(all),
-            Part::Mark("</td></tr>\n"),
+            Fragment::Mark("<tr><th>data</th><td></td><td></td><td>"),
+            Fragment::Number(self.data),
+            Fragment::Mark("</td></tr>\n<tr class=\"sum\"><th>the segment</th><td>"),
+            Fragment::Number(roots),
+            Fragment::Mark("</td><td>"),
+            Fragment::Number(commands),
+            Fragment::Mark("</td><td>"),
+            Fragment::Number(all),
+            Fragment::Mark("</td></tr>\n"),
         ]);
     }
 

@@ -6,4 +6,4 @@ mod page;
 mod references;
 mod strings;
 
-pub use listing::{Note, Program, image_listing};
+pub use listing::{LinkedProgram, Note, image_listing};

@@ -21,7 +21,7 @@ enum Listed {
 
 /// How a name is declared.
 #[derive(Clone, Copy)]
-enum Kind {
+enum DeclarationKind {
     Defined,
     Parameter,
     Counter,
@@ -83,20 +83,20 @@ fn begins(tokens: &[Token<'_>], place: usize) -> bool {
 }
 
 /// How the name at an index is declared there, given what the tokens before it list. `None` if it isn't declared there.
-fn kind_at(tokens: &[Token<'_>], place: usize, listed: Listed) -> Option<Kind> {
+fn kind_at(tokens: &[Token<'_>], place: usize, listed: Listed) -> Option<DeclarationKind> {
     let next = place.saturating_add(1);
     match listed {
-        Listed::Defined => Some(Kind::Defined),
-        Listed::Parameters => Some(Kind::Parameter),
-        Listed::Counter => Some(Kind::Counter),
+        Listed::Defined => Some(DeclarationKind::Defined),
+        Listed::Parameters => Some(DeclarationKind::Parameter),
+        Listed::Counter => Some(DeclarationKind::Counter),
         Listed::Constants => {
             let has_value = is_at(tokens, next, Symbol::Equal)
                 || is_at(tokens, next, Symbol::Colon);
-            (has_value && begins(tokens, place)).then_some(Kind::Constant)
+            (has_value && begins(tokens, place)).then_some(DeclarationKind::Constant)
         }
         Listed::Nothing => {
             let is_label = is_at(tokens, next, Symbol::Colon) && begins(tokens, place);
-            is_label.then_some(Kind::Label)
+            is_label.then_some(DeclarationKind::Label)
         }
     }
 }
@@ -132,10 +132,10 @@ fn encloses(
     tokens: &[Token<'_>],
     declared: usize,
     used: usize,
-    kind: Kind,
+    kind: DeclarationKind,
 ) -> Result<bool, Memory> {
     let within = match kind {
-        Kind::Constant => 1,
+        DeclarationKind::Constant => 1,
         _ => 0,
     };
     match bracket_around(alloc, tokens, declared, within)? {
@@ -145,12 +145,12 @@ fn encloses(
 }
 
 /// The sentence on a declaration whose name is used elsewhere.
-fn sentence_on(kind: Kind, is_enclosed: bool, is_after: bool) -> &'static str {
+fn sentence_on(kind: DeclarationKind, is_enclosed: bool, is_after: bool) -> &'static str {
     match kind {
-        Kind::Parameter => "is a parameter here, in scope only in this routine",
-        Kind::Counter => "is the variable of a FOR here, in scope only in that FOR",
-        Kind::Label => "is a label here, in another routine or an inner block",
-        Kind::Defined | Kind::Constant => {
+        DeclarationKind::Parameter => "is a parameter here, in scope only in this routine",
+        DeclarationKind::Counter => "is the variable of a FOR here, in scope only in that FOR",
+        DeclarationKind::Label => "is a label here, in another routine or an inner block",
+        DeclarationKind::Defined | DeclarationKind::Constant => {
             if is_enclosed && is_after {
                 "is declared here, after its use"
             } else {
@@ -178,7 +178,9 @@ pub fn declaration_of(
                     index: place,
                     sentence: sentence_on(kind, is_enclosed, place > used),
                 };
-                if is_enclosed && matches!(kind, Kind::Defined | Kind::Constant) {
+                if is_enclosed
+                    && matches!(kind, DeclarationKind::Defined | DeclarationKind::Constant)
+                {
                     return Ok(Some(found));
                 }
                 first = first.or(Some(found));
@@ -195,9 +197,9 @@ fn shares_list(
     tokens: &[Token<'_>],
     declared: usize,
     used: usize,
-    kind: Kind,
+    kind: DeclarationKind,
 ) -> Result<bool, Memory> {
-    let Kind::Constant = kind else {
+    let DeclarationKind::Constant = kind else {
         return Ok(false)
     };
     let list = bracket_around(alloc, tokens, declared, 0)?;

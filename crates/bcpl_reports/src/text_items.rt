@@ -55,13 +55,13 @@ fn begins(byte: u8) -> Begun {
 
 /// An iteration over the contents of a text.
 #[derive(Clone, Copy)]
-struct Walk<'a> {
+struct ItemScan<'a> {
     bytes: &'a [u8],
     /// The offset of what comes next.
     at: usize,
 }
 
-impl<'a> Walk<'a> {
+impl<'a> ItemScan<'a> {
     /// The next element and its stretch; `None` at the end of the text.
     fn next(&mut self) -> Option<(Begun, Stretch)> {
         let at = self.at;
@@ -84,7 +84,7 @@ impl<'a> Walk<'a> {
 
 /// How many segments a text has.
 fn count(bytes: &[u8]) -> usize {
-    let mut walk = Walk { bytes, at: 0 };
+    let mut walk = ItemScan { bytes, at: 0 };
     let mut count: usize = 0;
     for _ in bytes {
         match walk.next() {
@@ -98,7 +98,7 @@ fn count(bytes: &[u8]) -> usize {
 
 /// The item with this index in this segment of a text.
 fn nth(bytes: &[u8], segment: usize, index: usize) -> Option<Stretch> {
-    let mut walk = Walk { bytes, at: 0 };
+    let mut walk = ItemScan { bytes, at: 0 };
     let mut segment_at: usize = 0;
     let mut left = index;
     for _ in bytes {

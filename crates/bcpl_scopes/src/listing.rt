@@ -1,5 +1,5 @@
 //! The listing `scopes`: its text, from what the walk found.
-use crate::walk::{Cells, Datum, Frame, Known, Row, Walk};
+use crate::walk::{Cells, Datum, Frame, Row, ScopeContext, ScopeWalk};
 use bc_core::{Core, Place};
 use bc_lex_tokens::Token;
 use bc_parse_tree::Section;
@@ -49,7 +49,7 @@ struct Listing<'p, 's> {
     scopes: Scopes<'p, 's>,
     lines: &'p Lines,
     leaves: &'p [Token<'s>],
-    walk: &'p Walk<'p, 's>,
+    walk: &'p ScopeWalk<'p, 's>,
 }
 
 /// Whether `global` is this number.
@@ -286,7 +286,7 @@ impl<'p, 's> Listing<'p, 's> {
     }
 
     /// Adds the line of a global.
-    fn add_global(&mut self, known: Known<'s>) {
+    fn add_global(&mut self, known: ScopeContext<'s>) {
         self.page.add_all(&[
             Field::Number(u64::from(known.number), 8),
             Field::Text("  "),
@@ -300,7 +300,7 @@ impl<'p, 's> Listing<'p, 's> {
     }
 
     /// Whether a global is listed: it is declared in the file, used or set.
-    fn is_told(&self, known: Known<'s>) -> bool {
+    fn is_told(&self, known: ScopeContext<'s>) -> bool {
         let is_here = match self.leaves.get(known.leaf) {
             Some(token) => token.file == self.scopes.main,
             None => false,
@@ -324,7 +324,7 @@ impl<'p, 's> Listing<'p, 's> {
 /// The listing `scopes` of a section: the frame of each routine, then statics, tables and strings, then globals.
 /// `Memory` if an allocation fails.
 pub fn scope_listing(alloc: Global, scopes: Scopes<'_, '_>) -> Result<Vec<u8>, Memory> {
-    let mut walk = Walk::new(alloc, scopes.core);
+    let mut walk = ScopeWalk::new(alloc, scopes.core);
     walk.section(scopes.section)?;
     let lines = Lines::new(alloc, scopes.files.text(scopes.main))?;
     let leaves = leaves_of(alloc, scopes.tokens)?;

@@ -69,7 +69,7 @@ pub struct Datum {
 
 /// A global that is declared.
 #[derive(Clone, Copy)]
-pub struct Known<'s> {
+pub struct ScopeContext<'s> {
     /// Its name.
     pub name: &'s [u8],
     /// Its number.
@@ -80,7 +80,7 @@ pub struct Known<'s> {
 
 /// The walk, with what it found.
 #[derive(Drop)]
-pub struct Walk<'p, 's> {
+pub struct ScopeWalk<'p, 's> {
     core: &'p Core,
     scope: Scope<'s>,
     at: Numbers,
@@ -92,17 +92,17 @@ pub struct Walk<'p, 's> {
     /// The statics, tables and strings.
     pub data: Vec<Datum>,
     /// The globals that are declared.
-    pub globals: Vec<Known<'s>>,
+    pub globals: Vec<ScopeContext<'s>>,
     /// The globals that are used or set.
     pub used: Vec<u16>,
     /// Whether an allocation failed. Then the rest is void.
     is_refused: bool,
 }
 
-impl<'p, 's> Walk<'p, 's> {
+impl<'p, 's> ScopeWalk<'p, 's> {
     /// Begins a walk over the section that was translated to `core`.
-    pub fn new(alloc: Global, core: &'p Core) -> Walk<'p, 's> {
-        Walk {
+    pub fn new(alloc: Global, core: &'p Core) -> ScopeWalk<'p, 's> {
+        ScopeWalk {
             core,
             scope: Scope::new(alloc),
             at: Numbers::start(),
@@ -294,7 +294,7 @@ impl<'p, 's> Walk<'p, 's> {
 
     /// Records the global at the next leaf.
     fn keep_global(&mut self, name: &'s [u8], number: u16) {
-        let known = Known {
+        let known = ScopeContext {
             name,
             number,
             leaf: self.leaves,

@@ -40,7 +40,7 @@ const SIZES: [&str; 8] = [
 
 /// A section with its code, as the compiler produced them.
 #[derive(Clone, Copy)]
-pub struct Program<'p, 's> {
+pub struct CodeListing<'p, 's> {
     /// The sources and their paths.
     pub files: Files<'p, 's>,
     /// The index of the file among the sources.
@@ -78,7 +78,7 @@ struct Line {
 #[derive(Drop)]
 struct Listing<'p, 's> {
     page: Page,
-    program: Program<'p, 's>,
+    program: CodeListing<'p, 's>,
     text: &'s [u8],
     lines: &'p Lines,
     leaves: &'p [Token<'s>],
@@ -372,10 +372,7 @@ impl<'p, 's> Listing<'p, 's> {
     fn tell_line_of(&mut self, token: Token<'s>) {
         if token.file == self.program.main {
             let number = self.lines.number_at(token.start);
-            return self.page.add_line(&[
-                Field::Text(" on line "),
-                Field::Number(number as u64, 0),
-            ]);
+            return self.page.add_line(&[Field::Text(" on line "), Field::Number(number as u64, 0)]);
         }
         let text = self.program.files.text(token.file);
         let Ok(lines) = Lines::new(self.page.alloc(), text) else {
@@ -529,7 +526,7 @@ struct Beside<'p, 's> {
 /// The listing of a program's code.
 fn listed<'p, 's>(
     alloc: Global,
-    program: Program<'p, 's>,
+    program: CodeListing<'p, 's>,
     beside: Beside<'p, 's>,
 ) -> Result<Vec<u8>, Memory> {
     let Beside {
@@ -562,7 +559,7 @@ fn listed<'p, 's>(
 /// The listing of a program's code, with the owners of its items.
 fn listed_by_marks(
     alloc: Global,
-    program: Program<'_, '_>,
+    program: CodeListing<'_, '_>,
     outline: &Outline,
     marks: &Marks,
 ) -> Result<Vec<u8>, Memory> {
@@ -580,7 +577,7 @@ fn listed_by_marks(
 /// The listing of a program's code, with the steps of its outline.
 fn listed_by_steps(
     alloc: Global,
-    program: Program<'_, '_>,
+    program: CodeListing<'_, '_>,
     outline: &Outline,
 ) -> Result<Vec<u8>, Memory> {
     let marks = Marks::new(alloc, outline, program.items.len(), program.entries)?;
@@ -589,7 +586,7 @@ fn listed_by_steps(
 
 /// The listing `code` of a section: each source line as a comment before its code, then labels, data, and the sizes.
 /// Without its comments it is the text of the segment. `Memory` if an allocation fails.
-pub fn code_listing(alloc: Global, program: Program<'_, '_>) -> Result<Vec<u8>, Memory> {
+pub fn code_listing(alloc: Global, program: CodeListing<'_, '_>) -> Result<Vec<u8>, Memory> {
     let outline = Outline::new(alloc, program.section)?;
     listed_by_steps(alloc, program, &outline)
 }

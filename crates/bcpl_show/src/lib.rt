@@ -13,7 +13,7 @@ mod tokens;
 mod tree;
 
 pub use bc_parse_tree::leaves_of;
-pub use code::{Program, code_listing, unit};
+pub use code::{CodeListing, code_listing, unit};
 pub use lines::{Files, Lines};
 pub use marks::{Marks, Own, Owner};
 pub use outline::{Outline, Purpose, Step, Work};

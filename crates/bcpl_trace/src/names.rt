@@ -13,17 +13,17 @@ const FIRST_SEGMENT: usize = 520;
 
 /// A label of a segment.
 #[derive(Clone, Copy)]
-struct Place {
+struct CodePlace {
     segment: usize,
     label: u16,
 }
 
 /// The first label at this address.
-fn label_at(image: &Image, address: u16) -> Option<Place> {
+fn label_at(image: &Image, address: u16) -> Option<CodePlace> {
     for (segment, place) in image.places.as_slice().iter().enumerate() {
         for (label, at) in place.labels.as_slice() {
             if at.get() == address {
-                return Some(Place {
+                return Some(CodePlace {
                     segment,
                     label: label.get(),
                 });

@@ -36,7 +36,7 @@ pub struct Declared<'s> {
 
 /// What is known about a name in a main.
 #[derive(Clone, Copy, Default)]
-struct Known {
+struct DeclaredName {
     /// Its last declaration, as an index into all declarations.
     last: Option<usize>,
     /// How many routines have this name.
@@ -50,19 +50,19 @@ struct Known {
     uses: Uses,
 }
 
-impl Known {
+impl DeclaredName {
     /// What is known after one more declaration, at the token `at`; `index` is its index among all declarations.
-    fn with(self, meaning: Meaning, at: usize, index: usize) -> Known {
-        let known = Known {
+    fn with(self, meaning: Meaning, at: usize, index: usize) -> DeclaredName {
+        let known = DeclaredName {
             last: Some(index),
             ..self
         };
         match meaning {
-            Meaning::Global(number) => Known {
+            Meaning::Global(number) => DeclaredName {
                 global: Some((at, number)),
                 ..known
             },
-            Meaning::Routine(count) => Known {
+            Meaning::Routine(count) => DeclaredName {
                 routines: self.routines.saturating_add(1),
                 parameters: if self.routines == 0 {
                     count
@@ -71,7 +71,7 @@ impl Known {
                 },
                 ..known
             },
-            Meaning::Label | Meaning::Other => Known {
+            Meaning::Label | Meaning::Other => DeclaredName {
                 is_other: true,
                 ..known
             },
@@ -91,7 +91,7 @@ struct Numbered {
 pub struct Declarations<'s> {
     /// The declarations, in text order.
     pub all: Vec<Declared<'s>>,
-    names: IndexMap<&'s [u8], Known>,
+    names: IndexMap<&'s [u8], DeclaredName>,
     /// For each file and number, the name of the first global declared with it.
     numbers: IndexMap<Numbered, &'s [u8]>,
 }
@@ -247,7 +247,7 @@ impl<'s> Declarations<'s> {
         index: usize,
     ) -> Result<(), Memory> {
         let earlier = self.known(name);
-        let known = Known {
+        let known = DeclaredName {
             uses: earlier.uses.with(tokens, index),
             ..earlier
         };
@@ -291,10 +291,10 @@ impl<'s> Declarations<'s> {
     }
 
     /// What is known about this name.
-    fn known(&self, name: &[u8]) -> Known {
+    fn known(&self, name: &[u8]) -> DeclaredName {
         match self.names.get(name) {
             Some(known) => *known,
-            None => Known::default(),
+            None => DeclaredName::default(),
         }
     }
 

@@ -125,7 +125,7 @@ fn after_signs(tokens: &[Token<'_>], index: usize) -> usize {
 
 /// The state of a scan of an expression's tokens.
 #[derive(Clone, Copy)]
-struct Walk {
+struct ExtentWalk {
     /// How many brackets are open.
     depth: usize,
     /// How many conditional expressions still need their comma.
@@ -135,7 +135,7 @@ struct Walk {
     is_assignment: bool,
 }
 
-impl Walk {
+impl ExtentWalk {
     /// Takes the token with this index.
     fn pass(&mut self, tokens: &[Token<'_>], index: usize) {
         match symbol_at(tokens, index) {
@@ -162,7 +162,7 @@ impl Walk {
 /// The tokens of the expression, test or assignment whose first leaf is at this index.
 pub fn extent_from(tokens: &[Token<'_>], index: usize) -> Extent {
     let first = after_signs(tokens, index);
-    let mut walk = Walk {
+    let mut walk = ExtentWalk {
         depth: 0,
         arrows: 0,
         comma: None,

@@ -2,9 +2,9 @@
 
 use crate::calls::{Call, Parameter};
 use crate::extent::{Extent, only_reading};
-use crate::owner::{Kind, Owner, owner_of};
+use crate::owner::{Owner, OwnerKind, owner_of};
 use crate::placed::{ReadMain, labelled, read};
-use crate::sentence::{Known, ending, help, say};
+use crate::sentence::{WildContext, ending, help, say};
 use bc_interpret_pure::Cause;
 use bc_interpret_trace::Standing;
 use bc_lex::Source;
@@ -16,7 +16,7 @@ use std::alloc::Global;
 
 /// A program that was built.
 #[derive(Clone, Copy)]
-pub struct Program<'p, 's> {
+pub struct WildProgram<'p, 's> {
     /// All sources.
     pub sources: &'p [Source<'s>],
     /// The indexes of the mains, in the order of their segments.
@@ -47,7 +47,7 @@ pub struct Stand<'m> {
 
 /// Where a run is in one call.
 #[derive(Drop)]
-struct Place<'s> {
+struct AccessPlace<'s> {
     read: ReadMain<'s>,
     /// The label of the routine.
     label: u64,
@@ -55,7 +55,7 @@ struct Place<'s> {
     extent: Option<Extent>,
 }
 
-impl<'s> Place<'s> {
+impl<'s> AccessPlace<'s> {
     /// The name of the routine.
     fn name(&self) -> Option<&'s [u8]> {
         self.read.text(self.read.sites.label(self.label)?)
@@ -86,15 +86,15 @@ impl<'s> Place<'s> {
 /// Where the run is in this call; `None` if that is a routine of the library which no source has.
 fn place_of<'s>(
     draft: &mut Draft,
-    program: &Program<'_, 's>,
+    program: &WildProgram<'_, 's>,
     standing: &Standing,
-) -> Option<Place<'s>> {
+) -> Option<AccessPlace<'s>> {
     let called = labelled(program.image, standing.routine)?;
     let main = program.mains.get(called.segment)?;
     let read = read(draft, program.sources, *main)?;
     let root = read.root(called.label, standing);
     let extent = root.and_then(|root| read.extent_of_root(root));
-    Some(Place {
+    Some(AccessPlace {
         read,
         label: called.label,
         extent,
@@ -114,12 +114,12 @@ const NOWHERE: Spot = Spot {
     is_exact: true,
 };
 
-impl<'s> Place<'s> {
+impl<'s> AccessPlace<'s> {
     /// The name of the variable that an address belongs to, if it is one of this call, which is `back` calls older than
     /// the newest one.
     fn variable(&self, back: usize, owner: Option<&Owner>) -> Option<&'s [u8]> {
         match owner?.kind {
-            Kind::Variable { back: of, leaf } if of == back => self.read.text(leaf),
+            OwnerKind::Variable { back: of, leaf } if of == back => self.read.text(leaf),
             _ => None,
         }
     }
@@ -149,7 +149,7 @@ impl<'s> Place<'s> {
 /// Where an access is, in the newest call whose routine is in a source.
 fn spot_of(
     draft: &mut Draft,
-    program: &Program<'_, '_>,
+    program: &WildProgram<'_, '_>,
     standings: &[Standing],
     owner: Option<&Owner>,
 ) -> Spot {
@@ -172,7 +172,7 @@ struct NotHanded {
 /// The only call of the routine with this name that a run can be at in this call.
 fn call_in(
     draft: &mut Draft,
-    program: &Program<'_, '_>,
+    program: &WildProgram<'_, '_>,
     standing: Option<&Standing>,
     name: Option<&[u8]>,
 ) -> Option<Call> {
@@ -249,11 +249,11 @@ impl Lacking<'_> {
 /// The parameter that was read, if no argument was passed for it. That is so for every parameter without a value.
 fn not_handed(
     draft: &mut Draft,
-    program: &Program<'_, '_>,
+    program: &WildProgram<'_, '_>,
     met: &Met<'_>,
     owner: Option<&Owner>,
 ) -> Option<NotHanded> {
-    let (Cause::Unset(_), Kind::Variable { back, leaf }) = (met.cause, owner?.kind) else {
+    let (Cause::Unset(_), OwnerKind::Variable { back, leaf }) = (met.cause, owner?.kind) else {
         return None;
     };
     let place = place_of(draft, program, met.standings.get(back)?)?;
@@ -295,17 +295,17 @@ fn stand_of<'m>(met: &Met<'m>) -> Stand<'m> {
 }
 
 /// What the address of an access belongs to.
-fn owner_met(draft: &mut Draft, program: &Program<'_, '_>, met: &Met<'_>) -> Option<Owner> {
+fn owner_met(draft: &mut Draft, program: &WildProgram<'_, '_>, met: &Met<'_>) -> Option<Owner> {
     owner_of(draft, program, met.standings, address_of(met.cause)?)
 }
 
 /// Describes a wild access of a program's run.
-fn tell(draft: &mut Draft, program: &Program<'_, '_>, met: &Met<'_>) {
+fn tell(draft: &mut Draft, program: &WildProgram<'_, '_>, met: &Met<'_>) {
     let stand = stand_of(met);
     let owner = owner_met(draft, program, met);
     let spot = spot_of(draft, program, stand.standings, owner.as_ref());
     let not_handed = not_handed(draft, program, met, owner.as_ref());
-    let known = Known {
+    let known = WildContext {
         owner: owner.as_ref(),
         is_not_handed: not_handed.is_some(),
         is_exact: spot.is_exact,
@@ -320,7 +320,7 @@ fn tell(draft: &mut Draft, program: &Program<'_, '_>, met: &Met<'_>) {
 /// The message for a wild access of a program's run. Returns `Memory` if an allocation fails.
 pub fn wild_message(
     alloc: Global,
-    program: &Program<'_, '_>,
+    program: &WildProgram<'_, '_>,
     met: &Met<'_>,
 ) -> Result<Message, Memory> {
     let mut draft = Draft::new(alloc, 0);
@@ -332,7 +332,7 @@ pub fn wild_message(
 /// `Memory` if an allocation fails.
 pub fn placed_message(
     alloc: Global,
-    program: &Program<'_, '_>,
+    program: &WildProgram<'_, '_>,
     stand: Stand<'_>,
     sentence: String,
 ) -> Result<Message, Memory> {
@@ -371,7 +371,7 @@ struct Leading<'s> {
 
 /// An iteration over the calls of a run, the newest one first.
 #[derive(Drop)]
-struct Walk<'s> {
+struct ExtentWalk<'s> {
     /// The exact place, if more is known than the expression.
     exact: Option<Span>,
     /// Whether the run's place was reported.
@@ -382,9 +382,9 @@ struct Walk<'s> {
     calls: Vec<Leading<'s>>,
 }
 
-impl<'s> Walk<'s> {
+impl<'s> ExtentWalk<'s> {
     /// Reports the run's place, if it is known here.
-    fn begin(&mut self, draft: &mut Draft, sources: &[Source<'_>], place: &Place<'s>) {
+    fn begin(&mut self, draft: &mut Draft, sources: &[Source<'_>], place: &AccessPlace<'s>) {
         draft.set_main(place.read.main);
         if let Some(span) = self.exact.or(place.span(sources)) {
             draft.place(span);
@@ -394,7 +394,13 @@ impl<'s> Walk<'s> {
     }
 
     /// Adds the call at this place. The calling routine belongs to the call with this number.
-    fn add(&mut self, draft: &mut Draft, sources: &[Source<'_>], place: &Place<'s>, number: usize) {
+    fn add(
+        &mut self,
+        draft: &mut Draft,
+        sources: &[Source<'_>],
+        place: &AccessPlace<'s>,
+        number: usize,
+    ) {
         let Some(called) = self.called else {
             return;
         };
@@ -415,7 +421,7 @@ impl<'s> Walk<'s> {
     fn pass(
         &mut self,
         draft: &mut Draft,
-        program: &Program<'_, 's>,
+        program: &WildProgram<'_, 's>,
         standing: &Standing,
         number: usize,
     ) {
@@ -481,12 +487,12 @@ fn add_leading<'a>(
 /// Reports the run's place, and adds the calls that led there.
 fn tell_calls<'s>(
     draft: &mut Draft,
-    program: &Program<'_, 's>,
+    program: &WildProgram<'_, 's>,
     stand: Stand<'_>,
     exact: Option<Span>,
     not_handed: Option<&NotHanded>,
 ) {
-    let mut walk: Walk<'s> = Walk {
+    let mut walk: ExtentWalk<'s> = ExtentWalk {
         exact,
         is_placed: false,
         called: None,

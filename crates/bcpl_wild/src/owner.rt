@@ -1,7 +1,7 @@
 //! Which variable, global, static or routine an address belongs to.
 
 use crate::extent::is_indexed;
-use crate::message::Program;
+use crate::message::WildProgram;
 use crate::placed::{LabelOf, ReadMain, labelled, read};
 use bc_interpret_trace::Standing;
 use bc_machine_defs::Image;
@@ -20,12 +20,12 @@ pub struct Owner {
     /// Its description, as a part of a sentence.
     pub text: String,
     /// What is at the address.
-    pub kind: Kind,
+    pub kind: OwnerKind,
 }
 
 /// What is at an address.
 #[derive(Clone, Copy)]
-pub enum Kind {
+pub enum OwnerKind {
     /// A cell, other than that of a local variable.
     Cell,
     /// The cell of a variable whose name has this leaf, in the call that is `back` calls older than the newest one.
@@ -41,7 +41,7 @@ pub enum Kind {
 /// What this address belongs to; `None` if nothing near it is known.
 pub fn owner_of(
     draft: &mut Draft,
-    program: &Program<'_, '_>,
+    program: &WildProgram<'_, '_>,
     standings: &[Standing],
     address: u16,
 ) -> Option<Owner> {
@@ -61,7 +61,7 @@ pub fn owner_of(
 }
 
 /// A global, described by its number and the first name that a main gives it.
-fn global(draft: &mut Draft, program: &Program<'_, '_>, number: u16) -> Owner {
+fn global(draft: &mut Draft, program: &WildProgram<'_, '_>, number: u16) -> Owner {
     let name = name_of_global(draft, program, number);
     let sentence = match name {
         Some(_) => "global {} {}",
@@ -70,7 +70,7 @@ fn global(draft: &mut Draft, program: &Program<'_, '_>, number: u16) -> Owner {
     let name = Fill::Shown(name.unwrap_or(b""));
     Owner {
         text: draft.filled(sentence, &[Fill::Number(u64::from(number)), name]),
-        kind: Kind::Cell,
+        kind: OwnerKind::Cell,
     }
 }
 
@@ -89,7 +89,7 @@ fn name_in<'s>(read: &ReadMain<'s>, number: u16) -> Option<&'s [u8]> {
 /// The first name that any main gives a global.
 fn name_of_global<'s>(
     draft: &mut Draft,
-    program: &Program<'_, 's>,
+    program: &WildProgram<'_, 's>,
     number: u16,
 ) -> Option<&'s [u8]> {
     for main in program.mains {
@@ -117,7 +117,7 @@ fn global_of(image: &Image, address: u16) -> Option<u16> {
 /// The name of the primitive whose code begins at an address.
 fn name_of_primitive<'s>(
     draft: &mut Draft,
-    program: &Program<'_, 's>,
+    program: &WildProgram<'_, 's>,
     address: u16,
 ) -> Option<&'s [u8]> {
     let number = global_of(program.image, address)?;
@@ -125,15 +125,15 @@ fn name_of_primitive<'s>(
 }
 
 /// The code of a primitive, described by the global that it sets.
-fn of_primitives(draft: &mut Draft, program: &Program<'_, '_>, address: u16) -> Owner {
+fn of_primitives(draft: &mut Draft, program: &WildProgram<'_, '_>, address: u16) -> Owner {
     match name_of_primitive(draft, program, address) {
         Some(name) => Owner {
             text: draft.filled("{}", &[Fill::Shown(name)]),
-            kind: Kind::Code,
+            kind: OwnerKind::Code,
         },
         None => Owner {
             text: draft.filled("the library's own routines", &[]),
-            kind: Kind::WithinCode,
+            kind: OwnerKind::WithinCode,
         },
     }
 }
@@ -141,7 +141,7 @@ fn of_primitives(draft: &mut Draft, program: &Program<'_, '_>, address: u16) -> 
 /// The main of a segment.
 fn main_of<'s>(
     draft: &mut Draft,
-    program: &Program<'_, 's>,
+    program: &WildProgram<'_, 's>,
     segment: usize,
 ) -> Option<ReadMain<'s>> {
     let main = program.mains.get(segment)?;
@@ -151,7 +151,7 @@ fn main_of<'s>(
 /// What is `back` words after a label.
 fn after_label(
     draft: &mut Draft,
-    program: &Program<'_, '_>,
+    program: &WildProgram<'_, '_>,
     label: LabelOf,
     back: u16,
 ) -> Option<Owner> {
@@ -160,9 +160,9 @@ fn after_label(
     let name = read.text(read.sites.label(label)?)?;
     let is_code = read.is_routine(label);
     let kind = match (is_code, back) {
-        (true, 0) => Kind::Code,
-        (true, _) => Kind::WithinCode,
-        (false, _) => Kind::Cell,
+        (true, 0) => OwnerKind::Code,
+        (true, _) => OwnerKind::WithinCode,
+        (false, _) => OwnerKind::Cell,
     };
     Some(Owner {
         text: if back == 0 || is_code {
@@ -176,7 +176,7 @@ fn after_label(
 }
 
 /// A routine, static, table or string, found by the nearest label at or before an address.
-fn of_segments(draft: &mut Draft, program: &Program<'_, '_>, address: u16) -> Option<Owner> {
+fn of_segments(draft: &mut Draft, program: &WildProgram<'_, '_>, address: u16) -> Option<Owner> {
     for back in 0..=address {
         if let Some(label) = labelled(program.image, address - back) {
             return after_label(draft, program, label, back);
@@ -210,7 +210,7 @@ fn begun_before(standings: &[Standing], address: u16) -> Option<Begun<'_>> {
 /// A variable in the frame of the innermost call that begins at or before an address.
 fn of_frames(
     draft: &mut Draft,
-    program: &Program<'_, '_>,
+    program: &WildProgram<'_, '_>,
     standings: &[Standing],
     address: u16,
 ) -> Option<Owner> {
@@ -255,7 +255,7 @@ impl<'s> Frame<'_, 's> {
         Some(match offset.saturating_sub(site.offset).checked_sub(1) {
             None => Owner {
                 text: draft.filled("{} of {}", &[name, routine]),
-                kind: Kind::Variable {
+                kind: OwnerKind::Variable {
                     back: self.back,
                     leaf: site.leaf,
                 },
@@ -265,7 +265,7 @@ impl<'s> Frame<'_, 's> {
                     "cell {} of the vector {} of {}",
                     &[Fill::Number(index), name, routine],
                 ),
-                kind: Kind::Cell,
+                kind: OwnerKind::Cell,
             },
         })
     }
@@ -290,7 +290,7 @@ impl<'s> Frame<'_, 's> {
                     Fill::Number(count),
                 ],
             ),
-            kind: Kind::After,
+            kind: OwnerKind::After,
         }
     }
 
@@ -304,7 +304,7 @@ impl<'s> Frame<'_, 's> {
                     Fill::Shown(self.routine()),
                 ],
             ),
-            kind: Kind::After,
+            kind: OwnerKind::After,
         }
     }
 

@@ -1,13 +1,13 @@
 //! The sentence on a wild access, and the help.
 
 use crate::message::Met;
-use crate::owner::{GLOBALS, Kind, Owner};
+use crate::owner::{GLOBALS, Owner, OwnerKind};
 use bc_interpret_pure::Cause;
 use bcpl_messages::{Draft, Fill};
 
 /// What is known about a wild access, apart from its cause.
 #[derive(Clone, Copy)]
-pub struct Known<'k> {
+pub struct WildContext<'k> {
     /// What the address belongs to, if that is known.
     pub owner: Option<&'k Owner>,
     /// Whether it is a parameter for which the call passes no argument.
@@ -16,7 +16,7 @@ pub struct Known<'k> {
     pub is_exact: bool,
 }
 
-impl Known<'_> {
+impl WildContext<'_> {
     /// The words for the place.
     fn place(&self) -> &'static str {
         if self.is_exact {
@@ -28,7 +28,7 @@ impl Known<'_> {
 }
 
 /// Adds the sentence on what was met, without the routine's name.
-pub fn say(draft: &mut Draft, met: &Met<'_>, known: Known<'_>) {
+pub fn say(draft: &mut Draft, met: &Met<'_>, known: WildContext<'_>) {
     match met.cause {
         Cause::Unset(address) => say_unset(draft, known, address),
         Cause::Dead(address) => say_no_cell(draft, known, address, Access::READ),
@@ -40,7 +40,7 @@ pub fn say(draft: &mut Draft, met: &Met<'_>, known: Known<'_>) {
 }
 
 /// Adds the sentence on a read of something without a value.
-fn say_unset(draft: &mut Draft, known: Known<'_>, address: u16) {
+fn say_unset(draft: &mut Draft, known: WildContext<'_>, address: u16) {
     say_whose(draft, known, address);
     let sentence = if known.is_not_handed {
         " is read {}, but the call passes no argument for it"
@@ -59,7 +59,7 @@ fn is_first_call(met: &Met<'_>, value: u16) -> bool {
 }
 
 /// Adds the sentence on a call of something that isn't a routine.
-fn say_no_routine(draft: &mut Draft, met: &Met<'_>, known: Known<'_>, value: u16) {
+fn say_no_routine(draft: &mut Draft, met: &Met<'_>, known: WildContext<'_>, value: u16) {
     let sentence = if is_first_call(met, value) {
         "no routine sets global 1, so the run has nothing to call"
     } else {
@@ -99,7 +99,7 @@ impl Access {
 }
 
 /// Adds the sentence on a read or a write of something that isn't a cell.
-fn say_no_cell(draft: &mut Draft, known: Known<'_>, address: u16, access: Access) {
+fn say_no_cell(draft: &mut Draft, known: WildContext<'_>, address: u16, access: Access) {
     match known.owner {
         Some(owner) => say_of_owner(draft, known, owner, access),
         None => say_gone(draft, known, address, access),
@@ -107,22 +107,22 @@ fn say_no_cell(draft: &mut Draft, known: Known<'_>, address: u16, access: Access
 }
 
 /// The same, if it is known what the address belongs to.
-fn say_of_owner(draft: &mut Draft, known: Known<'_>, owner: &Owner, access: Access) {
+fn say_of_owner(draft: &mut Draft, known: WildContext<'_>, owner: &Owner, access: Access) {
     let place = Fill::Text(known.place());
     let text = Fill::Text(owner.text.as_str());
     let verb = Fill::Text(access.verb);
     let forbidden = Fill::Text(access.forbidden);
     match owner.kind {
-        Kind::Code => draft.say(
+        OwnerKind::Code => draft.say(
             "the value of {} is the address of its code, which {}",
             &[text, forbidden],
         ),
-        Kind::WithinCode => draft.say(
+        OwnerKind::WithinCode => draft.say(
             "the code of {} is {} {}, but code {}",
             &[text, verb, place, forbidden],
         ),
-        Kind::After => draft.say("the cell {} {} is {}", &[verb, place, text]),
-        Kind::Cell | Kind::Variable { .. } => draft.say(
+        OwnerKind::After => draft.say("the cell {} {} is {}", &[verb, place, text]),
+        OwnerKind::Cell | OwnerKind::Variable { .. } => draft.say(
             "{} is {} {}, but the program has no cell there now",
             &[text, verb, place],
         ),
@@ -130,7 +130,7 @@ fn say_of_owner(draft: &mut Draft, known: Known<'_>, owner: &Owner, access: Acce
 }
 
 /// The same, if it isn't known.
-fn say_gone(draft: &mut Draft, known: Known<'_>, address: u16, access: Access) {
+fn say_gone(draft: &mut Draft, known: WildContext<'_>, address: u16, access: Access) {
     draft.say(
         "the address {} is {} {}, but the program has no cell there now",
         &[
@@ -142,7 +142,7 @@ fn say_gone(draft: &mut Draft, known: Known<'_>, address: u16, access: Access) {
 }
 
 /// Adds what the address belongs to, or the address itself if that isn't known.
-fn say_whose(draft: &mut Draft, known: Known<'_>, address: u16) {
+fn say_whose(draft: &mut Draft, known: WildContext<'_>, address: u16) {
     match known.owner {
         Some(owner) => draft.say("{}", &[Fill::Text(owner.text.as_str())]),
         None => draft.say("the address {}", &[Fill::Number(u64::from(address))]),
@@ -161,9 +161,9 @@ pub fn ending(number: usize) -> &'static str {
 }
 
 /// The help for a wild access.
-pub fn help(met: &Met<'_>, known: Known<'_>) -> Option<&'static str> {
+pub fn help(met: &Met<'_>, known: WildContext<'_>) -> Option<&'static str> {
     let is_code = match known.owner {
-        Some(owner) => matches!(owner.kind, Kind::Code | Kind::WithinCode),
+        Some(owner) => matches!(owner.kind, OwnerKind::Code | OwnerKind::WithinCode),
         None => false,
     };
     match met.cause {

@@ -1,6 +1,6 @@
 use Rattle.std.proofs.Common.{arith}
 use Rattle.bc_scope_faults.proofs.Held.{exp_held, entry_held, declaration_held, definition_held, item_held, label_held}
-use Rattle.bc_scope_places.proofs.walk.Walk.+places.Goals as goal
+use Rattle.bc_scope_places.proofs.walk.PlaceWalk.+places.Goals as goal
 
 -- Each call gets less than remains to be walked. This is said here because the search would go through all earlier calls' clauses.
 

@@ -1,7 +1,7 @@
 use Rattle.std.proofs.Common.{◌+◌, ◌*◌}
 use Rattle.bc_parse_tree.specs.Size.{block_size, command_size, declaration_size, declarations_size, definition_size, definitions_size, entries_size, exp_size, exps_size, item_size, items_size, label_size, labels_size}
 use Rattle.bc_parse_tree.specs.View.{block_view, command_view, declaration_view, declarations_view, definition_view, definitions_view, entries_view, exp_view, exps_view, item_view, items_view, label_view, labels_view}
-use Rattle.bc_scope_places.proofs.walk.Walk.+places.Given as goal
+use Rattle.bc_scope_places.proofs.walk.PlaceWalk.+places.Given as goal
 
 -- each measure is 16 times the size of the trees that remain to be walked, plus a rank among functions that pass the same trees on
 
