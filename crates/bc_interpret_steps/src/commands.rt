@@ -273,7 +273,8 @@ pub(crate) fn enter_while<'c>(
     Ok(())
 }
 
-/// Begins an IF or UNLESS; a pure condition is decided within this step.
+/// Begins an IF or UNLESS; a pure condition is decided within this step. If that fails, the continuation of the condition is pushed all the
+/// same: `bc_interpret_trace` finds the place by it.
 #[inline(always)]
 #[tactic(auto, using(crate::proofs::Tests::if_calls))]
 fn if_so<'c>(
@@ -312,7 +313,8 @@ fn if_so<'c>(
     }
 }
 
-/// Begins a round of a WHILE or UNTIL; a pure condition is decided within this step.
+/// Begins a round of a WHILE or UNTIL; a pure condition is decided within this step. If that fails, the continuation of the condition is
+/// pushed all the same: `bc_interpret_trace` finds the place by it.
 #[inline(always)]
 #[tactic(auto, using(crate::proofs::Tests::while_calls))]
 pub(crate) fn while_loop<'c>(

@@ -1,7 +1,7 @@
 //! The definition of the INTCODE machine: its registers, one instruction, a run, and its streams.
 //!
-//! The definition is in `specs/`. The Rust code here has only the types that it mentions, the image of a linked program from which the
-//! machine starts, and laws of the definition (`laws`, and `operator_laws` for the numbers of operators).
+//! The definition is in `specs/`. The Rust code here is small: the types that the definition mentions, the image from which the machine
+//! starts, and the laws. `operator_laws` is about the numbers of operators.
 #![tactic(auto)]
 
 mod image;

@@ -55,8 +55,8 @@ impl Reader {
 
     /// Takes the next piece of the text.
     ///
-    /// The error is the first fault of the bytes up to here, reported by the call that passes the byte at which it is known, or `Memory` if
-    /// an allocation fails. After an error, each further call returns `Failed`.
+    /// The error is the first fault of the bytes up to here. It is reported by the call that passes the byte at which it is known.
+    /// `Memory` if an allocation fails. After an error, each further call returns `Failed`.
     pub fn feed(&mut self, piece: &[u8]) -> Result<(), TextError>
         // Ok exactly if the bytes up to here can be continued to a text, else their first fault (or Memory).
         ensures answer { (bytes : List ℕ) → HasRead self.old bytes → IsAnswer (bytes ++ piece.now) result }
