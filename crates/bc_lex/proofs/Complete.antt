@@ -9,7 +9,7 @@ use Rattle.bc_lex_tokens.specs.Token.{Kind, Sign, Name, Number, Character, Strin
 use Rattle.bc_lex.specs.declared.fault.FaultKind.{FaultKind}
 use Rattle.bc_lex.specs.declared.error.LexError.{LexError}
 use Rattle.bc_lex.specs.declared.error.LexError.TheVariants as errors
-use Rattle.bc_lex.specs.declared.reading.Place.{Place}
+use Rattle.bc_lex.specs.declared.reading.Position.{Position}
 use Rattle.bc_lex.specs.Bytes.{is_name_byte}
 use Rattle.bc_lex.specs.Gaps.{Holds, breaks, begins, opens_block, IsGap}
 use Rattle.bc_lex.specs.Lexemes.{Ends, IsLexeme, Word}
@@ -231,12 +231,12 @@ target_faulty files file start at space bytes kind n h g faulty =
 
 -- iterations
 
-turn_is : (deeper : Deeper) (files : List File) (file k : ℕ) (place : Place) (before : List Lexeme) (x : Found) → 1 ≤ k → item_of files file place ≡ Ok x → rest_of deeper files file k place before ≡ found_on (rest_of deeper files file (k - 1)) deeper file before x
+turn_is : (deeper : Deeper) (files : List File) (file k : ℕ) (place : Position) (before : List Lexeme) (x : Found) → 1 ≤ k → item_of files file place ≡ Ok x → rest_of deeper files file k place before ≡ found_on (rest_of deeper files file (k - 1)) deeper file before x
 turn_is deeper files file k place before x some e =
     let s : k ≡ suc (k - 1) = omega arith in
     ap (λ n. rest_of deeper files file n place before) s ∙ ap (λ r. r >>= found_on (rest_of deeper files file (k - 1)) deeper file before) e
 
-turn_fails : (deeper : Deeper) (files : List File) (file k : ℕ) (place : Place) (before : List Lexeme) (x : LexError) → 1 ≤ k → item_of files file place ≡ Err x → rest_of deeper files file k place before ≡ Err x
+turn_fails : (deeper : Deeper) (files : List File) (file k : ℕ) (place : Position) (before : List Lexeme) (x : LexError) → 1 ≤ k → item_of files file place ≡ Err x → rest_of deeper files file k place before ≡ Err x
 turn_fails deeper files file k place before x some e =
     let s : k ≡ suc (k - 1) = omega arith in
     ap (λ n. rest_of deeper files file n place before) s ∙ ap (λ r. r >>= found_on (rest_of deeper files file (k - 1)) deeper file before) e

@@ -5,7 +5,7 @@ use Rattle.bc_lex_tokens.specs.Token.{Kind, Sign, Lexeme}
 use Rattle.bc_lex.specs.declared.fault.Fault.{Fault}
 use Rattle.bc_lex.specs.declared.error.LexError.{LexError}
 use Rattle.bc_lex.specs.declared.error.LexError.TheVariants as errors
-use Rattle.bc_lex.specs.declared.reading.Place.{Place}
+use Rattle.bc_lex.specs.declared.reading.Position.{Position}
 use Rattle.bc_lex.specs.Reading.{string_of}
 use Rattle.bc_lex.specs.Gaps.{begins, breaks}
 use Rattle.bc_lex.specs.Blank.{gap_of}
@@ -85,7 +85,7 @@ is_get (Sign symbol.Get) = true
 is_get _ = false
 
 -- what comes next, if a lexeme begins at `start`
-unfoldable pub item_by : List File → ℕ → List ℕ → Place → ℕ → Kind × ℕ → Result Found LexError
+unfoldable pub item_by : List File → ℕ → List ℕ → Position → ℕ → Kind × ℕ → Result Found LexError
 item_by files file text place start x =
     if is_get x.0
     then target_of files file text start x.1 >>= (λ t. Ok (Get start t.0 t.1))
@@ -100,12 +100,12 @@ item_by files file text place start x =
     }))
 
 -- what comes next, after blanks up to `start`
-abbrev pub item_on : List File → ℕ → List ℕ → Place → ℕ → Result Found LexError
+abbrev pub item_on : List File → ℕ → List ℕ → Position → ℕ → Result Found LexError
 item_on files file text place start =
     if start == length text then Ok End else lexeme_at file text start >>= item_by files file text place start
 
 -- what comes next in a file
-unfoldable pub item_of : List File → ℕ → Place → Result Found LexError
+unfoldable pub item_of : List File → ℕ → Position → Result Found LexError
 item_of files file place = skipped file (text_of files file) place.at >>= item_on files file (text_of files file) place
 
 -- the tokens with one more, if there are not too many
@@ -117,17 +117,17 @@ pushed token tokens =
 abbrev pub Deeper : Type 0
 Deeper = ℕ → ℕ → ℕ → List Lexeme → Result (List Lexeme) LexError
 
-abbrev pub place_at : ℕ → Bool → Place
+abbrev pub place_at : ℕ → Bool → Position
 place_at at line = record { at = at; line = line }
 
 -- one iteration, by what was found
-abbrev pub found_on : (Place → List Lexeme → Result (List Lexeme) LexError) → Deeper → ℕ → List Lexeme → Found → Result (List Lexeme) LexError
+abbrev pub found_on : (Position → List Lexeme → Result (List Lexeme) LexError) → Deeper → ℕ → List Lexeme → Found → Result (List Lexeme) LexError
 found_on again deeper file tokens End = Ok tokens
 found_on again deeper file tokens (Token token) = pushed token tokens >>= again (place_at token.end false)
 found_on again deeper file tokens (Get start named following) = deeper file start named tokens >>= again (place_at following true)
 
 -- the rest of a file, in at most so many iterations
-abbrev pub rest_of : Deeper → List File → ℕ → ℕ → Place → List Lexeme → Result (List Lexeme) LexError
+abbrev pub rest_of : Deeper → List File → ℕ → ℕ → Position → List Lexeme → Result (List Lexeme) LexError
 rest_of deeper files file zero place tokens = Ok tokens
 rest_of deeper files file (suc k) place tokens =
     item_of files file place >>= found_on (rest_of deeper files file k) deeper file tokens

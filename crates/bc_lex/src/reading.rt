@@ -25,7 +25,7 @@ const MOST_LEVELS: usize = 8;
 
 /// How far the reading of a file has come.
 #[derive(Clone, Copy, Debug)]
-pub struct Place {
+pub struct Position {
     /// The offset in the file.
     pub at: usize,
     /// Whether there is a line break between the previous token and this offset.
@@ -139,7 +139,7 @@ fn is_get(kind: TokenKind) -> bool
 
 /// Finds the next item in a file, after blanks, line breaks and comments. Fails with the first fault of these or the item.
 #[tactic(auto, unfolding(crate::specs::Lexing::item_of, crate::specs::Lexing::item_by))]
-fn find<'s>(sources: &[Source<'s>], file: usize, place: Place) -> Result<Found<'s>, LexError>
+fn find<'s>(sources: &[Source<'s>], file: usize, place: Position) -> Result<Found<'s>, LexError>
     requires file { file < length sources.now }
     requires place { place.at ≤ length (text_of (files_of sources.now) file) }
     ensures value { ReadsAs (λ x. found x) result (item_of (files_of sources.now) file place) }
@@ -194,14 +194,14 @@ fn read_file<'s>(
     ensures { ReadsAs (λ _. lexemes_of tokens.new.items) result (file_to_end (deeper_of (files_of sources.now) levels) (files_of sources.now) file line
         (lexemes_of tokens.old.items)) }
 {
-    let mut place = Place { at: 0, line };
+    let mut place = Position { at: 0, line };
     // Each iteration moves on by at least one byte.
     for _ in 0..text_at(sources, file).len() {
         match find(sources, file, place)? {
             Found::End => return Ok(()),
             Found::Token(token) => {
                 push(tokens, token)?;
-                place = Place {
+                place = Position {
                     at: token.end,
                     line: false,
                 };
@@ -215,7 +215,7 @@ fn read_file<'s>(
                     return Err(LexError::GetTooDeep(file, start));
                 }
                 read_file(sources, levels - 1, named, true, tokens)?;
-                place = Place {
+                place = Position {
                     at: following,
                     line: true,
                 };

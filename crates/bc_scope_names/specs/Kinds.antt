@@ -1,11 +1,11 @@
 -- For proofs: the operand kinds of the code as those of the definitions.
-use Rattle.bc_scope_names.specs.declared.sides.Kind.{Kind}
-use Rattle.bc_scope_names.specs.declared.sides.Kind.TheVariants as code
+use Rattle.bc_scope_names.specs.declared.sides.OperandKind.{OperandKind}
+use Rattle.bc_scope_names.specs.declared.sides.OperandKind.TheVariants as code
 use Rattle.bc_scope_names.specs.declared.sides.Kinds.{Kinds}
 use Rattle.bc_scope_defs.specs.Sides as sides
 
 -- a kind of the code, as the definitions have it
-abbrev pub kind_view : Kind → sides.Kind
+abbrev pub kind_view : OperandKind → sides.OperandKind
 kind_view code.Number = sides.ANumber
 kind_view code.Cell = sides.ACell
 kind_view code.Place = sides.APlace

@@ -85,7 +85,7 @@ enum Entry<'s> {
 
 /// A state of a scope to which `leave` can return.
 #[derive(Clone, Copy, Debug, PartialEq, Eq)]
-pub struct Mark {
+pub struct ScopeMark {
     entries: usize,
 }
 
@@ -209,10 +209,10 @@ impl<'s> Scope<'s> {
     }
 
     /// The current state, to which `leave` can return.
-    pub fn mark(&self) -> Mark
+    pub fn mark(&self) -> ScopeMark
         ensures { result.entries ≡ length self.now }
     {
-        Mark {
+        ScopeMark {
             entries: self.entries.len(),
         }
     }
@@ -239,7 +239,7 @@ impl<'s> Scope<'s> {
     }
 
     /// Takes back everything added since the mark, and restores what it hid. Allocates nothing, so it can't fail.
-    pub fn leave(&mut self, mark: Mark)
+    pub fn leave(&mut self, mark: ScopeMark)
         ensures { self.new ≡ take mark.entries self.old }
     {
         while self.entries.len() > mark.entries {

@@ -13,7 +13,7 @@ use std::alloc::Global;
 
 /// The form of an expression, as far as one instruction can take it as its operand.
 #[derive(Clone, Copy, Debug, PartialEq, Eq)]
-pub enum Kind {
+pub enum OperandKind {
     /// A constant.
     Number,
     /// The address of a variable or a global.
@@ -32,33 +32,35 @@ pub enum Kind {
 #[derive(Clone, Copy, Debug, PartialEq, Eq)]
 pub struct Kinds {
     /// The kind of the address of its cell; of its value, if it has no cell.
-    pub address: Kind,
+    pub address: OperandKind,
     /// The kind of its value.
-    pub content: Kind,
+    pub content: OperandKind,
 }
 
 /// The kind of a cell's content, by the kind of the cell's address.
-fn kind_of_content(address: Kind) -> Kind
+fn kind_of_content(address: OperandKind) -> OperandKind
     ensures { kind_view result ≡ kind_of_content (kind_view address) }
 {
     match address {
-        Kind::Content | Kind::NoOperand => Kind::NoOperand,
-        Kind::Number | Kind::Cell | Kind::Place | Kind::Sum => Kind::Content,
+        OperandKind::Content | OperandKind::NoOperand => OperandKind::NoOperand,
+        OperandKind::Number | OperandKind::Cell | OperandKind::Place | OperandKind::Sum =>
+            OperandKind::Content,
     }
 }
 
 /// The kind of a sum: one instruction can only add a number to a cell's address.
-fn kind_of_sum(left: Kind, right: Kind) -> Kind
+fn kind_of_sum(left: OperandKind, right: OperandKind) -> OperandKind
     ensures { kind_view result ≡ kind_of_sum (kind_view left) (kind_view right) }
 {
     match (left, right) {
-        (Kind::Cell, Kind::Number) | (Kind::Number, Kind::Cell) => Kind::Sum,
-        _ => Kind::NoOperand,
+        (OperandKind::Cell, OperandKind::Number) | (OperandKind::Number, OperandKind::Cell) =>
+            OperandKind::Sum,
+        _ => OperandKind::NoOperand,
     }
 }
 
 /// The kinds of an expression with a cell, by the kind of the cell's address.
-fn kinds_of_cell(address: Kind) -> Kinds
+fn kinds_of_cell(address: OperandKind) -> Kinds
     ensures { kinds_view result ≡ kinds_of_cell (kind_view address) }
 {
     Kinds {
@@ -68,7 +70,7 @@ fn kinds_of_cell(address: Kind) -> Kinds
 }
 
 /// The kinds of an expression without a cell, by the kind of its value.
-fn kinds_of_plain(value: Kind) -> Kinds
+fn kinds_of_plain(value: OperandKind) -> Kinds
     ensures { kinds_view result ≡ kinds_of_plain (kind_view value) }
 {
     Kinds {
@@ -82,9 +84,9 @@ fn kinds_of_name(meant: Meant) -> Kinds
     ensures { kinds_view result ≡ kinds_of_name (meant_view meant) }
 {
     match meant {
-        Meant::Static(_) => kinds_of_cell(Kind::Place),
-        Meant::Global(_) | Meant::Variable(_) => kinds_of_cell(Kind::Cell),
-        Meant::Routine(_) => kinds_of_plain(Kind::Place),
+        Meant::Static(_) => kinds_of_cell(OperandKind::Place),
+        Meant::Global(_) | Meant::Variable(_) => kinds_of_cell(OperandKind::Cell),
+        Meant::Routine(_) => kinds_of_plain(OperandKind::Place),
         Meant::Constant(_)
         | Meant::Pending
         | Meant::Label(_)
@@ -93,7 +95,7 @@ fn kinds_of_name(meant: Meant) -> Kinds
         | Meant::StrayLabel
         | Meant::OuterLabel
         | Meant::LabelOutside
-        | Meant::Undeclared => kinds_of_plain(Kind::Number),
+        | Meant::Undeclared => kinds_of_plain(OperandKind::Number),
     }
 }
 
@@ -104,18 +106,18 @@ fn kinds_of_monadic(sign: Monadic, operand: Kinds) -> Kinds
     match sign {
         Monadic::Load => kinds_of_cell(operand.content),
         Monadic::Address => kinds_of_plain(operand.address),
-        Monadic::Not | Monadic::Negate => kinds_of_plain(Kind::NoOperand),
+        Monadic::Not | Monadic::Negate => kinds_of_plain(OperandKind::NoOperand),
     }
 }
 
 /// The kinds of a dyadic operator's result, by the kinds of its operands' values.
-fn kinds_of_dyadic(sign: Dyadic, left: Kind, right: Kind) -> Kinds
+fn kinds_of_dyadic(sign: Dyadic, left: OperandKind, right: OperandKind) -> Kinds
     ensures { kinds_view result ≡ kinds_of_dyadic sign (kind_view left) (kind_view right) }
 {
     match sign {
         Dyadic::Index => kinds_of_cell(kind_of_sum(left, right)),
         Dyadic::Add => kinds_of_plain(kind_of_sum(left, right)),
-        _ => kinds_of_plain(Kind::NoOperand),
+        _ => kinds_of_plain(OperandKind::NoOperand),
     }
 }
 
@@ -126,9 +128,9 @@ fn make_kinds(scope: &Scope<'_>, e: &Exp<'_>) -> Kinds
     match e {
         Exp::Name(name) => kinds_of_name(scope.meant_by(name)),
         Exp::Number(_) | Exp::Character(_) | Exp::True | Exp::False => {
-            kinds_of_plain(Kind::Number)
+            kinds_of_plain(OperandKind::Number)
         }
-        Exp::String(_) | Exp::Table(_) => kinds_of_plain(Kind::Place),
+        Exp::String(_) | Exp::Table(_) => kinds_of_plain(OperandKind::Place),
         Exp::Monadic(sign, operand) => kinds_of_monadic(*sign, make_kinds(scope, operand)),
         Exp::Dyadic(sign, left, right) => {
             let left = make_kinds(scope, left);
@@ -136,7 +138,7 @@ fn make_kinds(scope: &Scope<'_>, e: &Exp<'_>) -> Kinds
             kinds_of_dyadic(*sign, left.content, right.content)
         }
         Exp::Valof(_) | Exp::Condition { .. } | Exp::Call(_, _) => {
-            kinds_of_plain(Kind::NoOperand)
+            kinds_of_plain(OperandKind::NoOperand)
         }
     }
 }
@@ -146,8 +148,12 @@ pub fn is_operand(scope: &Scope<'_>, e: &Exp<'_>) -> bool
     ensures { result ≡ is_operand_kind (kinds (scope_view scope.now) (exp_view e.now)).address }
 {
     match make_kinds(scope, e).address {
-        Kind::NoOperand => false,
-        Kind::Number | Kind::Cell | Kind::Place | Kind::Sum | Kind::Content => true,
+        OperandKind::NoOperand => false,
+        OperandKind::Number
+        | OperandKind::Cell
+        | OperandKind::Place
+        | OperandKind::Sum
+        | OperandKind::Content => true,
     }
 }
 

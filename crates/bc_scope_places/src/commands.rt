@@ -1,12 +1,12 @@
 //! The walk over commands. Each function returns the frame size that a command needs, in cells, and fails with `End` if the walk ends.
 use crate::expressions::Side;
 use crate::leaves::Leaves;
-use crate::walk::{Beside, End, Walk};
+use crate::walk::{Beside, End, PlaceWalk};
 use bc_parse_tree::{Block, Command, Exp, Item};
 use bc_scope_faults::{Allowed, all_held, has_cell, jump_fault, widest};
 use bc_scope_names::{Meant, ScopeError, side_levels};
 
-impl<'s> Walk<'s> {
+impl<'s> PlaceWalk<'s> {
     /// Walks a command at `level`. `allowed` says which commands may be here.
     #[cycle(places)]
     pub fn command(

@@ -2,7 +2,7 @@
 //! otherwise; all fail with `End` if the walk ends.
 use crate::leaves::Leaves;
 use crate::record::GlobalSite;
-use crate::walk::{Beside, End, Walk};
+use crate::walk::{Beside, End, PlaceWalk};
 use bc_parse_tree::{Block, Constant, Declaration, Definition, Exp, Storage};
 use bc_scope_faults::{Allowed, Extent, entry_fault};
 use bc_scope_names::{
@@ -19,7 +19,7 @@ struct OfLet<'s> {
     next: usize,
 }
 
-impl<'s> Walk<'s> {
+impl<'s> PlaceWalk<'s> {
     /// Walks declarations, each with the names of those before it in scope, and adds their names. Returns what they take of their
     /// frame.
     #[cycle(places)]

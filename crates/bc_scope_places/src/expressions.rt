@@ -1,13 +1,13 @@
 //! The walk over expressions. Functions that return a number return the frame size that an expression needs, in cells; all fail with
 //! `End` if the walk ends.
 use crate::leaves::Leaves;
-use crate::walk::{Beside, End, Walk};
+use crate::walk::{Beside, End, PlaceWalk};
 use bc_parse_tree::{Block, Exp, Monadic};
 use bc_scope_faults::{Allowed, address_fault, level_at, name_fault};
 use bc_scope_names::{ScopeError, constant_in};
 use bc_word::Memory;
 
-impl<'s> Walk<'s> {
+impl<'s> PlaceWalk<'s> {
     /// Walks an expression at `level`. `in_constant` says that it is part of a constant.
     #[cycle(places)]
     pub fn expression(&mut self, in_constant: bool, e: &Exp<'s>, level: u64) -> Result<u64, End> {

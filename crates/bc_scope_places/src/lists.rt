@@ -1,7 +1,7 @@
 //! The walk over blocks and command lists. Functions that return a number return the frame size that a part needs, in cells; all fail
 //! with `End` if the walk ends.
 use crate::leaves::Leaves;
-use crate::walk::{Beside, End, Walk};
+use crate::walk::{Beside, End, PlaceWalk};
 use bc_parse_tree::{Block, Item, Label};
 use bc_scope_faults::Allowed;
 use bc_scope_names::{ScopeError, constant, declare_list};
@@ -32,7 +32,7 @@ impl<'s> OfList<'s> {
     }
 }
 
-impl<'s> Walk<'s> {
+impl<'s> PlaceWalk<'s> {
     /// Walks a block at `level`. `allowed` says which commands may be in it.
     #[cycle(places)]
     pub fn block(&mut self, allowed: Allowed, tree: &Block<'s>, level: u64) -> Result<u64, End> {

@@ -6,7 +6,7 @@ use crate::brackets::around;
 use crate::leaves::Leaves;
 use crate::record::Sites;
 use crate::span::Span;
-use crate::walk::{Beside, End, Found, Walk};
+use crate::walk::{Beside, End, Found, PlaceWalk};
 use bc_lex_tokens::{Token, TokenKind};
 use bc_parse_tree::{Section, token_at};
 use bc_scope_names::ScopeError;
@@ -127,7 +127,7 @@ fn also_of(tokens: &[Token<'_>], name: Option<&[u8]>, beside: Beside) -> Option<
 
 /// The first fault of a section, by its leaves. Fails with `Memory` when an allocation fails.
 fn found<'s>(alloc: Global, section: &Section<'s>) -> Result<Option<Found<'s>>, Memory> {
-    let mut walk = Walk::new(alloc);
+    let mut walk = PlaceWalk::new(alloc);
     match walk.declarations(&section.declarations, 0) {
         Ok(_extent) => Ok(walk.of_whole()),
         Err(End::Found) => Ok(walk.found()),
@@ -140,7 +140,7 @@ fn found<'s>(alloc: Global, section: &Section<'s>) -> Result<Option<Found<'s>>, 
 ///
 /// Returns `None` if the walk finds a fault. Fails with `Memory` when an allocation fails.
 pub fn sites_of(alloc: Global, section: &Section<'_>) -> Result<Option<Sites>, Memory> {
-    let mut walk = Walk::new(alloc);
+    let mut walk = PlaceWalk::new(alloc);
     match walk.declarations(&section.declarations, 0) {
         Ok(_extent) => Ok(Some(walk.into_sites())),
         Err(End::Found) => Ok(None),

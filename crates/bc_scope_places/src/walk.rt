@@ -5,7 +5,7 @@ ghost use Rattle.std.specs.Prelude.{◌<◌, length, IfSome};
 
 use crate::leaves::Leaves;
 use crate::record::{Record, Sites};
-use bc_scope_names::{Mark, Scope, ScopeError};
+use bc_scope_names::{Scope, ScopeError, ScopeMark};
 use bc_word::Memory;
 use indexmap::IndexMap;
 use std::alloc::{AllocError, AllocFailed, Global};
@@ -67,7 +67,7 @@ impl<T: Drop> From<AllocFailed<T>> for End {
 
 /// A variable or label in scope, and the leaf of its declaration once the walk has met it.
 #[derive(Clone, Copy)]
-struct Known<'s> {
+struct DeclaredName<'s> {
     name: &'s [u8],
     leaf: Option<u64>,
 }
@@ -91,14 +91,14 @@ struct Large {
 /// A state to which `leave` can return.
 #[derive(Clone, Copy)]
 pub struct Back {
-    scope: Mark,
+    scope: ScopeMark,
     known: usize,
     variables: usize,
 }
 
 /// A walk over a section.
 #[derive(Drop)]
-pub struct Walk<'s> {
+pub struct PlaceWalk<'s> {
     /// The allocator.
     pub alloc: Global,
     /// The names in scope.
@@ -106,7 +106,7 @@ pub struct Walk<'s> {
     /// The number of leaves up to here.
     pub leaves: u64,
     /// The variables and labels in scope, oldest first.
-    known: Vec<Known<'s>>,
+    known: Vec<DeclaredName<'s>>,
     /// The fault by which the walk ended.
     found: Option<Found<'s>>,
     /// A `DynamicFree` fault whose declaration comes later. While it is set, other faults are ignored: the walk only goes on to find
@@ -122,10 +122,10 @@ pub struct Walk<'s> {
     pub(crate) record: Record,
 }
 
-impl<'s> Walk<'s> {
+impl<'s> PlaceWalk<'s> {
     /// A walk at the start of a section.
-    pub fn new(alloc: Global) -> Walk<'s> {
-        Walk {
+    pub fn new(alloc: Global) -> PlaceWalk<'s> {
+        PlaceWalk {
             alloc,
             scope: Scope::new(alloc),
             leaves: 0,
@@ -141,7 +141,7 @@ impl<'s> Walk<'s> {
 
     /// The parts that the walk recorded.
     pub(crate) fn into_sites(self) -> Sites {
-        let Walk { record, .. } = self;
+        let PlaceWalk { record, .. } = self;
         let Record { sites, .. } = record;
         sites
     }
@@ -254,13 +254,13 @@ impl<'s> Walk<'s> {
 
     /// Adds a variable or label whose declaration the walk hasn't met yet. Fails with `Memory` when an allocation fails.
     pub fn know(&mut self, name: &'s [u8]) -> Result<(), Memory> {
-        Ok(self.known.push(Known { name, leaf: None })?)
+        Ok(self.known.push(DeclaredName { name, leaf: None })?)
     }
 
     /// Adds a variable declared at this leaf. Fails with `Memory` when an allocation fails.
     pub fn know_at(&mut self, name: &'s [u8], leaf: u64) -> Result<(), Memory> {
         Ok(
-            self.known.push(Known {
+            self.known.push(DeclaredName {
                 name,
                 leaf: Some(leaf),
             })?,

@@ -1,7 +1,7 @@
 //! Runs by their meaning: each way to end, a device that fails, and allocations that fail.
 
 use bc_build::{BuildError, GenError, LexError, LinkError, ParseError, ScopeFault, build};
-use bc_interpret_sources::{Cause, Ending, Outcome, Program, Source, interpret};
+use bc_interpret_sources::{Cause, Ending, Outcome, BuiltProgram, Source, interpret};
 use bc_machine::{MemoryStreams, Named, StreamsError};
 use bc_word::Memory;
 use std::alloc::Global;
@@ -63,7 +63,7 @@ fn outcome_of(alloc: Global, text: &[u8], room: usize, turns: u64) -> Came {
         Err(StreamsError::Memory) => return Came::Memory,
         Err(_) => return Came::Other,
     };
-    let program = Program {
+    let program = BuiltProgram {
         sources: &sources,
         mains: &mains,
         image: &built.image,
