@@ -37,7 +37,8 @@ pub record Ready (address : ℕ → ℕ) (cells : List Cell) (f most : ℕ) : Ty
 -- In every program of the library and other sections, under every map of it: call the routine with this label and these arguments, in a
 -- store of which `Given` holds, in a frame with this room, with at least these turns left. The call returns this value. The store is
 -- changed by `change` and in nothing else, these bytes are written to the selected output, and exactly these turns are used.
-abbrev pub Call : (label : ℕ) → (arguments : List ℕ) → (room turns : ℕ) → (Given : List Cell → Type 0) → (value : ℕ) → (change : List Cell → List Cell) → (bytes : List ℕ) → Type 0
+abbrev pub Call : (label : ℕ) → (arguments : List ℕ) → (room turns : ℕ) → (Given : List Cell → Type 0)
+    → (value : ℕ) → (change : List Cell → List Cell) → (bytes : List ℕ) → Type 0
 Call label arguments room turns Given value change bytes =
     (cores : List Core) (address : ℕ → ℕ) (places : List (ℕ → ℕ)) (base : ℕ)
     → IsMap (library ∷ cores) (record { places = address ∷ places; stack_base = base })
@@ -168,7 +169,8 @@ WritenWritesItsNumber = (w : ℕ) → w < 65536 → Call 5 (w ∷ []) 20 (turns_
 abbrev pub WritefWritesItsPieces : Type 0
 WritefWritesItsPieces =
     (s : ℕ) (pieces : List Piece) (more : List ℕ) → length (taken_by pieces) ≤ 4
-    → Call 6 (s ∷ (taken_by pieces ++ more)) 37 (2 + turns_by pieces) (λ cells. HoldsString cells s (format_of pieces) × ArePieces cells pieces) 0 unchanged (written_by pieces)
+    → Call 6 (s ∷ (taken_by pieces ++ more)) 37 (2 + turns_by pieces)
+    (λ cells. HoldsString cells s (format_of pieces) × ArePieces cells pieces) 0 unchanged (written_by pieces)
 
 -- the section START() BE WRITEN(w)
 abbrev pub start : ℕ → Core
@@ -178,7 +180,8 @@ start w = record { places = Code (record { global = Some 1; parameters = 0; body
 -- number and finishes
 abbrev pub AProgramPrintsItsNumber : Type 0
 AProgramPrintsItsNumber =
-    (w : ℕ) → w < 65536 → (address other : ℕ → ℕ) (base : ℕ) → IsMap (library ∷ start w ∷ []) (record { places = address ∷ other ∷ []; stack_base = base })
+    (w : ℕ) → w < 65536 → (address other : ℕ → ℕ) (base : ℕ)
+    → IsMap (library ∷ start w ∷ []) (record { places = address ∷ other ∷ []; stack_base = base })
     → base + 24 ≤ 65536 → (streams : Content) (n : ℕ)
     → meaning (library ∷ start w ∷ []) (record { places = address ∷ other ∷ []; stack_base = base }) streams (suc (turns_of (signed w) + n))
     ≡ Ended (output_of (after_writes (signed_decimal (signed w)) streams)) Finished
