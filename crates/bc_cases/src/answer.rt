@@ -9,6 +9,7 @@ use std::fmt;
 #[derive(Drop)]
 pub struct Answer {
     text: String,
+    /// The allocator, which remembers whether an allocation failed.
     pub growth: Growth,
 }
 

@@ -6,8 +6,11 @@ use std::alloc::Global;
 /// A case: its kind, its name, its input and the expected answer. Each line of input and answer ends with a line feed.
 #[derive(Drop)]
 pub struct Case {
+    /// The kind of the cases from here on.
     pub kind: String,
+    /// The name of the current case.
     pub name: String,
+    /// Its input.
     pub input: String,
     answer: String,
     /// Whether a case has begun since the last kind.

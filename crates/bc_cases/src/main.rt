@@ -133,6 +133,7 @@ fn try_file(rt: &HostRuntime, path: &str) -> io::Result<()> {
     println!(rt; "{lines}{path}: {cases} cases, {differ} of them answer otherwise")
 }
 
+/// Tries the files of cases that the arguments name, one after another. Returns the error of the first file that can't be read.
 fn main(rt: HostRuntime) -> io::Result<()> {
     let paths: Vec<String> = env::args(&rt)?.skip(1).collect(rt.alloc())?;
     for path in &paths {

@@ -46,7 +46,7 @@ form_to (bin i j) r aim k n h g = pair_to i j r aim k n h
 form_to (choice i j l) r aim k n h g = choice_to i j l r aim k g
 form_to (call {n = m} i) r aim k n h g = call_to m i r aim k g
 
--- where the checker finds that a rule makes a derivation of so many words, one begins with it
+-- if the checker finds that a rule makes a derivation with these words, there is one that begins with it
 pub begins_to : {T : Table} {s : ℕ} {form : Form} {ns : List Shown} {ms : List Mark} {ps : List Facts} {xs : List Tree} {e : Exp} → Over T s form ns ms ps xs e → (r : Rule) (aim : Aim) (k : ℕ)
     → makes (node_at T s form e ps) ms r aim (Some k) ≡ true → Begins T e aim s r k ns
 begins_to {T = T} {s = s} {form = form} {ns = ns} {ms = ms} {ps = ps} {e = e} o r aim k g =

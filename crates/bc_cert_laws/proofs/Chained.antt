@@ -116,7 +116,7 @@ any_chain : {T : Table} {e : Exp} (d : Derives T e (Gets Any)) → record { is_t
 any_chain (v0 d) = refl
 any_chain d = refl
 
--- rules of values and of tests that do not go on at the same node
+-- rules of values and of tests other than V0 and J6
 is_own : ℕ → ℕ → Rule → Bool
 is_own letter n r = cond (rule_letter r == letter) (cond (rule_number r == n) false true) false
 
@@ -178,7 +178,7 @@ chain_is (Gets Push) d = subst IsChain (push_chain d) (value_is_chain false fals
 chain_is (Gets Any) d = subst IsChain (any_chain d) (value_is_chain false (value_chain d).is_freed (value_chain d).rule (any_own d))
 chain_is (Jumps sense) d = jump_is_chain d
 
--- rules at a node come of one chain alone
+-- the rules at a node are those of only one chain
 one_chain : (t f u g : Bool) (r q : Rule) → over_if t J6 (over_if f V0 (r ∷ [])) ≡ over_if u J6 (over_if g V0 (q ∷ [])) → ◌≡◌ {A = Chain} (record { is_tested = t; is_freed = f; rule = r }) (record { is_tested = u; is_freed = g; rule = q })
 one_chain true true true true r q h = cc
 one_chain true true true false r q h = cc
@@ -283,7 +283,7 @@ module _ {T : Table} {s : ℕ} {form : Form} {ns : List Shown} {ms : List Mark} 
   value_shows r false freed (Jumps false) g = cc
   value_shows r false freed (Jumps true) g = cc
 
-  -- a rule of tests stands alone
+  -- a rule of tests is the only rule at its node
   alone_shows : (ch : Chain) → ch.is_tested ≡ false → ch.is_freed ≡ false → (aim : Aim) → Shows T (tree_at e s ns (ch.rule ∷ [])) aim → Shows T (tree_at e s ns (chain_rules ch)) aim
   alone_shows ch t f aim h = subst (λ rs. Shows T (tree_at e s ns rs) aim) (sym (ap (λ b. over_if b J6 (over_if ch.is_freed V0 (ch.rule ∷ []))) t ∙ ap (λ b. over_if b V0 (ch.rule ∷ [])) f)) h
 

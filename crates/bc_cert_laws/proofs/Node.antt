@@ -109,7 +109,7 @@ none_shown s f p h = by_cases (is_some s) refl h where
   by_cases true i h = cc
   by_cases false i h = (cc, i)
 
--- rules that stand
+-- rules that are those of a derivation of least words
 stands_where : {T : Table} {e : Exp} {s : ℕ} {nodes : List Shown} (rules : List Rule) → RulesStand T e s nodes → StandsBy T e s rules nodes
 stands_where [] h = tt
 stands_where (r ∷ rs) h = h
@@ -193,7 +193,7 @@ module _ {T : Table} {s : ℕ} {form : Form} {ns : List Shown} {ms : List Mark} 
 pub depth_is : (T : Table) (n : NodeLine) (ts : List Grown) (ms : List Mark) (fs : List Facts) (es : List Exp) (xs : List Tree) (e : Exp) → AllStand T ts ms fs es xs → levels_fit n.level n.form ms ≡ true → whole n.form es ≡ Some e → depth_over ms ≡ nested e
 depth_is T n ts ms fs es xs e h l k = depth_of (over_levelled T n.level n.form ts ms fs es xs e h l k)
 
--- where the checker found no fault the tree of the node stands, and so do its rules
+-- if the checker found no fault, what it keeps of the node's tree is true, and its rules are those of a derivation of least words
 pub new_stands : (T : Table) (n : NodeLine) (ts : List Grown) (ms : List Mark) (fs : List Facts) (es : List Exp) (xs : List Tree) (e : Exp) → IsOver T n ts ms fs es xs e → (rules : List Rule) → ShowsRules n.rules rules → (p : Position) (sh : marks.Shown)
     → shown_for (line_node T n e fs) ms n p ≡ Ok sh
     → Stands T (grown e n.level rules ts) (new_mark n (depth_over ms) sh ms) (new_facts n e fs) e (derived n.rules (second_zero fs) xs) × StandsBy T e n.level rules (all_shown ts ++ node e n.level rules ∷ [])

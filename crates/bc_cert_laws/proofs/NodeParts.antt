@@ -242,7 +242,7 @@ parts_right (forms.Bin op) e s ps l k = two_parts op e s ps l k
 parts_right forms.Cond e s ps l k = three_parts e s ps l k
 parts_right (forms.Call n) e s ps l k = let c = call_parts (s + 2) ps e l k in c.parts ∙ ap (λ x. parts x s) (sym c.is)
 
--- a whole over as many parts as the form has is of this form
+-- a whole with as many parts as the form has is of this form
 abbrev FormIs : Form → Exp → Type 0
 FormIs form e = form ≡ own_form e
 
@@ -291,7 +291,7 @@ whole_form (forms.Bin op) es e h k = two_form op es e k
 whole_form forms.Cond es e h k = three_form es e k
 whole_form (forms.Call n) es e h k = call_form es e n h k
 
--- and there is a whole over so many parts
+-- and there is a whole with this number of parts
 leaf_made : (es : List Exp) (x : Exp) → length es ≡ 0 → (e : Exp) × (leaf es x ≡ Some e)
 leaf_made [] x h = (x, refl)
 leaf_made (y ∷ es) x h = absurd (omega (arith, h))

@@ -31,7 +31,7 @@ pub kept : {A : Type 0} (t : Bool) (o : Option A) (a : A) → cond t None o ≡ 
 kept true o a h = absurd (cc)
 kept false o a h = (refl, h)
 
--- digits alone
+-- digits only
 abbrev pub Digits : List ℕ → Type 0
 Digits = AllByRecursion (IsInRange 48 57)
 

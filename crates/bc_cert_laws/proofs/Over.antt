@@ -16,7 +16,7 @@ use Rattle.bc_cert_write.specs.Shown.{Shown}
 use Rattle.bc_cert_laws.specs.Faults.{Grown, all_shown}
 use Rattle.bc_cert_laws.specs.Standing.{Stands, AllStand, IsOver}
 
--- a tree with these lines stands
+-- what is kept of a tree with these lines is true
 abbrev pub StandsAt : Table → Exp → ℕ → List Shown → Mark → Facts → Tree → Type 0
 StandsAt T a s ns m p x = Stands T (record { expression = a; level = s; shown = ns }) m p a x
 

@@ -298,7 +298,7 @@ rule_from {T = T} (j9 {a = a} {b = b} {c = c} {sense = sense} t e d) s l k two a
     let q = beside_from T a b s l k two NotEqual (Gets Any) 2 _ c e d h (λ i. omega (arith, low (j9 t e i))) refl in
     (so_made T a b s l k two NotEqual _ _ _ (ap has_tests_of_zero t) q.0, ap (λ ts. by J9 ts) q.1)
 
--- the two results, of parts that stand; V1 is a rule of any operand, and before V0 and J6 stands a rule of their own
+-- the two results, if what is kept of the parts is true; V1 is a rule of any operand, and V0 and J6 are followed by another rule
 both_known : (T : Table) (a b : Exp) (s : ℕ) (p q : Facts) → IsPart T a (s + 1) p → IsPart T b (s + 1) q → facts_of a (has_call a) p.costs ∷ facts_of b (has_call b) q.costs ∷ [] ≡ p ∷ q ∷ []
 both_known T a b s p q h i = ap (λ f. f ∷ facts_of b (has_call b) q.costs ∷ []) (sym h.facts) ∙ ap (λ g. p ∷ g ∷ []) (sym i.facts)
 

@@ -105,7 +105,7 @@ pub record TwoTrees (T : Table) (a b : Exp) (s : ℕ) (l k : List Shown) : Type 
   pub left : StandsAt T a (s + 1) l left_mark (facts_of a (has_call a) left_costs) left_tree
   pub right : StandsAt T b (s + 1) k right_mark (facts_of b (has_call b) right_costs) right_tree
 
--- a rule takes both parts, or one of them and the other as it stands
+-- a rule derives both parts, or one of them and takes the other as it is
 pub record Both (T : Table) (a b : Exp) (s : ℕ) (l : List Shown) (p q : Aim) (j words : ℕ) : Type 0 where
   pub left : Derives T a p
   pub right : Derives T b q
@@ -144,7 +144,7 @@ module _ (T : Table) (a b : Exp) (s : ℕ) (l k : List Shown) (two : TwoTrees T 
   abbrev pub over : Op → Node
   over op = record { table = T; level = s; form = forms.Bin op; operand = words_of_operand_of (Bin op a b); parts = parts_known }
 
-  -- the recipe makes so many words of what the parts show
+  -- the recipe has these words over what the parts show
   abbrev pub Makes : Op → ℕ → Option Recipe → Type 0
   Makes op words r = makes_by (over op) (two.left_mark ∷ two.right_mark ∷ []) (Some words) r ≡ true
 

@@ -124,7 +124,7 @@ beside_words s p q aim x y k true u h i = only_first s p q aim x k h
 beside_words s p q aim x y k false true h i = only_second s p q aim y k i
 beside_words s p q aim x y k false false h i = refl
 
--- an operand alone
+-- a node that is an operand
 alone : (s : ℕ) (p q : Facts) (o : Option Operand) → pair_words s p q (adding Nothing (words_of_operand o) 0) ≡ operand_cost o
 unfolding operand_cost sum
 alone s p q None = refl

@@ -30,6 +30,7 @@ pub struct Node<'p> {
     pub parts: &'p [Facts],
 }
 
+/// A value, where register B may be lost.
 const ANY: Aim = Aim::Gets(Mode::Any);
 
 impl<'p> Node<'p> {

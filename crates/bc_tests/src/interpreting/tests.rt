@@ -1,7 +1,7 @@
 //! Runs by their meaning: each way to end, a device that fails, and allocations that fail.
 
 use bc_build::{BuildError, GenError, LexError, LinkError, ParseError, ScopeFault, build};
-use bc_interpret_sources::{Cause, Ending, Outcome, BuiltProgram, Source, interpret};
+use bc_interpret_sources::{BuiltProgram, Cause, Ending, Outcome, Source, interpret};
 use bc_machine::{MemoryStreams, Named, StreamsError};
 use bc_word::Memory;
 use std::alloc::Global;
@@ -21,8 +21,11 @@ $)
 /// What happened to a source: the outcome of its run, a failed allocation, or any other error.
 #[derive(Drop)]
 enum Came {
+    /// The run had this outcome.
     To(Outcome),
+    /// An allocation failed.
     Memory,
+    /// Any other error.
     Other,
 }
 
