@@ -25,14 +25,19 @@ mod stack;
 mod taken;
 mod whole;
 
+// Lines.
 pub use chain::{Chain, Rules};
 pub use codes::code_line;
-pub use costs::LeastWords;
-pub use facts::{Facts, are_free, words_as_operand};
 pub use form::Form;
 pub use lines::{NodeLine, RootLine, end_line, entry_line, header, node_line, root_line};
+
+// The rules at a node.
+pub use costs::LeastWords;
+pub use facts::{Facts, are_free, words_as_operand};
 pub use node::{Node, lesser};
-pub use position::Position;
 pub use recipe::Recipe;
+
+// The trees of an entry.
+pub use position::Position;
 pub use rooted::Rooted;
 pub use stack::Stack;
