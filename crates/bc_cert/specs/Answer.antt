@@ -14,15 +14,15 @@ use Rattle.bc_cert_laws.specs.Faults.{Lacks}
 abbrev pub limit : ℕ
 limit = 1073741824
 
--- if the reader's bytes are known, they are no more than a certificate may have
+-- if the contracts know the reader's bytes, they are no more than a certificate may have
 abbrev pub IsShort : Option (List ℕ) → Type 0
 IsShort known = IfSome known (λ bytes. length bytes ≤ limit)
 
--- the reader delivered bytes that say this verdict; if its bytes are known, these are all of them
+-- there are bytes, delivered by the reader, that say this verdict; if the contracts know the reader's bytes, these are all of them
 abbrev pub IsSaid : Option (List ℕ) → Verdict → Type 0
 IsSaid known v = (bytes : List ℕ) × IfSome known (λ xs. xs ≡ bytes) × Says bytes v
 
--- the reader delivered bytes that have this first fault; if its bytes are known, all of them together have it too
+-- there are bytes, delivered by the reader, that have this first fault; if the contracts know the reader's bytes, all of them have it too
 abbrev pub IsLacking : Option (List ℕ) → CheckFault → Type 0
 IsLacking known f = (bytes : List ℕ) × IfSome known (λ xs. Lacks xs f) × Lacks bytes f
 
@@ -48,7 +48,7 @@ pub record AreSums (s : Sums) (v : Verdict) : Type 0 where
   pub entries : s.entries ≡ length v.entries
   pub words : s.words ≡ min (sum_of v.entries) (2 ^ 64 - 1)
 
--- these are the sums of the verdict that the reader's bytes say
+-- these are the sums of a verdict that the reader's bytes say
 abbrev pub AreSaid : Option (List ℕ) → Sums → Type 0
 AreSaid known s = (v : Verdict) × IsSaid known v × AreSums s v
 
