@@ -20,7 +20,7 @@
   const menu = document.querySelector(".menu"), side = document.getElementById("side");
   menu.addEventListener("click", function () { menu.setAttribute("aria-expanded", side.classList.toggle("open")); });
   const current = side.querySelector("[aria-current]");
-  if (current && side.scrollHeight > side.clientHeight) side.scrollTop = current.offsetTop - side.clientHeight / 3;
+  if (current && current.offsetTop > side.clientHeight - 60) side.scrollTop = current.offsetTop - side.clientHeight / 3;
 
   // ---- Copying: of a terminal only the commands
   document.querySelectorAll("figure.code").forEach(function (figure) {
