@@ -2,6 +2,7 @@
 
 An expression is a tuple: ("N", 5) a number, ("P", 2) the address of the frame's cell 2, ("!", e) the content of the cell e, ("-", e), ("NOT", e), or
 (op, a, b) with an op of NUMBERS. `rules` is docs/rules.md, rule by rule; all expressions are free, since none has a call.
+A NOT of a relation never comes to the table, since the compiler takes the opposite relation before; the model knows nothing of this.
 """
 ANY, PUSH = "Any", "Push"
 NUMBERS = {"*": 5, "/": 6, "REM": 7, "+": 8, "-": 9, "=": 10, "NE": 11, "<": 12, ">=": 13, ">": 14, "<=": 15, "<<": 16, ">>": 17,
