@@ -24,7 +24,7 @@ use Rattle.bc_cert_read.specs.Costs.{cost_of}
 use Rattle.bc_cert_read.specs.Parts.{AreLeast}
 use Rattle.bc_cert_read.specs.declared.chain.Chain.{Chain}
 use Rattle.bc_cert_read.specs.declared.chain.Rules.TheVariants.{Named}
-use Rattle.bc_cert_read.specs.declared.mark.Mark.{Mark}
+use Rattle.bc_cert_read.specs.declared.mark.TreeFacts.{TreeFacts}
 use Rattle.bc_cert_read.specs.declared.mark.Shown as marks
 use Rattle.bc_cert_read.specs.Marks.{has_aim}
 use Rattle.bc_cert_read.specs.Derived.{derived, over_if as made_over}
@@ -79,7 +79,7 @@ none_has : (x : Option ℕ) → has_words x None ≡ true → ⊥
 none_has None h = never h
 none_has (Some n) h = never h
 
-no_words : (n : Node) (ms : List Mark) (x : Option Recipe) → makes_by n ms None x ≡ true → ⊥
+no_words : (n : Node) (ms : List TreeFacts) (x : Option Recipe) → makes_by n ms None x ≡ true → ⊥
 no_words n ms None h = never h
 no_words n ms (Some r) h = none_has _ (and_parts _ _ h).0
 
@@ -218,7 +218,7 @@ test_begins (j6 p d) = by_value p d
 test_begins d = own refl refl refl
 
 -- what a number of the line says of a derivation
-module _ {T : Table} {s : ℕ} {form : Form} {ns : List Shown} {ms : List Mark} {ps : List Facts} {xs : List Tree} {e : Exp} (o : Over T s form ns ms ps xs e) (c : Costs) (h : AreLeast T e s c) where
+module _ {T : Table} {s : ℕ} {form : Form} {ns : List Shown} {ms : List TreeFacts} {ps : List Facts} {xs : List Tree} {e : Exp} (o : Over T s form ns ms ps xs e) (c : Costs) (h : AreLeast T e s c) where
   shows : {aim : Aim} (rules : List Rule) (k : ℕ) (d : Derives T e aim) → rules_at d ≡ rules → below d s ≡ ns → cost d s ≡ k → cost_of aim c ≡ Some k → Shows T (tree_at e s ns rules) aim
   shows rules k d r b w g =
       record { derivation = d; shown = ap (λ us. us ++ node e s rules ∷ []) (sym b) ∙ ap (λ rs. below d s ++ node e s rs ∷ []) (sym r); fewest = fewest_of h d k g w }

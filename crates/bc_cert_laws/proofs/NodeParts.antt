@@ -11,7 +11,7 @@ use Rattle.bc_cert_read.specs.declared.form.Form.TheVariants as forms
 use Rattle.bc_cert_read.specs.Form.{parts_of}
 use Rattle.bc_cert_read.specs.Parts.{form_of}
 use Rattle.bc_cert_write.specs.Lines.{form_field}
-use Rattle.bc_cert_read.specs.declared.mark.Mark.{Mark}
+use Rattle.bc_cert_read.specs.declared.mark.TreeFacts.{TreeFacts}
 use Rattle.bc_cert_read.specs.Marks.{first_level, levels_from}
 use Rattle.bc_cert_read.specs.Wholes.{leaf, one_of, with_one, two_of, three_of, with_argument, called_of, whole}
 use Rattle.bc_cert_laws.specs.Entries.{HasSmallNumber}
@@ -32,11 +32,11 @@ abbrev pub levels_of : ℕ → ℕ → List (Exp × ℕ) → Bool
 levels_of s step [] = true
 levels_of s step (p ∷ ps) = cond (p.1 == s) (levels_of (s + step) step ps) false
 
-pub expressions_are : {T : Table} {ts : List Grown} {ms : List Mark} {fs : List Facts} {es : List Exp} {xs : List Tree} → Kept T ts ms fs es xs → es ≡ expressions (placed ts)
+pub expressions_are : {T : Table} {ts : List Grown} {ms : List TreeFacts} {fs : List Facts} {es : List Exp} {xs : List Tree} → Kept T ts ms fs es xs → es ≡ expressions (placed ts)
 expressions_are nothing = refl
 expressions_are (further a rest) = let e = a.expression in let es = expressions_are rest in cc
 
-pub levels_are : {T : Table} {ts : List Grown} {ms : List Mark} {fs : List Facts} {es : List Exp} {xs : List Tree} (s step : ℕ) → Kept T ts ms fs es xs → levels_from s step ms ≡ levels_of s step (placed ts)
+pub levels_are : {T : Table} {ts : List Grown} {ms : List TreeFacts} {fs : List Facts} {es : List Exp} {xs : List Tree} (s step : ℕ) → Kept T ts ms fs es xs → levels_from s step ms ≡ levels_of s step (placed ts)
 levels_are s step nothing = refl
 levels_are s step (further {t = t} {m = m} {ms = ms} a rest) = ap (λ l. cond (l == s) (levels_from (s + step) step ms) false) a.level ∙ ap (λ b. cond (t.level == s) b false) (levels_are (s + step) step rest)
 

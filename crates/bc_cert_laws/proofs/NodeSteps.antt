@@ -15,7 +15,7 @@ use Rattle.bc_cert_read.specs.Node.{least_words_of}
 use Rattle.bc_cert_read.specs.Parts.{AreLeast}
 use Rattle.bc_cert_read.specs.declared.lines.NodeLine.{NodeLine}
 use Rattle.bc_cert_read.specs.declared.chain.Rules.{Rules}
-use Rattle.bc_cert_read.specs.declared.mark.Mark.{Mark}
+use Rattle.bc_cert_read.specs.declared.mark.TreeFacts.{TreeFacts}
 use Rattle.bc_cert_read.specs.declared.mark.Shown.{Shown}
 use Rattle.bc_cert_read.specs.declared.position.Position.{Position}
 use Rattle.bc_cert_read.specs.Marks.{levels_fit, depth_over}
@@ -153,7 +153,7 @@ record NamesShow (names : List Name) (rs : Rules) : Type 0 where
   names_are : names ≡ map name rules
   shows : ShowsRules rs rules
 
-names_show : (T : Table) {names : List Name} {rs : Rules} (n : NodeLine) (e : Exp) (fs : List Facts) (ms : List Mark) (p : Position) (shown : Shown) → n.rules ≡ rs → AreNamed names rs → shown_for (line_node T n e fs) ms n p ≡ Ok shown → NamesShow names rs
+names_show : (T : Table) {names : List Name} {rs : Rules} (n : NodeLine) (e : Exp) (fs : List Facts) (ms : List TreeFacts) (p : Position) (shown : Shown) → n.rules ≡ rs → AreNamed names rs → shown_for (line_node T n e fs) ms n p ≡ Ok shown → NamesShow names rs
 names_show T n e fs ms p shown h no_name k = record { rules = []; names_are = refl; shows = no_rule }
 names_show T n e fs ms p shown h (named {c = c} is) k = record { rules = chain_rules c; names_are = refl; shows = by_chain is }
 names_show T n e fs ms p shown h (wrong some none) k =

@@ -15,7 +15,7 @@ use Rattle.bc_cert_defs.specs.declared.costs.Costs.{Costs}
 use Rattle.bc_cert_read.specs.declared.facts.Facts.{Facts}
 use Rattle.bc_cert_read.specs.Costs.{cost_of}
 use Rattle.bc_cert_read.specs.Parts.{AreLeast}
-use Rattle.bc_cert_read.specs.declared.mark.Mark.{Mark}
+use Rattle.bc_cert_read.specs.declared.mark.TreeFacts.{TreeFacts}
 use Rattle.bc_cert_read.specs.Marks.{has_aim}
 use Rattle.bc_cert_read.specs.Showing.{has_words}
 use Rattle.bc_cert_write.specs.Shown.{Shown, shown, below}
@@ -64,15 +64,15 @@ pub record Part (T : Table) (a : Exp) (s : ℕ) (ns : List Shown) (p : Facts) (a
   pub shown : shown derivation s ≡ ns
   pub counted : cost_of aim p.costs ≡ Some (cost derivation s)
 
-pub part_to : {T : Table} {a : Exp} {s : ℕ} {ns : List Shown} {m : Mark} {p : Facts} {x : Tree} → StandsAt T a s ns m p x → (aim : Aim) → has_aim m.shown aim ≡ true → Part T a s ns p aim
+pub part_to : {T : Table} {a : Exp} {s : ℕ} {ns : List Shown} {m : TreeFacts} {p : Facts} {x : Tree} → StandsAt T a s ns m p x → (aim : Aim) → has_aim m.shown aim ≡ true → Part T a s ns p aim
 part_to h aim k = let d = h.shows aim k in record { derivation = d.derivation; shown = sym d.shown; counted = counted_of h.part.costs d.derivation d.fewest }
 
-pub record Has (m : Mark) (p : Facts) (x : Tree) (aim : Aim) (words : ℕ) (t : Tree) : Type 0 where
+pub record Has (m : TreeFacts) (p : Facts) (x : Tree) (aim : Aim) (words : ℕ) (t : Tree) : Type 0 where
   pub agrees : has_aim m.shown aim ≡ true
   pub counted : cost_of aim p.costs ≡ Some words
   pub shape : t ≡ x
 
-pub part_from : {T : Table} {a : Exp} {s : ℕ} {ns : List Shown} {m : Mark} {p : Facts} {x : Tree} {aim : Aim} → StandsAt T a s ns m p x → (d : Derives T a aim) → shown d s ≡ ns → IsFewest d s → Has m p x aim (cost d s) (shape d)
+pub part_from : {T : Table} {a : Exp} {s : ℕ} {ns : List Shown} {m : TreeFacts} {p : Facts} {x : Tree} {aim : Aim} → StandsAt T a s ns m p x → (d : Derives T a aim) → shown d s ≡ ns → IsFewest d s → Has m p x aim (cost d s) (shape d)
 part_from {aim = aim} h d k f = let o = h.has aim d (sym k) f in record { agrees = o.0; counted = counted_of h.part.costs d f; shape = o.1 }
 
 -- the words of a recipe

@@ -30,7 +30,7 @@ use Rattle.bc_cert_write.specs.Shown.{Shown, shown, bare}
 use Rattle.bc_cert_write.specs.Lines.{line}
 use Rattle.bc_cert_read.specs.declared.lines.RootLine.{RootLine}
 use Rattle.bc_cert_read.specs.declared.lines.RootLine.TheVariants as lines
-use Rattle.bc_cert_read.specs.declared.mark.Mark.{Mark}
+use Rattle.bc_cert_read.specs.declared.mark.TreeFacts.{TreeFacts}
 use Rattle.bc_cert_read.specs.declared.position.Position.{Position}
 use Rattle.bc_cert_read.specs.Marks.{has_aim}
 use Rattle.bc_cert_read.specs.Sides.{words_at, words_by, least_of, same}
@@ -60,7 +60,7 @@ data OneOf (T : Table) : List Grown → Option One → Type 0 where
   just_one : {t : Grown} {o : One} → OneStands T t o → OneOf T (t ∷ []) (Some o)
   not_one : {ts : List Grown} → ((t : Grown) → ¬ (ts ≡ t ∷ [])) → OneOf T ts None
 
-one_of : {T : Table} {ts : List Grown} {ms : List Mark} {fs : List Facts} {es : List Exp} {xs : List Tree} → Kept T ts ms fs es xs → OneOf T ts (one_among ms fs es xs)
+one_of : {T : Table} {ts : List Grown} {ms : List TreeFacts} {fs : List Facts} {es : List Exp} {xs : List Tree} → Kept T ts ms fs es xs → OneOf T ts (one_among ms fs es xs)
 one_of nothing = not_one (λ t i. cc)
 one_of (further a nothing) = just_one a
 one_of (further a (further b rest)) = not_one (λ t i. cc)
@@ -69,7 +69,7 @@ data TwoOf (T : Table) : List Grown → Option (One × One) → Type 0 where
   just_two : {t u : Grown} {q : One × One} → OneStands T t q.0 → OneStands T u q.1 → TwoOf T (t ∷ u ∷ []) (Some q)
   not_two : {ts : List Grown} → ((t u : Grown) → ¬ (ts ≡ t ∷ u ∷ [])) → TwoOf T ts None
 
-two_of : {T : Table} {ts : List Grown} {ms : List Mark} {fs : List Facts} {es : List Exp} {xs : List Tree} → Kept T ts ms fs es xs → TwoOf T ts (two_among ms fs es xs)
+two_of : {T : Table} {ts : List Grown} {ms : List TreeFacts} {fs : List Facts} {es : List Exp} {xs : List Tree} → Kept T ts ms fs es xs → TwoOf T ts (two_among ms fs es xs)
 two_of nothing = not_two (λ t u i. cc)
 two_of (further a nothing) = not_two (λ t u i. cc)
 two_of (further a (further b nothing)) = just_two a b

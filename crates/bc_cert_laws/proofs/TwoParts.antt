@@ -25,7 +25,7 @@ use Rattle.bc_cert_read.specs.declared.recipe.Recipe.{Recipe}
 use Rattle.bc_cert_read.specs.Recipe.{facts_of, recipe, adding, where_so, only_at, words_of_operand, words_of_operand_of}
 use Rattle.bc_cert_read.specs.Node.{Node, more_words}
 use Rattle.bc_cert_read.specs.Lines.{op_numbered}
-use Rattle.bc_cert_read.specs.declared.mark.Mark.{Mark}
+use Rattle.bc_cert_read.specs.declared.mark.TreeFacts.{TreeFacts}
 use Rattle.bc_cert_read.specs.Derived.{taken, trees}
 use Rattle.bc_cert_read.specs.Showing.{has_words, makes_by}
 use Rattle.bc_cert_write.specs.Shown.{Shown, shown, bare}
@@ -96,8 +96,8 @@ joined xs ys us vs h i = ap (λ l. l ++ ys) h ∙ ap (λ l. us ++ l) i
 
 -- the trees of the two parts
 pub record TwoTrees (T : Table) (a b : Exp) (s : ℕ) (l k : List Shown) : Type 0 where
-  pub left_mark : Mark
-  pub right_mark : Mark
+  pub left_mark : TreeFacts
+  pub right_mark : TreeFacts
   pub left_costs : Costs
   pub right_costs : Costs
   pub left_tree : Tree

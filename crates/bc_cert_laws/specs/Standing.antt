@@ -24,7 +24,7 @@ use Rattle.bc_cert_read.specs.declared.lines.NodeLine.{NodeLine}
 use Rattle.bc_cert_read.specs.declared.lines.RootLine.{RootLine}
 use Rattle.bc_cert_read.specs.declared.lines.RootLine.TheVariants as lines
 use Rattle.bc_rules_defs.specs.Names.{rule_letter}
-use Rattle.bc_cert_read.specs.declared.mark.Mark.{Mark}
+use Rattle.bc_cert_read.specs.declared.mark.TreeFacts.{TreeFacts}
 use Rattle.bc_cert_read.specs.Marks.{has_aim, levels_fit}
 use Rattle.bc_cert_read.specs.Wholes.{whole}
 use Rattle.bc_cert_read.specs.Derived.{taken, trees}
@@ -99,7 +99,7 @@ pub record Shows (T : Table) (t : Grown) (aim : Aim) : Type 0 where
   pub fewest : IsFewest derivation t.level
 
 -- the mark, the facts, the expression and the derivation that the checker keeps are true of this tree
-pub record Stands (T : Table) (t : Grown) (m : Mark) (f : Facts) (e : Exp) (x : Tree) : Type 0 where
+pub record Stands (T : Table) (t : Grown) (m : TreeFacts) (f : Facts) (e : Exp) (x : Tree) : Type 0 where
   pub expression : e ≡ t.expression
   pub level : m.level ≡ t.level
   pub depth : m.depth ≡ nested t.expression
@@ -110,13 +110,13 @@ pub record Stands (T : Table) (t : Grown) (m : Mark) (f : Facts) (e : Exp) (x : 
   pub shows : (aim : Aim) → has_aim m.shown aim ≡ true → Shows T t aim
   pub has : (aim : Aim) (d : Derives T t.expression aim) → t.shown ≡ shown d t.level → IsFewest d t.level → (has_aim m.shown aim ≡ true) × (shape d ≡ x)
 
-abbrev pub AllStand : Table → List Grown → List Mark → List Facts → List Exp → List Tree → Type 0
+abbrev pub AllStand : Table → List Grown → List TreeFacts → List Facts → List Exp → List Tree → Type 0
 AllStand T [] [] [] [] [] = Unit {0}
 AllStand T (t ∷ ts) (m ∷ ms) (f ∷ fs) (e ∷ es) (x ∷ xs) = Stands T t m f e x × AllStand T ts ms fs es xs
 AllStand T _ _ _ _ _ = ⊥
 
 -- the node line has these trees as the parts of its expression, and states the least words
-pub record IsOver (T : Table) (n : NodeLine) (ts : List Grown) (ms : List Mark) (fs : List Facts) (es : List Exp) (xs : List Tree) (e : Exp) : Type 0 where
+pub record IsOver (T : Table) (n : NodeLine) (ts : List Grown) (ms : List TreeFacts) (fs : List Facts) (es : List Exp) (xs : List Tree) (e : Exp) : Type 0 where
   pub parts : AllStand T ts ms fs es xs
   pub levels : levels_fit n.level n.form ms ≡ true
   pub whole : whole n.form es ≡ Some e

@@ -19,7 +19,7 @@ use Rattle.bc_cert_read.specs.declared.chain.Rules.TheVariants.{Taken}
 use Rattle.bc_cert_read.specs.declared.lines.NodeLine.{NodeLine}
 use Rattle.bc_cert_read.specs.declared.lines.RootLine.TheVariants as lines
 use Rattle.bc_cert_read.specs.declared.lines.RootLine.{RootLine}
-use Rattle.bc_cert_read.specs.declared.mark.Mark.{Mark}
+use Rattle.bc_cert_read.specs.declared.mark.TreeFacts.{TreeFacts}
 use Rattle.bc_cert_read.specs.declared.mark.Shown.{Shown}
 use Rattle.bc_cert_read.specs.declared.position.Position.{Position}
 use Rattle.bc_cert_read.specs.Marks.{has_aim, levels_fit, depth_over, all_bare}
@@ -35,7 +35,7 @@ abbrev pub ◌>>=◌ : {A B : Type 0} → Result A CheckFault → (A → Result 
 
 -- the trees of an entry that aren't parts of another one yet, in the order of their lines
 pub record Stack : Type 0 where
-  pub marks : List Mark
+  pub marks : List TreeFacts
   pub facts : List Facts
   pub expressions : List Exp
   pub derivations : List Tree
@@ -49,7 +49,7 @@ pub record AreParallel (st : Stack) : Type 0 where
   pub expressions : length st.expressions ≡ length st.facts
   pub derivations : length st.derivations ≡ length st.facts
 
-abbrev pub fitting : NodeLine → List Mark → Position → Result ℕ CheckFault
+abbrev pub fitting : NodeLine → List TreeFacts → Position → Result ℕ CheckFault
 fitting line ms p = cond (levels_fit line.level line.form ms) (cond (nat_le (depth_over ms) 400) (Ok (depth_over ms)) (Err (TooDeep p.line)))
     (Err (Line p.line))
 
@@ -68,7 +68,7 @@ is_taken _ = false
 abbrev pub line_node : Table → NodeLine → Exp → List Facts → Node
 line_node T line e ps = record { table = T; level = line.level; form = line.form; operand = words_of_operand_of e; parts = ps }
 
-abbrev pub new_mark : NodeLine → ℕ → Shown → List Mark → Mark
+abbrev pub new_mark : NodeLine → ℕ → Shown → List TreeFacts → TreeFacts
 new_mark line depth shown ms = record { level = line.level; depth = depth; shown = shown; is_bare = is_taken line.rules && all_bare ms }
 
 abbrev pub new_facts : NodeLine → Exp → List Facts → Facts
@@ -120,19 +120,19 @@ node_step T line p st = cond (nat_lt (length st.facts) (parts_of line.form)) (Er
 
 -- one tree of the stack
 pub record One : Type 0 where
-  pub mark : Mark
+  pub mark : TreeFacts
   pub facts : Facts
   pub expression : Exp
   pub derivation : Tree
 
-abbrev pub one_among : List Mark → List Facts → List Exp → List Tree → Option One
+abbrev pub one_among : List TreeFacts → List Facts → List Exp → List Tree → Option One
 one_among (m ∷ []) (f ∷ []) (e ∷ []) (x ∷ []) = Some (record { mark = m; facts = f; expression = e; derivation = x })
 one_among _ _ _ _ = None
 
 abbrev pub one_tree : Stack → Option One
 one_tree st = one_among st.marks st.facts st.expressions st.derivations
 
-abbrev pub two_among : List Mark → List Facts → List Exp → List Tree → Option (One × One)
+abbrev pub two_among : List TreeFacts → List Facts → List Exp → List Tree → Option (One × One)
 two_among (m ∷ n ∷ []) (f ∷ g ∷ []) (e ∷ h ∷ []) (x ∷ y ∷ []) =
     Some (record { mark = m; facts = f; expression = e; derivation = x }, record { mark = n; facts = g; expression = h; derivation = y })
 two_among _ _ _ _ = None
@@ -170,7 +170,7 @@ abbrev pub is_operand_rule : Rule → Bool
 is_operand_rule A1 = true
 is_operand_rule _ = false
 
-abbrev pub sides_show : Rule → Mark → Mark → Bool
+abbrev pub sides_show : Rule → TreeFacts → TreeFacts → Bool
 sides_show r v a = has_aim v.shown (Gets Any) && cond (is_operand_rule r) a.is_bare (has_aim a.shown (Gets Any))
 
 abbrev pub assigned : Rule → Tree → Tree → Tree

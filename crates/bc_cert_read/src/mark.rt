@@ -42,7 +42,7 @@ impl Shown {
 
 /// What the lines above a tree need to know of it.
 #[derive(Clone, Copy)]
-pub struct Mark {
+pub struct TreeFacts {
     /// The level of its outermost node.
     pub level: u16,
     /// Its depth: 1 for a node without parts.
@@ -74,7 +74,7 @@ fn steps(form: Form) -> (u64, u64)
 }
 
 /// Whether the parts have the levels that a node of this form at this level requires.
-pub fn levels_fit(level: u16, form: Form, parts: &[Mark]) -> bool
+pub fn levels_fit(level: u16, form: Form, parts: &[TreeFacts]) -> bool
     ensures { result ≡ levels_fit_of level form parts.now }
 {
     let (first, step) = steps(form);
@@ -89,7 +89,7 @@ pub fn levels_fit(level: u16, form: Form, parts: &[Mark]) -> bool
 }
 
 /// The depth of a node with these parts.
-pub fn depth_over(parts: &[Mark]) -> u32
+pub fn depth_over(parts: &[TreeFacts]) -> u32
     ensures { result ≡ depth_of parts.now }
 {
     let mut depth: u32 = 0;
@@ -100,7 +100,7 @@ pub fn depth_over(parts: &[Mark]) -> u32
 }
 
 /// Whether none of these trees shows rules at any of its nodes.
-pub fn all_bare(parts: &[Mark]) -> bool
+pub fn all_bare(parts: &[TreeFacts]) -> bool
     ensures { result ≡ all_bare_of parts.now }
 {
     for part in parts {

@@ -1,7 +1,7 @@
 //! One tree of the stack.
 
 use crate::Facts;
-use crate::mark::Mark;
+use crate::mark::TreeFacts;
 use bc_core::CoreExp;
 use bc_rules_defs::Derivation;
 
@@ -9,7 +9,7 @@ use bc_rules_defs::Derivation;
 #[derive(Drop)]
 pub struct One {
     /// What the lines above it need to know of it.
-    pub mark: Mark,
+    pub mark: TreeFacts,
     /// What the rules need to know of it.
     pub facts: Facts,
     /// Its expression.

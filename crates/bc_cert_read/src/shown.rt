@@ -4,7 +4,7 @@ ghost use Rattle.std.specs.Prelude.{◌≡◌};
 ghost use Rattle.bc_cert_read.specs.Node.{node as node_of};
 ghost use Rattle.bc_cert_read.specs.Showing.{makes as makes_of, agree as agree_of, has_words as has_words_of, is_test as is_test_of, shown_by as shown_by_of, tested as tested_of, tests as tests_of, is_value as is_value_of, shown_for as shown_for_of, judged as judged_of};
 
-use crate::mark::{Mark, Shown};
+use crate::mark::{Shown, TreeFacts};
 use crate::position::Position;
 use crate::{Chain, Node, NodeLine, Rules};
 use bc_cert_defs::{CheckFault, Costs};
@@ -27,7 +27,7 @@ fn has_words(words: Option<u128>, stated: Option<u64>) -> bool
 }
 
 /// Whether each part that the rule derives shows rules for its aim, and the other parts show none.
-fn agree(takes: Takes, parts: &[Mark]) -> bool
+fn agree(takes: Takes, parts: &[TreeFacts]) -> bool
     ensures { result ≡ agree_of takes 0 parts.now }
 {
     for at in 0..parts.len() {
@@ -43,7 +43,7 @@ fn agree(takes: Takes, parts: &[Mark]) -> bool
 }
 
 /// Whether the rule applies for this aim, its parts show what it needs, and it has exactly the stated words.
-fn makes(node: &Node, parts: &[Mark], rule: Rule, aim: Aim, words: Option<u64>) -> bool
+fn makes(node: &Node, parts: &[TreeFacts], rule: Rule, aim: Aim, words: Option<u64>) -> bool
     ensures { result ≡ makes_of (node_of node.now) parts.now rule aim words }
 {
     match node.recipe(rule, aim) {
@@ -78,7 +78,7 @@ fn tested(any: u64, stated: u64) -> bool
 }
 
 /// The aims for which a rule of tests, other than `J6`, makes a derivation with the stated words.
-fn tests(node: &Node, parts: &[Mark], costs: &Costs, rule: Rule) -> Shown
+fn tests(node: &Node, parts: &[TreeFacts], costs: &Costs, rule: Rule) -> Shown
     ensures { result ≡ tests_of (node_of node.now) parts.now costs.now rule }
 {
     Shown {
@@ -101,7 +101,7 @@ fn is_value(costs: &Costs) -> bool
 
 /// The aims for which the rules of a chain make a derivation over what the parts show. Each of the rules must have the words that
 /// are stated for its aim.
-pub fn shown_by(node: &Node, parts: &[Mark], costs: &Costs, chain: Chain) -> Shown
+pub fn shown_by(node: &Node, parts: &[TreeFacts], costs: &Costs, chain: Chain) -> Shown
     ensures { result ≡ shown_by_of (node_of node.now) parts.now costs.now chain }
 {
     let rule = chain.rule;
@@ -135,7 +135,7 @@ pub fn shown_by(node: &Node, parts: &[Mark], costs: &Costs, chain: Chain) -> Sho
 /// The aims for which a node line shows rules; none if its field is `-`. Returns `WrongRule` if its rules make no derivation.
 fn shown_for(
     node: &Node,
-    parts: &[Mark],
+    parts: &[TreeFacts],
     line: &NodeLine,
     place: Position,
 ) -> Result<Shown, CheckFault>
@@ -165,7 +165,7 @@ fn shown_for(
 /// Returns `WrongCost` if one of the line's numbers isn't the least, else `WrongRule` if its rules make no derivation.
 pub fn judged(
     node: &Node,
-    parts: &[Mark],
+    parts: &[TreeFacts],
     line: &NodeLine,
     place: Position,
 ) -> Result<Shown, CheckFault>

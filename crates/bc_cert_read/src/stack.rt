@@ -8,7 +8,7 @@ ghost use Rattle.bc_cert_read.specs.Wholes.{whole as whole_of};
 ghost use Rattle.bc_cert_read.specs.Stacks.{no_trees, node_step, line_node, with_whole, without_expressions, node_judged_over, put_over, derived_over, seen_over, root_step, one_tree, two_trees, value_root, test_root, assign_root, side as side_of, sides_show as sides_show_of, assigned as assigned_of, fitting as fitting_of, any_calls, second_zero, AreParallel};
 ghost use Rattle.bc_cert_read.specs.TreeView.{stack, one as one_of, only as only_of, both as both_of, rooted as rooted_of, Steps, Gives};
 
-use crate::mark::{Mark, Shown, all_bare, depth_over, levels_fit};
+use crate::mark::{Shown, TreeFacts, all_bare, depth_over, levels_fit};
 use crate::one::One;
 use crate::position::Position;
 use crate::rooted::Rooted;
@@ -32,14 +32,14 @@ const DEPTH_LIMIT: u32 = 400;
 /// copied. After a call that failed, the stack has no meaning.
 #[derive(Drop)]
 pub struct Stack {
-    marks: Vec<Mark>,
+    marks: Vec<TreeFacts>,
     facts: Vec<Facts>,
     expressions: Vec<CoreExp>,
     derivations: Vec<Derivation>,
 }
 
 /// The marks from this index on.
-fn marks_from(items: &[Mark], at: usize) -> &[Mark]
+fn marks_from(items: &[TreeFacts], at: usize) -> &[TreeFacts]
     requires { at ≤ length items.now }
     ensures { result.now ≡ drop at items.now }
 {
@@ -56,7 +56,7 @@ fn facts_from(items: &[Facts], at: usize) -> &[Facts]
 
 /// The depth of a node with these parts. Returns `Line` if a part has another level than the node requires, and `TooDeep` if the node
 /// is deeper than the limit.
-fn fitting(line: &NodeLine, parts: &[Mark], place: Position) -> Result<u16, CheckFault>
+fn fitting(line: &NodeLine, parts: &[TreeFacts], place: Position) -> Result<u16, CheckFault>
     ensures { result ≡ fitting_of line.now parts.now place }
 {
     if levels_fit(line.level, line.form, parts) {
@@ -269,7 +269,7 @@ impl Stack {
         self.facts.truncate(from);
         self.facts.push(Facts::of(e, calls, line.costs))?;
         self.marks.truncate(from);
-        self.marks.push(Mark {
+        self.marks.push(TreeFacts {
             level: line.level,
             depth,
             shown,
@@ -417,7 +417,7 @@ fn side(operand: Option<u8>, level: u16) -> u32
 }
 
 /// Whether the sides of an assignment show the rules that its rule requires.
-fn sides_show(rule: Rule, value: &Mark, address: &Mark) -> bool
+fn sides_show(rule: Rule, value: &TreeFacts, address: &TreeFacts) -> bool
     ensures { result ≡ sides_show_of rule value.now address.now }
 {
     let any = Aim::Gets(Mode::Any);

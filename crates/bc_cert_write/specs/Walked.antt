@@ -19,7 +19,7 @@ use Rattle.bc_cert_write.specs.declared.chain.Chain.{Chain}
 use Rattle.bc_cert_write.specs.declared.chain.Chain.TheVariants as chains
 use Rattle.bc_cert_write.specs.declared.form.Form.{Form}
 use Rattle.bc_cert_write.specs.declared.form.Form.TheVariants as forms
-use Rattle.bc_cert_write.specs.declared.mark.Mark.{Mark}
+use Rattle.bc_cert_write.specs.declared.mark.NodeMark.{NodeMark}
 use Rattle.bc_cert_write.specs.declared.slot.Slot.{Slot}
 use Rattle.bc_cert_write.specs.declared.slot.Slot.TheVariants as slots
 
@@ -186,5 +186,5 @@ form_of (Cond c x y) = forms.Cond
 form_of (Call es f) = forms.Call (count es)
 form_of (Valof n) = forms.Valof n
 
-abbrev pub mark : Exp → ℕ → Option Tree → Mark
+abbrev pub mark : Exp → ℕ → Option Tree → NodeMark
 mark e s x = record { level = s; form = form_of e; rules = chain_of x }

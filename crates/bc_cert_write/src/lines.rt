@@ -7,7 +7,7 @@ ghost use Rattle.bc_cert_write.specs.Lines.{entry_line as text_of_entry, code_li
 ghost use Rattle.bc_cert_write.specs.Printed.{mark_line, mark_lines, line_of_root};
 
 use crate::fields::{form_field, item_field, named, rules_field, words_field};
-use crate::mark::Mark;
+use crate::mark::NodeMark;
 use crate::text::Text;
 use bc_core::Root;
 use bc_rules_defs::{Derivation, Entry, Piece};
@@ -30,7 +30,7 @@ pub fn entry_line(text: &mut Text, entry: &Entry, words: u64) -> Result<(), Memo
 }
 
 /// Appends the line of a node, with the least words from its row.
-pub fn node_line(text: &mut Text, mark: &Mark, row: &Row) -> Result<(), Memory>
+pub fn node_line(text: &mut Text, mark: &NodeMark, row: &Row) -> Result<(), Memory>
     ensures { OnOk result (text.new.bytes.items ≡ text.old.bytes.items ++ mark_line mark.now row.now) }
 {
     text.number(mark.level)?;
@@ -44,7 +44,7 @@ pub fn node_line(text: &mut Text, mark: &Mark, row: &Row) -> Result<(), Memory>
 }
 
 /// Appends the lines of these nodes: the n-th has the n-th row. Nodes without a row have no line.
-pub fn node_lines(text: &mut Text, marks: &[Mark], rows: &[Row]) -> Result<(), Memory>
+pub fn node_lines(text: &mut Text, marks: &[NodeMark], rows: &[Row]) -> Result<(), Memory>
     ensures { OnOk result (text.new.bytes.items ≡ text.old.bytes.items ++ mark_lines marks.now rows.now) }
 {
     for (i, mark) in marks.iter().enumerate() {

@@ -7,7 +7,7 @@ use crate::form::Form;
 
 /// A node of a root, as its line shows it. The least words are in a row of `bc_select`.
 #[derive(Clone, Copy)]
-pub struct Mark {
+pub struct NodeMark {
     /// Its level.
     pub level: u64,
     /// What it is, without its parts.

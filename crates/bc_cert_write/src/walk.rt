@@ -11,7 +11,7 @@ ghost use Rattle.bc_rules_defs.specs.View.{derivation, derivations};
 ghost use Rattle.bc_cert_write.specs.Walked.{tree_of, first, parts as parts_of, mark, placed, first_place, second_place, third_place, after_arguments, below_with, all_with, whole_with, root_with};
 
 use crate::form::without_parts;
-use crate::mark::Mark;
+use crate::mark::NodeMark;
 use crate::trees::{at, first_part, own, parts, rules_at, second_part, third_part};
 use bc_core::{CoreExp, Root, operand};
 use bc_rules_defs::{Derivation, is_zero};
@@ -25,7 +25,7 @@ fn pair(
     b: &CoreExp,
     level: u64,
     own: Option<&Derivation>,
-    marks: &mut Vec<Mark>,
+    marks: &mut Vec<NodeMark>,
 ) -> Result<(), Memory>
     requires { level + 2 * (1 + nodes_in (exp a.now) + nodes_in (exp b.now)) ≤ 2 ^ 62 }
     ensures { OnOk result (marks.new.items ≡ marks.old.items
@@ -46,7 +46,7 @@ fn triple(
     y: &CoreExp,
     level: u64,
     own: Option<&Derivation>,
-    marks: &mut Vec<Mark>,
+    marks: &mut Vec<NodeMark>,
 ) -> Result<(), Memory>
     requires { level + 2 * (1 + nodes_in (exp c.now) + nodes_in (exp x.now) + nodes_in (exp y.now)) ≤ 2 ^ 62 }
     ensures { OnOk result (marks.new.items ≡ marks.old.items
@@ -67,7 +67,7 @@ fn all(
     arguments: &[CoreExp],
     level: u64,
     trees: &[Derivation],
-    marks: &mut Vec<Mark>,
+    marks: &mut Vec<NodeMark>,
 ) -> Result<(), Memory>
     requires { level + 2 * nodes_of_args (args arguments.now) ≤ 2 ^ 62 }
     ensures { OnOk result (marks.new.items ≡ marks.old.items ++ all_with mark (args arguments.now) level (derivations trees.now)) }
@@ -85,7 +85,7 @@ fn call(
     routine: &CoreExp,
     level: u64,
     trees: &[Derivation],
-    marks: &mut Vec<Mark>,
+    marks: &mut Vec<NodeMark>,
 ) -> Result<(), Memory>
     requires { level + 2 * (1 + nodes_of_args (args arguments.now) + nodes_in (exp routine.now)) ≤ 2 ^ 62 }
     ensures { OnOk result (marks.new.items ≡ marks.old.items
@@ -105,7 +105,7 @@ fn below(
     e: &CoreExp,
     level: u64,
     own: Option<&Derivation>,
-    marks: &mut Vec<Mark>,
+    marks: &mut Vec<NodeMark>,
 ) -> Result<(), Memory>
     requires { level + 2 * nodes_in (exp e.now) ≤ 2 ^ 62 }
     ensures { OnOk result (marks.new.items ≡ marks.old.items ++ below_with mark (exp e.now) level (tree_of own.entry)) }
@@ -131,7 +131,7 @@ fn lay(
     e: &CoreExp,
     level: u64,
     tree: Option<&Derivation>,
-    marks: &mut Vec<Mark>,
+    marks: &mut Vec<NodeMark>,
 ) -> Result<(), Memory>
     requires { level + 2 * nodes_in (exp e.now) ≤ 2 ^ 62 }
     ensures { OnOk result (marks.new.items ≡ marks.old.items ++ whole_with mark (exp e.now) level (tree_of tree.entry)) }
@@ -139,7 +139,7 @@ fn lay(
     let rules = rules_at(tree);
     let whole = tree;
     below(e, level, own(whole), marks)?;
-    marks.push(Mark {
+    marks.push(NodeMark {
         level,
         form: without_parts(e),
         rules,
@@ -164,7 +164,7 @@ fn sides(
     address_side: &CoreExp,
     level: u64,
     tree: &Derivation,
-    marks: &mut Vec<Mark>,
+    marks: &mut Vec<NodeMark>,
 ) -> Result<(), Memory>
     requires { level + 2 * (nodes_in (exp value_side.now) + nodes_in (exp address_side.now)) ≤ 2 ^ 62 }
     ensures { OnOk result (marks.new.items ≡ marks.old.items
@@ -182,7 +182,7 @@ pub fn marks_of(
     root: &Root,
     tree: &Derivation,
     room: usize,
-) -> Result<Vec<Mark>, Memory>
+) -> Result<Vec<NodeMark>, Memory>
     requires { root_nodes (root_of root.now) ≤ 2 ^ 60 }
     ensures { IfOk result (λ marks. marks.items ≡ root_with mark (root_of root.now) (derivation tree.now)) }
 {
