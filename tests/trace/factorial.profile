@@ -1,14 +1,14 @@
-/ 175 instructions were carried out
+/ 175 instructions executed
 /
-/ the routines in which most were; one begins where something was called
+/ the hottest routines; a routine begins at each address that was called
 /      times   share      calls   from  routine
           74   42.2%          8    558  1.2, global 100
           66   37.7%          4    572  1.4, global 101
           20   11.4%          5    530  0.4, global 14, WRCH
           12    6.8%          1    546  1.1, global 1, START
-           3    1.7%          0      0  the boot
+           3    1.7%          0      0  the boot code
 /
-/ how often each was; the instructions are those that stand there at the end
+/ how often each instruction was executed, as it is in the store at the end
 / addr        times  instruction
      0            1  LIG1
      1            1  K2

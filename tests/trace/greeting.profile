@@ -1,14 +1,14 @@
-/ 506 instructions were carried out
+/ 506 instructions executed
 /
-/ the routines in which most were; one begins where something was called
+/ the hottest routines; a routine begins at each address that was called
 /      times   share      calls   from  routine
          253   50.0%          1    604  1.3, global 22, WRITES
          188   37.1%         15    546  1.1, global 20, GETBYTE
           56   11.0%         14    530  0.4, global 14, WRCH
            6    1.1%          1    792  2.1, global 1, START
-           3    0.5%          0      0  the boot
+           3    0.5%          0      0  the boot code
 /
-/ how often each was; the instructions are those that stand there at the end
+/ how often each instruction was executed, as it is in the store at the end
 / addr        times  instruction
      0            1  LIG1
      1            1  K2

@@ -1,11 +1,11 @@
-/ 7 instructions were carried out
+/ 7 instructions executed
 /
-/ the routines in which most were; one begins where something was called
+/ the hottest routines; a routine begins at each address that was called
 /      times   share      calls   from  routine
            5   71.4%          1    546  1.1, global 1, START
-           2   28.5%          0      0  the boot
+           2   28.5%          0      0  the boot code
 /
-/ how often each was; the instructions are those that stand there at the end
+/ how often each instruction was executed, as it is in the store at the end
 / addr        times  instruction
      0            1  LIG1
      1            1  K2

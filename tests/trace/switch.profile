@@ -1,13 +1,13 @@
-/ 67 instructions were carried out
+/ 67 instructions executed
 /
-/ the routines in which most were; one begins where something was called
+/ the hottest routines; a routine begins at each address that was called
 /      times   share      calls   from  routine
           44   65.6%          1    546  1.1, global 1, START
           12   17.9%          3    530  0.4, global 14, WRCH
            8   11.9%          4    528  0.3, global 13, RDCH
-           3    4.4%          0      0  the boot
+           3    4.4%          0      0  the boot code
 /
-/ how often each was; the instructions are those that stand there at the end
+/ how often each instruction was executed, as it is in the store at the end
 / addr        times  instruction
      0            1  LIG1
      1            1  K2

@@ -1,4 +1,4 @@
--- The arguments of a call, one more at the end.
+-- The arguments of a call, with one more at the end.
 use Rattle.std.proofs.Common.{ℕ, ◌+◌, ◌<◌, List, length, get_or, take, sym, subst}
 use Rattle.bc_core.specs.declared.expression.CoreExp.{CoreExp}
 use Rattle.bc_core.specs.Tree.{Exp, Args, no_argument, argument}

@@ -172,7 +172,7 @@ certified es k s n =
     let said = certificate_is_said (map derived_of es) (fewest es) (rooms es k s) long in
     record { derived = map derived_of es; named = named_all es k; said = subst (λ js. Says (certificate (map derived_of es)) (record { table = Two; entries = js })) (judged_all es) said }
 
--- of what was linked
+-- the certificate of what was linked
 pub built_certified : (files : List File) (mains : List ℕ) (built : Built) → IsBuilt files mains built → (segments : List (List Item)) (entries : List code.Entry) → IsLinked segments entries built → IsCertified (map entry_view built.entries.items)
 built_certified files mains built b segments entries l =
     let known = subst (AllByRecursion IsKnown) (sym b.entries) (sections_known files mains 0 b.sections b.accepted) in

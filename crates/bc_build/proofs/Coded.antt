@@ -1,4 +1,4 @@
--- The loop over the mains: one main more, the last one, and a refusal on the way.
+-- The loop over the mains: one iteration, the end, and a refusal on the way.
 use Rattle.std.proofs.Common.{◌≡◌, ◌∙◌, ℕ, ◌+◌, List, [], ◌∷◌, ◌++◌, map, length, drop, get_or, ◌<◌, ◌≤◌, inl, inr, add-one, drop-cons, refl, sym, ap, subst, arith, append_assoc, append-nil, length-append}
 use Rattle.std.specs.Prelude.{None, Result, Ok, Err, IfErr}
 use Rattle.std.specs.Result.{IsErrAnd}
@@ -25,7 +25,7 @@ use Rattle.bc_build.specs.declared.building.Built.{Built}
 use Rattle.bc_build.specs.declared.build_error.BuildError.{BuildError}
 use Rattle.bc_build.specs.declared.build_error.BuildError.TheVariants.{Lex, Parse, Scope, Gen, Link, Memory}
 
--- the mains that are left begin with the next one
+-- the remaining mains begin with the next one
 pub next_main : (mains : List ℕ) (n : ℕ) → n < length mains → drop n mains ≡ get_or mains n 0 ∷ drop (n + 1) mains
 next_main mains n h = drop-cons mains n 0 h ∙ ap (λ j. get_or mains n 0 ∷ drop j mains) (sym (add-one n))
 
@@ -43,7 +43,7 @@ coded_none files mains = record {
   entries_are = refl;
 }
 
--- the entries of sections with one more
+-- the entries of sections with one more section
 entries_push : (k : ℕ) (sections : List Declarations) (s : Declarations) → entries_from k (sections ++ s ∷ []) ≡ entries_from k sections ++ entries_of (k + length sections) s
 entries_push k [] s = append-nil (entries_of k s) ∙ ap (λ n. entries_of n s) (let e : k ≡ k + 0 = omega arith in e)
 entries_push k (x ∷ sections) s =
@@ -58,7 +58,7 @@ only_more files main left sections others [] section only r e = absurd r
 only_more files main left sections others (s ∷ ss) section only r e =
     (ss, r.1, e ∙ ap (λ x. sections ++ x ∷ ss) (only s r.0) ∙ sym (append_assoc sections (section ∷ []) ss))
 
--- a main more has items and entries
+-- one more main has items and entries
 pub coded_more : (files : List File) (mains : List ℕ) (n main : ℕ) (left : List ℕ) (segments : List (List Item)) (entries : List code.Entry) (items : List Item) (new all : List code.Entry)
     → AreCoded files mains n (main ∷ left) segments entries → IsCompiled files main items new
     → map entry_view all ≡ map entry_view entries ++ map (in_segment n) (map entry_view new)
@@ -82,7 +82,7 @@ nothing_left : (files : List File) (sections others rest : List Declarations) �
 nothing_left files sections others [] r e = e ∙ append-nil sections
 nothing_left files sections others (s ∷ ss) r e = absurd r
 
--- no main is left
+-- no main remains
 pub built_from : (files : List File) (mains : List ℕ) (n : ℕ) (segments : List (List Item)) (entries : List code.Entry) (built : Built)
     → AreCoded files mains n [] segments entries → IsLinked segments entries built → IsBuilt files mains built
 built_from files mains n segments entries built a l = record {

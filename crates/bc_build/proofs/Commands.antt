@@ -1,4 +1,4 @@
--- The commands of trees that nest at most 200 deep have expressions that nest at most 400 deep.
+-- The translated commands of trees with nesting depth at most 200 have expressions that nest at most 400 deep.
 use Rattle.std.proofs.Common.{ℕ, ◌+◌, ◌≤◌, List, [], ◌∷◌, ◌++◌, arith}
 use Rattle.bc_parse_tree.specs.Tree as tree
 use Rattle.bc_parse_tree.specs.Height.{exp_height, exps_height, block_height, declarations_height, definition_height, definitions_height, items_height, command_height}

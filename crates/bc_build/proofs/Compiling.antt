@@ -1,4 +1,4 @@
--- A main that went through all parts.
+-- A main that has passed lexer, parser, resolver and generator.
 use Rattle.std.proofs.Common.{◌≡◌, ◌∙◌, ℕ, ◌≤◌, List, map, length, Ok, refl, sym, ap, subst, arith}
 use Rattle.std.specs.Prelude.{None, Result}
 use Rattle.bc_lex_tokens.specs.Token.{Lexeme}

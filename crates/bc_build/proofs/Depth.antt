@@ -1,4 +1,4 @@
--- A translated expression has at most twice as many nodes one within another as its source.
+-- A translated expression nests at most twice as deep as its source.
 use Rattle.std.proofs.Common.{ℕ, ◌+◌, ◌*◌, ◌≤◌, Option, Some, None, arith}
 use Rattle.std.specs.Prelude.{max}
 use Rattle.bc_word.specs.declared.operator.Op.{Op}

@@ -1,4 +1,4 @@
--- What holds of each expression of a core holds of each root that its code marks.
+-- A fact about each expression of a core gives a fact about each root that its code marks.
 use Rattle.std.proofs.Common.{ℕ, ◌+◌, ◌==◌, Bool, true, false, not, List, [], ◌∷◌, ◌++◌, length}
 use Rattle.std.specs.List.{AllByRecursion}
 use Rattle.bc_text_items.specs.declared.item.Item.{Item}
@@ -16,7 +16,7 @@ use Rattle.bc_gen_defs.specs.Entries.{Marked, Plain, marked_over, marked_code, s
 use Rattle.bc_build.proofs.Marks.{AllMarks, marks_both, table_marks, entries_of_marks, roots_of_entries}
 use Rattle.bc_build.proofs.Throughout.{OfVariables, OfDeclarations, OfCommand, OfBlock, OfItems, OfBody, OfPlaces, OfValofs}
 
--- what holds of expressions leads to what holds of roots, and holds of the expressions that the code adds
+-- a fact L about expressions gives the fact P about roots, and L holds of the expressions that the code adds
 pub record Suits (P : Root → Type 0) (L : Exp → Type 0) : Type 0 where
   pub value : (s : ℕ) (e : Exp) → L e → P (Value s e)
   pub test : (s : ℕ) (sense : Bool) (e : Exp) → L e → P (Test s sense e)
@@ -25,7 +25,7 @@ pub record Suits (P : Root → Type 0) (L : Exp → Type 0) : Type 0 where
   pub end : (by s : ℕ) → L (end_of_for by s)
   pub step : (by s : ℕ) → L (step_of_for by s)
 
--- each root that is marked
+-- P holds of each root that is marked
 record Marks (P : Root → Type 0) (ps : List Marked) : Type 0 where
   each : AllMarks (λ m. P m.root) ps
 
@@ -41,7 +41,7 @@ item i = record { each = tt }
 joined : {P : Root → Type 0} (xs ys : List Marked) → Marks P xs → Marks P ys → Marks P (xs ++ ys)
 joined {P = P} xs ys h k = record { each = marks_both (λ m. P m.root) xs ys h.each k.each }
 
--- the code of such roots marks such roots alone
+-- the code of such roots marks only such roots
 abbrev AreMarked : (Root → Type 0) → Roots Marked → Type 0
 AreMarked P roots = (r : Root) → P r → (t f : ℕ) → Marks P (roots r t f).0
 

@@ -1,4 +1,4 @@
--- A run that ended is one that the sections mean.
+-- A run that ended has the ending that the sections mean.
 use Rattle.std.proofs.Common.{◌≡◌, ◌∙◌, ◌≢◌, inl, inr, ℕ, zero, suc, ◌+◌, ◌≤◌, List, Option, Some, None, refl, sym, ap, subst, arith}
 use Rattle.bc_machine_defs.specs.Streams.{Content, HoldBytes}
 use Rattle.bc_machine_defs.specs.StreamCalls.{output_of}
@@ -17,7 +17,7 @@ use Rattle.bc_build.specs.Runs.{meant, started, RunsAsMeant}
 use Rattle.bc_build.specs.Text.{IsRunFrom}
 use Rattle.bc_build.specs.Ended.{IsEnding, EndsAsMeant}
 
--- a run that ended is the same in more instructions
+-- a run that ended is the same with more instructions allowed
 abbrev after : ℕ → State → Option End → State × End
 after n s o = elim o [ None ↦ runs n s | Some end ↦ ended s end ]
 
@@ -35,7 +35,7 @@ never_spent : (ending : Ending) → end_of ending ≢ BudgetSpent
 never_spent Finished e = cc
 never_spent ZeroDivide e = cc
 
--- what is known of a run that ended, by what is meant in one turn more
+-- what is known of a run that ended, from the meaning in one more turn
 abbrev Agrees : Result → State → End → Type 0
 Agrees (Ended output ending) t end = (end ≡ end_of ending) × (output_of t.streams ≡ output)
 Agrees (Going output) t end = ⊥
@@ -85,7 +85,7 @@ module _ (sections : List Declarations) (image : Image) (runs_so : RunsAsMeant s
   ends_as_meant BudgetSpent h = tt
   ends_as_meant ends.Device h = tt
 
--- over streams whose content is known
+-- with streams whose content is known
 pub run_ends_as_meant : (sections : List Declarations) (image : Image) (steps : ℕ) (told tells : Type 0) (old new : Content) (before failed : ℕ) (end : End)
     → RunsAsMeant sections image → told → HoldBytes old.inputs → IsRunFrom image steps told tells old new before failed end → EndsAsMeant sections image old steps new end
 run_ends_as_meant sections image steps told tells old new before failed end runs_so known bytes run =

@@ -1,4 +1,4 @@
--- What is to be said of a program that was built.
+-- The clauses of `build` about a built program, combined.
 use Rattle.std.proofs.Common.{ℕ, ◌<◌, List, map, sym, subst}
 use Rattle.std.specs.Prelude.{slice_index}
 use Rattle.bc_text_items.specs.declared.item.Item.{Item}

@@ -1,4 +1,4 @@
--- The entries are of least words, and fit the segments.
+-- The entries have the shortest code, and fit the segments.
 use Rattle.std.proofs.Common.{◌≡◌, ◌⊎◌, inl, inr, ℕ, ◌+◌, ◌<◌, ◌≤◌, List, [], ◌∷◌, ◌++◌, map, length, take, drop, get_or, refl, sym, ap, subst, arith, append_assoc, length-append, length-drop}
 use Rattle.std.specs.Prelude.{All}
 use Rattle.std.proofs.Math.Seq.{get_or-append_seam}
@@ -27,7 +27,7 @@ use Rattle.bc_build.specs.Code.{items_of, in_segment, entries_of, entries_from}
 use Rattle.bc_cert_laws.specs.Written.{with_bodies}
 use Rattle.bc_build.specs.Least.{IsLeast, judged, AreLeast}
 
--- ---- Code that stands among items
+-- ---- Code among items
 
 body_passes : (count : ℕ) (is : List Item) → count ≤ length is → Passes (pieces.Body count) is (drop count is)
 body_passes count is h =
@@ -72,7 +72,7 @@ section_within c core =
 
 -- ---- One segment
 
--- the place is before the segment k, or in it and not after the item j
+-- the place is in a segment before k, or in segment k and not after the item j
 abbrev IsBefore : (segment item k j : ℕ) → Type 0
 IsBefore segment item k j = (segment < k) ⊎ ((segment ≡ k) × (item ≤ j))
 
@@ -148,7 +148,7 @@ next_at front s sections =
 abbrev FitFrom : List (List Item) → List Declarations → (segment item : ℕ) → Type 0
 FitFrom front sections segment item = Fit (front ++ map items_of sections) segment item (map judged (entries_from (length front) sections))
 
--- the section in front is one of the segments before the others
+-- a section is one of the segments before the others
 record Moved (front : List (List Item)) (s : Declarations) (sections : List Declarations) : Type 0 where
   segments : (front ++ items_of s ∷ []) ++ map items_of sections ≡ front ++ map items_of (s ∷ sections)
   number : length (front ++ items_of s ∷ []) ≡ length front + 1
@@ -189,7 +189,7 @@ sections_least front (s ∷ sections) =
     (subst (λ q. All (IsLeast segments) (entries_from q sections)) m.number
     (subst (λ ss. All (IsLeast ss) (entries_from (length (front ++ items_of s ∷ [])) sections)) m.segments (sections_least (front ++ items_of s ∷ []) sections)))
 
--- of all sections
+-- the entries of all sections
 pub are_least : (sections : List Declarations) → AreLeast (map items_of sections) (entries_from 0 sections)
 are_least sections =
     let same : 0 ≡ 0 = refl in

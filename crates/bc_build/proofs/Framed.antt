@@ -1,4 +1,4 @@
--- Where commands stand within a frame, so do the roots of their code.
+-- If commands are within a frame, so are the roots of their code.
 use Rattle.std.proofs.Common.{ℕ, ◌+◌, ◌≤◌, max, true, false, not, List, [], ◌∷◌, arith}
 use Rattle.bc_core.specs.Tree.{Exp, Frame, Root, Value, Test, Assign}
 use Rattle.bc_core.specs.Commands.{Variable, Initial, Vector, Command, Block, block, Items, no_item, command, case, default, label, Body, Gives, Does}

@@ -1,4 +1,4 @@
--- What stands within a frame: each node of an expression, and the bodies of its VALOFs.
+-- The levels of all nodes of an expression, and the bodies of its VALOFs, are within its frame.
 use Rattle.std.proofs.Common.{ℕ, ◌+◌, ◌≤◌, max, cond, Bool, true, false, List, [], ◌∷◌, ◌++◌, arith}
 use Rattle.std.specs.List.{AllByRecursion}
 use Rattle.bc_core.specs.Tree.{Exp, Num, Frame, Glob, Place, Load, Neg, Not, Bin, Cond, Call, Valof, Args, no_argument, argument, count, Root, Value, Test, Assign}
@@ -8,7 +8,7 @@ use Rattle.bc_core.specs.Layout.{Bodies, cells_of_exp, cells_of_args, cells_of_a
 use Rattle.bc_select_defs.specs.Nodes.{in_order, all_in_order}
 use Rattle.bc_build.specs.RoomLaws.{HasLevels}
 
--- the cells of the greatest frame
+-- the greatest number of cells of a frame
 abbrev pub most : ℕ
 most = 32768
 
@@ -95,7 +95,7 @@ sides_fit V v a s h c =
     let parts = right_most held (max cv ca) c in
     (exp_fits V v at l (left_most cv ca parts), exp_fits V a at l (right_most cv ca parts))
 
--- so each node stands at a level that is no greater
+-- hence the level of each node is at most that
 abbrev AreLevels : List (Exp × ℕ) → Type 0
 AreLevels ns = AllByRecursion (λ (n : Exp × ℕ). n.1 ≤ most) ns
 

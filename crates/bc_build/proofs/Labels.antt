@@ -1,4 +1,4 @@
--- Where the labels of a section suffice, those of each root do.
+-- If the labels of a section suffice, those of each root do.
 use Rattle.std.proofs.Common.{ℕ, ◌+◌, ◌≤◌, ◌==◌, Bool, true, false, not, List, [], ◌∷◌, length, ap, subst, sym}
 use Rattle.bc_core.specs.Tree.{Frame, Root, Value, Test, Assign}
 use Rattle.bc_core.specs.Commands.{Variable, Initial, Vector, Command, Block, block, Items, no_item, command, case, default, label, Body, Gives, Does, Place, Valof, Core}
@@ -16,7 +16,7 @@ use Rattle.bc_gen.proofs.Rises.{Rising, Growing, upto, less, variables_up, decla
 use Rattle.bc_build.specs.RoomLaws.{LabelsHaveRoom}
 use Rattle.bc_build.proofs.Marks.{AllMarks, marks_both, table_marks, entries_of_marks}
 
--- the labels of a mark's root end here or before
+-- the labels of a mark's root end at n or before
 abbrev Ends : Coding → ℕ → Mark → Type 0
 Ends coding n m = m.first + coding.labels m.root ≤ n
 

@@ -1,4 +1,4 @@
--- Accepted sections are refused by the linker for a global that is set twice or for their size alone.
+-- The linker refuses accepted sections only for a global that is set twice or for their size.
 use Rattle.std.proofs.Common.{◌≡◌, ◌∙◌, ℕ, ◌+◌, Bool, true, false, cond, List, [], ◌∷◌, map, Option, Some, None, refl, sym, ap, arith}
 use Rattle.std.specs.Option.{option_map}
 use Rattle.bc_text_items.specs.declared.item.Item.{Item}
@@ -19,7 +19,7 @@ use Rattle.bc_build.specs.Compiled.{AreAccepted}
 use Rattle.bc_build.specs.Code.{items_of}
 use Rattle.bc_build.specs.Refused.{IsLinkFault}
 
--- no label stands twice or is missing in these segments
+-- no label is set twice or missing in these segments
 record LabelsAreRight (segments : List (List Item)) : Type 0 where
   twice : (k : ℕ) → label_twice_from k segments ≡ None
   unset : (k : ℕ) → label_unset_from k segments ≡ None
@@ -52,7 +52,7 @@ refusal_is segments h =
     ∙ ap (λ x. first_of (global_twice all) (first_of (too_large all) x)) unset
     ∙ ap (λ x. first_of (global_twice all) x) (nothing_after (too_large all))
 
--- by the global that is set twice, if there is one, and by whether there is room
+-- the refusal, given the global that is set twice, if any, and whether there is room
 abbrev due : Option ℕ → Bool → Option LinkError
 due x room = first_of (option_map GlobalTwice x) (cond room None (Some TooLarge))
 

@@ -1,4 +1,4 @@
--- What holds of all marks of a code, and so of its entries.
+-- A fact about all marks in code holds of its entries.
 use Rattle.std.proofs.Common.{ℕ, ◌+◌, List, [], ◌∷◌, ◌++◌, map}
 use Rattle.std.specs.List.{AllByRecursion}
 use Rattle.bc_core.specs.Commands.{Items, no_item, command, case, default, label}
@@ -17,7 +17,7 @@ marks_both P [] ys h k = k
 marks_both P (Plain i ∷ xs) ys h k = marks_both P xs ys h k
 marks_both P (Begins m ∷ xs) ys h k = (h.0, marks_both P xs ys h.1 k)
 
--- a table has none
+-- a table has no marks
 pub table_marks : (P : Mark → Type 0) (is : Items) (first : ℕ) → AllMarks P (table_of Plain is first)
 table_marks P no_item first = tt
 table_marks P (command c is) first = table_marks P is first

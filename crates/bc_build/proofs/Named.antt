@@ -1,4 +1,4 @@
--- The bodies that the code of a derivation names are those of VALOFs of its root.
+-- The bodies in the code of a derivation belong to VALOFs of its root.
 use Rattle.std.proofs.Common.{ℕ, ◌≤◌, List, [], ◌∷◌, ◌++◌, sym, subst}
 use Rattle.bc_text_items.specs.declared.item.Item.{Item}
 use Rattle.bc_core.specs.Tree.{Exp, Args, Root}
@@ -20,7 +20,7 @@ AllNamed P [] = Unit {0}
 AllNamed P (pieces.Item i ∷ ps) = AllNamed P ps
 AllNamed P (pieces.Body n ∷ ps) = P n × AllNamed P ps
 
--- a record, so that a call shows which pieces
+-- a record, so that a call shows which pieces are meant
 pub record Names (P : ℕ → Type 0) (ps : List Piece) : Type 0 where
   pub all : AllNamed P ps
 
@@ -68,7 +68,7 @@ side_fits V the_test h = h
 side_fits V (assigned {v = v} i) h = subst (λ k. Fits V v k) i h.0
 side_fits V (address {a = a} i) h = subst (λ k. Fits V a k) i h.1
 
--- of each VALOF that fits P is known
+-- P is known of each VALOF that fits
 module _ (V : Bodies) (P : ℕ → Type 0) (known : (n s : ℕ) → s ≤ most → V n s ≤ most → P n) where
   abbrev AreNamed : (T : Table) → Claim T
   AreNamed T e aim d s t f = Fits V e s → Names P (code d s t f)

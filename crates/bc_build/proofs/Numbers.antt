@@ -62,7 +62,7 @@ module _ (most deep : ℕ) where
     all_within no_argument s h d = tt
     all_within (argument e es) s h d = following Within _ _ (within e s (omega arith) (omega arith)) (all_within es (s + 1) (omega arith) (omega arith))
 
--- a call's arguments stand at rising levels, so they are few
+-- the levels of a call's arguments increase, so there are few of them
 abbrev Low : Exp × ℕ → Type 0
 Low n = (n.1 ≤ 32768) × HasSmallForm n.0
 
@@ -120,7 +120,7 @@ mutual
       let ys = all_in_order es (s + 1) in
       following IsSmallNode _ _ (numbers e s (first Low xs ys h)) (all_numbers es (s + 1) (second Low xs ys h))
 
--- of a root
+-- the same for a root
 root_within : (r : Root) → root_nodes r ≤ 2 ^ 32 → IsShallow r → OfAll (Within (2 ^ 32) 400) (root_in_order r)
 root_within (Value s e) h d = within (2 ^ 32) 400 e s h d
 root_within (Test s sense e) h d = within (2 ^ 32) 400 e s h d

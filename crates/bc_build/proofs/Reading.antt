@@ -52,7 +52,7 @@ has_size sections image is =
     let s = segments_words sections in
     omega (arith, e, p, s)
 
--- what is read of the text are the segments, and so the image is theirs
+-- the text reads as the segments, and so gives their image
 pub text_runs : (segments : List (List Item)) (image : Image) (steps : ℕ) (told tells : Type 0) (old new : Content) (before after : ℕ) (end : End) → ReadsAs segments image
     → IsRunOf (Some (text_of segments)) steps told tells old new before after end → IsRunFrom image steps told tells old new before after end
 text_runs segments image steps told tells old new before after end reads run =

@@ -1,4 +1,4 @@
--- The image's run, by the law of whole programs.
+-- The run of the image, by the law `sections_run` of bc_right.
 use Rattle.std.proofs.Common.{◌≡◌, ◌∙◌, ℕ, ◌+◌, ◌<◌, List, [], ◌∷◌, map, refl, sym, ap, subst, arith}
 use Rattle.std.specs.Prelude.{None, All, slice_index}
 use Rattle.std.proofs.lemmas.List.Elements.{All-nil, All-cons}
@@ -71,7 +71,7 @@ segments_are : (sections : List Declarations) → with_primitives (map items_of 
 unfolding coding
 segments_are sections = ap (λ rest. library_items ∷ rest) (items_are (coding_of (chosen Two)) sections)
 
--- accepted sections run as they mean, from their image
+-- accepted sections run from their image as they mean
 pub runs_as_meant : LinkedMapIsMap → SectionsRun → (files : List File) (mains : List ℕ) (sections : List Declarations) (image : Image) → AreAccepted files mains sections
     → refusal_of (with_primitives (map items_of sections)) ≡ None → image ≡ image_of (with_primitives (map items_of sections)) → ((i : ℕ) → slice_index image.words i < 65536)
     → RunsAsMeant sections image
@@ -82,7 +82,7 @@ runs_as_meant maps runs files mains sections image accepted linked is words =
     (linked_runs maps runs sections (all_faultless files mains sections accepted) (subst (λ s. refusal_of s ≡ None) e linked)
     (λ i. subst (λ (x : Image). slice_index x.words i < 65536) here (words i)))
 
--- what `generate` gives for any Cores that fit
+-- the items of `generate` for any well-formed Cores
 pub generated_runs : ProgramsRun → GeneratedRuns
 unfolding coding
 generated_runs programs_run cores fit linked words streams bytes n =

@@ -1,4 +1,4 @@
--- The roots of a section without fault stand within the frames of its routines.
+-- The levels of the roots of a section without fault are within the frames of its routines.
 use Rattle.std.proofs.Common.{ℕ, suc, ◌+◌, ◌<◌, ◌≤◌, ◌==◌, ◌≡◌, ◌∙◌, cond, Bool, true, false, Option, Some, None, List, [], ◌∷◌, length, refl, sym, ap, subst, arith}
 use Rattle.std.specs.Prelude.{nat_le}
 use Rattle.bc_core.specs.Tree.{Root}
@@ -25,7 +25,7 @@ use Rattle.bc_build.proofs.Frames.{most, left_most, right_most, RootFits}
 use Rattle.bc_build.proofs.Framed.{body_framed}
 use Rattle.bc_build.proofs.Tables.{strict, table, Leveled, roots_placed, bodies_placed}
 
--- each VALOF that is found stands at the level of its number
+-- each VALOF that is found is at the level of its number
 abbrev AllAt : (ℕ → ℕ) → List Thing → Type 0
 AllAt levels [] = Unit {0}
 AllAt levels (AValof f ∷ fs) = (levels f.number ≡ f.level) × AllAt levels fs
@@ -42,7 +42,7 @@ all_at levels n q (AValof f ∷ fs) h g =
       all_at levels (n + 1) q fs h.2 (λ i. let m : (n + 1) + i ≡ n + suc i = omega arith in ap levels m ∙ g (suc i)),
     )
 
--- so the table takes for each what was found
+-- hence the table has for each what was found
 lifted : (levels : ℕ → ℕ) (n m q : ℕ) (f : Found) (vs : List core.Valof) (v : core.Valof) (gs : List Thing) → n < m → Nested m q gs
     → AllWide (strict levels (table levels (n + 1) vs)) gs → AllWide (strict levels (table levels n (v ∷ vs))) gs
 lifted levels n m q f vs v [] l h r = tt
@@ -71,7 +71,7 @@ table_wide levels n q (AValof f ∷ fs) h g =
       lifted levels n (n + 1) q f vs (record { level = f.level; body = body }) fs (omega arith) h.2 rest,
     )
 
--- no fault of two is none of either
+-- if two have no fault, neither has one
 none_left : (a b : Option Fault) → or_else a b ≡ None → a ≡ None
 none_left None b h = refl
 none_left (Some f) b h = h

@@ -1,4 +1,4 @@
--- The roots of a section that nests at most 200 deep are shallow.
+-- The roots of a section with nesting depth at most 200 are shallow.
 use Rattle.std.proofs.Common.{List, [], ◌∷◌, arith}
 use Rattle.bc_scope_defs.specs.Scope.{nothing_known}
 use Rattle.bc_scope_defs.specs.Found.{Thing, AValof, ARoutine, Data, AStatic, ATable, AText, section_start, found_in_section}

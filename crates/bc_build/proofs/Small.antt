@@ -1,4 +1,4 @@
--- What holds of each element holds of what stands at any index.
+-- A fact about each element of a list holds of the element at any index.
 use Rattle.std.proofs.Common.{ℕ, zero, suc, ◌<◌, List, [], ◌∷◌, length, get_or, arith}
 
 pub small_words : (xs : List ℕ) → ((k d : ℕ) → k < length xs → get_or xs k d < 65536) → (i : ℕ) → get_or xs i 0 < 65536

@@ -1,4 +1,4 @@
--- The bodies of VALOFs, each within the frame at its own level and nowhere else.
+-- The body of each VALOF is within the frame at its own level, and at no other level.
 use Rattle.std.proofs.Common.{ℕ, ◌+◌, ◌≤◌, ◌==◌, ◌≡◌, cond, Bool, true, false, List, [], ◌∷◌, refl, sym, subst, arith}
 use Rattle.std.proofs.lemmas.Bool.{eqb-true}
 use Rattle.bc_core.specs.Tree.{Root}
@@ -18,7 +18,7 @@ use Rattle.bc_build.proofs.Frames.{most, RootFits, root_levels}
 use Rattle.bc_build.proofs.Named.{AllNamed, root_names}
 use Rattle.bc_build.proofs.Framed.{block_framed}
 
--- a VALOF that stands at another level than its own takes more than there is
+-- a VALOF at another level than its own takes more cells than a frame has
 abbrev pub strict : (ℕ → ℕ) → Bodies → Bodies
 strict levels V n s = cond (levels n == s) (V n s) 32769
 
@@ -28,7 +28,7 @@ table levels first (v ∷ vs) n s =
     let inner = table levels (first + 1) vs in
     elim (n == first) [ true ↦ cells_of_block (strict levels inner) v.body s | false ↦ inner n s ]
 
--- a VALOF that fits, by its number
+-- the VALOF with this number fits
 abbrev pub IsPlaced : (ℕ → ℕ) → Bodies → ℕ → Type 0
 IsPlaced levels V n = (levels n ≤ most) × (V n (levels n) ≤ most)
 

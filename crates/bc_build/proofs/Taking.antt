@@ -1,4 +1,4 @@
--- The certificate of a build is taken.
+-- The certificate of a build is accepted.
 use Rattle.std.proofs.Common.{◌≡◌, ◌∙◌, ◌⊎◌, inl, inr, ℕ, List, length, drop, Some, Result, Ok, Err, refl, sym, ap, subst}
 use Rattle.std.proofs.Math.Seq.{drop-append_seam}
 use Rattle.bc_text_items.specs.declared.item.Item.{Item}
@@ -27,7 +27,7 @@ compared : (segments : List (List Item)) (v : Verdict) (answer : Result (Unit {0
 compared segments v (Ok tt) fit h = refl
 compared segments v (Err m) fit h = absurd (no_misfit fit h)
 
--- bytes that say something have no fault
+-- bytes that are a certificate have no fault
 no_fault : (bytes : List ℕ) (v : Verdict) (f : CheckFault) → HasOneAnswer bytes → Says bytes v → IsFault (Some bytes) f → (f ≡ faults.Read) ⊎ (f ≡ faults.Memory)
 no_fault bytes v faults.Read one said h = inl refl
 no_fault bytes v faults.Memory one said h = inr refl
@@ -40,7 +40,7 @@ no_fault bytes v (faults.WrongCode e) one said h = absurd (one.never_both v (fau
 no_fault bytes v (faults.WrongWords e) one said h = absurd (one.never_both v (faults.WrongWords e) said h.1)
 no_fault bytes v (faults.TooDeep n) one said h = absurd (one.never_both v (faults.TooDeep n) said h.1)
 
--- what was written says what is expected
+-- the written bytes have the expected verdict
 written_says : (entries : List Entry) (old bytes : List ℕ) → IsCertified entries → IsWritten entries old bytes → Says bytes (expected entries)
 written_says entries old bytes c written =
     let all = written c.derived c.named in

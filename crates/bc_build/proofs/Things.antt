@@ -1,4 +1,4 @@
--- The routines and VALOFs that are found in a tree that nests at most 200 deep are low.
+-- The routines and VALOFs that are found in a tree with nesting depth at most 200 have such a depth too.
 use Rattle.std.proofs.Common.{ℕ, ◌+◌, ◌≤◌, List, [], ◌∷◌, ◌++◌, length, arith}
 use Rattle.bc_parse_tree.specs.declared.tree.Storage.{Storage}
 use Rattle.bc_parse_tree.specs.declared.tree.Storage.TheVariants as storage

@@ -1,4 +1,4 @@
--- What holds of each expression of the commands of a core.
+-- Facts about each expression in the commands of a core.
 use Rattle.std.proofs.Common.{List, [], ◌∷◌}
 use Rattle.bc_core.specs.Tree.{Exp}
 use Rattle.bc_core.specs.Commands.{Variable, Initial, Vector, Command, Block, block, Items, no_item, command, case, default, label, Body, Gives, Does, Place, Code, Static, Table, Text, Valof}

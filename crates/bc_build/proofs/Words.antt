@@ -43,7 +43,7 @@ size_few Number n = w_few n
 size_few P n = w_few n
 size_few G n = w_few n
 
--- and so has the assignment, and the one that is chosen has no more
+-- the assignment has one too, and the chosen one has no more
 sides_few : (T : Table) (v a : Exp) (s : ℕ) (p : Option Operand) → operand_of a ≡ p → nodes v + nodes a ≤ 2 ^ 32 → root_cost (chosen T (Assign s v a)) < 2 ^ 64
 sides_few T v a s (Some o) i h =
     let b = side_few T v s (omega arith) in

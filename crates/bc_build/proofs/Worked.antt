@@ -1,4 +1,4 @@
--- The workings are those of the entries, main by main.
+-- The workings belong to the entries, main by main.
 use Rattle.std.proofs.Common.{◌≡◌, ℕ, List, [], ◌∷◌, ◌++◌, map, sym, subst}
 use Rattle.std.specs.Prelude.{Result, Ok, Err, IfOk}
 use Rattle.std.specs.List.{AllZip}
@@ -19,7 +19,7 @@ joined [] ds (w ∷ ws) vs h k = absurd h
 joined (e ∷ es) ds [] vs h k = absurd h
 joined (e ∷ es) ds (w ∷ ws) vs h k = (h.0, joined es ds ws vs h.1 k)
 
--- which segment an entry belongs to is not computed
+-- the workings of an entry don't depend on its segment
 in_any : (n : ℕ) (es : List Entry) (ws : List Workings) → AllZip WorkedOut es ws → AllZip WorkedOut (map (in_segment n) es) ws
 in_any n [] [] h = h
 in_any n [] (w ∷ ws) h = absurd h

@@ -1,4 +1,4 @@
--- What a program is built to.
+-- What `build` returns: the program that the mains are built into.
 use Rattle.std.specs.Prelude.{ℕ, ◌≡◌, List, map, flat_map, None}
 use Rattle.bc_rules_defs.specs.Entry.{Entry}
 use Rattle.bc_rules_defs.specs.View.{entry as entry_view}
@@ -12,9 +12,9 @@ use Rattle.bc_build.specs.Code.{items_of, entries_from}
 use Rattle.bc_build.specs.Size.{section_roots}
 use Rattle.bc_build.specs.declared.building.Built.{Built}
 
--- The mains are sections, and no others. There is a segment a section, and the entries of all, which are those of their roots,
--- as a walk over the commands meets them; the image is that which
--- the linker gives for the primitives followed by the segments.
+-- The mains are exactly these sections. There is one segment for each section, and the entries are those of all sections, which belong
+-- to their roots in the order of a walk over the commands. The linker refuses nothing, and the image is the one that it gives for the
+-- primitives followed by the segments.
 pub record IsBuilt (files : List File) (mains : List ℕ) (built : Built) : Type 0 where
   pub sections : List Declarations
   pub accepted : AreAccepted files mains sections

@@ -1,4 +1,4 @@
--- The code of sections: their items, and their entries.
+-- The code of sections: their items and their entries.
 use Rattle.std.specs.Prelude.{ℕ, ◌≡◌, ◌+◌, List, [], ◌∷◌, ◌++◌, map}
 use Rattle.bc_text_items.specs.declared.item.Item.{Item}
 use Rattle.bc_rules_defs.specs.Entry.{Entry}
@@ -12,22 +12,24 @@ use Rattle.bc_gen_defs.specs.Entries.{section_entries}
 use Rattle.bc_gen.specs.Chosen.{coding}
 use Rattle.bc_build.specs.Compiled.{IsAccepted}
 
+-- The items of a section.
 abbrev pub items_of : Declarations → List Item
 items_of section = section_items coding (core_of section)
 
+-- the entry as one of the segment k
 abbrev pub in_segment : ℕ → Entry → Entry
 in_segment k e = record e { segment = k }
 
--- the entries of a section that is the segment k
+-- the entries of a section whose segment has the number k
 abbrev pub entries_of : ℕ → Declarations → List Entry
 entries_of k section = map (in_segment k) (section_entries coding (core_of section))
 
--- the entries of sections, the first of which is the segment k
+-- the entries of sections whose segments are numbered from k on
 abbrev pub entries_from : ℕ → List Declarations → List Entry
 entries_from k [] = []
 entries_from k (section ∷ sections) = entries_of k section ++ entries_from (k + 1) sections
 
--- the items and entries of a main, which is this section and no other
+-- The items and entries are those of the main, which is exactly this section.
 pub record IsCompiled (files : List File) (main : ℕ) (items : List Item) (entries : List code.Entry) : Type 0 where
   pub section : Declarations
   pub accepted : IsAccepted files main section

@@ -1,4 +1,4 @@
--- What the items that `generate` gives do, whichever Cores it is given.
+-- The items that `generate` returns do what its input means, for all `Core`s and not only for those of sources.
 use Rattle.std.specs.Prelude.{ℕ, ◌≡◌, ◌<◌, true, List, map, All, None, slice_index}
 use Rattle.bc_text_items.specs.declared.item.Item.{Item}
 use Rattle.bc_machine_defs.specs.Streams.{Content, HoldBytes}
@@ -13,12 +13,12 @@ use Rattle.bc_gen_defs.specs.Section.{section_items}
 use Rattle.bc_gen.specs.Chosen.{coding}
 use Rattle.bc_build.specs.Runs.{addresses, started}
 
--- the items that `generate` gives for each of these sections
+-- the items that `generate` returns for each of these sections
 abbrev pub generated : List Core → List (List Item)
 generated cores = map (section_items coding) cores
 
--- For all Cores that fit, all inputs and every number of turns: where the linker refuses nothing and the image's words are
--- words, as those of an image are, the run of these items after the primitives is what the Cores mean, or they are wild.
+-- For all well-formed Cores, all inputs of bytes and every number of turns: if the linker refuses nothing, and the image's words are
+-- words, as they always are, the run of these items after the primitives is what the Cores mean, or the meaning is wild.
 abbrev pub GeneratedRuns : Type 0
 GeneratedRuns =
     (cores : List Core) → All (λ core. is_core core ≡ true) cores

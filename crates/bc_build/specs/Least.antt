@@ -1,4 +1,4 @@
--- That entries are code of least words, and that it stands in the segments.
+-- The entries have the shortest code, and this code is in the segments.
 use Rattle.std.specs.Prelude.{◌≡◌, List, map, All}
 use Rattle.bc_text_items.specs.declared.item.Item.{Item}
 use Rattle.bc_rules_defs.specs.declared.rule.Table.TheVariants.{Two}
@@ -11,7 +11,7 @@ use Rattle.bc_cert_defs.specs.Verdict.{Judged}
 use Rattle.bc_cert_defs.specs.Against.{StandsIn, Fit}
 use Rattle.bc_cert_laws.specs.Written.{with_bodies}
 
--- what a certificate says of an entry by this derivation
+-- what a certificate says of an entry with this derivation
 abbrev pub judged_by : (e : Entry) → RootDerives Two e.root → Judged
 judged_by e d = record {
   segment = e.segment;
@@ -23,8 +23,8 @@ judged_by e d = record {
   words = root_cost d;
 }
 
--- The entry names a derivation of its root. None has fewer words, and this is so of each of its parts; its code stands
--- at the entry's place.
+-- The entry names a derivation of its root. No derivation of the root has fewer words, and the same holds of each of its parts. Its
+-- code is in the segments at the entry's place.
 pub record IsLeast (segments : List (List Item)) (e : Entry) : Type 0 where
   pub derivation : RootDerives Two e.root
   pub named : root_shape derivation ≡ e.derivation
@@ -36,7 +36,7 @@ pub record IsLeast (segments : List (List Item)) (e : Entry) : Type 0 where
 abbrev pub judged : Entry → Judged
 judged e = judged_by e (least_derivation Two e.root)
 
--- each entry is of least words, none stands before the one before it, and their code lies in the segments
+-- Each entry has the shortest code, the entries are in the order of their places, and their code lies within the segments.
 pub record AreLeast (segments : List (List Item)) (entries : List Entry) : Type 0 where
   pub each : All (IsLeast segments) entries
   pub fit : Fit segments 0 0 (map judged entries)

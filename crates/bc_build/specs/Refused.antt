@@ -1,4 +1,5 @@
--- Why a program is not built: the first refusal in the order of the mains, each through the parts in their order, and then the linker's.
+-- Why a program is not built: the first refusal in the order of the mains, each through lexer, parser, resolver and generator, and then
+-- the linker's.
 use Rattle.std.specs.Prelude.{ℕ, ◌≡◌, ◌⊎◌, List, [], ◌∷◌, map, Err, Option, Some, None}
 use Rattle.bc_lex_tokens.specs.Token.{Lexeme}
 use Rattle.bc_lex.specs.declared.error.LexError.TheVariants as lex_errors
@@ -26,7 +27,7 @@ use Rattle.bc_build.specs.declared.build_error.ScopeFault.TheVariants as faults
 use Rattle.bc_build.specs.declared.build_error.BuildError.{BuildError}
 use Rattle.bc_build.specs.declared.build_error.BuildError.TheVariants.{Lex, Parse, Scope, Gen, Link, Memory}
 
--- the fault of the scopes that is due, unless memory was refused
+-- The error is the due fault of the scopes, unless memory ran out.
 abbrev pub IsScopeFault : Option Fault → ScopeFault → Type 0
 IsScopeFault due faults.Memory = Unit {0}
 IsScopeFault due (faults.Undeclared name) = due ≡ Some (scopes.AnUndeclared name.items)
@@ -40,12 +41,12 @@ IsScopeFault due faults.FrameTooLarge = due ≡ Some scopes.AFrameTooLarge
 IsScopeFault due faults.CaseTwice = due ≡ Some scopes.ACaseTwice
 IsScopeFault due faults.TooManyPlaces = due ≡ Some scopes.ATooManyPlaces
 
--- a section that has no code has no fault of its scopes, and its labels don't suffice
+-- If no code is generated, the section has no fault of its scopes and takes too many labels, unless memory ran out.
 abbrev pub IsGenFault : Declarations → GenError → Type 0
 IsGenFault section gen_errors.TooManyLabels = (section_fault section ≡ None) × ¬ labels_suffice coding (core_of section)
 IsGenFault section gen_errors.Memory = Unit {0}
 
--- the refusal of this main
+-- The error is the refusal of this main.
 abbrev pub IsMainRefusal : List File → ℕ → BuildError → Type 0
 IsMainRefusal files main (Lex at e) = (at ≡ main) × ((e ≡ lex_errors.Memory) ⊎ HasFault files main e)
 IsMainRefusal files main (Parse at e) = (at ≡ main)
@@ -57,12 +58,12 @@ IsMainRefusal files main (Gen at e) = (at ≡ main) × ((tokens : List Lexeme) �
 IsMainRefusal files main (Link e) = ⊥
 IsMainRefusal files main Memory = Unit {0}
 
--- the first main with a refusal
+-- The error is the refusal of the first main that is refused; all mains before it are accepted.
 abbrev pub IsFirstRefusal : List File → List ℕ → BuildError → Type 0
 IsFirstRefusal files [] e = ⊥
 IsFirstRefusal files (main ∷ mains) e = IsMainRefusal files main e ⊎ ((section : Declarations) × IsAccepted files main section × IsFirstRefusal files mains e)
 
--- the linker refuses a program for a global that is set twice, or else for its size, and never for a label
+-- The linker refuses a program for a global that is set twice, else for its size, and never for a label.
 abbrev pub IsLinkFault : List (List Item) → LinkError → Type 0
 IsLinkFault segments (links.GlobalTwice number) = global_twice segments ≡ Some (links.GlobalTwice number)
 IsLinkFault segments links.TooLarge = (global_twice segments ≡ None) × (too_large segments ≡ Some links.TooLarge)
@@ -70,6 +71,7 @@ IsLinkFault segments links.Memory = Unit {0}
 IsLinkFault segments (links.LabelTwice k label) = ⊥
 IsLinkFault segments (links.LabelUnset k label) = ⊥
 
+-- The error is the refusal of the first refused main; or all mains are accepted and it is the linker's; or memory ran out.
 abbrev pub IsRefused : List File → List ℕ → BuildError → Type 0
 IsRefused files mains Memory = Unit {0}
 IsRefused files mains (Link e) = (sections : List Declarations) × AreAccepted files mains sections × IsLinkFault (with_primitives (map items_of sections)) e

@@ -1,4 +1,4 @@
--- The roots of a section without fault have room in the lines of a certificate.
+-- Laws: the roots of a section without fault have room in the lines of a certificate.
 use Rattle.std.specs.Prelude.{◌≡◌, ◌+◌, ◌^◌, ◌<◌, ◌≤◌, None}
 use Rattle.std.specs.List.{AllByRecursion}
 use Rattle.bc_core.specs.Tree.{Exp, Call, Root, Value, Test, Assign}
@@ -21,37 +21,37 @@ use Rattle.bc_gen_defs.specs.Entries.{section_entries, section_roots}
 use Rattle.bc_cert_write.specs.Shown.{root_shown}
 use Rattle.bc_cert_laws.specs.Entries.{HasSmallNumber, nested, NodeHasRoom, RootHasRoom}
 
--- at most 400 nodes of a root stand one within another
+-- The nodes of the root nest at most 400 deep.
 abbrev pub IsShallow : Root → Type 0
 IsShallow (Value s e) = nested e ≤ 400
 IsShallow (Test s sense e) = nested e ≤ 400
 IsShallow (Assign s v a) = (nested v ≤ 400) × (nested a ≤ 400)
 
--- a section that nests at most 200 deep, as each one that is parsed, has no root with more
+-- All roots of a section with nesting depth at most 200 are shallow. Every section that was parsed has such a depth.
 abbrev pub RootsAreShallow : Type 0
 RootsAreShallow = (coding : Coding) (ds : Declarations) → declarations_height ds ≤ 200 → AllByRecursion IsShallow (section_roots coding (core_of ds))
 
--- each node of a root stands at a level of at most 32,768
+-- Each node of the root is at a level of at most 32,768.
 abbrev pub HasLevels : Root → Type 0
 HasLevels r = AllByRecursion (λ n. n.1 ≤ 32768) (root_in_order r)
 
--- in code that is made of derivations
+-- All roots of a section without fault have such levels, whatever derivations its code comes from.
 abbrev pub RootsHaveLevels : Type 0
 RootsHaveLevels = (T : Table) (choice : (r : Root) → RootDerives T r) (ds : Declarations) → section_fault ds ≡ None
     → AllByRecursion HasLevels (section_roots (coding_of choice) (core_of ds))
 
--- a section without fault, with at most 524,288 definitions, commands and expressions, has no root of more than 2^32 nodes
+-- All roots of a section without fault, with at most 524,288 definitions, commands and expressions, have at most 2^32 nodes.
 abbrev pub RootsHaveFewNodes : Type 0
 RootsHaveFewNodes =
     (T : Table) (choice : (r : Root) → RootDerives T r) (ds : Declarations) → section_fault ds ≡ None → declarations_size ds ≤ 524288
     → AllByRecursion (λ r. root_nodes r ≤ 2 ^ 32) (section_roots (coding_of choice) (core_of ds))
 
--- where the labels of a section suffice, those of each root end at the last one
+-- If the labels of a section suffice, no root takes a label after the last one.
 abbrev pub LabelsHaveRoom : Type 0
 LabelsHaveRoom = (coding : Coding) (core : Core) → labels_suffice coding core → AllByRecursion (λ (e : Entry). e.first + coding.labels e.root ≤ 20001)
     (section_entries coding core)
 
--- the numbers of a root are small; that of a call is how many arguments it has
+-- the number of an expression is small; the number of a call, which is that of its arguments, is not considered here
 abbrev pub HasSmallForm : Exp → Type 0
 HasSmallForm (Call es f) = Unit {0}
 HasSmallForm e = HasSmallNumber e
@@ -59,11 +59,11 @@ HasSmallForm e = HasSmallNumber e
 abbrev pub HasSmallForms : Root → Type 0
 HasSmallForms r = AllByRecursion (λ n. HasSmallForm n.0) (root_in_order r)
 
--- the node lines and the root line of such a root have room
+-- The node lines and the root line of such a root have room.
 abbrev pub NodesHaveRoom : Type 0
 NodesHaveRoom = (T : Table) (r : Root) (d : RootDerives T r) → HasLevels r → HasSmallForms r → IsShallow r → root_nodes r ≤ 2 ^ 32
     → AllByRecursion (NodeHasRoom T) (root_shown d) × RootHasRoom r
 
--- and where a root has so few nodes, so have the words of the derivation that is chosen for it
+-- The words of the chosen derivation of a root with at most 2^32 nodes are fewer than 2^64.
 abbrev pub RootWordsHaveRoom : Type 0
 RootWordsHaveRoom = (r : Root) → root_nodes r ≤ 2 ^ 32 → root_cost (least_derivation Two r) < 2 ^ 64

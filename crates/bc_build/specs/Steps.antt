@@ -1,4 +1,4 @@
--- For proofs: how far a program was built.
+-- For proofs: what holds of a program that is partly built.
 use Rattle.std.specs.Prelude.{ℕ, ◌≡◌, ◌<◌, ◌^◌, List, ◌++◌, map, length, slice_index, All, Option, None}
 use Rattle.bc_text_items.specs.declared.item.Item.{Item}
 use Rattle.bc_rules_defs.specs.View.{entry as entry_view}
@@ -18,13 +18,13 @@ use Rattle.bc_build.specs.declared.building.Built.{Built}
 use Rattle.bc_build.specs.declared.build_error.BuildError.{BuildError}
 use Rattle.bc_build.specs.declared.build_error.BuildError.TheVariants.{Scope, Link, Memory}
 
--- what a fault of a main's scopes is refused as
+-- the refusal for a fault of a main's scopes
 abbrev pub IsScopeRefusal : ℕ → Option Fault → BuildError → Type 0
 IsScopeRefusal main due (Scope at e) = (at ≡ main) × IsScopeFault due e
 IsScopeRefusal main due Memory = Unit {0}
 IsScopeRefusal main due _ = ⊥
 
--- the segments and entries, with the image of the primitives followed by these segments
+-- the program has these segments and entries, and the image of the primitives followed by the segments
 pub record IsLinked (segments : List (List Item)) (entries : List code.Entry) (built : Built) : Type 0 where
   pub segments_are : built.segments.items ≡ segments
   pub entries_are : built.entries.items ≡ entries
@@ -35,13 +35,14 @@ pub record IsLinked (segments : List (List Item)) (entries : List code.Entry) (b
   pub small : All IsSmallEntry entries
   pub number : length entries < 2 ^ 64
 
--- why segments were not linked
+-- why the segments were not linked
 abbrev pub IsLinkRefusal : List (List Item) → BuildError → Type 0
 IsLinkRefusal segments (Link e) = IsRefusal (refusal_of (with_primitives segments)) e
 IsLinkRefusal segments Memory = Unit {0}
 IsLinkRefusal segments _ = ⊥
 
--- so many mains have these segments and entries, and these are left
+-- The first `number` mains have these segments and entries, and the mains `left` remain. However the remaining mains are accepted or
+-- refused, so are all mains.
 pub record AreCoded (files : List File) (mains : List ℕ) (number : ℕ) (left : List ℕ) (segments : List (List Item)) (entries : List code.Entry) : Type 0 where
   pub sections : List Declarations
   pub count : length sections ≡ number

@@ -1,3 +1,5 @@
+//! The errors of `build`.
+
 ghost use Rattle.std.specs.Prelude.{◌≡◌, ◌⊎◌, Option, IfOk};
 ghost use Rattle.bc_scope_defs.specs.Faults.{Fault};
 ghost use Rattle.bc_scope_faults.specs.Judged.{IsFault};
@@ -13,63 +15,63 @@ use bc_word::Memory;
 use std::alloc::{AllocError, AllocFailed, Global};
 use thiserror::Error;
 
-/// What is wrong with the scopes of a main: a `ScopeError` that owns its name.
+/// A fault of a main's scopes. It is a `ScopeError` that owns the name, so it can outlive the section.
 #[derive(Debug, Drop, PartialEq, Eq, Error)]
 pub enum ScopeFault {
-    /// No such name is known.
+    /// The name is not in scope.
     #[error("undeclared name")]
     Undeclared(Vec<u8>),
-    /// The name is declared twice in one declaration, list or parameter list.
+    /// The name is declared twice in the same declaration, list or parameter list.
     #[error("name declared twice")]
     DeclaredTwice(Vec<u8>),
-    /// The name is a variable or a label of a routine around this one.
+    /// The name is a variable or a label of an enclosing routine.
     #[error("name of a routine around this one")]
     DynamicFree(Vec<u8>),
-    /// No constant stands where one is wanted.
+    /// An expression that must be constant isn't.
     #[error("not a constant")]
     NotConstant,
-    /// The name is declared as a global whose number is over 511.
+    /// The name is declared as a global with a number over 511.
     #[error("global number over 511")]
     GlobalNumber(Vec<u8>),
-    /// What stands to the left of `:=` or after `@` is no cell.
+    /// The left side of `:=` or the operand of `@` is not a cell.
     #[error("not assignable")]
     NotAssignable,
-    /// A command or a declaration stands where it can't.
+    /// A command or a declaration appears where it isn't allowed.
     #[error("misplaced")]
     Misplaced,
-    /// The greatest offset of a frame is over 32,767.
+    /// A frame has an offset over 32,767.
     #[error("frame too large")]
     FrameTooLarge,
-    /// A SWITCHON has a CASE or DEFAULT twice.
+    /// A SWITCHON has two DEFAULTs or two CASEs of the same value.
     #[error("case twice")]
     CaseTwice,
-    /// There are more than 8,000 routines, statics, tables and strings.
+    /// The section has more than 8,000 routines, statics, tables and strings.
     #[error("too many places")]
     TooManyPlaces,
-    /// An allocation was refused.
+    /// An allocation failed.
     #[error("out of memory")]
     Memory,
 }
 
-/// Why a program was not built. A main is named by its index among the sources.
+/// Why a program was not built. The `usize` is the index of the refused main in `sources`.
 #[derive(Debug, Drop, PartialEq, Eq, Error)]
 pub enum BuildError {
-    /// A main has no tokens.
+    /// The text of a main has no tokens: the lexer refused it.
     #[error("source {0}: {1}")]
     Lex(usize, LexError),
-    /// The tokens of a main spell no section.
+    /// The tokens of a main are not those of a section: the parser refused them.
     #[error("source {0}: {1}")]
     Parse(usize, ParseError),
-    /// The scopes of a main have a fault.
+    /// The scopes of a main have a fault: the resolver refused the section.
     #[error("source {0}: {1}")]
     Scope(usize, ScopeFault),
-    /// A main has no code.
+    /// No code was generated for a main: it takes more than 20,000 labels, or memory ran out.
     #[error("source {0}: {1}")]
     Gen(usize, GenError),
-    /// The segments were not linked.
+    /// The linker refused the segments: a global is set twice, they are too large, or memory ran out. It is never for a label.
     #[error("{0}")]
     Link(LinkError),
-    /// An allocation was refused.
+    /// An allocation failed.
     #[error("out of memory")]
     Memory,
 }
@@ -104,7 +106,7 @@ impl<T: Drop> From<AllocFailed<T>> for BuildError {
     }
 }
 
-/// A fault of the scopes with a name of its own.
+/// Copies the name of a scope fault, so that the fault owns it.
 fn owned(alloc: Global, fault: ScopeError<'_>) -> Result<ScopeFault, AllocError>
     ensures { (due : Option Fault) → IsFault fault.entry due → IfOk result (IsScopeFault due) }
 {
@@ -123,7 +125,7 @@ fn owned(alloc: Global, fault: ScopeError<'_>) -> Result<ScopeFault, AllocError>
     })
 }
 
-/// The refusal of a main for this fault of its scopes, or `Memory` where its name can't be kept.
+/// The refusal of a main for this fault of its scopes, or `Memory` if the name can't be copied.
 pub fn scope_refusal(alloc: Global, main: usize, fault: ScopeError<'_>) -> BuildError
     ensures { (due : Option Fault) → IsFault fault.entry due → IsScopeRefusal main due result }
 {

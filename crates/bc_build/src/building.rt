@@ -1,3 +1,5 @@
+//! The public call `build`, whose contract is the main theorem.
+
 ghost use Rattle.std.specs.Prelude.{◌≡◌, ◌<◌, ◌++◌, length, map, All, IfOk, IfErr, OnOk, List, ℕ, slice_index};
 ghost use Rattle.std.specs.List.{AllZip};
 ghost use Rattle.bc_parse_tree.specs.Tree.{Declarations};
@@ -29,20 +31,20 @@ use bc_scope::resolve;
 use bc_text_items::Segment;
 use std::alloc::Global;
 
-/// A program that was built.
+/// A built program.
 #[derive(Drop)]
 pub struct Built {
-    /// One segment a main.
+    /// The segments, one for each main, in the order of the mains.
     pub segments: Vec<Segment>,
-    /// The entries of all mains, those of the first main first.
+    /// The entries of all mains, in the order of the mains. Their `segment` counts the mains from 0.
     pub entries: Vec<Entry>,
-    /// What was computed of each entry, for the certificate: the n-th of the n-th entry.
+    /// For each entry, at the same index, data that the writer of the certificate would otherwise compute again.
     pub workings: Vec<Workings>,
     /// The image of the primitives followed by the segments.
     pub image: Image,
 }
 
-/// The items and entries of one main.
+/// Compiles one main: lexes, parses and resolves it, and generates its items and entries.
 fn compiled(alloc: Global, sources: &[Source<'_>], main: usize) -> Result<Generated, BuildError>
     requires { main < length sources.now }
     ensures compiled { IfOk result (λ g. IsCompiled (files_of sources.now) main g.items g.entries.items) }
@@ -61,7 +63,7 @@ fn compiled(alloc: Global, sources: &[Source<'_>], main: usize) -> Result<Genera
         Ok(core) => core,
         Err(fault) => return Err(scope_refusal(alloc, main, fault)),
     };
-    // What the generator takes lies where these lay.
+    // Free these now, so that the generator can use their memory.
     drop(section);
     drop(tokens);
     match generate(alloc, &core) {
@@ -70,7 +72,7 @@ fn compiled(alloc: Global, sources: &[Source<'_>], main: usize) -> Result<Genera
     }
 }
 
-/// Puts a segment's entries after those that are there.
+/// Appends the entries of one main, and numbers their segment.
 fn add_entries(all: &mut Vec<Entry>, segment: u64, entries: Vec<Entry>) -> Result<(), BuildError>
     ensures added { OnOk result (map entry_view all.new.items ≡ map entry_view all.old.items ++ map (in_segment segment) (map entry_view entries.items)) }
     ensures refused { IfErr result (λ e. e ≡ BuildError.Memory) }
@@ -82,7 +84,9 @@ fn add_entries(all: &mut Vec<Entry>, segment: u64, entries: Vec<Entry>) -> Resul
     Ok(())
 }
 
-/// The segments, linked after the primitives, with their entries and the workings of these.
+/// Links the segments after the primitives.
+///
+/// The calls of `ranges` have no effect: they only tell the prover that the numbers of words, items and entries are in range.
 fn linked(
     alloc: Global,
     segments: Vec<Segment>,
@@ -110,33 +114,38 @@ fn linked(
     })
 }
 
-/// Builds the program of these mains, which are indexes of the sources: each is read, parsed, resolved and translated in
-/// turn, and then the segments are linked after the primitives. No mains at all are lawful.
+/// Builds a program. `mains` are indexes into `sources`; the other sources are read only if a GET names them. Each main is lexed, parsed,
+/// resolved and translated in turn, and then the segments are linked after the primitives. The list of mains may be empty.
 ///
-/// The first refusal in this order is answered, or `Memory` where an allocation was refused.
+/// Returns the first refusal in this order, or `Memory` if an allocation failed.
 pub fn build(alloc: Global, sources: &[Source<'_>], mains: &[usize]) -> Result<Built, BuildError>
     requires { All (λ main. main < length sources.now) mains.now }
 
-    // The mains are sections without fault; the segments are their code, the entries those of their roots, in order,
-    // and the image is that of the primitives followed by the segments.
+    // What is built: the mains are sections without fault, the segments are the code of these sections, and the entries belong to
+    // their roots, in order. The image is that of the primitives followed by the segments.
     ensures built { IfOk result (IsBuilt (files_of sources.now) mains.now) }
 
-    // For all inputs and every number of turns, a run from the image has the output and the ending that the sections
-    // mean, or is as far as they are; or their meaning is wild.
+    // The image does what its sources mean. For all inputs of bytes and every number n of turns: if the meaning of the sections ends in n
+    // turns, the run from the image ends in the same way with the same output. If the meaning is cut off after n turns, the run has
+    // the same output after n or more instructions and is still going. Only if the meaning is wild, nothing is claimed.
     ensures runs { IfOk result (λ built. (sections : List Declarations) → AreAccepted (files_of sources.now) mains.now sections
         → RunsAsMeant sections built.image) }
 
-    // Each entry is code of a derivation from the rule table that no derivation beats in words, and fits the segments.
+    // The code is the shortest: each entry has the code of a derivation from the rule table that no derivation beats in words, and
+    // this code is in the segments at the entry's place.
     ensures least { IfOk result (λ built. AreLeast built.segments.items (map entry_view built.entries.items)) }
-    // The certificate of the entries is accepted, and says of each what fits the segments.
+    // The certificate of the entries is accepted, and what it says about each entry fits the segments.
     ensures certified { IfOk result (λ built. IsCertified (map entry_view built.entries.items)) }
-    // The workings are those of the entries, which the certificate is written from.
+    // The workings, from which the certificate is written, belong to the entries.
     ensures worked { IfOk result (λ built. AllZip WorkedOut (map entry_view built.entries.items) built.workings.items) }
+    // The image has the fixed words of its commands and data, and the least words of each root.
     ensures size { IfOk result (λ built. (sections : List Declarations) → AreAccepted (files_of sources.now) mains.now sections
         → HasSize sections built.image) }
 
-    // What is read of the text of the segments is the segments, and gives this image.
+    // The printed text of the segments reads back as exactly these segments, and linking them gives this image.
     ensures text { IfOk result (λ built. ReadsAs built.segments.items built.image) }
+    // An error is the first refusal, in the order of the mains, each through the parts of the compiler, and then the linker's; or memory
+    // ran out.
     ensures refused { IfErr result (IsRefused (files_of sources.now) mains.now) }
 {
     bc_gen_laws::labels::laws::labels_stand_once();

@@ -1,4 +1,4 @@
-//! Laws of programs that were built. Each is the contract of a function that does nothing.
+//! Laws about built programs. Each is the contract of a function that computes nothing.
 
 ghost use Rattle.std.specs.Prelude.{ℕ, List, Some};
 ghost use Rattle.bc_text_items.specs.declared.item.Item.{Item};
@@ -14,16 +14,16 @@ ghost use Rattle.bc_build.specs.Ended.{EndsAsMeant};
 
 use bc_machine::Streams;
 
-/// A run of the text of segments, as `run_text` does it, is a run from their image.
+/// A run of the printed text of segments by `run_text` is a run from their image.
 pub fn text_runs<S: Streams>()
     ensures { (segments : List (List Item)) (image : Image) (steps : ℕ) (old new : S) (end : End) → ReadsAs segments image
         → IsRunOf (Some (text_of segments)) steps (S.known old) (S.known new) (S.content old) (S.content new) (S.failures old) (S.failures new) end
         → IsRunFrom image steps (S.known old) (S.known new) (S.content old) (S.content new) (S.failures old) (S.failures new) end }
 {}
 
-/// A run of at most `steps` instructions from an image that `build` gave, over streams whose content is known: where it
-/// finished or met a zero divisor, the sections mean that ending and the output that was written, or they are wild; and where it met an
-/// instruction that is none, they are wild. What `Machine::run` and, by `text_runs`, `run_text` do is such a run.
+/// A run of at most `steps` instructions from an image that `build` returned, over streams whose content is known. If it finished or
+/// met a zero divisor, the meaning of the sections has that ending and the output that was written, or it is wild. If it met an invalid
+/// instruction, the meaning is wild. `Machine::run` does such runs, and by `text_runs` so does `run_text`.
 pub fn run_ends_as_meant<S: Streams>()
     ensures { (sections : List Declarations) (image : Image) (steps : ℕ) (old new : S) (end : End)
         → RunsAsMeant sections image → S.known old
@@ -31,15 +31,15 @@ pub fn run_ends_as_meant<S: Streams>()
         → EndsAsMeant sections image (S.content old) steps (S.content new) end }
 {}
 
-/// Whatever `check` answers on the bytes that `write_cert` wrote for a build: with Ok the verdict is the one that is expected, and
-/// `check_against` takes it; no fault is possible but that the reader failed or memory was refused.
+/// The certificate of a build is accepted: if `check` returns Ok on the bytes that `write_cert` wrote for it, the verdict is the expected
+/// one, and `check_against` finds no mismatch. The only possible errors of `check` are that the reader failed or memory ran out.
 pub fn certificate_is_taken()
     ensures { CertificateIsTaken }
 {
     bc_cert_laws::laws::one_answer();
 }
 
-/// The items that `generate` gives for any Cores that fit, linked after the primitives, run as the Cores mean.
+/// The items that `generate` returns for any well-formed `Core`s, linked after the primitives, run as the `Core`s mean.
 pub fn generated_runs()
     ensures { GeneratedRuns }
 {

@@ -1,6 +1,7 @@
-//! From source to image: every part of the compiler in its order, and the linker after them.
+//! The compiler as a whole: from sources to an image, with the entries from which the certificate is written.
 //!
-//! The roots of sections without fault have room in the lines of a certificate.
+//! The contract of `build` is the main theorem of this repository. `laws` adds what follows for runs of the machine and for the
+//! certificate. `room_laws` shows that all numbers of a certificate have room in its lines.
 #![tactic(auto)]
 
 mod build_error;

@@ -1,4 +1,6 @@
-//! What is known of words and items, since their types keep it: said of all of a list at once.
+//! Loops that do nothing at run time: they tell the prover that all numbers in a list are in the ranges of their types.
+//!
+//! The range of a single value is known from its type, but not that of all elements of a list. LLVM removes these loops.
 ghost use Rattle.std.specs.Prelude.{◌<◌, ◌^◌, ℕ, All, slice_index};
 ghost use Rattle.bc_core.specs.View.{exp as exp_view, args as args_view, root as root_view};
 ghost use Rattle.bc_rules_defs.specs.View.{entry as entry_view};
@@ -10,7 +12,7 @@ use bc_machine_defs::Words;
 use bc_rules_defs::Entry;
 use bc_text_items::{Item, Segment};
 
-/// The words of a store are words.
+/// All words of a store are below 65,536.
 pub fn words_are_words(words: &Words)
     ensures { (i : ℕ) → slice_index words.now i < 65536 }
 {
@@ -41,7 +43,7 @@ fn is_item(item: &Item)
     }
 }
 
-/// Those of the items of a segment.
+/// The numbers of all items of a segment are in their ranges.
 fn are_items(items: &[Item])
     ensures { All IsItem items.now }
 {
@@ -50,7 +52,7 @@ fn are_items(items: &[Item])
     }
 }
 
-/// Those of the items of segments.
+/// The numbers of all items of all segments are in their ranges.
 pub fn segments_are_items(segments: &[Segment])
     ensures { All (All IsItem) segments.now }
 {
@@ -59,7 +61,7 @@ pub fn segments_are_items(segments: &[Segment])
     }
 }
 
-/// The numbers of an expression's nodes are small.
+/// The numbers in an expression are at most 65,535.
 #[cycle(smallness)]
 fn expression_is_small(e: &CoreExp)
     ensures { AreSmall (exp_view e.now) }
@@ -91,6 +93,7 @@ fn expression_is_small(e: &CoreExp)
     }
 }
 
+/// The numbers in all arguments are at most 65,535.
 #[cycle(smallness)]
 fn arguments_are_small(arguments: &[CoreExp])
     ensures { AllAreSmall (args_view arguments.now) }
@@ -100,6 +103,7 @@ fn arguments_are_small(arguments: &[CoreExp])
     }
 }
 
+/// The numbers in a root's expressions are at most 65,535.
 fn root_is_small(root: &Root)
     ensures { RootIsSmall (root_view root.now) }
 {
@@ -114,6 +118,7 @@ fn root_is_small(root: &Root)
     }
 }
 
+/// All numbers of a list are below 2^64.
 fn numbers_are_numbers(numbers: &[u64])
     ensures { All (λ n. n < 2 ^ 64) numbers.now }
 {
@@ -122,6 +127,7 @@ fn numbers_are_numbers(numbers: &[u64])
     }
 }
 
+/// The numbers of an entry are in the ranges of their types.
 fn entry_is_small(entry: &Entry)
     ensures { EntryIsSmall (entry_view entry.now) }
 {
@@ -133,7 +139,7 @@ fn entry_is_small(entry: &Entry)
     root_is_small(&entry.root);
 }
 
-/// The numbers of entries are in the ranges of their types.
+/// The numbers of all entries are in the ranges of their types.
 pub fn entries_are_small(entries: &[Entry])
     ensures { All IsSmallEntry entries.now }
 {

@@ -1,37 +1,36 @@
-//! Laws of sections' roots. Each is the contract of a function that does nothing.
+//! The roots of a section without fault have room in the lines of a certificate. Each law is the contract of a function with an empty
+//! body.
 
 ghost use Rattle.bc_build.specs.RoomLaws.{RootsAreShallow, RootsHaveLevels, RootsHaveFewNodes, LabelsHaveRoom, NodesHaveRoom, RootWordsHaveRoom};
 
-/// A section that nests at most 200 deep, with faults or without, has no root of which more than 400 nodes
-/// stand one within another.
+/// In a section with nesting depth at most 200, with or without faults, the nodes of each root nest at most 400 deep.
 pub fn roots_are_shallow()
     ensures { RootsAreShallow }
 {}
 
-/// Each node of the roots of a section without fault stands at a level of at most 32,768, whatever the
-/// derivations of its code.
+/// Each node of each root of a section without fault is at a level of at most 32,768, whatever derivations its code comes from.
 pub fn roots_have_levels()
     ensures { RootsHaveLevels }
 {}
 
-/// No root of a section without fault, with at most 524,288 definitions, commands and expressions, has more
-/// than 2^32 nodes, whatever the derivations of its code.
+/// In a section without fault and with at most 524,288 definitions, commands and expressions, each root has at most 2^32 nodes, whatever
+/// derivations its code comes from.
 pub fn roots_have_few_nodes()
     ensures { RootsHaveFewNodes }
 {}
 
-/// Where the labels of a section suffice, none of its roots takes a label after the last one.
+/// If the labels of a section suffice, no root takes a label after the last one.
 pub fn labels_have_room()
     ensures { LabelsHaveRoom }
 {}
 
-/// The lines of a root at such levels have room for it, where its numbers are small, at most 400 of its
-/// nodes stand one within another, and it has at most 2^32 of them.
+/// The lines of a root have room if its levels are at most 32,768, its numbers fit into words, its nodes nest at most 400 deep, and there
+/// are at most 2^32 of them.
 pub fn nodes_have_room()
     ensures { NodesHaveRoom }
 {}
 
-/// The words of the derivation that is chosen for a root of at most 2^32 nodes have room in a line.
+/// The number of words of the chosen derivation of a root with at most 2^32 nodes has room in a line: it is below 2^64.
 pub fn root_words_have_room()
     ensures { RootWordsHaveRoom }
 {}

@@ -1,4 +1,4 @@
--- What is known of a node's parts, put together.
+-- What the walk knows of a node, from what it knows of the node's parts.
 use Rattle.std.proofs.Common.{◌≡◌, ℕ, ◌+◌, ◌<◌, ◌≤◌, List, [], ◌∷◌, ◌++◌, length, get_or, drop, map, Option, Some, None, refl, ap, sym, subst, ◌∙◌, append_assoc, append-nil, arith}
 use Rattle.std.proofs.lemmas.List.{map-append, drop_more, drop_all}
 use Rattle.bc_core.specs.declared.expression.CoreExp.{CoreExp}

@@ -1,4 +1,4 @@
--- A derivation has no fewer words than its first rule has in the list of its aim.
+-- A derivation has at least the words that its first rule has in the list for its aim.
 use Rattle.std.proofs.Common.{◌≡◌, ℕ, ◌+◌, Bool, true, false, Some, IsTrue, refl}
 use Rattle.bc_core.specs.declared.operands.Operand.{Operand}
 use Rattle.bc_core.specs.Tree.{Exp, Num, Frame, Glob, Place, Load, Neg, Not, Bin, Cond, Call, Valof, count}
@@ -19,7 +19,7 @@ use Rattle.bc_select_defs.specs.Folds.{Reaches, of_rule, words}
 use Rattle.bc_select_defs.specs.Lower.{more_words, both, of_operand, more_before, by_given, exactly, number_costs, is_mirrored, beside_is, without_is, part_at, with_tests, words_at, lower, all_lower}
 use Rattle.bc_candidates.specs.Lists.{list_for, lists}
 
--- V0, V1 and J6 stand in each node's lists
+-- V0, V1 and J6 are in the lists of every node
 by_v0 : (T : Table) (e : Exp) (s k : ℕ) → Reaches (words_of (choices T e s).push) k → Reaches (of_rule 0 (lists T e s).any) k
 by_v0 T (Num n) s k h = h
 by_v0 T (Frame n) s k h = h

@@ -1,4 +1,4 @@
--- The words of each rule in the lists of a node are those of some derivation that begins with it.
+-- For each rule in the lists of a node, some derivation that begins with it has its words.
 use Rattle.std.proofs.Common.{◌≡◌, ℕ, ◌+◌, ◌*◌, ◌==◌, List, Bool, true, false, not, Option, Some, None, IsTrue, cond, refl, sym, subst, ◌∙◌}
 use Rattle.std.specs.Prelude.{is_some}
 use Rattle.std.proofs.lemmas.Bool.{cond-true}
@@ -30,7 +30,7 @@ use Rattle.bc_select_defs.specs.Makes.{Makes, makes_none, makes_some, makes_map,
 use Rattle.bc_select_defs.specs.Attained.{part_for, attained, all_attained, same_operator, Beside, first_zero, second_zero, makes_number, some_operator, table_two}
 use Rattle.bc_candidates.specs.Lists.{list_for, lists}
 
--- some derivation has so many words; some derivation that begins with the rule has
+-- some derivation has these words; some derivation that begins with the rule has them
 abbrev Has : Table → Exp → Aim → ℕ → Option ℕ → Type 0
 Has T e aim s x = Makes (Derives T e aim) (λ d. cost d s) (λ d. Unit {0}) x
 
@@ -59,7 +59,7 @@ of_one T e g aim of s t k r rule_of c f x h = makes_map _ _ _ _ _ _ _ rule_of c 
 by_only : (T : Table) (op wanted : Op) (a b : Exp) (aim : Aim) (s : ℕ) (r : Rule) (x : Option ℕ) → By T (Bin wanted a b) aim s r x → By T (Bin op a b) aim s r (only wanted op x)
 by_only T op wanted a b aim s r x h = makes_given _ _ _ (number_of op == number_of wanted) x (λ e. let P : Op → Type 0 = λ o. By T (Bin o a b) aim s r x in subst P (same_operator op wanted e) h)
 
--- a derivation of the part that a rule finds
+-- a derivation of the operand that remains when a rule drops a 0
 makes_beside : (T : Table) (p : Option Exp) (a b : Exp) (aim : Aim) (s : ℕ) (x y : Option ℕ) (zero_b zero_a : Bool) → (zero_b ≡ true → p ≡ Some a) → (zero_b ≡ false → zero_a ≡ true → p ≡ Some b) → Has T a aim s x → Has T b aim s y → Makes (Beside T p aim) (λ q. cost q.derivation s) (λ q. Unit {0}) (cond zero_b x (cond zero_a y None))
 makes_beside T p a b aim s x y true zero_a f g ha hb = makes_map _ _ _ _ _ _ _ (λ d. record { expression = a; is = f refl; derivation = d }) (λ d. refl) (λ d i. tt) ha
 makes_beside T p a b aim s x y false true f g ha hb = makes_map _ _ _ _ _ _ _ (λ d. record { expression = b; is = g refl refl; derivation = d }) (λ d. refl) (λ d i. tt) hb
@@ -90,7 +90,7 @@ without_0 T operators.Or a b m s x y ha hb = makes_none _ _ _
 without_0 T operators.NotEquivalent a b m s x y ha hb = makes_none _ _ _
 without_0 T operators.Equivalent a b m s x y ha hb = makes_none _ _ _
 
--- one operand is computed, the other stands in the instruction
+-- one operand is evaluated, the other is the operand of an instruction
 abbrev WithOperand : Table → Exp → Mode → Option Operand → Type 0
 WithOperand T e m p = Derives T e (Gets m) × OperandOf p
 
@@ -128,7 +128,7 @@ by_v9 T a b m s x h =
     makes_map _ _ _ _ _ _ _ (λ q. (lessened T a b m s q.1.0 q.0 q.1.1).derivation) (λ q. (lessened T a b m s q.1.0 q.0 q.1.1).words) (λ q i. (lessened T a b m s q.1.0 q.0 q.1.1).begins)
     (makes_sum _ _ _ _ _ _ x (number_cost (constant_of b)) h (makes_number b))
 
--- the rules with one operand in the instruction
+-- the rules that have one operand in an instruction
 mixed_made : (T : Table) (op : Op) (a b : Exp) (m : Mode) (s : ℕ) (x y : Option ℕ) → Has T a (Gets m) (s + 1) x → Has T b (Gets m) (s + 1) y → AllBy T (Bin op a b) (Gets m) s (mixed op (node_of T a (s + 1)) (node_of T b (s + 1)) x y)
 mixed_made T op a b m s x y ha hb = (
   by_only T op operators.Add a b (Gets m) s _ _ (by_v6 T a b m s x ha),
@@ -154,7 +154,7 @@ mixed_made T op a b m s x y ha hb = (
 of_two : (T : Table) (e f g : Exp) (aim1 aim2 aim : Aim) (s t k : ℕ) (r : Rule) (rule_of : Derives T e aim1 × Derives T f aim2 → Derives T g aim) → ((q : Derives T e aim1 × Derives T f aim2) → cost (rule_of q) s ≡ cost q.0 t + cost q.1 t + k) → ((q : Derives T e aim1 × Derives T f aim2) → first_rule (rule_of q) ≡ r) → (x y : Option ℕ) → Has T e aim1 t x → Has T f aim2 t y → By T g aim s r (plus (sum x y) k)
 of_two T e f g aim1 aim2 aim s t k r rule_of c fr x y h i = makes_map _ _ _ _ _ _ _ rule_of c (λ q j. fr q) (makes_plus _ _ _ (sum x y) k (makes_sum _ _ _ _ _ _ x y h i))
 
--- the rules with both operands computed
+-- the rules that evaluate both operands
 worked_made : (T : Table) (op : Op) (a b : Exp) (s : ℕ) → AllBy T (Bin op a b) (Gets Any) s (worked op (node_of T a (s + 1)) (node_of T b (s + 1)) s)
 worked_made T op a b s =
     let e = Bin op a b in

@@ -1,4 +1,4 @@
--- The first rule of a derivation is known by its number and the aim.
+-- The first rule of a derivation is determined by its number and the aim.
 use Rattle.std.proofs.Common.{◌≡◌, ℕ, ◌==◌, cond, refl, ap, sym, ◌∙◌}
 use Rattle.bc_core.specs.Tree.{Exp}
 use Rattle.bc_rules_defs.specs.declared.rule.Table.{Table}

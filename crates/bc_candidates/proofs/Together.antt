@@ -1,4 +1,5 @@
--- The rules that apply, from the lists of a node, are those that can begin a derivation, with their least words.
+-- The rules that apply, from the lists of a node, are exactly those with which a derivation can begin, with their least words.
+-- It is stated for any things that begin with rules and have words, so no rule is named.
 use Rattle.std.proofs.Common.{◌≡◌, ℕ, ◌+◌, ◌==◌, ◌≤◌, List, [], ◌∷◌, Bool, true, false, ◌&&◌, ◌⊎◌, Option, Some, None, map, cond, refl, ap, sym, subst, ◌∙◌, inl, inr, arith}
 use Rattle.std.specs.Prelude.{nat_le, min}
 use Rattle.std.specs.List.{AllZip, AllByRecursion}
@@ -31,7 +32,7 @@ use Rattle.bc_candidates.proofs.Rules.{same_rule}
 abbrev Least : (X : Type 0) (c : X → ℕ) (rule : X → Rule) → Beginning → Type 0
 Least X c rule b = ((d : X) × (rule d ≡ b.rule) × (c d ≡ b.words)) × ((d : X) → rule d ≡ b.rule → b.words ≤ c d)
 
--- candidates whose numbers rise
+-- candidates whose numbers increase
 abbrev rising : ℕ → List Candidate → Bool
 rising m [] = true
 rising m (c ∷ cs) = nat_le m (rule_number c.rule) && rising (rule_number c.rule + 1) cs
@@ -54,7 +55,7 @@ each_from X c rule m (k ∷ ks) r all low =
     let rest = each_from X c rule (rule_number k.rule + 1) ks parts.1 all.1 (λ d h. later k ks (rule_number (rule d)) (c d) h (low d (omega arith))) in
     head X c rule k.rule k.words (beginnings ks) all.0 (λ d e. let q : rule_number k.rule ≡ rule_number (rule d) = ap rule_number (sym e) in here k ks (rule_number (rule d)) (c d) q (low d (omega arith))) rest
 
--- what begins with a rule is among them
+-- the rule of every thing is in the list; `Same` says that rules with the same number are the same
 abbrev Same : (X : Type 0) (rule : X → Rule) → Type 0
 Same X rule = (d b : X) → rule_number (rule d) ≡ rule_number (rule b) → rule d ≡ rule b
 
@@ -75,7 +76,7 @@ among X c rule (k ∷ ks) j d same all h =
       | false ↦ (λ e g. further (rule d) k.rule k.words (beginnings ks) (among X c rule ks j d same all.1 g))
     ] refl h
 
--- the numbers of those that apply rise too
+-- the numbers of the candidates that apply increase too
 lowered : (m n : ℕ) (bs : List Beginning) → m ≤ n → rises_from n bs ≡ true → rises_from m bs ≡ true
 lowered m n [] h r = refl
 lowered m n (b ∷ bs) h r =
@@ -128,7 +129,7 @@ least : (e : Exp) (aim : Aim) (s : ℕ) (bs : List Beginning) → AllByRecursion
 least e aim s [] a every = every
 least e aim s (b ∷ bs) a every = (found _ _ _ b bs a, λ d. under _ _ _ (b ∷ bs) a d (every d))
 
--- the lists of a node rise
+-- the numbers in the lists of a node increase
 all_rise : (e : Exp) (aim : Aim) (s : ℕ) → rising 0 (list_for aim (lists Two e s)) ≡ true
 all_rise (Num n) (Gets Any) s = refl
 all_rise (Num n) (Gets Push) s = refl
@@ -196,11 +197,11 @@ pub all_are : (nodes : List (Exp × ℕ)) → AllZip AreCandidatesOf nodes (map 
 all_are [] = tt
 all_are (node ∷ nodes) = (candidates_are node, all_are nodes)
 
--- what was put after nothing
+-- what was appended to the empty list
 pub all_found : (new : List ForAims) (nodes : List (Exp × ℕ)) → Adds [] new nodes → AllZip AreCandidatesOf nodes new
 all_found new nodes h = let P : List ForAims → Type 0 = λ x. AllZip AreCandidatesOf nodes x in subst P (sym h.is) (all_are nodes)
 
--- least words are one number
+-- the least words are unique
 one_least : (e : Exp) (aim : Aim) (s : ℕ) (x y : Option ℕ) → AreLeastWords Two e aim s x → AreLeastWords Two e aim s y → x ≡ y
 one_least e aim s None None h i = refl
 one_least e aim s None (Some n) h i = absurd (h i.0.0)

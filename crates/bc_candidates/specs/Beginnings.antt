@@ -1,4 +1,4 @@
--- Which rules can begin a derivation, and with how many words at the least, by the relation of the rule table alone.
+-- With which rules a derivation can begin, and the least words of such derivations, defined only by the relation of the rule table.
 use Rattle.std.specs.Prelude.{◌≡◌, ℕ, ◌+◌, ◌≤◌, ◌⊎◌, List, [], ◌∷◌, Bool, true, ◌&&◌, nat_le, Option, Some, None, IsTrue, min}
 use Rattle.std.specs.List.{AllByRecursion}
 use Rattle.bc_core.specs.Tree.{Exp}
@@ -11,16 +11,16 @@ use Rattle.bc_select_defs.specs.Least.{first_rule, AreLeastWords}
 use Rattle.bc_rules_defs.specs.Names.{rule_number}
 use Rattle.bc_candidates.specs.declared.candidate.Beginning.{Beginning}
 
--- some derivation that begins with the rule has so many words, and none that begins with it has fewer
+-- Some derivation that begins with the rule r has n words, and none that begins with it has fewer.
 abbrev pub AreLeastBy : Exp → Aim → ℕ → Rule → ℕ → Type 0
 AreLeastBy e aim s r n = ((d : Derives Two e aim) × (first_rule d ≡ r) × (cost d s ≡ n)) × ((d : Derives Two e aim) → first_rule d ≡ r → n ≤ cost d s)
 
--- the rule is one of these
+-- the rule is in the list
 abbrev pub IsAmong : Rule → List Beginning → Type 0
 IsAmong r [] = ⊥
 IsAmong r (b ∷ bs) = (b.rule ≡ r) ⊎ IsAmong r bs
 
--- the numbers of the rules rise, from this one on
+-- the numbers of the rules increase, and are at least m
 abbrev pub rises_from : ℕ → List Beginning → Bool
 rises_from m [] = true
 rises_from m (b ∷ bs) = nat_le m (rule_number b.rule) && rises_from (rule_number b.rule + 1) bs
@@ -29,13 +29,13 @@ abbrev pub or_fewer : ℕ → Option ℕ → ℕ
 or_fewer n None = n
 or_fewer n (Some k) = min n k
 
--- the least words among them
+-- the least words in the list
 abbrev pub least_words : List Beginning → Option ℕ
 least_words [] = None
 least_words (b ∷ bs) = Some (or_fewer b.words (least_words bs))
 
--- These are the rules that can begin a derivation, in the order of their numbers and each once, with the least words of the derivations
--- that begin with them; and the least of these words are those of all derivations.
+-- The list has exactly the rules with which a derivation for the aim can begin, each once and in the order of their numbers, with the
+-- least words of the derivations that begin with them. The least of these words are the least of all derivations.
 pub record AreBeginnings (e : Exp) (aim : Aim) (s : ℕ) (bs : List Beginning) : Type 0 where
   pub each : AllByRecursion (λ b. AreLeastBy e aim s b.rule b.words) bs
   pub every : (d : Derives Two e aim) → IsAmong (first_rule d) bs

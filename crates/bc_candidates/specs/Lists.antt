@@ -1,4 +1,4 @@
--- For proofs: the rules that a node may have for each aim, with their words where they apply, from the choices of its parts.
+-- For proofs: the candidate rules of a node for each aim, from the choices of its parts. A candidate without words doesn't apply.
 use Rattle.std.specs.Prelude.{ℕ, ◌+◌, Bool, true, false, List, [], ◌∷◌, ◌++◌, Option, Some, None}
 use Rattle.bc_core.specs.declared.operands.Operand.{Operand}
 use Rattle.bc_core.specs.Tree.{Exp, Num, Frame, Glob, Place, Load, Neg, Not, Bin, Cond, Call, Valof, count}
@@ -20,50 +20,60 @@ use Rattle.bc_word.specs.declared.operator.Op.{Op}
 use Rattle.bc_candidates.specs.declared.candidate.Beginning.{Beginning}
 use Rattle.bc_candidates.specs.Aims.{ForAims}
 
+-- the candidates of a node for each aim
 pub record Lists : Type 0 where
   pub any : List Candidate
   pub push : List Candidate
   pub on_false : List Candidate
   pub on_true : List Candidate
 
+-- the candidates for an aim
 abbrev pub list_for : Aim → Lists → List Candidate
 list_for (Gets Any) f = f.any
 list_for (Gets Push) f = f.push
 list_for (Jumps false) f = f.on_false
 list_for (Jumps true) f = f.on_true
 
--- those of values: an operand is pushed by V1, and a pushed value is a value by V0
+-- the candidates of values: V1 loads an operand in mode Push, V0 makes a value in mode Push one in mode Any
 abbrev pub pushes : Option Operand → List Candidate → List Candidate
 pushes o own = candidate V1 (operand_cost o) ∷ own
 
+-- the candidates in mode Any, given those in mode Push
 abbrev pub values : (pushed own : List Candidate) → List Candidate
 values pushed own = candidate V0 (words_of (least_from None pushed)) ∷ own
 
+-- the least words among candidates
 abbrev pub least_words_of : List Candidate → Option ℕ
 least_words_of cs = words_of (least_from None cs)
 
+-- the lists of a node, given the candidates of its own rules
 abbrev pub line : Option Operand → (own_pushes own_values : List Candidate) → (tests : Option ℕ → Bool → List Candidate) → Lists
 line o own_pushes own_values tests =
     let push = pushes o own_pushes in
     let any = values push own_values in
     record { any = any; push = push; on_false = tests (least_words_of any) false; on_true = tests (least_words_of any) true }
 
+-- the lists of a form with one part, given the form's rule
 abbrev pub unary : Rule → Option Operand → Choices → (Option ℕ → Bool → List Candidate) → Lists
 unary r o c tests = line o (candidate r (plus (words_of c.push) 1) ∷ []) (candidate r (plus (words_of c.any) 1) ∷ []) tests
 
+-- the lists of a binary operator
 abbrev pub pair : Table → Op → Option Operand → Asked → Asked → ℕ → Lists
 pair T op o a b s =
     line o (mixed op a b (words_of a.choices.push) (words_of b.choices.push))
     (mixed op a b (words_of a.choices.any) (words_of b.choices.any) ++ worked op a b s) (pair_tests T op a b)
 
+-- the lists of a condition with two values
 abbrev pub conditional : (c x y : Choices) → Lists
 conditional c x y =
     line None [] (candidate V20 (plus (sum (sum (words_of c.on_false) (words_of x.any)) (words_of y.any)) 2)
     ∷ candidate V21 (plus (sum (sum (words_of c.on_true) (words_of y.any)) (words_of x.any)) 2) ∷ []) by_value
 
+-- the lists of a call, given the words of its arguments
 abbrev pub called : Option ℕ → Choices → ℕ → Lists
 called arguments routine s = line None [] (candidate V22 (plus (sum arguments (words_of routine.any)) (w s)) ∷ []) by_value
 
+-- the lists of an expression at level s
 abbrev pub lists : Table → Exp → ℕ → Lists
 lists T (Num n) s = line (operand_of (Num n)) [] [] (number_tests n)
 lists T (Frame k) s = line (operand_of (Frame k)) [] [] by_value
@@ -81,15 +91,17 @@ lists T (Valof n) s = line None [] (candidate V22 (Some 0) ∷ []) by_value
 abbrev pub choices_of : Lists → Choices
 choices_of f = record { any = least_from None f.any; push = least_from None f.push; on_false = least_from None f.on_false; on_true = least_from None f.on_true }
 
--- those that apply
+-- the candidates that apply
 abbrev pub applying : Rule → Option ℕ → List Beginning → List Beginning
 applying r None bs = bs
 applying r (Some n) bs = record { rule = r; words = n } ∷ bs
 
+-- the rules of the candidates that apply, with their words
 abbrev pub beginnings : List Candidate → List Beginning
 beginnings [] = []
 beginnings (c ∷ cs) = applying c.rule c.words (beginnings cs)
 
+-- the candidates of all lists that apply
 abbrev pub applying_lists : Lists → ForAims
 applying_lists f = record { any = beginnings f.any; push = beginnings f.push; on_false = beginnings f.on_false; on_true = beginnings f.on_true }
 

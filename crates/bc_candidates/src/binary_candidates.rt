@@ -1,4 +1,4 @@
-// The rules that a binary operator may have, with their words, from the choices of its operands.
+//! The candidate rules of a binary operator with their words, from the choices of its operands.
 #![tactic(auto, unfolding(bc_select_defs::specs::Options::given))]
 
 ghost use Rattle.std.specs.Prelude.{◌≡◌, IfOk, true, false};
@@ -12,7 +12,7 @@ use bc_select::{Pair, alone, any_words, free, given, number_cost, only};
 use bc_select_defs::{Candidate, is_zero_number};
 use bc_word::{Memory, Op, mirror};
 
-/// Of the words of two operands those of the one beside a 0; the second 0 is taken first.
+/// The words of the operand beside a 0, where x and y are the words of the two operands. Of two zeros the right one is dropped.
 fn beside(pair: &Pair, x: Option<u64>, y: Option<u64>) -> Option<u64>
     ensures { result ≡ beside_of pair.now.left pair.now.right x y }
 {
@@ -25,7 +25,7 @@ fn beside(pair: &Pair, x: Option<u64>, y: Option<u64>) -> Option<u64>
     }
 }
 
-/// The words of a sum or a difference without its 0.
+/// The words of a sum or difference whose 0 is dropped (rule V8).
 fn without(pair: &Pair, x: Option<u64>, y: Option<u64>) -> Option<u64>
     ensures { result ≡ without_of pair.now.op pair.now.left pair.now.right x y }
 {
@@ -44,7 +44,7 @@ fn without(pair: &Pair, x: Option<u64>, y: Option<u64>) -> Option<u64>
     }
 }
 
-/// The rules by which one operand stays in the instruction, where the operands have these words.
+/// The rules that need the value of only one operand, V6 to V11. x and y are the words of the operands in the current mode.
 pub fn mixed(pair: &Pair, x: Option<u64>, y: Option<u64>) -> Result<[Candidate; 6], Memory>
     ensures { IfOk result (λ cs. cs ≡ mixed_of pair.now.op pair.now.left pair.now.right x y) }
 {
@@ -67,7 +67,7 @@ pub fn mixed(pair: &Pair, x: Option<u64>, y: Option<u64>) -> Result<[Candidate; 
     ])
 }
 
-/// The rules by which both operands are computed.
+/// The rules that evaluate both operands, V12 to V19.
 pub fn worked(pair: &Pair) -> Result<[Candidate; 8], Memory>
     ensures { IfOk result (λ cs. cs ≡ worked_of pair.now.op pair.now.left pair.now.right pair.now.level) }
 {
@@ -99,7 +99,7 @@ pub fn worked(pair: &Pair) -> Result<[Candidate; 8], Memory>
     ])
 }
 
-/// The words of a jump on whether an operand is 0, where the other one is.
+/// The words of a jump by J8 or J9: one operand is the number 0, and the other one is tested.
 fn zero_test(pair: &Pair) -> Result<Option<u64>, Memory>
     ensures { IfOk result (λ x. x ≡ plus_of (beside_of pair.now.left pair.now.right (words_of pair.now.left.choices.any)
         (words_of pair.now.right.choices.any)) 2) }
@@ -109,7 +109,7 @@ fn zero_test(pair: &Pair) -> Result<Option<u64>, Memory>
     plus(beside(pair, x, y), 2)
 }
 
-/// The rules of a jump on false, where the value takes so many words.
+/// The rules of a jump on false; `any` has the words of the value in mode Any.
 pub fn tests_on_false(pair: &Pair, any: Option<u64>) -> Result<[Candidate; 5], Memory>
     ensures { IfOk result (λ cs. cs ≡ tests_of Two pair.now.op pair.now.left pair.now.right any false) }
 {
@@ -129,7 +129,7 @@ pub fn tests_on_false(pair: &Pair, any: Option<u64>) -> Result<[Candidate; 5], M
     ])
 }
 
-/// The rules of a jump on true, where the value takes so many words.
+/// The rules of a jump on true; `any` has the words of the value in mode Any.
 pub fn tests_on_true(pair: &Pair, any: Option<u64>) -> Result<[Candidate; 5], Memory>
     ensures { IfOk result (λ cs. cs ≡ tests_of Two pair.now.op pair.now.left pair.now.right any true) }
 {

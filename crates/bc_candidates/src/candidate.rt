@@ -1,24 +1,27 @@
+//! The candidates of a node, as `candidates` returns them.
+
 ghost use Rattle.std.specs.Prelude.{◌≡◌};
 ghost use Rattle.bc_candidates.specs.Aims.{for_aim as list_for_aim};
 
 use bc_rules_defs::{Aim, Mode, Rule};
 use std::marker::Model;
 
-/// A rule that can begin a derivation of a node, and the least words of the derivations that begin with it.
+/// A rule with which a derivation of a node can begin, and the least words of the derivations that begin with it.
 #[derive(Clone, Copy, Debug, PartialEq, Eq)]
 pub struct Beginning {
+    /// The rule.
     pub rule: Rule,
+    /// The least words.
     pub words: u64,
 }
 
-/// The rules that can begin a derivation of a node, for each aim, in the order of their numbers.
-///
-/// Contracts see them as the four lists.
+/// The rules with which a derivation of a node can begin, for each aim, in the order of their numbers. The view in contracts is a record
+/// of four lists.
 #[derive(Debug, Drop)]
 pub struct Candidates {
-    /// As a value.
+    /// As a value in mode Any.
     pub any: Vec<Beginning>,
-    /// As a value that is pushed.
+    /// As a value in mode Push.
     pub push: Vec<Beginning>,
     /// As a jump on false.
     pub on_false: Vec<Beginning>,
@@ -35,7 +38,7 @@ impl Model for Candidates {
 }
 
 impl Candidates {
-    /// Those for an aim.
+    /// The rules for this aim.
     pub fn for_aim(&self, aim: Aim) -> &[Beginning]
         ensures { result.now ≡ list_for_aim aim self.now }
     {

@@ -1,8 +1,8 @@
-//! Laws of candidates. Each is the contract of a function that does nothing.
+//! The law of candidates. It is the contract of a function with an empty body.
 
 ghost use Rattle.bc_candidates.specs.Laws.{LeastAreTheRows};
 
-/// The least words among a node's candidates are those of its row, for each aim.
+/// For each aim, the least words among a node's candidates are those of its row in `bc_select`.
 pub fn least_are_the_rows()
     ensures { LeastAreTheRows }
 {}

@@ -1,4 +1,6 @@
-//! For each node of a root all rules that can begin a derivation of it, each with the least words of those that begin with it.
+//! For each node of a root, all rules with which a derivation of it can begin, each with the least words of such derivations.
+//!
+//! The command `explain` uses this to show why no code is shorter.
 #![tactic(auto)]
 
 mod binary_candidates;

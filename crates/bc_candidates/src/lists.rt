@@ -1,4 +1,4 @@
-// The rules that a node may have for each aim, with their words where they apply.
+//! The candidate rules of a node for each aim. A candidate without words is a rule that doesn't apply.
 #![tactic(auto, unfolding(bc_select_defs::specs::Options::least_from))]
 
 ghost use Rattle.std.specs.Prelude.{◌≡◌, ◌∷◌, [], ◌++◌, None, true, false, cond, IfOk, OnOk};
@@ -19,7 +19,7 @@ use bc_word::{Memory, Word};
 use std::alloc::Global;
 use std::marker::Model;
 
-/// The better one of a choice and the best of these candidates; of equal ones the first.
+/// The best of a choice and these candidates; the first one if several have as few words.
 fn least_from(best: Option<Choice>, candidates: &[Candidate]) -> Option<Choice>
     ensures { result ≡ least_of best candidates.now }
 {
@@ -29,7 +29,7 @@ fn least_from(best: Option<Choice>, candidates: &[Candidate]) -> Option<Choice>
     least_from(better(best, first.rule, first.words), others)
 }
 
-/// Puts those that apply after the others.
+/// Appends the candidates that apply.
 fn add_applying(found: &mut Vec<Beginning>, candidates: &[Candidate]) -> Result<(), Memory>
     ensures { OnOk result (found.new.items ≡ found.old.items ++ beginnings candidates.now) }
 {
@@ -46,7 +46,7 @@ fn add_applying(found: &mut Vec<Beginning>, candidates: &[Candidate]) -> Result<
     }
 }
 
-/// Those that apply.
+/// The candidates that apply.
 fn applying(alloc: Global, candidates: &[Candidate]) -> Result<Vec<Beginning>, Memory>
     ensures { IfOk result (λ found. found.items ≡ beginnings candidates.now) }
 {
@@ -55,7 +55,7 @@ fn applying(alloc: Global, candidates: &[Candidate]) -> Result<Vec<Beginning>, M
     Ok(found)
 }
 
-/// The rules of a node as a value.
+/// The candidate rules of a node as a value, in both modes.
 #[derive(Drop)]
 pub struct Values {
     any: Vec<Candidate>,
@@ -63,7 +63,7 @@ pub struct Values {
 }
 
 impl Values {
-    /// Those of a node that is this operand and has these rules of its own.
+    /// The rules of a node that is this operand and has these rules of its own. Adds V1 and V0.
     pub fn new(
         alloc: Global,
         operand: Option<Operand>,
@@ -82,14 +82,14 @@ impl Values {
         Ok(Values { any, push })
     }
 
-    /// The least words of the value.
+    /// The least words of the value in mode Any.
     pub fn least(&self) -> Option<u64>
         ensures { result ≡ least_words_of self.now.any.items }
     {
         any_words(least_from(None, self.any.as_slice()))
     }
 
-    /// The lists of a node with these rules of jumps.
+    /// The lists of a node with these rules for tests.
     fn with_tests(
         self,
         alloc: Global,
@@ -107,7 +107,7 @@ impl Values {
         })
     }
 
-    /// Those of a node whose tests are made of its value.
+    /// The lists of a node whose only tests are by J6.
     pub fn tested_by_value(self, alloc: Global) -> Result<Lists, Memory>
         ensures { IfOk result (λ l. l ≡ record {
           any = self.any.items;
@@ -120,7 +120,7 @@ impl Values {
         self.with_tests(alloc, &tests, &tests)
     }
 
-    /// Those of a number.
+    /// The lists of a number.
     pub fn tested_as_number(self, alloc: Global, number: Word) -> Result<Lists, Memory>
         ensures { IfOk result (λ l. l ≡ record {
           any = self.any.items;
@@ -141,7 +141,7 @@ impl Values {
         self.with_tests(alloc, &on_false, &on_true)
     }
 
-    /// Those of NOT, whose part has these choices.
+    /// The lists of NOT, whose part has these choices.
     pub fn tested_as_not(self, alloc: Global, part: &Choices) -> Result<Lists, Memory>
         ensures { IfOk result (λ l. l ≡ record {
           any = self.any.items;
@@ -155,7 +155,7 @@ impl Values {
         self.with_tests(alloc, &on_false, &on_true)
     }
 
-    /// Those of a binary operator.
+    /// The lists of a binary operator.
     pub fn tested_as_pair(self, alloc: Global, pair: &Pair) -> Result<Lists, Memory>
         ensures { IfOk result (λ l. l ≡ record {
           any = self.any.items;
@@ -171,16 +171,14 @@ impl Values {
     }
 }
 
-/// The words of a jump of this sense on a number.
+/// The words of a test of this number by J7, to jump on `sense`.
 fn number_jump(sense: bool, number: Word) -> u64
     ensures { result ≡ cond (jumps_of sense number) 2 0 }
 {
     if jumps(sense, number) { 2 } else { 0 }
 }
 
-/// The rules that a node may have, for each aim.
-///
-/// Contracts see them as the four lists.
+/// The candidate rules of a node for each aim. The view in contracts is a record of four lists.
 #[derive(Drop)]
 pub struct Lists {
     any: Vec<Candidate>,
@@ -198,7 +196,7 @@ impl Model for Lists {
 }
 
 impl Lists {
-    /// The node's choices.
+    /// The node's choices: the best candidate for each aim.
     pub fn choices(&self) -> Choices
         ensures { result ≡ choices_of self.now }
     {
@@ -210,7 +208,7 @@ impl Lists {
         }
     }
 
-    /// Those that apply.
+    /// The candidates that apply.
     pub fn applying(&self, alloc: Global) -> Result<Candidates, Memory>
         ensures { IfOk result (λ c. c ≡ applying_lists self.now) }
     {

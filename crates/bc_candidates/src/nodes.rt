@@ -1,4 +1,7 @@
-// The candidates of the nodes of an expression, parts before wholes.
+//! Walks an expression and collects the candidates of its nodes, parts before wholes.
+//!
+//! The walk passes up `NodeParts`, which has no operand: the prover failed where such a struct of another crate was moved through a cycle
+//! of calls. Operands are computed again where they are needed.
 
 ghost use Rattle.std.specs.Prelude.{◌≡◌, ◌+◌, ◌∷◌, [], ◌++◌, None, IfOk, OnOk};
 ghost use Rattle.bc_core.specs.Tree as tree;
@@ -26,39 +29,39 @@ use bc_select_defs::{Asked, Choices};
 use bc_word::{Memory, Op};
 use std::alloc::Global;
 
-/// What an expression is besides its parts: the operand that it is, and its level.
+/// The operand that an expression is, if any, and its level.
 #[derive(Clone, Copy)]
 struct Whole {
     operand: Option<Operand>,
     level: u64,
 }
 
-/// What the parts of an expression make of it.
+/// The result for an expression, after its parts were walked.
 #[derive(Drop)]
 pub struct Below {
     lists: Lists,
-    /// Whether a call or a VALOF stands in it.
+    /// Whether it contains a call or a VALOF.
     calls: bool,
-    /// How many nodes it has.
+    /// The number of its nodes.
     nodes: usize,
 }
 
-/// What other expressions ask of one: its choices, whether a call or a VALOF stands in it, and how many nodes it has.
+/// The facts about an expression that the enclosing one needs: its choices, whether it has a call or a VALOF, the number of its nodes.
 #[derive(Clone, Copy)]
-pub struct Part {
+pub struct NodeParts {
     choices: Choices,
     calls: bool,
     nodes: usize,
 }
 
-/// Arguments of a call: the words of them all, each stored in its cell, and how many nodes they have.
+/// The totals of a call's arguments: the words to evaluate and store each, and the number of their nodes.
 #[derive(Clone, Copy)]
 pub struct Arguments {
     words: Option<u64>,
     nodes: usize,
 }
 
-/// How many nodes both have.
+/// The sum of two numbers of nodes; `Memory` if it overflows.
 fn count(x: usize, y: usize) -> Result<usize, Memory>
     ensures { IfOk result (λ n. n ≡ x + y) }
 {
@@ -68,7 +71,7 @@ fn count(x: usize, y: usize) -> Result<usize, Memory>
     }
 }
 
-/// What an expression without parts has.
+/// The result for an expression without parts.
 fn leaf(lists: Lists, calls: bool) -> Below
     ensures lists { result.lists ≡ lists }
     ensures calls { result.calls ≡ calls }
@@ -81,8 +84,8 @@ fn leaf(lists: Lists, calls: bool) -> Below
     }
 }
 
-/// An operand of a binary operator.
-fn operand_node(e: &CoreExp, part: &Part) -> Asked
+/// The facts about an operand of a binary operator that the rules need.
+fn operand_node(e: &CoreExp, part: &NodeParts) -> Asked
     ensures { result ≡ record {
       choices = part.now.choices;
       operand = operand_of (exp e.now);
@@ -100,7 +103,7 @@ fn operand_node(e: &CoreExp, part: &Part) -> Asked
     }
 }
 
-/// The rules as a value of an expression with one part, which this rule is for.
+/// The rules for the value of a form with one part, given the form's rule.
 fn unary_values(
     alloc: Global,
     rule: Rule,
@@ -116,7 +119,7 @@ fn unary_values(
     Values::new(alloc, operand, &push, &any)
 }
 
-/// The lists of a binary operator, which is this operand.
+/// The lists of a binary operator. `operand` is the operand that the whole expression is, if any.
 fn pair_lists(alloc: Global, pair: &Pair, operand: Option<Operand>) -> Result<Lists, Memory>
     ensures { IfOk result (λ l. l ≡ lists_of_pair Two pair.now.op operand pair.now.left pair.now.right pair.now.level) }
 {
@@ -150,7 +153,7 @@ fn conditional_lists(
     Values::new(alloc, None, &[], &own)?.tested_by_value(alloc)
 }
 
-/// The lists of a call, or of a VALOF, which takes so many words.
+/// The lists of a call or a VALOF that takes so many words.
 fn called_lists(alloc: Global, words: Option<u64>) -> Result<Lists, Memory>
     ensures { IfOk result (λ l. l ≡ line None [] (candidate_of V22 words ∷ []) by_value) }
 {
@@ -158,15 +161,17 @@ fn called_lists(alloc: Global, words: Option<u64>) -> Result<Lists, Memory>
     Values::new(alloc, None, &[], &own)?.tested_by_value(alloc)
 }
 
-/// The candidates that were found so far.
+/// The candidates found up to now.
 #[derive(Drop)]
 pub struct Gathered {
+    /// The allocator.
     pub alloc: Global,
+    /// The candidates of the nodes, parts before wholes.
     pub found: Vec<Candidates>,
 }
 
 impl Gathered {
-    /// Puts those of lists that apply after the others, as the candidates of one node.
+    /// Appends the applicable rules of these lists, as the candidates of one node.
     fn close(&mut self, lists: &Lists) -> Result<(), Memory>
         ensures { OnOk result (self.new.found.items ≡ self.old.found.items ++ (applying_lists lists.now ∷ [])) }
     {
@@ -175,7 +180,8 @@ impl Gathered {
         Ok(())
     }
 
-    /// The candidates of an expression's nodes at this level, after the others.
+    /// Appends the candidates of the nodes of an expression at this level. Returns `Memory` if an allocation failed or a sum overflows.
+    /// Recurses over the expression.
     #[tactic(auto, using(crate::proofs::Below::whole_added))]
     pub fn gather(&mut self, e: &CoreExp, level: u64) -> Result<(), Memory>
         ensures { OnOk result (Adds self.old.found.items self.new.found.items (in_order (exp e.now) level)) }
@@ -185,22 +191,22 @@ impl Gathered {
         Ok(())
     }
 
-    /// What is asked of an expression at this level, with the candidates of its nodes after the others.
+    /// Appends the candidates of an expression's nodes, and returns what the enclosing expression needs.
     #[cycle(gathering)]
-    fn part(&mut self, e: &CoreExp, level: u64) -> Result<Part, Memory>
+    fn part(&mut self, e: &CoreExp, level: u64) -> Result<NodeParts, Memory>
         ensures part { IfOk result (λ p. IsPart p (exp e.now) level) }
         ensures found { OnOk result (Adds self.old.found.items self.new.found.items (in_order (exp e.now) level)) }
     {
         let below = self.below(e, level)?;
         self.close(&below.lists)?;
-        Ok(Part {
+        Ok(NodeParts {
             choices: below.lists.choices(),
             calls: below.calls,
             nodes: below.nodes,
         })
     }
 
-    /// What the parts of an expression make of it, with the candidates of the parts' nodes after the others.
+    /// Appends the candidates of the nodes of an expression's parts, and returns the lists of the expression itself.
     #[cycle(gathering)]
     #[tactic(auto, using(bc_core::proofs::Rows::call_view))]
     fn below(&mut self, e: &CoreExp, level: u64) -> Result<Below, Memory>
@@ -231,7 +237,7 @@ impl Gathered {
         }
     }
 
-    /// That of a form with one part whose tests are made of its value.
+    /// `below` for a form with one part whose only tests are by J6.
     #[cycle(gathering)]
     fn unary(&mut self, rule: Rule, part: &CoreExp, whole: Whole) -> Result<Below, Memory>
         ensures lists { IfOk result (λ b. b.lists ≡ unary_of rule whole.operand (choices Two (exp part.now) whole.level) by_value) }
@@ -248,7 +254,7 @@ impl Gathered {
         })
     }
 
-    /// That of NOT.
+    /// `below` for NOT.
     #[cycle(gathering)]
     fn not(&mut self, part: &CoreExp, whole: Whole) -> Result<Below, Memory>
         ensures lists { IfOk result (λ b. b.lists ≡ unary_of V4 whole.operand
@@ -266,7 +272,7 @@ impl Gathered {
         })
     }
 
-    /// That of a binary operator.
+    /// `below` for a binary operator.
     #[cycle(gathering)]
     fn pair(
         &mut self,
@@ -296,7 +302,7 @@ impl Gathered {
         })
     }
 
-    /// That of `condition -> this, that`.
+    /// `below` for `condition -> this, that`.
     #[cycle(gathering)]
     fn conditional(
         &mut self,
@@ -320,7 +326,7 @@ impl Gathered {
         })
     }
 
-    /// That of a call.
+    /// `below` for a call.
     #[cycle(gathering)]
     fn call(
         &mut self,
@@ -344,7 +350,7 @@ impl Gathered {
         })
     }
 
-    /// Arguments, the first of which stands at this level.
+    /// The arguments of a call; the first one is at this level.
     #[cycle(gathering)]
     fn arguments(&mut self, arguments: &[CoreExp], level: u64) -> Result<Arguments, Memory>
         ensures arguments { IfOk result (λ a. AreArguments a (args arguments.now) level) }

@@ -1,3 +1,5 @@
+//! The public call `candidates`.
+
 ghost use Rattle.std.specs.Prelude.{◌≡◌, ◌++◌, IfOk, OnOk};
 ghost use Rattle.std.specs.List.{AllZip};
 ghost use Rattle.bc_core.specs.View.{exp, root as root_of};
@@ -13,7 +15,7 @@ use bc_core::{CoreExp, Root, operand};
 use bc_word::Memory;
 use std::alloc::Global;
 
-/// The level of both sides of an assignment to an address.
+/// The level of both sides of an assignment: that of the assignment if the address is an operand, else one higher.
 fn side_level(address: &CoreExp, level: u64) -> Result<u64, Memory>
     ensures { IfOk result (λ side. side ≡ level_of_sides (exp address.now) level) }
 {
@@ -23,7 +25,7 @@ fn side_level(address: &CoreExp, level: u64) -> Result<u64, Memory>
     }
 }
 
-/// Puts those of both sides of an assignment after them.
+/// Appends the candidates of both sides of an assignment.
 #[tactic(auto, using(crate::proofs::Below::both_added))]
 fn gather_sides(
     gathered: &mut Gathered,
@@ -40,7 +42,7 @@ fn gather_sides(
     Ok(())
 }
 
-/// Puts those of a root's nodes after them.
+/// Appends the candidates of a root's nodes.
 fn gather_root(gathered: &mut Gathered, root: &Root) -> Result<(), Memory>
     ensures { OnOk result (Adds gathered.old.found.items gathered.new.found.items (root_in_order (root_of root.now))) }
 {
@@ -59,12 +61,11 @@ fn gather_root(gathered: &mut Gathered, root: &Root) -> Result<(), Memory>
     }
 }
 
-/// For each node of a root, parts before wholes, in the order of `bc_select::rows`, the rules that can begin a derivation of it for each
-/// aim, with the least words of the derivations that begin with them. The least of these words are those of the node's row. The rules
-/// are those of the second table.
+/// For each node of a root, in the order of `bc_select::rows`: the rules of table 2 with which a derivation of it can begin, for each aim,
+/// with the least words of the derivations that begin with them. The least of these words are those of the node's row.
 ///
-/// `Memory` comes where an allocation was refused, or a number of words would pass 64 bits, which that of no root does that has room in
-/// a memory.
+/// Returns `Memory` if an allocation failed, or if a number of words would not fit into 64 bits. The latter can't happen for a root that
+/// fits into memory.
 #[tactic(auto, using(crate::proofs::Together::all_found))]
 pub fn candidates(alloc: Global, root: &Root) -> Result<Vec<Candidates>, Memory>
     ensures { IfOk result (λ v. AllZip AreCandidatesOf (root_in_order (root_of root.now)) v.items) }

@@ -1,5 +1,7 @@
-// Words that may be missing, where no derivation is. `Memory` comes where a sum would pass 64 bits, which that of no root that fits a
-// memory does.
+//! Sums of words, which are None if a rule doesn't apply.
+//!
+//! They return `Memory` if a sum would not fit into 64 bits. This can't happen for a root that fits into memory, and spares every
+//! caller a bound.
 
 ghost use Rattle.std.specs.Prelude.{◌≡◌, ◌+◌, IfOk};
 ghost use Rattle.bc_select_defs.specs.Options.{plus as plus_of, more as more_of, sum as sum_of, candidate as candidate_of};
@@ -18,7 +20,7 @@ pub fn add(x: u64, y: u64) -> Result<u64, Memory>
     }
 }
 
-/// So many words more.
+/// k words more.
 #[tactic(auto, unfolding(bc_select_defs::specs::Options::plus))]
 pub fn plus(x: Option<u64>, k: u64) -> Result<Option<u64>, Memory>
     ensures { IfOk result (λ z. z ≡ plus_of x k) }
@@ -29,7 +31,7 @@ pub fn plus(x: Option<u64>, k: u64) -> Result<Option<u64>, Memory>
     }
 }
 
-/// The same, with the words that are more in front.
+/// k words more, with the sum in the other order, as a definition has it.
 #[tactic(auto, unfolding(bc_select_defs::specs::Options::more))]
 pub fn more(k: u64, x: Option<u64>) -> Result<Option<u64>, Memory>
     ensures { IfOk result (λ z. z ≡ more_of k x) }
@@ -40,7 +42,7 @@ pub fn more(k: u64, x: Option<u64>) -> Result<Option<u64>, Memory>
     }
 }
 
-/// The words of both.
+/// The sum of both words; None if either is None.
 #[tactic(auto, unfolding(bc_select_defs::specs::Options::sum))]
 pub fn sum(x: Option<u64>, y: Option<u64>) -> Result<Option<u64>, Memory>
     ensures { IfOk result (λ z. z ≡ sum_of x y) }
@@ -52,7 +54,7 @@ pub fn sum(x: Option<u64>, y: Option<u64>) -> Result<Option<u64>, Memory>
     }
 }
 
-/// The words of both, and so many more.
+/// The sum of both words and k; None if either is None.
 pub fn both(x: Option<u64>, y: Option<u64>, k: u64) -> Result<Option<u64>, Memory>
     ensures { IfOk result (λ z. z ≡ plus_of (sum_of x y) k) }
 {

@@ -1,16 +1,20 @@
+//! The answer of a case, as text.
+
 use crate::growth::Growth;
 use bc_show::ShownBytes;
 use std::alloc::Global;
 use std::fmt;
 
-/// An answer that is being written. Where a growth was refused, that is kept, and what is added from then on counts for nothing.
+/// A text that is appended to, and remembers a failed allocation. Once one has failed, its text is void.
 #[derive(Drop)]
 pub struct Answer {
     text: String,
+    /// The allocator, which remembers whether an allocation failed.
     pub growth: Growth,
 }
 
 impl Answer {
+    /// An empty answer.
     pub fn new(alloc: Global) -> Answer {
         Answer {
             text: String::new(alloc),
@@ -18,21 +22,22 @@ impl Answer {
         }
     }
 
+    /// The allocator, for lists that an answer needs.
     pub fn alloc(&self) -> Global {
         self.growth.alloc()
     }
 
-    /// A growth was refused to what is answered.
+    /// Records that an allocation failed.
     pub fn refuse(&mut self) {
         self.growth.refuse();
     }
 
-    /// What was added so far.
+    /// The text up to here.
     pub fn text(&self) -> &str {
         self.text.as_str()
     }
 
-    /// What was added. That a growth was refused is kept there too.
+    /// The text. A failed allocation is recorded in `growth` too.
     pub fn into_text(self, growth: &mut Growth) -> String {
         if self.growth.is_refused() {
             growth.refuse();
@@ -40,62 +45,64 @@ impl Answer {
         self.text
     }
 
-    /// Adds what is shown as text.
+    /// Appends a value as it is displayed.
     pub fn show<D: fmt::Display>(&mut self, shown: &D) {
         if write!(self.text, "{shown}").is_err() {
             self.refuse();
         }
     }
 
-    /// Adds what something is called.
+    /// Appends the name of a value, as its `Debug` has it.
     pub fn name<D: fmt::Debug>(&mut self, named: &D) {
         if write!(self.text, "{named:?}").is_err() {
             self.refuse();
         }
     }
 
+    /// Appends a text.
     pub fn say(&mut self, text: &str) {
         if self.text.push_str(text).is_err() {
             self.refuse();
         }
     }
 
+    /// Appends a number in decimal digits.
     pub fn number(&mut self, number: u64) {
         self.show(&number);
     }
 
-    /// Adds whether something is so, after this text.
+    /// Appends a text, and then `true` or `false`.
     pub fn truth(&mut self, text: &str, truth: bool) {
         self.say(text);
         self.say(if truth { "true" } else { "false" });
     }
 
-    /// Adds a number, after this text.
+    /// Appends a text, and then a number.
     pub fn numbered(&mut self, text: &str, number: u64) {
         self.say(text);
         self.number(number);
     }
 
-    /// Adds a signed number, after this text.
+    /// Appends a text, and then a signed number.
     pub fn signed(&mut self, text: &str, number: i16) {
         self.say(text);
         self.show(&number);
     }
 
-    /// Adds bytes as text.
+    /// Appends bytes as text; those that can't be shown are escaped.
     pub fn bytes(&mut self, bytes: &[u8]) {
         let bytes = ShownBytes(bytes);
         self.show(&bytes);
     }
 
-    /// Adds a sign, where something stands before it.
+    /// Appends a separator unless the text is empty.
     pub fn go_on(&mut self, between: &str) {
         if !self.text.is_empty() {
             self.say(between);
         }
     }
 
-    /// Adds the number with this index, where there is one.
+    /// Appends the number with this index, if there is one.
     fn nth(&mut self, numbers: &[u64], index: usize) {
         match numbers.get(index) {
             Some(number) => self.number(*number),
@@ -103,7 +110,7 @@ impl Answer {
         }
     }
 
-    /// Adds a sentence, in which each `{}` is the place of the next of these numbers.
+    /// Appends a sentence in which each `{}` is replaced by the next of these numbers.
     pub fn sentence(&mut self, sentence: &str, numbers: &[u64]) {
         let mut at: usize = 0;
         for text in sentence.split("{}") {

@@ -1,10 +1,12 @@
+//! The kinds of cases, and which function computes the answer of each.
+
 use crate::answer::Answer;
 use crate::escapes::expanded;
 use crate::rules::OfRoot;
 use crate::{arithmetic, linking, machines, rules, streams, sweeps, tokens};
 use std::str;
 
-/// A kind of cases that speaks of roots and their code, in whose inputs a text may be written once for many times.
+/// A kind of cases about roots and their code. Escapes and repetitions in its inputs are expanded first.
 #[derive(Clone, Copy)]
 enum OfRoots {
     Root(OfRoot),
@@ -13,6 +15,7 @@ enum OfRoots {
     AlteredCertificates,
 }
 
+/// The names of these kinds.
 const OF_ROOTS: [(&str, OfRoots); 5] = [
     ("derivation", OfRoots::Root(OfRoot::Derivation)),
     ("copy", OfRoots::Root(OfRoot::Copied)),
@@ -21,7 +24,7 @@ const OF_ROOTS: [(&str, OfRoots); 5] = [
     ("altered certificates", OfRoots::AlteredCertificates),
 ];
 
-/// Another kind of cases: one that speaks of the library, or of words, texts and machines.
+/// Any other kind of cases: about the library, words, texts and machines.
 #[derive(Clone, Copy)]
 enum Other {
     Library,
@@ -38,6 +41,7 @@ enum Other {
     AlteredTexts,
 }
 
+/// The names of these kinds.
 const OTHERS: [(&str, Other); 12] = [
     ("library", Other::Library),
     ("rendered", Other::Rendered),
@@ -53,7 +57,7 @@ const OTHERS: [(&str, Other); 12] = [
     ("altered texts", Other::AlteredTexts),
 ];
 
-/// What stands beside a name in a list.
+/// The value that a list has for a name.
 fn named<T: Copy>(list: &[(&str, T)], name: &str) -> Option<T> {
     for (known, found) in list {
         if *known == name {
@@ -63,6 +67,7 @@ fn named<T: Copy>(list: &[(&str, T)], name: &str) -> Option<T> {
     None
 }
 
+/// Appends the answer to an expanded input about roots.
 fn of_roots(answer: &mut Answer, kind: OfRoots, input: &str) {
     match kind {
         OfRoots::Root(what) => rules::add_told(answer, what, input),
@@ -72,6 +77,7 @@ fn of_roots(answer: &mut Answer, kind: OfRoots, input: &str) {
     }
 }
 
+/// Appends the answer to an input of another kind.
 fn of_others(answer: &mut Answer, kind: Other, input: &str) {
     match kind {
         Other::Library => tokens::add_library(answer, input),
@@ -89,7 +95,7 @@ fn of_others(answer: &mut Answer, kind: Other, input: &str) {
     }
 }
 
-/// What an input answers in which what stands once for many times is written out.
+/// Expands an input about roots, and appends the answer.
 fn of_expanded(answer: &mut Answer, kind: OfRoots, input: &str) {
     let bytes = expanded(&mut answer.growth, input);
     of_roots(
@@ -99,7 +105,7 @@ fn of_expanded(answer: &mut Answer, kind: OfRoots, input: &str) {
     );
 }
 
-/// Adds what an input of this kind answers, if the kind doesn't ask of roots.
+/// Appends the answer to an input of a kind that isn't about roots, or that there is no such kind.
 fn add_other(answer: &mut Answer, kind: &str, input: &str) {
     match named(&OTHERS, kind) {
         Some(kind) => of_others(answer, kind, input),
@@ -107,7 +113,7 @@ fn add_other(answer: &mut Answer, kind: &str, input: &str) {
     }
 }
 
-/// Adds what an input of this kind answers.
+/// Appends the answer to an input of this kind, or that there is no such kind.
 pub fn add_answer(answer: &mut Answer, kind: &str, input: &str) {
     match named(&OF_ROOTS, kind) {
         Some(kind) => of_expanded(answer, kind, input),

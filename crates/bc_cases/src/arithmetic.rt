@@ -1,10 +1,12 @@
+//! Cases about words, operators and symbols.
+
 use crate::answer::Answer;
 use crate::number::{next, short, word};
 use bc_lex_tokens::Symbol;
 use bc_show::sign;
 use bc_word::{Op, Rel, Word, apply, complement, mirror};
 
-/// The operator of a sign.
+/// The dyadic operator with this sign.
 pub fn operator(text: &str) -> Option<Op> {
     for number in 5..22u16 {
         if let Ok(op) = Op::try_from(Word::new(number)) {
@@ -16,7 +18,7 @@ pub fn operator(text: &str) -> Option<Op> {
     None
 }
 
-/// Adds the value of `B OPERATOR A`, signed.
+/// Appends the value of `B OPERATOR A` as a signed number.
 pub fn add_applied(answer: &mut Answer, input: &str) {
     let mut words = input.split_whitespace();
     let b = word(next(&mut words));
@@ -28,7 +30,7 @@ pub fn add_applied(answer: &mut Answer, input: &str) {
     }
 }
 
-/// Adds the value of an operation, signed.
+/// Appends a value as a signed number, or that there is none.
 fn add_value(answer: &mut Answer, value: Option<Word>) {
     match value {
         Some(value) => answer.show(&value.signed()),
@@ -36,7 +38,7 @@ fn add_value(answer: &mut Answer, value: Option<Word>) {
     }
 }
 
-/// Adds a word unsigned and signed, its negation and its complement.
+/// Appends a word as an unsigned and a signed number, its negative and its complement.
 pub fn add_word(answer: &mut Answer, input: &str) {
     let word = word(input.lines().next().unwrap_or(""));
     let unsigned = word.get();
@@ -47,7 +49,7 @@ pub fn add_word(answer: &mut Answer, input: &str) {
     answer.numbered(", as a number ", u64::from(u16::from(Word::from(unsigned))));
 }
 
-/// The relation that an operator is.
+/// The relation that an operator is. None for other operators.
 fn relation(op: Op) -> Option<Rel> {
     match op {
         Op::Equal => Some(Rel::Equal),
@@ -60,7 +62,7 @@ fn relation(op: Op) -> Option<Rel> {
     }
 }
 
-/// The sign of an operator, if there is one.
+/// The sign of an operator, or `none`.
 fn sign_of(op: Option<Op>) -> &'static str {
     match op {
         Some(op) => sign(op),
@@ -68,12 +70,12 @@ fn sign_of(op: Option<Op>) -> &'static str {
     }
 }
 
-/// The operator that holds where this one doesn't, if it is a relation.
+/// The relation that holds exactly if this one doesn't. None for other operators.
 fn opposite(op: Op) -> Option<Op> {
     Some(Op::from(complement(relation(op)?)))
 }
 
-/// Adds the operator with a number, its number, its mirror and its complement.
+/// Appends the operator with the number in an input, its number, its mirror and its complement.
 pub fn add_operator(answer: &mut Answer, input: &str) {
     let number = short(input.lines().next().unwrap_or(""));
     match Op::try_from(Word::new(number)) {
@@ -82,7 +84,7 @@ pub fn add_operator(answer: &mut Answer, input: &str) {
     }
 }
 
-/// Adds an operator, its number, its mirror and its complement.
+/// Appends an operator's sign, its number, its mirror and its complement.
 fn add_relatives(answer: &mut Answer, op: Op) {
     answer.say(sign(op));
     answer.numbered(" ", u64::from(Word::from(op).get()));
@@ -92,7 +94,7 @@ fn add_relatives(answer: &mut Answer, op: Op) {
     answer.say(sign_of(opposite(op)));
 }
 
-/// Adds the symbol that is spelled so, with its first spelling and its number, and whether it is the one of a second word.
+/// Appends the first spelling and the number of the symbol that the first field spells, and whether the second field spells it too.
 pub fn add_symbol(answer: &mut Answer, input: &str) {
     let mut words = input.split_whitespace();
     let symbol = Symbol::spelled(next(&mut words).as_bytes());
@@ -103,7 +105,7 @@ pub fn add_symbol(answer: &mut Answer, input: &str) {
     }
 }
 
-/// Whether a symbol is the other one.
+/// Whether both are the same symbol.
 fn is_other(symbol: Symbol, other: Option<Symbol>) -> bool {
     match other {
         Some(other) => symbol.is(other),
@@ -111,7 +113,7 @@ fn is_other(symbol: Symbol, other: Option<Symbol>) -> bool {
     }
 }
 
-/// Adds a symbol's spelling and number, and whether it is the other one.
+/// Appends a symbol's first spelling and number, and whether it is the other one.
 fn add_spelled(answer: &mut Answer, symbol: Symbol, other: Option<Symbol>) {
     answer.bytes(symbol.spelling());
     answer.numbered(" ", u64::from(symbol.number()));

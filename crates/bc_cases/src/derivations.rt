@@ -1,18 +1,18 @@
-//! Derivations, read as `bc_show` writes them.
+//! Reads derivations in the form in which `bc_show` writes them, such as `(V12 (V0 V1) V1)`.
 
 use crate::growth::Growth;
 use crate::number::short;
 use bc_rules_defs::{Derivation, Rule};
 use std::alloc::Global;
 
-/// A bracket that is open: its rule, and how many derivations were finished before it.
+/// An open parenthesis: its rule, and the number of derivations that were complete before it.
 #[derive(Clone, Copy)]
 struct Open {
     rule: Rule,
     first: usize,
 }
 
-/// The rule of a name, or V0.
+/// The rule with this name, or V0.
 fn rule_of(name: &str) -> Rule {
     for (letter, byte) in [('V', b'V'), ('J', b'J'), ('A', b'A')] {
         if let Some(text) = name.strip_prefix(letter) {
@@ -22,6 +22,7 @@ fn rule_of(name: &str) -> Rule {
     Rule::V0
 }
 
+/// A rule without parts.
 fn leaf(alloc: Global, rule: Rule) -> Derivation {
     Derivation {
         rule,
@@ -29,7 +30,7 @@ fn leaf(alloc: Global, rule: Rule) -> Derivation {
     }
 }
 
-/// Makes one derivation of those that were finished since a bracket was opened.
+/// Makes one derivation of those that were completed since a parenthesis was opened.
 fn join(growth: &mut Growth, done: &mut Vec<Derivation>, open: Open) {
     let parts = growth.following(done, open.first);
     growth.push(
@@ -41,14 +42,14 @@ fn join(growth: &mut Growth, done: &mut Vec<Derivation>, open: Open) {
     );
 }
 
-/// Closes the innermost bracket.
+/// Closes the innermost parenthesis.
 fn close(growth: &mut Growth, done: &mut Vec<Derivation>, open: &mut Vec<Open>) {
     if let Some(open) = open.pop() {
         join(growth, done, open);
     }
 }
 
-/// Opens a bracket, or adds a rule without parts.
+/// Opens a parenthesis, or appends a rule without parts.
 fn begin(growth: &mut Growth, done: &mut Vec<Derivation>, open: &mut Vec<Open>, body: &str) {
     let first = done.len();
     match body.strip_prefix('(') {
@@ -63,13 +64,13 @@ fn begin(growth: &mut Growth, done: &mut Vec<Derivation>, open: &mut Vec<Open>, 
     }
 }
 
-/// Adds a rule without parts.
+/// Appends a rule without parts.
 fn add_leaf(growth: &mut Growth, done: &mut Vec<Derivation>, rule: Rule) {
     let leaf = leaf(growth.alloc(), rule);
     growth.push(done, leaf);
 }
 
-/// A word, with the brackets that it opens and closes.
+/// Takes a word with the parentheses that it opens and closes.
 fn add_word(growth: &mut Growth, done: &mut Vec<Derivation>, open: &mut Vec<Open>, word: &str) {
     let body = word.trim_end_matches(')');
     begin(growth, done, open, body);
@@ -78,7 +79,7 @@ fn add_word(growth: &mut Growth, done: &mut Vec<Derivation>, open: &mut Vec<Open
     }
 }
 
-/// Adds the derivations of a text, with blanks between them.
+/// Appends the derivations of a text, which are separated by blanks.
 pub fn read_derivations(growth: &mut Growth, done: &mut Vec<Derivation>, text: &str) {
     let mut open = Vec::new(growth.alloc());
     for word in text.split_whitespace() {
@@ -86,7 +87,7 @@ pub fn read_derivations(growth: &mut Growth, done: &mut Vec<Derivation>, text: &
     }
 }
 
-/// Takes the last derivation, or V0 without parts where there is none.
+/// Removes and returns the last derivation, or V0 without parts if there is none.
 pub fn last_derivation(alloc: Global, done: &mut Vec<Derivation>) -> Derivation {
     match done.pop() {
         Some(derivation) => derivation,
@@ -94,7 +95,7 @@ pub fn last_derivation(alloc: Global, done: &mut Vec<Derivation>) -> Derivation 
     }
 }
 
-/// The last derivation of a text in a box.
+/// The last derivation of a text, boxed. None if an allocation fails.
 pub fn derivation_of(growth: &mut Growth, text: &str) -> Option<Box<Derivation>> {
     let mut done = Vec::new(growth.alloc());
     read_derivations(growth, &mut done, text);

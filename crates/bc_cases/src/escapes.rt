@@ -1,3 +1,5 @@
+//! Escapes and repetitions in inputs and answers.
+
 use crate::growth::Growth;
 
 /// The value of a hexadecimal digit.
@@ -10,13 +12,13 @@ fn digit(byte: u8) -> Option<u8> {
     }
 }
 
-/// The byte that two hexadecimal digits mean.
+/// The byte with these two hexadecimal digits.
 fn byte_of(high: u8, low: u8) -> Option<u8> {
     let high = digit(high)?;
     Some(high.wrapping_mul(16).wrapping_add(digit(low)?))
 }
 
-/// The byte that `xHH` means, and what is after it.
+/// The byte that `xHH` at the start of a text means, and the rest of the text.
 fn byte_at(part: &[u8]) -> Option<(u8, &[u8])> {
     match part {
         [b'x', high, low, rest @ ..] => Some((byte_of(*high, *low)?, rest)),
@@ -24,7 +26,7 @@ fn byte_at(part: &[u8]) -> Option<(u8, &[u8])> {
     }
 }
 
-/// A text that is repeated, and what is after it.
+/// A text that is repeated, and the rest after it.
 #[derive(Clone, Copy)]
 struct Repeated<'t> {
     times: u32,
@@ -32,7 +34,7 @@ struct Repeated<'t> {
     rest: &'t str,
 }
 
-/// What `N{TEXT}` means.
+/// The repetition `N{TEXT}` at the start of a text.
 fn repeated_at(part: &str) -> Option<Repeated<'_>> {
     let (times, following) = part.split_once('{')?;
     let (text, rest) = following.split_once('}')?;
@@ -43,13 +45,13 @@ fn repeated_at(part: &str) -> Option<Repeated<'_>> {
     })
 }
 
-/// Adds a byte and what is after it.
+/// Appends a byte and the rest.
 fn add_byte(growth: &mut Growth, found: &mut Vec<u8>, byte: u8, rest: &[u8]) {
     growth.extend(found, &[byte]);
     growth.extend(found, rest);
 }
 
-/// Adds a text that is repeated, and what is after it.
+/// Appends a repeated text and the rest.
 fn add_repeated(growth: &mut Growth, found: &mut Vec<u8>, repeated: Repeated<'_>) {
     for _ in 0..repeated.times {
         growth.extend(found, repeated.text.as_bytes());
@@ -57,7 +59,7 @@ fn add_repeated(growth: &mut Growth, found: &mut Vec<u8>, repeated: Repeated<'_>
     growth.extend(found, repeated.rest.as_bytes());
 }
 
-/// Adds what stands after a `\`, where that is no byte.
+/// Appends the text after a `\` that isn't followed by `xHH`.
 fn add_other(growth: &mut Growth, found: &mut Vec<u8>, part: &str) {
     match repeated_at(part) {
         Some(repeated) => add_repeated(growth, found, repeated),
@@ -65,7 +67,7 @@ fn add_other(growth: &mut Growth, found: &mut Vec<u8>, part: &str) {
     }
 }
 
-/// Adds what stands after a `\`.
+/// Appends the text after a `\`.
 fn add_escaped(growth: &mut Growth, found: &mut Vec<u8>, part: &str) {
     match byte_at(part.as_bytes()) {
         Some((byte, rest)) => add_byte(growth, found, byte, rest),
@@ -73,7 +75,7 @@ fn add_escaped(growth: &mut Growth, found: &mut Vec<u8>, part: &str) {
     }
 }
 
-/// Adds the bytes of a text in which `\xHH` is a byte and `\N{TEXT}` is TEXT so many times.
+/// Appends the bytes of a text in which `\xHH` is a byte and `\N{TEXT}` is N times TEXT.
 pub fn add_expanded(growth: &mut Growth, found: &mut Vec<u8>, text: &str) {
     let mut is_first = true;
     for part in text.split('\\') {
@@ -86,7 +88,7 @@ pub fn add_expanded(growth: &mut Growth, found: &mut Vec<u8>, text: &str) {
     }
 }
 
-/// The bytes of such a text.
+/// The bytes of a text in which `\xHH` is a byte and `\N{TEXT}` is N times TEXT.
 pub fn expanded(growth: &mut Growth, text: &str) -> Vec<u8> {
     let mut found = Vec::new(growth.alloc());
     add_expanded(growth, &mut found, text);

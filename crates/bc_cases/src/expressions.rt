@@ -1,4 +1,4 @@
-//! Expressions and roots, read as `bc_show` writes them.
+//! Reads expressions and roots in the form in which `bc_show` writes them, such as `(VALUE 3 (+ !P2 1))`.
 
 use crate::arithmetic::operator;
 use crate::growth::{Growth, both};
@@ -6,7 +6,7 @@ use crate::number::{short, word};
 use bc_core::{CoreExp, Root};
 use bc_word::{Op, Word};
 
-/// What a bracket makes of the expressions in it.
+/// What a parenthesis makes of the expressions in it.
 #[derive(Clone, Copy)]
 enum Head {
     Call,
@@ -16,7 +16,7 @@ enum Head {
     Condition,
 }
 
-/// A bracket that is open: what it makes, how often the content of that is taken, and how many expressions were finished before it.
+/// An open parenthesis: what it makes, the number of `!` before it, and the number of expressions that were complete before it.
 #[derive(Clone, Copy)]
 struct Open {
     head: Head,
@@ -24,7 +24,7 @@ struct Open {
     first: usize,
 }
 
-/// What a bracket makes that begins with this word.
+/// What a parenthesis makes that begins with this word.
 fn head_of(word: &str) -> Head {
     match word {
         "CALL" => Head::Call,
@@ -37,7 +37,7 @@ fn head_of(word: &str) -> Head {
     }
 }
 
-/// The number after the letter of what stands without brackets.
+/// The number after the letter of an expression without parentheses, or 0.
 fn after_letter(text: &str) -> u16 {
     for letter in ['P', 'G', 'L', 'V'] {
         if let Some(number) = text.strip_prefix(letter) {
@@ -47,7 +47,7 @@ fn after_letter(text: &str) -> u16 {
     0
 }
 
-/// What stands without brackets.
+/// An expression without parentheses.
 fn leaf(text: &str) -> CoreExp {
     let number = after_letter(text);
     match text.as_bytes().first() {
@@ -59,7 +59,7 @@ fn leaf(text: &str) -> CoreExp {
     }
 }
 
-/// Takes the last of the expressions that were finished after so many, or 0 where there is none.
+/// Removes and returns the last expression after the first `first`, or 0 if there is none.
 fn taken(done: &mut Vec<CoreExp>, first: usize) -> CoreExp {
     let zero = CoreExp::Num(Word::new(0));
     if done.len() > first {
@@ -69,27 +69,27 @@ fn taken(done: &mut Vec<CoreExp>, first: usize) -> CoreExp {
     }
 }
 
-/// Puts an expression in place of those that were finished after so many.
+/// Replaces the expressions after the first `first` by one.
 fn put(growth: &mut Growth, done: &mut Vec<CoreExp>, first: usize, e: CoreExp) {
     done.truncate(first);
     growth.push(done, e);
 }
 
-/// The content of the last expression.
+/// Replaces the last expression by its content.
 fn load_once(growth: &mut Growth, done: &mut Vec<CoreExp>) {
     if let Some(e) = growth.boxed(taken(done, 0)) {
         growth.push(done, CoreExp::Load(e));
     }
 }
 
-/// The content of the last expression, so many times.
+/// Replaces the last expression by its content, this number of times.
 fn load(growth: &mut Growth, done: &mut Vec<CoreExp>, loads: usize) {
     for _ in 0..loads {
         load_once(growth, done);
     }
 }
 
-/// A call of the first part with the others.
+/// A call: the first part is the routine, the others are its arguments.
 fn call(growth: &mut Growth, done: &mut Vec<CoreExp>, first: usize) {
     let arguments = growth.following(done, first.saturating_add(1));
     if let Some(routine) = growth.boxed(taken(done, first)) {
@@ -97,7 +97,7 @@ fn call(growth: &mut Growth, done: &mut Vec<CoreExp>, first: usize) {
     }
 }
 
-/// The negation of the last part.
+/// The negative of the last part.
 fn negation(growth: &mut Growth, done: &mut Vec<CoreExp>, first: usize) {
     if let Some(e) = growth.boxed(taken(done, first)) {
         put(growth, done, first, CoreExp::Neg(e));
@@ -111,7 +111,7 @@ fn opposite(growth: &mut Growth, done: &mut Vec<CoreExp>, first: usize) {
     }
 }
 
-/// The last two parts.
+/// Removes and boxes the last two parts.
 fn pair(
     growth: &mut Growth,
     done: &mut Vec<CoreExp>,
@@ -122,14 +122,14 @@ fn pair(
     growth.boxed_pair(left, right)
 }
 
-/// An operator with the last two parts.
+/// A dyadic operator with the last two parts.
 fn dyadic(growth: &mut Growth, done: &mut Vec<CoreExp>, first: usize, op: Op) {
     if let Some((left, right)) = pair(growth, done, first) {
         put(growth, done, first, CoreExp::Bin(op, left, right));
     }
 }
 
-/// A condition of the last three parts.
+/// A condition with the last three parts.
 fn condition(growth: &mut Growth, done: &mut Vec<CoreExp>, first: usize) {
     let parts = pair(growth, done, first);
     let condition = growth.boxed(taken(done, first));
@@ -138,7 +138,7 @@ fn condition(growth: &mut Growth, done: &mut Vec<CoreExp>, first: usize) {
     }
 }
 
-/// Puts what a bracket makes in place of what was finished in it.
+/// Replaces the expressions in a parenthesis by what it makes.
 fn make(growth: &mut Growth, done: &mut Vec<CoreExp>, open: Open) {
     match open.head {
         Head::Call => call(growth, done, open.first),
@@ -149,26 +149,26 @@ fn make(growth: &mut Growth, done: &mut Vec<CoreExp>, open: Open) {
     }
 }
 
-/// Closes this bracket.
+/// Closes this parenthesis.
 fn finish(growth: &mut Growth, done: &mut Vec<CoreExp>, open: Open) {
     make(growth, done, open);
     load(growth, done, open.loads);
 }
 
-/// Closes the innermost bracket.
+/// Closes the innermost parenthesis.
 fn close(growth: &mut Growth, done: &mut Vec<CoreExp>, open: &mut Vec<Open>) {
     if let Some(open) = open.pop() {
         finish(growth, done, open);
     }
 }
 
-/// Adds what stands without brackets, its content taken so many times.
+/// Appends an expression without parentheses, after this number of `!`.
 fn add_leaf(growth: &mut Growth, done: &mut Vec<CoreExp>, text: &str, loads: usize) {
     growth.push(done, leaf(text));
     load(growth, done, loads);
 }
 
-/// Opens a bracket, or adds what stands without brackets.
+/// Opens a parenthesis, or appends an expression without one.
 fn begin(growth: &mut Growth, done: &mut Vec<CoreExp>, open: &mut Vec<Open>, body: &str) {
     let inner = body.trim_start_matches('!');
     let loads = body.len().saturating_sub(inner.len());
@@ -186,7 +186,7 @@ fn begin(growth: &mut Growth, done: &mut Vec<CoreExp>, open: &mut Vec<Open>, bod
     }
 }
 
-/// A word, with the brackets that it opens and closes.
+/// Takes a word with the parentheses that it opens and closes.
 fn add_word(growth: &mut Growth, done: &mut Vec<CoreExp>, open: &mut Vec<Open>, word: &str) {
     let body = word.trim_end_matches(')');
     begin(growth, done, open, body);
@@ -195,7 +195,7 @@ fn add_word(growth: &mut Growth, done: &mut Vec<CoreExp>, open: &mut Vec<Open>, 
     }
 }
 
-/// Adds the expressions of a text, with blanks between them.
+/// Appends the expressions of a text, which are separated by blanks.
 pub fn read_expressions(growth: &mut Growth, done: &mut Vec<CoreExp>, text: &str) {
     let mut open = Vec::new(growth.alloc());
     for word in text.split_whitespace() {
@@ -203,26 +203,26 @@ pub fn read_expressions(growth: &mut Growth, done: &mut Vec<CoreExp>, text: &str
     }
 }
 
-/// The last expression of a text in a box, or 0 where there is none.
+/// The last expression of a text, or 0 if there is none, boxed. None if an allocation fails.
 pub fn expression_of(growth: &mut Growth, text: &str) -> Option<Box<CoreExp>> {
     let mut done = Vec::new(growth.alloc());
     read_expressions(growth, &mut done, text);
     growth.boxed(taken(&mut done, 0))
 }
 
-/// What stands before the first blank of a text, and what stands after it.
+/// The text before the first blank, and the text after it.
 fn front(text: &str) -> (&str, &str) {
     text.split_once(' ').unwrap_or((text, ""))
 }
 
-/// Adds the expressions of a root's line.
+/// Appends the expressions of a root's line.
 pub fn read_root(growth: &mut Growth, done: &mut Vec<CoreExp>, line: &str) {
     let (_, after_form) = front(line);
     let (_, text) = front(after_form);
     read_expressions(growth, done, text.strip_suffix(')').unwrap_or(text));
 }
 
-/// The value of the last expression.
+/// A root that is the value of the last expression.
 fn value(level: u16, done: &mut Vec<CoreExp>) -> Root {
     Root::Value {
         level,
@@ -230,7 +230,7 @@ fn value(level: u16, done: &mut Vec<CoreExp>) -> Root {
     }
 }
 
-/// A test of the last expression, to jump where it is as this sense says.
+/// A root that is a test of the last expression and jumps if that has this truth value.
 fn test(level: u16, sense: bool, done: &mut Vec<CoreExp>) -> Root {
     Root::Test {
         level,
@@ -239,7 +239,7 @@ fn test(level: u16, sense: bool, done: &mut Vec<CoreExp>) -> Root {
     }
 }
 
-/// An assignment of the last expression but one and the last one, an address and a value.
+/// A root that is an assignment: the last two expressions are its address and its value.
 fn assignment(level: u16, done: &mut Vec<CoreExp>) -> Root {
     let value = taken(done, 0);
     Root::Assign {
@@ -249,7 +249,7 @@ fn assignment(level: u16, done: &mut Vec<CoreExp>) -> Root {
     }
 }
 
-/// The root of a line, as `(VALUE 3 !P2)`, with the last of these expressions.
+/// The root of a line such as `(VALUE 3 !P2)`, with the last of these expressions.
 pub fn root_with(done: &mut Vec<CoreExp>, line: &str) -> Root {
     let (form, after_form) = front(line.strip_prefix('(').unwrap_or(line));
     let level = short(front(after_form).0);
@@ -261,7 +261,7 @@ pub fn root_with(done: &mut Vec<CoreExp>, line: &str) -> Root {
     }
 }
 
-/// The root of a line in a box.
+/// The root of a line, boxed. None if an allocation fails.
 pub fn root_of(growth: &mut Growth, line: &str) -> Option<Box<Root>> {
     let mut done = Vec::new(growth.alloc());
     read_root(growth, &mut done, line);

@@ -1,3 +1,5 @@
+//! Cases about texts of INTCODE: the items or the fault of a text however it is cut, and its words.
+
 use crate::answer::Answer;
 use crate::escapes::expanded;
 use crate::growth::Growth;
@@ -8,17 +10,19 @@ use bc_text::{Reader, TextError, read_all};
 use bc_text_items::{Item, Segment};
 use std::alloc::Global;
 
-/// The bytes of a text, without the line feed at the end of its lines.
+/// The bytes of an input with escapes and repetitions expanded, without its last line feed.
 pub fn text_of(growth: &mut Growth, input: &str) -> Vec<u8> {
     expanded(growth, input.strip_suffix('\n').unwrap_or(input))
 }
 
+/// Appends an item and a blank.
 fn add_item(answer: &mut Answer, item: &Item) {
     let item = ShownItem(item);
     answer.show(&item);
     answer.say(" ");
 }
 
+/// Appends the items of a segment and its end.
 fn add_segment(answer: &mut Answer, segment: &Segment) {
     for item in segment.items() {
         add_item(answer, item);
@@ -26,20 +30,21 @@ fn add_segment(answer: &mut Answer, segment: &Segment) {
     answer.say("Z ");
 }
 
+/// Appends the items of segments.
 fn add_items(answer: &mut Answer, segments: &[Segment]) {
     for segment in segments {
         add_segment(answer, segment);
     }
 }
 
-/// Adds the items of a segment as pieces of code.
+/// Appends the items of a segment to pieces of code.
 fn add_pieces(growth: &mut Growth, pieces: &mut Vec<Piece>, segment: &Segment) {
     for item in segment.items() {
         growth.push(pieces, Piece::Item(*item));
     }
 }
 
-/// Adds the words of these pieces of code.
+/// Appends the number of words of these pieces of code.
 fn add_count(answer: &mut Answer, pieces: &[Piece]) {
     if pieces.len() < 1 << 32 {
         answer.number(words(pieces));
@@ -48,6 +53,7 @@ fn add_count(answer: &mut Answer, pieces: &[Piece]) {
     }
 }
 
+/// Appends the number of words of segments.
 fn add_words(answer: &mut Answer, segments: &[Segment]) {
     let mut pieces = Vec::new(answer.alloc());
     for segment in segments {
@@ -56,7 +62,7 @@ fn add_words(answer: &mut Answer, segments: &[Segment]) {
     add_count(answer, pieces.as_slice());
 }
 
-/// Adds the words of what reading gave, of a fault none.
+/// Appends the number of words of the segments, or 0 for an error.
 fn add_read_words(answer: &mut Answer, read: Result<Vec<Segment>, TextError>) {
     match read {
         Ok(segments) => add_words(answer, segments.as_slice()),
@@ -64,14 +70,14 @@ fn add_read_words(answer: &mut Answer, read: Result<Vec<Segment>, TextError>) {
     }
 }
 
-/// Adds the words of a text.
+/// Appends the number of words of a text.
 pub fn add_text_words(answer: &mut Answer, input: &str) {
     let text = text_of(&mut answer.growth, input);
     let read = read_all(answer.alloc(), &[text.as_slice()]);
     add_read_words(answer, read);
 }
 
-/// Adds the items or the fault that reading gave.
+/// Appends the items of the segments, or the error.
 fn add_read(answer: &mut Answer, read: Result<Vec<Segment>, TextError>) {
     match read {
         Ok(segments) => add_items(answer, segments.as_slice()),
@@ -79,20 +85,20 @@ fn add_read(answer: &mut Answer, read: Result<Vec<Segment>, TextError>) {
     }
 }
 
-/// The items or the fault that reading gave.
+/// The items of the segments, or the error, as text.
 fn items_of(growth: &mut Growth, read: Result<Vec<Segment>, TextError>) -> String {
     let mut items = Answer::new(growth.alloc());
     add_read(&mut items, read);
     items.into_text(growth)
 }
 
-/// Whether reading gave these items or this fault.
+/// Whether the items of the segments, or the error, are the expected text.
 fn is_same(growth: &mut Growth, read: Result<Vec<Segment>, TextError>, wanted: &str) -> bool {
     let items = items_of(growth, read);
     items.as_str() == wanted
 }
 
-/// Reads a text a byte at a time.
+/// Reads a text one byte at a time. Returns its fault if it has one.
 fn read_slowly(alloc: Global, text: &[u8]) -> Result<Vec<Segment>, TextError> {
     let mut reader = Reader::new(alloc);
     for byte in text {
@@ -101,7 +107,7 @@ fn read_slowly(alloc: Global, text: &[u8]) -> Result<Vec<Segment>, TextError> {
     reader.finish()
 }
 
-/// The first place at which a text that is cut in two has another answer than this one.
+/// The first index at which the text, cut in two there, has another answer than this one.
 fn differing_cut(growth: &mut Growth, text: &[u8], whole: &str) -> Option<usize> {
     for at in 0..text.len() {
         let read = read_all(growth.alloc(), &[&text[..at], &text[at..]]);
@@ -112,7 +118,7 @@ fn differing_cut(growth: &mut Growth, text: &[u8], whole: &str) -> Option<usize>
     None
 }
 
-/// Adds the answer to a text in one piece, where it is the same for the text in every two.
+/// Appends the answer to the whole text, if it is the same for the text cut in two anywhere.
 fn add_uncut(answer: &mut Answer, text: &[u8], whole: &str) {
     match differing_cut(&mut answer.growth, text, whole) {
         Some(at) => answer.numbered("another answer when cut at ", at as u64),
@@ -120,7 +126,7 @@ fn add_uncut(answer: &mut Answer, text: &[u8], whole: &str) {
     }
 }
 
-/// Adds the answer to a text in one piece, where it is the same for the text in every two and byte by byte.
+/// Appends the answer to the whole text, if it is the same byte by byte and for the text cut in two anywhere.
 fn add_agreed(answer: &mut Answer, text: &[u8], whole: &str) {
     let slowly = read_slowly(answer.alloc(), text);
     if is_same(&mut answer.growth, slowly, whole) {
@@ -130,7 +136,7 @@ fn add_agreed(answer: &mut Answer, text: &[u8], whole: &str) {
     }
 }
 
-/// Adds the answer to a text, where it is the same for the text in one piece, in every two and byte by byte.
+/// Appends the answer to a text, if it is the same in one piece, byte by byte, and cut in two anywhere.
 pub fn add_text(answer: &mut Answer, input: &str) {
     let text = text_of(&mut answer.growth, input);
     let read = read_all(answer.alloc(), &[text.as_slice()]);

@@ -1,3 +1,5 @@
+//! Cases about the machine: runs from a text or from words, with one input and one output in memory.
+
 use crate::answer::Answer;
 use crate::growth::Growth;
 use crate::number::{number, short, word};
@@ -11,7 +13,7 @@ use bc_word::Word;
 use std::alloc::Global;
 use std::mem;
 
-/// Puts words at an address: `ADDRESS: WORD ..`.
+/// Stores words as a line `ADDRESS: WORD ..` says.
 fn put(store: &mut Vec<Word>, line: &str) {
     let (address, words) = line.split_once(':').unwrap_or((line, ""));
     let mut at = usize::from(short(address));
@@ -23,7 +25,7 @@ fn put(store: &mut Vec<Word>, line: &str) {
     }
 }
 
-/// The image of these words.
+/// The image with these 65,536 words.
 fn image_of(alloc: Global, store: Vec<Word>) -> Option<Image> {
     if store.len() != 65536 {
         return None;
@@ -35,13 +37,13 @@ fn image_of(alloc: Global, store: Vec<Word>) -> Option<Image> {
     })
 }
 
-/// These bytes in a list.
+/// A list of these bytes.
 fn bytes_of(growth: &mut Growth, bytes: &[u8]) -> Vec<u8> {
     let bytes = Vec::from_slice(growth.alloc(), bytes);
     growth.list(bytes)
 }
 
-/// One input, SYSIN.
+/// One input, SYSIN, with these bytes.
 fn inputs(growth: &mut Growth, bytes: &[u8]) -> Vec<Named<Vec<u8>>> {
     let mut inputs = Vec::new(growth.alloc());
     let name = bytes_of(growth, b"SYSIN");
@@ -58,31 +60,35 @@ fn outputs(growth: &mut Growth) -> Vec<Vec<u8>> {
     outputs
 }
 
-/// What a machine and its streams are made from.
+/// What the lines of a case say about the machine and its streams.
 #[derive(Drop)]
 struct Setting {
+    /// The words of the store.
     store: Vec<Word>,
+    /// The bytes of the input.
     input: String,
+    /// The number of bytes that may be written.
     room: usize,
+    /// The number of instructions of each run.
     budgets: Vec<u64>,
 }
 
 impl Setting {
-    /// Puts the words of an image into the store.
+    /// Copies the words of an image into the store.
     fn take(&mut self, image: &Image) {
         for (cell, word) in self.store.iter_mut().zip(image.words.as_slice()) {
             *cell = *word;
         }
     }
 
-    /// Puts 0 into each cell of the store.
+    /// Sets each cell of the store to 0.
     fn clear(&mut self) {
         for cell in &mut self.store {
             *cell = Word::new(0);
         }
     }
 
-    /// Puts the words of the image of segments after the primitives into the store, where there is one.
+    /// Links segments after the primitives, and copies the image into the store, if there is one.
     fn link_after(&mut self, growth: &mut Growth, segments: Vec<Segment>) {
         match after_primitives(growth.alloc(), segments) {
             Ok(all) => self.link_all(growth.alloc(), all.as_slice()),
@@ -90,14 +96,14 @@ impl Setting {
         }
     }
 
-    /// Puts the words of the image of segments into the store, where there is one.
+    /// Links segments, and copies the image into the store, if there is one.
     fn link_all(&mut self, alloc: Global, segments: &[Segment]) {
         if let Ok(image) = link(alloc, segments) {
             self.take(&image);
         }
     }
 
-    /// Puts the words of the image of a text after the primitives into the store, or zeros.
+    /// Reads and links a text after the primitives, and copies the image into the store; the store is 0 if there is none.
     fn read_text(&mut self, growth: &mut Growth, text: &str) {
         self.clear();
         if let Ok(segments) = read_all(growth.alloc(), &[text.as_bytes()]) {
@@ -105,7 +111,7 @@ impl Setting {
         }
     }
 
-    /// What is said of the store or of the room.
+    /// Takes a line about the words of the store or the room of the output.
     fn set(&mut self, what: &str, rest: &str) {
         match what {
             "words" => put(&mut self.store, rest),
@@ -114,7 +120,7 @@ impl Setting {
         }
     }
 
-    /// What a line says.
+    /// Takes a line of the case.
     fn read(&mut self, growth: &mut Growth, line: &str) {
         let (what, rest) = line.split_once(' ').unwrap_or(("", ""));
         match what {
@@ -125,14 +131,14 @@ impl Setting {
         }
     }
 
-    /// What lines say.
+    /// Takes all lines of the case.
     fn read_all(&mut self, growth: &mut Growth, lines: &str) {
         for line in lines.lines() {
             self.read(growth, line);
         }
     }
 
-    /// Adds what each run of a machine over these streams answers, and what is written by then.
+    /// Makes the runs, one after another, and appends how each ends and what is written by then.
     fn add_runs(&self, answer: &mut Answer, machine: &mut Machine, streams: &mut MemoryStreams) {
         for budget in &self.budgets {
             let end = machine.run(streams, *budget);
@@ -140,7 +146,7 @@ impl Setting {
         }
     }
 
-    /// Adds what each run of a machine answers, and what is written by then.
+    /// Makes the streams and the runs with them.
     fn add_all(&self, answer: &mut Answer, machine: &mut Machine) {
         let inputs = inputs(&mut answer.growth, self.input.as_bytes());
         let outputs = outputs(&mut answer.growth);
@@ -150,7 +156,7 @@ impl Setting {
         }
     }
 
-    /// Adds what each run of a machine with this image answers, and what is written by then.
+    /// Makes the machine with this image, the streams and the runs.
     fn add_of_image(&self, answer: &mut Answer, image: &Image) {
         match Machine::new(answer.alloc(), image) {
             Ok(mut machine) => self.add_all(answer, &mut machine),
@@ -158,12 +164,13 @@ impl Setting {
         }
     }
 
-    /// Takes the store.
+    /// Moves the store out.
     fn take_store(&mut self, alloc: Global) -> Vec<Word> {
         mem::replace(&mut self.store, Vec::new(alloc))
     }
 }
 
+/// Appends how a run ended.
 fn add_end(answer: &mut Answer, end: End) {
     match end {
         End::BadInstruction(address) => {
@@ -173,27 +180,28 @@ fn add_end(answer: &mut Answer, end: End) {
     }
 }
 
-/// Adds the line of a run.
+/// Appends the line of a run.
 fn add_run(answer: &mut Answer, end: End, streams: &MemoryStreams) {
     answer.go_on("\n");
     add_end(answer, end);
     add_written(answer, streams);
 }
 
+/// Appends a byte after the number of its output.
 fn add_byte(answer: &mut Answer, output: Word, byte: u8) {
     answer.numbered(" ", u64::from(output.get()));
     answer.say(":");
     answer.bytes(&[byte]);
 }
 
-/// Adds what was written, each byte after the number of its output.
+/// Appends the bytes that were written, each after the number of its output.
 pub fn add_written(answer: &mut Answer, streams: &MemoryStreams) {
     for (output, byte) in streams.written() {
         add_byte(answer, *output, *byte);
     }
 }
 
-/// Adds what each run in turn of one machine answers, and what is written by then.
+/// Appends how each run of a case's machine ends, and what is written by then.
 pub fn add_steps(answer: &mut Answer, lines: &str) {
     let alloc = answer.alloc();
     let store = vec![in alloc; Word::new(0); 65536];

@@ -1,4 +1,4 @@
-//! Goes over the files of cases that its words name, and says which answers are not as wanted.
+//! Tries the cases in the files that its arguments name, and reports those whose answer isn't the expected one.
 #![tactic(auto)]
 
 mod answer;
@@ -24,7 +24,7 @@ use crate::escapes::expanded;
 use crate::number::count;
 use std::{env, fs, io};
 
-/// Whether an answer is the one that is wanted, in which a text may be written once for many times.
+/// Whether an answer is the expected one, as it is written or with its escapes and repetitions expanded.
 fn is_wanted(found: &mut Answer, case: &Case) -> bool {
     let wanted = case.wanted();
     if found.text() == wanted {
@@ -34,13 +34,13 @@ fn is_wanted(found: &mut Answer, case: &Case) -> bool {
     found.text().as_bytes() == wanted.as_slice()
 }
 
-/// Whether a case answers what is wanted, and what it answers.
+/// Computes the answer of a case into `found`, and returns whether it is the expected one.
 fn is_answered(found: &mut Answer, case: &Case) -> bool {
     add_answer(found, case.kind.as_str(), case.input.as_str());
     is_wanted(found, case)
 }
 
-/// How many cases of a file there are, how many of them answer otherwise than wanted, and what those answer.
+/// The number of cases of a file, how many of them have another answer than expected, and the lines about those.
 #[derive(Drop)]
 struct Report {
     cases: u64,
@@ -49,7 +49,7 @@ struct Report {
 }
 
 impl Report {
-    /// Says what a case answers that is not what is wanted, after what stands between.
+    /// Reports the answer of a case that isn't the expected one, after `between`.
     fn tell(&mut self, case: &Case, between: &str, found: &str) {
         count(&mut self.differ);
         self.lines.say(case.kind.as_str());
@@ -61,7 +61,7 @@ impl Report {
         self.lines.say("\n");
     }
 
-    /// Tries a case, and says what it answers where it is not what is wanted.
+    /// Tries a case, and reports its answer if it isn't the expected one, or that memory ran out.
     fn try_case(&mut self, case: &Case) {
         count(&mut self.cases);
         let mut found = Answer::new(self.lines.alloc());
@@ -73,20 +73,20 @@ impl Report {
         }
     }
 
-    /// Tries the case that has begun last, where there is one.
+    /// Tries the current case, if there is one.
     fn end_case(&mut self, case: &Case) {
         if case.is_begun {
             self.try_case(case);
         }
     }
 
-    /// A line that belongs to no case ends the one before it.
+    /// Takes a line that begins a case or a kind of cases, which ends the current case.
     fn begin(&mut self, case: &mut Case, line: &str) {
         self.end_case(case);
         case.begin(line);
     }
 
-    /// Goes on with a line of a file.
+    /// Takes the next line of a file.
     fn read(&mut self, case: &mut Case, line: &str) {
         if is_silent(line) {
             return;
@@ -107,7 +107,7 @@ impl Report {
         self.end_case(&case);
     }
 
-    /// What is told of the cases that answer otherwise, or that there was no memory for it.
+    /// The lines about cases with another answer, or a line that there was no memory for them.
     fn told(&self) -> &str {
         if self.lines.growth.is_refused() {
             "no memory\n"
@@ -117,7 +117,8 @@ impl Report {
     }
 }
 
-/// Tries the cases of a file, and says how many there are and how many of them answer otherwise than wanted.
+/// Tries the cases of a file, and prints how many there are and how many have another answer than expected. Returns the error if the
+/// file can't be read or the output fails.
 fn try_file(rt: &HostRuntime, path: &str) -> io::Result<()> {
     let text = fs::read_to_string(rt, path)?;
     let mut report = Report {
@@ -132,6 +133,7 @@ fn try_file(rt: &HostRuntime, path: &str) -> io::Result<()> {
     println!(rt; "{lines}{path}: {cases} cases, {differ} of them answer otherwise")
 }
 
+/// Tries the files of cases that the arguments name, one after another. Returns the error of the first file that can't be read.
 fn main(rt: HostRuntime) -> io::Result<()> {
     let paths: Vec<String> = env::args(&rt)?.skip(1).collect(rt.alloc())?;
     for path in &paths {

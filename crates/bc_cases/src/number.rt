@@ -1,3 +1,5 @@
+//! Numbers in lines. A text that isn't a number counts as 0, which shows as a wrong answer.
+
 use bc_word::Word;
 use std::str::SplitWhitespace;
 
@@ -11,7 +13,7 @@ pub fn short(text: &str) -> u16 {
     text.parse::<u16>().unwrap_or(0)
 }
 
-/// The word of a number from -32,768 to 65,535, or 0.
+/// The 16-bit word of a number from -32,768 to 65,535, or 0.
 pub fn word(text: &str) -> Word {
     match text.parse::<i16>() {
         Ok(signed) => Word::new(signed.cast_unsigned()),
@@ -19,12 +21,12 @@ pub fn word(text: &str) -> Word {
     }
 }
 
-/// The next word of a line, or nothing.
+/// The next field of a line, or an empty text.
 pub fn next<'t>(words: &mut SplitWhitespace<'t>) -> &'t str {
     words.next().unwrap_or("")
 }
 
-/// Makes a number one more; after the greatest one comes 0.
+/// Adds 1 to a number; the greatest one becomes 0.
 pub fn count(number: &mut u64) {
     *number = number.wrapping_add(1);
 }

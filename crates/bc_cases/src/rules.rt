@@ -1,3 +1,5 @@
+//! Cases about roots: derivations and their code, operands, expressions that may change places, and copies.
+
 use crate::answer::Answer;
 use crate::derivations::derivation_of;
 use crate::expressions::{expression_of, read_expressions, root_of};
@@ -9,25 +11,26 @@ use bc_show::{ShownExpression, ShownPiece, ShownRoot};
 use bc_text_items::Base;
 use bc_word::{Memory, Word};
 
-/// What is answered of a root.
+/// A question about a root.
 #[derive(Clone, Copy)]
 pub enum OfRoot {
-    /// Whether a derivation is one of it by each table, and what its code is.
+    /// Whether a derivation is one of the root by each rule table, and its code.
     Derivation,
-    /// Its copy and that of its expression, where they are equal to them.
+    /// Copies of the root and its expression, and whether they are equal to the originals.
     Copied,
 }
 
+/// The word for a truth value.
 fn yes_or_no(yes: bool) -> &'static str {
     if yes { "yes" } else { "no" }
 }
 
-/// The line of an input with this index, or nothing.
+/// The line of an input with this index, or an empty text.
 fn line(input: &str, index: usize) -> &str {
     input.lines().nth(index).unwrap_or("")
 }
 
-/// The number after a word of a line, or 0.
+/// The number that follows `word` in a line, or 0.
 fn following(line: &str, word: &str) -> u16 {
     match line.split_once(word) {
         Some((_, rest)) => short(next(&mut rest.split_whitespace())),
@@ -35,13 +38,14 @@ fn following(line: &str, word: &str) -> u16 {
     }
 }
 
-/// Adds what is answered of the root that an input has in its first line.
+/// Appends the answer about the root in the first line of an input.
 pub fn add_told(answer: &mut Answer, what: OfRoot, input: &str) {
     if let Some(root) = root_of(&mut answer.growth, line(input, 0)) {
         add_of_root(answer, what, &root, input);
     }
 }
 
+/// Appends the answer about a root.
 fn add_of_root(answer: &mut Answer, what: OfRoot, root: &Root, input: &str) {
     match what {
         OfRoot::Derivation => add_judged(answer, root, input),
@@ -49,14 +53,14 @@ fn add_of_root(answer: &mut Answer, what: OfRoot, root: &Root, input: &str) {
     }
 }
 
-/// Adds whether the derivation of the second line is one of a root by each table, and what its code is.
+/// Appends whether the derivation in the second line is one of the root by each table, and its code from the labels of the third line on.
 fn add_judged(answer: &mut Answer, root: &Root, input: &str) {
     if let Some(derivation) = derivation_of(&mut answer.growth, line(input, 1)) {
         add_judgement(answer, root, &derivation, line(input, 2));
     }
 }
 
-/// Adds whether this is a derivation of a root by each table, and what its code is from these labels on.
+/// Appends whether this is a derivation of the root by each table, and its code with these labels.
 fn add_judgement(answer: &mut Answer, root: &Root, derivation: &Derivation, labels: &str) {
     answer.say("by table 1 ");
     answer.say(yes_or_no(is_derivation_by(Table::One, root, derivation)));
@@ -67,7 +71,7 @@ fn add_judgement(answer: &mut Answer, root: &Root, derivation: &Derivation, labe
     }
 }
 
-/// Adds the code of a derivation from these labels on, and the label after its own.
+/// Appends the code of a derivation with these labels, and the first label after its own.
 fn add_code(answer: &mut Answer, root: &Root, derivation: &Derivation, labels: &str) {
     let first = following(labels, "first ");
     let target = following(labels, "target ");
@@ -76,7 +80,7 @@ fn add_code(answer: &mut Answer, root: &Root, derivation: &Derivation, labels: &
     add_label(answer, next_label(root, derivation, first));
 }
 
-/// Adds code, if it was made.
+/// Appends code, or that there is none.
 fn add_made(answer: &mut Answer, code: Result<Vec<Piece>, Memory>) {
     match code {
         Ok(code) => add_pieces(answer, code.as_slice()),
@@ -84,6 +88,7 @@ fn add_made(answer: &mut Answer, code: Result<Vec<Piece>, Memory>) {
     }
 }
 
+/// Appends the first label after a derivation's own.
 fn add_label(answer: &mut Answer, label: Option<u32>) {
     match label {
         Some(label) => answer.numbered("\nnext label ", u64::from(label)),
@@ -91,13 +96,14 @@ fn add_label(answer: &mut Answer, label: Option<u32>) {
     }
 }
 
+/// Appends a piece of code.
 fn add_piece(answer: &mut Answer, piece: &Piece) {
     let piece = ShownPiece(piece);
     answer.say(" ");
     answer.show(&piece);
 }
 
-/// Adds code and its words.
+/// Appends code and its number of words.
 fn add_pieces(answer: &mut Answer, code: &[Piece]) {
     answer.say("\ncode");
     for piece in code {
@@ -106,12 +112,14 @@ fn add_pieces(answer: &mut Answer, code: &[Piece]) {
     add_words(answer, code);
 }
 
+/// Appends the number of words of code.
 fn add_words(answer: &mut Answer, code: &[Piece]) {
     if code.len() < 1 << 32 {
         answer.sentence("\n{} words", &[words(code)]);
     }
 }
 
+/// The letter of a base, as in a text of INTCODE.
 fn base_letter(base: Base) -> &'static str {
     match base {
         Base::Number => "",
@@ -121,19 +129,20 @@ fn base_letter(base: Base) -> &'static str {
     }
 }
 
-/// Adds the operand of one instruction that an expression is, and the number that it is.
+/// Appends the operand that the expression in the first line is, and its number.
 pub fn add_operands(answer: &mut Answer, input: &str) {
     if let Some(e) = expression_of(&mut answer.growth, line(input, 0)) {
         add_operand(answer, &e);
     }
 }
 
+/// Appends the operand that an expression is, and its number.
 fn add_operand(answer: &mut Answer, e: &CoreExp) {
     add_found(answer, operand(e));
     add_constant(answer, constant(e));
 }
 
-/// Adds the operand of one instruction that was found.
+/// Appends an operand, or that there is none.
 fn add_found(answer: &mut Answer, found: Option<Operand>) {
     match found {
         Some(found) => add_parts(answer, &found),
@@ -141,7 +150,7 @@ fn add_found(answer: &mut Answer, found: Option<Operand>) {
     }
 }
 
-/// Adds an operand of one instruction.
+/// Appends an operand.
 fn add_parts(answer: &mut Answer, found: &Operand) {
     answer.say(if found.direct {
         "operand "
@@ -152,6 +161,7 @@ fn add_parts(answer: &mut Answer, found: &Operand) {
     answer.number(u64::from(found.n.get()));
 }
 
+/// Appends a number, or that there is none.
 fn add_constant(answer: &mut Answer, constant: Option<Word>) {
     match constant {
         Some(word) => answer.numbered(", constant ", u64::from(word.get())),
@@ -159,7 +169,7 @@ fn add_constant(answer: &mut Answer, constant: Option<Word>) {
     }
 }
 
-/// Adds whether two expressions may change places.
+/// Appends whether the two expressions in the first line may change places.
 pub fn add_freedom(answer: &mut Answer, input: &str) {
     let mut pair = Vec::new(answer.alloc());
     read_expressions(&mut answer.growth, &mut pair, line(input, 0));
@@ -169,7 +179,7 @@ pub fn add_freedom(answer: &mut Answer, input: &str) {
     }
 }
 
-/// Adds a root's copy and that of its expression, where they are equal to them, and whether the copy is the root of another line.
+/// Appends a copy of the root and whether it equals the root and the one in another line; then a copy of its expression.
 fn add_copies(answer: &mut Answer, root: &Root, other: &str) {
     if let Some(other) = root_of(&mut answer.growth, other) {
         add_copy(answer, root, &other);
@@ -177,6 +187,7 @@ fn add_copies(answer: &mut Answer, root: &Root, other: &str) {
     add_inner_copy(answer, root);
 }
 
+/// Appends a copy of a root, and whether it equals the root and another one.
 fn add_copy(answer: &mut Answer, root: &Root, other: &Root) {
     match copy(answer.alloc(), root) {
         Ok(new) => add_compared(answer, root, other, &new),
@@ -184,7 +195,7 @@ fn add_copy(answer: &mut Answer, root: &Root, other: &Root) {
     }
 }
 
-/// Adds the copy of a root's expression, where it is that of a value.
+/// Appends a copy of a root's expression if the root is a value.
 fn add_inner_copy(answer: &mut Answer, root: &Root) {
     match root {
         Root::Value { expression, .. } => add_copy_of(answer, expression),
@@ -192,7 +203,7 @@ fn add_inner_copy(answer: &mut Answer, root: &Root) {
     }
 }
 
-/// Adds a root's copy, and whether it is equal to it and to another one.
+/// Appends `new`, the copy of a root, and whether it equals the root and another one.
 fn add_compared(answer: &mut Answer, root: &Root, other: &Root, new: &Root) {
     let shown = ShownRoot(new);
     answer.show(&shown);
@@ -200,7 +211,7 @@ fn add_compared(answer: &mut Answer, root: &Root, other: &Root, new: &Root) {
     answer.truth(", the other: ", new == other);
 }
 
-/// Adds an expression's copy, and whether it is equal to it.
+/// Appends a copy of an expression, and whether it equals the expression.
 fn add_copy_of(answer: &mut Answer, e: &CoreExp) {
     match copy_expression(answer.alloc(), e) {
         Ok(new) => add_same(answer, e, &new),
@@ -208,6 +219,7 @@ fn add_copy_of(answer: &mut Answer, e: &CoreExp) {
     }
 }
 
+/// Appends `new`, the copy of an expression, and whether it equals the expression.
 fn add_same(answer: &mut Answer, e: &CoreExp, new: &CoreExp) {
     let shown = ShownExpression(new);
     answer.say("\n");

@@ -1,3 +1,5 @@
+//! Cases about streams in memory: a call for each line.
+
 use crate::answer::Answer;
 use crate::escapes::expanded;
 use crate::growth::Growth;
@@ -5,7 +7,7 @@ use crate::machines::add_written;
 use crate::number::word;
 use bc_machine::{MemoryStreams, Named, Side, Streams};
 
-/// The input of `NAME=CONTENT`.
+/// The input that `NAME=CONTENT` describes.
 fn input_of(growth: &mut Growth, binding: &str) -> Named<Vec<u8>> {
     let (name, content) = binding.split_once('=').unwrap_or((binding, ""));
     let device = expanded(growth, content);
@@ -15,7 +17,7 @@ fn input_of(growth: &mut Growth, binding: &str) -> Named<Vec<u8>> {
     }
 }
 
-/// The inputs of a line of `NAME=CONTENT`.
+/// The inputs that a line of `NAME=CONTENT` fields describes.
 fn inputs(growth: &mut Growth, line: &str) -> Vec<Named<Vec<u8>>> {
     let mut inputs = Vec::new(growth.alloc());
     for binding in line.split_whitespace() {
@@ -25,7 +27,7 @@ fn inputs(growth: &mut Growth, line: &str) -> Vec<Named<Vec<u8>>> {
     inputs
 }
 
-/// The outputs of a line of names.
+/// The outputs with the names in a line.
 fn outputs(growth: &mut Growth, line: &str) -> Vec<Vec<u8>> {
     let mut outputs = Vec::new(growth.alloc());
     for name in line.split_whitespace() {
@@ -35,6 +37,7 @@ fn outputs(growth: &mut Growth, line: &str) -> Vec<Vec<u8>> {
     outputs
 }
 
+/// The side with this name; anything but `input` is the output side.
 fn side_of(word: &str) -> Side {
     if word == "input" {
         Side::Input
@@ -43,12 +46,13 @@ fn side_of(word: &str) -> Side {
     }
 }
 
+/// Appends a byte that was read.
 fn add_byte(answer: &mut Answer, byte: u8) {
     answer.say("read ");
     answer.bytes(&[byte]);
 }
 
-/// Reads a byte, and adds what that answers.
+/// Reads a byte, and appends the result.
 fn add_read(answer: &mut Answer, streams: &mut MemoryStreams) {
     match streams.read() {
         Ok(Some(byte)) => add_byte(answer, byte),
@@ -57,6 +61,7 @@ fn add_read(answer: &mut Answer, streams: &mut MemoryStreams) {
     }
 }
 
+/// Appends whether a call succeeded.
 fn add_done(answer: &mut Answer, done: bool) {
     answer.say(if done { "done" } else { "the device failed" });
 }
@@ -67,20 +72,20 @@ fn add_selected(answer: &mut Answer, streams: &mut MemoryStreams, side: Side, nu
     add_done(answer, true);
 }
 
-/// Adds the number of the stream with a name.
+/// Appends the number of the stream with this name.
 fn add_found(answer: &mut Answer, streams: &MemoryStreams, side: Side, name: &str) {
     let number = streams.find(side, name.as_bytes()).get();
     answer.numbered("number ", u64::from(number));
 }
 
-/// Writes the first of these bytes, if there is one, and adds whether that was done.
+/// Writes the first of these bytes, if there is one, and appends whether it succeeded.
 fn add_sent(answer: &mut Answer, streams: &mut MemoryStreams, bytes: &[u8]) {
     if let Some(byte) = bytes.first() {
         add_done(answer, streams.write(*byte).is_ok());
     }
 }
 
-/// Does what a line says, and adds what it answers.
+/// Makes the call that a line describes, and appends its result.
 fn act(answer: &mut Answer, streams: &mut MemoryStreams, line: &str) {
     let (action, rest) = line.split_once(' ').unwrap_or((line, ""));
     let (side, value) = rest.split_once(' ').unwrap_or((rest, ""));
@@ -94,13 +99,13 @@ fn act(answer: &mut Answer, streams: &mut MemoryStreams, line: &str) {
     }
 }
 
-/// The first line of a text, and what is after it.
+/// The first line of a text, and the rest.
 fn front(text: &str) -> (&str, &str) {
     text.split_once('\n').unwrap_or((text, ""))
 }
 
-/// Adds what streams over memory answer to each line: the first has the inputs, the second the outputs, the third how many bytes may be
-/// written.
+/// Appends the results of calls to streams in memory. The first line of the input has the inputs, the second the outputs, the third the
+/// number of bytes that may be written; then comes a line for each call.
 pub fn add_streams(answer: &mut Answer, input: &str) {
     let (first, input) = front(input);
     let (second, input) = front(input);
@@ -114,7 +119,7 @@ pub fn add_streams(answer: &mut Answer, input: &str) {
     }
 }
 
-/// Does what each of these lines says, and adds what they answer.
+/// Makes the calls that these lines describe, and appends their results.
 fn act_all(answer: &mut Answer, streams: &mut MemoryStreams, lines: &str) {
     for line in lines.lines() {
         answer.say("\n");
@@ -122,7 +127,7 @@ fn act_all(answer: &mut Answer, streams: &mut MemoryStreams, lines: &str) {
     }
 }
 
-/// Adds what streams answer to each of these lines, and what is written then.
+/// Makes the calls that these lines describe, and appends their results and what was written.
 fn add_acts(answer: &mut Answer, streams: &mut MemoryStreams, lines: &str) {
     answer.say("made");
     act_all(answer, streams, lines);

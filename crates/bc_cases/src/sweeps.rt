@@ -1,4 +1,4 @@
-//! Inputs with each byte replaced by each other one in turn.
+//! Cases that replace each byte of an input by every other one in turn, and count the answers.
 
 use crate::answer::Answer;
 use crate::escapes::expanded;
@@ -12,7 +12,7 @@ use bc_text::{TextError, read_all};
 use bc_text_items::Segment;
 use std::alloc::Global;
 
-/// How often each answer comes, and the sum of its places, or of segments and items.
+/// How often each answer occurs, the sum of the places of faults, and the numbers of segments and items.
 #[derive(Drop)]
 struct Tally {
     lawful: u64,
@@ -26,7 +26,7 @@ struct Tally {
 }
 
 impl Tally {
-    /// An answer more.
+    /// Counts an answer.
     fn add(&mut self, got: Result<Vec<Segment>, TextError>) {
         match got {
             Ok(segments) => self.add_lawful(segments.as_slice()),
@@ -34,6 +34,7 @@ impl Tally {
         }
     }
 
+    /// Counts a text that was read.
     fn add_lawful(&mut self, segments: &[Segment]) {
         count(&mut self.lawful);
         for segment in segments {
@@ -42,6 +43,7 @@ impl Tally {
         }
     }
 
+    /// Counts a fault.
     fn add_fault(&mut self, fault: &TextError) {
         match fault {
             TextError::BadCharacter(_) => count(&mut self.characters),
@@ -54,7 +56,7 @@ impl Tally {
     }
 }
 
-/// The place of a fault that has one, or 0.
+/// The place of a fault, or 0 if it has none.
 fn place_of(fault: &TextError) -> u64 {
     match fault {
         TextError::BadCharacter(at) | TextError::BadNumber(at) | TextError::MissingLabel(at) => *at,
@@ -62,7 +64,7 @@ fn place_of(fault: &TextError) -> u64 {
     }
 }
 
-/// Puts a byte at a place, and gives the one that stood there.
+/// Replaces the byte at an index, and returns the old one.
 fn put(bytes: &mut Vec<u8>, at: usize, byte: u8) -> u8 {
     match bytes.get_mut(at) {
         Some(cell) => {
@@ -74,7 +76,7 @@ fn put(bytes: &mut Vec<u8>, at: usize, byte: u8) -> u8 {
     }
 }
 
-/// Adds to a tally how the texts are answered that differ from this one in the byte at a place.
+/// Counts the answers to all texts that differ from this one only in the byte at this index.
 fn try_texts_at(alloc: Global, tally: &mut Tally, bytes: &mut Vec<u8>, at: usize) {
     for byte in 0..=u8::MAX {
         let old = put(bytes, at, byte);
@@ -85,7 +87,7 @@ fn try_texts_at(alloc: Global, tally: &mut Tally, bytes: &mut Vec<u8>, at: usize
     }
 }
 
-/// Adds how the texts are answered that differ from this one in a byte.
+/// Appends how often each answer occurs among all texts that differ from the input in one byte.
 pub fn add_texts(answer: &mut Answer, input: &str) {
     let mut bytes = text_of(&mut answer.growth, input);
     let mut tally = Tally {
@@ -104,6 +106,7 @@ pub fn add_texts(answer: &mut Answer, input: &str) {
     add_tally(answer, &tally);
 }
 
+/// Appends the counts.
 fn add_tally(answer: &mut Answer, tally: &Tally) {
     answer.sentence(
         "{} lawful, with {} segments and {} items\n",
@@ -128,7 +131,7 @@ struct Sum {
     words: u64,
 }
 
-/// What these entries come to.
+/// The number of these entries and the sum of their words.
 fn sum_of(entries: &[Judged]) -> Sum {
     let mut words: u64 = 0;
     for entry in entries {
@@ -140,7 +143,7 @@ fn sum_of(entries: &[Judged]) -> Sum {
     }
 }
 
-/// What a certificate that is accepted comes to.
+/// The same for an accepted certificate. None if it is refused.
 fn verdict(alloc: Global, bytes: &[u8]) -> Option<Sum> {
     match check(alloc, bytes) {
         Ok(verdict) => Some(sum_of(verdict.entries.as_slice())),
@@ -148,7 +151,7 @@ fn verdict(alloc: Global, bytes: &[u8]) -> Option<Sum> {
     }
 }
 
-/// Whether a certificate is accepted and comes to this.
+/// Whether a certificate is accepted with this number of entries and words.
 fn has_verdict(alloc: Global, bytes: &[u8], wanted: Sum) -> bool {
     match verdict(alloc, bytes) {
         Some(sum) => sum.entries == wanted.entries && sum.words == wanted.words,
@@ -156,7 +159,7 @@ fn has_verdict(alloc: Global, bytes: &[u8], wanted: Sum) -> bool {
     }
 }
 
-/// How many of the certificates that differ from this one in the byte at a place are accepted with as many entries and words.
+/// How many certificates that differ from this one only in the byte at this index are accepted with as many entries and words.
 fn count_accepted_at(alloc: Global, bytes: &mut Vec<u8>, at: usize, wanted: Sum) -> u64 {
     let mut accepted: u64 = 0;
     for byte in 0..=u8::MAX {
@@ -169,7 +172,7 @@ fn count_accepted_at(alloc: Global, bytes: &mut Vec<u8>, at: usize, wanted: Sum)
     accepted
 }
 
-/// Adds how many of the certificates that differ from this one in a byte are accepted with as many entries and words.
+/// Appends how many certificates that differ from this one in one byte are accepted with as many entries and words.
 fn add_accepted(answer: &mut Answer, bytes: &mut Vec<u8>, wanted: Sum) {
     let mut accepted: u64 = 0;
     for at in 0..bytes.len() {
@@ -178,7 +181,7 @@ fn add_accepted(answer: &mut Answer, bytes: &mut Vec<u8>, wanted: Sum) {
     answer.sentence("{} accepted", &[accepted]);
 }
 
-/// The same, for the certificate that an input is.
+/// Appends the same for the certificate in an input, or that it is refused.
 pub fn add_certificates(answer: &mut Answer, input: &str) {
     let mut bytes = expanded(&mut answer.growth, input);
     match verdict(answer.alloc(), bytes.as_slice()) {
@@ -187,7 +190,7 @@ pub fn add_certificates(answer: &mut Answer, input: &str) {
     }
 }
 
-/// Whether the library with these bytes as BLIB has tokens.
+/// Whether this text, as BLIB, has tokens.
 fn has_tokens(alloc: Global, text: &[u8]) -> bool {
     let sources = [
         Source {
@@ -202,7 +205,7 @@ fn has_tokens(alloc: Global, text: &[u8]) -> bool {
     lex(alloc, &sources, 0).is_ok()
 }
 
-/// How many of the texts have tokens that are BLIB with any byte at a place.
+/// How many of the 256 texts that are BLIB with any byte at this index have tokens.
 fn count_texts_at(alloc: Global, bytes: &mut Vec<u8>, at: usize) -> u64 {
     let mut accepted: u64 = 0;
     for byte in 0..=u8::MAX {
@@ -215,7 +218,7 @@ fn count_texts_at(alloc: Global, bytes: &mut Vec<u8>, at: usize) -> u64 {
     accepted
 }
 
-/// How many of the texts have tokens that are BLIB with any byte at a place from one to another.
+/// The same for all indexes from `from` to before `to`.
 fn count_texts(growth: &mut Growth, from: usize, to: usize) -> u64 {
     let bytes = Vec::from_slice(growth.alloc(), BLIB.as_bytes());
     let mut bytes = growth.list(bytes);
@@ -226,7 +229,7 @@ fn count_texts(growth: &mut Growth, from: usize, to: usize) -> u64 {
     accepted
 }
 
-/// Adds whether over 10,000 of the texts have tokens that are BLIB with any byte at a place from one to another.
+/// Appends whether more than 10,000 of these texts have tokens. The two indexes are in the input.
 pub fn add_sources(answer: &mut Answer, input: &str) {
     let mut places = input.split_whitespace();
     let from = usize::from(short(next(&mut places)));

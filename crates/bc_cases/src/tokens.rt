@@ -1,3 +1,5 @@
+//! Cases about tokens: the library's, and whether the text of tokens has these tokens again.
+
 use crate::answer::Answer;
 use crate::growth::Growth;
 use crate::linking::text_of;
@@ -8,16 +10,16 @@ use bc_library::{BLIB, LIBHDR};
 use bc_parse_tree::render;
 use std::alloc::Global;
 
-/// What is answered of tokens.
+/// A question about tokens.
 #[derive(Clone, Copy)]
 pub enum OfTokens {
     /// How many there are of each kind.
     Counts,
-    /// Their text, where it has the same tokens and no line break.
+    /// Their text, if it has the same tokens and no line break.
     Rendered,
 }
 
-/// The tokens of a text.
+/// The tokens of a text, which may get LIBHDR.
 fn tokens_of<'s>(alloc: Global, text: &'s [u8]) -> Result<Vec<Token<'s>>, LexError> {
     let library = Source {
         name: b"LIBHDR",
@@ -26,6 +28,7 @@ fn tokens_of<'s>(alloc: Global, text: &'s [u8]) -> Result<Vec<Token<'s>>, LexErr
     lex(alloc, &[Source { name: b"A", text }, library], 0)
 }
 
+/// Appends the answer about tokens.
 fn add_told(answer: &mut Answer, what: OfTokens, tokens: &[Token<'_>]) {
     match what {
         OfTokens::Counts => add_counts(answer, tokens),
@@ -33,7 +36,7 @@ fn add_told(answer: &mut Answer, what: OfTokens, tokens: &[Token<'_>]) {
     }
 }
 
-/// Adds what is answered of the tokens of a text, or their fault.
+/// Appends the answer about the tokens of a text, or its fault.
 fn add_of_text(answer: &mut Answer, what: OfTokens, text: &[u8]) {
     match tokens_of(answer.alloc(), text) {
         Ok(tokens) => add_told(answer, what, tokens.as_slice()),
@@ -41,13 +44,13 @@ fn add_of_text(answer: &mut Answer, what: OfTokens, text: &[u8]) {
     }
 }
 
-/// Adds what is answered of the tokens of an input.
+/// Appends the text of an input's tokens, if it has the same tokens again.
 pub fn add_text(answer: &mut Answer, input: &str) {
     let text = text_of(&mut answer.growth, input);
     add_of_text(answer, OfTokens::Rendered, text.as_slice());
 }
 
-/// Adds how many bytes a text of the library has, and how many tokens of each kind.
+/// Appends the number of bytes of LIBHDR or BLIB, and of its tokens of each kind.
 pub fn add_library(answer: &mut Answer, input: &str) {
     let text = if input.starts_with("LIBHDR") {
         LIBHDR
@@ -68,7 +71,7 @@ struct Counts {
 }
 
 impl Counts {
-    /// A token more.
+    /// Counts a token.
     fn add(&mut self, kind: &TokenKind<'_>) {
         match kind {
             TokenKind::Symbol(_) => {}
@@ -80,6 +83,7 @@ impl Counts {
     }
 }
 
+/// Appends how many tokens there are of each kind.
 fn add_counts(answer: &mut Answer, tokens: &[Token<'_>]) {
     let mut counts = Counts {
         names: 0,
@@ -93,6 +97,7 @@ fn add_counts(answer: &mut Answer, tokens: &[Token<'_>]) {
     add_all_counts(answer, &counts, tokens.len());
 }
 
+/// Appends these counts.
 fn add_all_counts(answer: &mut Answer, counts: &Counts, all: usize) {
     answer.sentence(
         "{} tokens: {} names, {} numbers, {} characters, {} strings",
@@ -106,6 +111,7 @@ fn add_all_counts(answer: &mut Answer, counts: &Counts, all: usize) {
     );
 }
 
+/// The kinds of tokens, which are all that a text of tokens needs.
 fn kinds_of<'s>(growth: &mut Growth, tokens: &[Token<'s>]) -> Vec<TokenKind<'s>> {
     let mut kinds = Vec::new(growth.alloc());
     for token in tokens {
@@ -114,7 +120,7 @@ fn kinds_of<'s>(growth: &mut Growth, tokens: &[Token<'s>]) -> Vec<TokenKind<'s>>
     kinds
 }
 
-/// Whether tokens are of these kinds, with no line break.
+/// Whether the tokens have these kinds, and none follows a line break.
 fn has_kinds(tokens: &[Token<'_>], kinds: &[TokenKind<'_>]) -> bool {
     if tokens.len() != kinds.len() {
         return false;
@@ -127,7 +133,7 @@ fn has_kinds(tokens: &[Token<'_>], kinds: &[TokenKind<'_>]) -> bool {
     true
 }
 
-/// Adds a text, where it has these tokens.
+/// Appends a text if its tokens have these kinds.
 fn add_same(answer: &mut Answer, text: &[u8], tokens: &[Token<'_>], kinds: &[TokenKind<'_>]) {
     if has_kinds(tokens, kinds) {
         answer.bytes(text);
@@ -136,7 +142,7 @@ fn add_same(answer: &mut Answer, text: &[u8], tokens: &[Token<'_>], kinds: &[Tok
     }
 }
 
-/// Adds a text, where it is read as tokens of these kinds.
+/// Appends a text if it lexes to tokens of these kinds.
 fn add_read_again(answer: &mut Answer, text: &[u8], kinds: &[TokenKind<'_>]) {
     let source = Source { name: b"A", text };
     match lex(answer.alloc(), &[source], 0) {
@@ -145,6 +151,7 @@ fn add_read_again(answer: &mut Answer, text: &[u8], kinds: &[TokenKind<'_>]) {
     }
 }
 
+/// Appends the text of tokens, if it has the same tokens again.
 fn add_rendered(answer: &mut Answer, tokens: &[Token<'_>]) {
     let kinds = kinds_of(&mut answer.growth, tokens);
     let text = render(answer.alloc(), kinds.as_slice());

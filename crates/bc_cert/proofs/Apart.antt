@@ -1,4 +1,4 @@
--- Of the entries before the present ones a step asks only how many there are.
+-- A step depends only on the number of entries before the current one, so dropped entries can be replaced by placeholders.
 use Rattle.std.proofs.Common.{◌≡◌, ℕ, ◌+◌, ◌≤◌, ◌==◌, Bool, true, false, cond, List, [], ◌∷◌, ◌++◌, length, Option, Some, None, Result, Ok, Err, refl, ap, sym, ◌∙◌, subst, arith, append_assoc, length-append}
 use Rattle.std.proofs.lemmas.List.{append_cancel_left, length-replicate}
 use Rattle.bc_rules_defs.specs.declared.rule.Table.{Table}
@@ -22,7 +22,7 @@ one_more n = omega arith
 no_fewer : (n m : ℕ) → n ≤ n + m
 no_fewer n m = omega arith
 
--- both go on to this state, each after its own entries, or both have this fault
+-- both lead to this state, each after its own entries, or both have this fault
 abbrev Both : (p q : List Judged) → ℕ → Result State CheckFault → Result State CheckFault → Type 0
 Both p q n (Ok t) (Ok u) = (s : State) × (t ≡ following p s) × (u ≡ following q s) × (length s.entries ≤ n)
 Both p q n (Err f) (Err g) = f ≡ g
@@ -84,7 +84,7 @@ line_both p q h line st =
     subst (λ at. Both p q (length st.entries + 1) (step_at st.stage line (place_of (counted (following p st))) (following p (counted st))) (step_at st.stage line at (following q (counted st)))) same
     (step_both p q st.stage line (place_of (counted (following p st))) (counted st))
 
--- the same of bytes
+-- the same for bytes
 abbrev BothFed : (p q : List Judged) → ℕ → Result (State × List ℕ) CheckFault → Result (State × List ℕ) CheckFault → Type 0
 BothFed p q n (Ok t) (Ok u) = (s : State × List ℕ) × (t ≡ fed_after p s) × (u ≡ fed_after q s) × (length s.0.entries ≤ n)
 BothFed p q n (Err f) (Err g) = f ≡ g
@@ -134,7 +134,7 @@ same_after p s t h =
     let entries : s.0.entries ≡ t.0.entries = append_cancel_left p s.0.entries t.0.entries (ap (λ x. x.0.entries) h) in
     ap (λ es. with_entries es s) entries ∙ ap (λ x. with_entries t.0.entries x) h
 
--- bytes lead on from these entries as from others that are as many
+-- bytes have the same effect after any entries of the same number
 pub fed_apart : (n : ℕ) (js : List Judged) (bs : List ℕ) (s t : State × List ℕ) → length js ≡ n → feed_from bs (fed_after (gone n) s) ≡ Ok (fed_after (gone n) t) → (feed_from bs (fed_after js s) ≡ Ok (fed_after js t)) × (length t.0.entries ≤ length s.0.entries + length bs)
 fed_apart n js bs s t h e = by_result (feed_from bs (fed_after js s)) refl (subst (λ r. BothFed (gone n) js (length s.0.entries + length bs) r (feed_from bs (fed_after js s))) e (feed_both (gone n) js (length-replicate n no_entry ∙ sym h) bs s)) where
   by_result : (x : Result (State × List ℕ) CheckFault) → feed_from bs (fed_after js s) ≡ x → BothFed (gone n) js (length s.0.entries + length bs) (Ok (fed_after (gone n) t)) x → (feed_from bs (fed_after js s) ≡ Ok (fed_after js t)) × (length t.0.entries ≤ length s.0.entries + length bs)
@@ -145,7 +145,7 @@ fed_apart n js bs s t h e = by_result (feed_from bs (fed_after js s)) refl (subs
       )
   by_result (Err g) i k = absurd k
 
--- and have the same fault
+-- and they have the same fault
 pub fails_apart : (n : ℕ) (js : List Judged) (bs : List ℕ) (s : State × List ℕ) (f : CheckFault) → length js ≡ n → Fails f (feed_from bs (fed_after (gone n) s)) → Fails f (feed_from bs (fed_after js s))
 fails_apart n js bs s f h bad = by_fault f bad where
   found : (g : CheckFault) (r x : Result (State × List ℕ) CheckFault) → BothFed (gone n) js (length s.0.entries + length bs) r x → r ≡ Err g → x ≡ Err g

@@ -1,4 +1,4 @@
--- The code of a derivation, by its rules alone.
+-- The code of a derivation depends only on its rules.
 use Rattle.std.proofs.Common.{◌≡◌, ℕ, ◌+◌, ◌<◌, ◌≤◌, Bool, true, false, List, Option, Some, None, cond, refl, ap, sym, ◌∙◌, arith}
 use Rattle.std.specs.Prelude.{nat_le}
 use Rattle.std.specs.Option.{SomeIff}

@@ -1,4 +1,4 @@
--- Whether a tree of rules is a derivation.
+-- The test whether a tree of rules is a derivation of a root.
 use Rattle.std.proofs.Common.{◌≡◌, Bool, true, false, IsTrue, ap, sym, ◌∙◌, refl}
 use Rattle.std.specs.Prelude.{◌↔◌}
 use Rattle.bc_core.specs.Tree.{Root}

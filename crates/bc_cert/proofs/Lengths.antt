@@ -1,4 +1,4 @@
--- Codes of other lengths are not the same.
+-- Codes of different lengths differ.
 use Rattle.std.proofs.Common.{◌≡◌, ℕ, ◌+◌, ◌++◌, ap, sym, ◌∙◌, append_assoc, length-append, Bool, true, false, List, [], ◌∷◌, map, length, cond, refl, arith}
 use Rattle.std.proofs.lemmas.List.{length-replicate, map-append}
 use Rattle.bc_cert_defs.specs.declared.verdict.Judged as code
@@ -21,7 +21,7 @@ pub seen_length : {A B : Type 0} (f : A → B) (xs : List A) → length (map f x
 seen_length f [] = refl
 seen_length f (x ∷ xs) = let h : length (map f xs) ≡ length xs = seen_length f xs in omega arith
 
--- entries that were drop count, and one more stands after all
+-- dropped entries are counted, and a new entry comes after all others
 pub counted_length : (n : ℕ) (es : List code.Judged) → length (gone n ++ map judged es) ≡ n + length es
 counted_length n es = length-append (gone n) (map judged es) ∙ ap (λ k. k + length (map judged es)) (length-replicate n no_entry) ∙ ap (λ k. n + k) (seen_length judged es)
 

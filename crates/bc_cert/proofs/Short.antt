@@ -1,11 +1,11 @@
--- A certificate that is taken to its end is no longer than one may be.
+-- An accepted certificate isn't longer than the limit.
 use Rattle.std.proofs.Common.{◌≡◌, ◌∙◌, ℕ, ◌+◌, ◌-◌, ◌≤◌, List, [], ◌++◌, Option, Some, None, length, length-append, length-take, take, refl, ap, append-nil, arith}
 use Rattle.std.specs.Option.{IfSome}
 use Rattle.std.specs.Io.KnownBytes.{Consumes, IsAtEnd}
 use Rattle.bc_cert.specs.Answer.{limit}
 use Rattle.bc_cert.proofs.Steps.{consumes_more}
 
--- what was read leaves so many of the bytes that a certificate may have
+-- how many bytes may still be read
 abbrev pub Leaves : Option (List ℕ) → Option (List ℕ) → ℕ → Type 0
 Leaves known left n = (bytes : List ℕ) × Consumes known left bytes × (length bytes + n ≤ limit)
 

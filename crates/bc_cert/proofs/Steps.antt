@@ -1,4 +1,4 @@
--- Steps of lines and of bytes.
+-- Feeding bytes: line by line is the same as byte by byte, and it doesn't matter how the bytes are cut into pieces.
 use Rattle.std.proofs.Common.{◌≡◌, ℕ, ◌≤◌, ◌==◌, Bool, true, false, cond, List, [], ◌∷◌, ◌++◌, Option, Some, None, Result, Ok, Err, take, drop, refl, ap, sym, ◌∙◌, subst, append_assoc, append-nil}
 use Rattle.std.specs.Option.{IfSome}
 use Rattle.std.specs.Io.KnownBytes.{Consumes, IsAtEnd}
@@ -28,7 +28,7 @@ bind_along : {A B : Type 0} (r : Result A CheckFault) (f g : A → Result B Chec
 bind_along (Ok x) f g h = h x
 bind_along (Err e) f g h = refl
 
--- bytes are taken one after another, however they are cut
+-- it doesn't matter where bytes are cut
 pub feed_append : (xs ys : List ℕ) (s : State × List ℕ) → feed_from (xs ++ ys) s ≡ feed_from xs s >>= (λ t. feed_from ys t)
 feed_append [] ys s = refl
 feed_append (x ∷ xs) ys s =
@@ -41,7 +41,7 @@ fed_more xs ys s t u h i = feed_append xs ys s ∙ ap (λ r. r >>= (λ x. feed_f
 pub fed_fault : (xs ys : List ℕ) (s t : State × List ℕ) (f : CheckFault) → feed_from xs s ≡ Ok t → feed_from ys t ≡ Err f → feed_from (xs ++ ys) s ≡ Err f
 fed_fault xs ys s t f h i = feed_append xs ys s ∙ ap (λ r. r >>= (λ x. feed_from ys x)) h ∙ i
 
--- a fault of a line stays, whatever comes after it
+-- a fault of a line remains, whatever follows
 fault_stays : (xs more : List ℕ) (f : CheckFault) → feed_from xs (start, []) ≡ Err f → judged (xs ++ more) ≡ Err f
 fault_stays xs more f h = ap (λ r. r >>= (λ t. finished t)) (feed_append xs more (start, []) ∙ ap (λ r. r >>= (λ x. feed_from more x)) h)
 

@@ -1,4 +1,4 @@
--- Sums of entries that are no longer kept.
+-- The sums of entries that were dropped.
 use Rattle.std.proofs.Common.{◌≡◌, ℕ, ◌+◌, ◌-◌, ◌^◌, ◌≤◌, List, [], ◌∷◌, ◌++◌, Option, Some, None, Result, Ok, Err, length, take, min, refl, ap, sym, ◌∙◌, subst, arith, append-nil, length-append}
 use Rattle.std.specs.Prelude.{IfOk}
 use Rattle.std.specs.Io.KnownBytes.{Consumes, IsAtEnd}
@@ -29,7 +29,7 @@ capped n (j ∷ js) h = capped (min (n + j.words) (2 ^ 64 - 1)) js (below (n + j
 no_words : (n : ℕ) → n ≡ 0 → n ≡ min 0 (2 ^ 64 - 1)
 no_words n h = omega (arith, h)
 
--- these bytes lead to this state after so many entries, which have these words in all
+-- these bytes lead to this state after this number of entries with these words altogether
 pub record Found (known left : Option (List ℕ)) (s : State × List ℕ) (passed words : ℕ) : Type 0 where
   pub bytes : List ℕ
   pub entries : List Judged
@@ -52,7 +52,7 @@ found_none known s passed words h i j = record {
   consumed = consumes_none known;
 }
 
--- with the entries of a piece, which are drop then
+-- the same with the entries of one more piece, which are dropped afterwards
 pub found_more : (known middle left : Option (List ℕ)) (s t : State × List ℕ) (passed words more : ℕ) (now : List ℕ) (kept count : ℕ) → kept ≡ count → Found known middle s passed words → Consumes middle left (take count now) → s.0.entries ≡ []
     → feed_from (take kept now) (fed_after (gone passed) s) ≡ Ok (fed_after (gone passed) t) → more ≡ summed words t.0.entries → Found known left (record t.0 { entries = [] }, t.1) (passed + length t.0.entries) more
 found_more known middle left s t passed words more now kept count same f taken none e sum =
@@ -114,6 +114,6 @@ pub found_answer : (known middle left : Option (List ℕ)) (s : State × List �
 found_answer known middle left s passed words now count (Ok x) none d taken end no_more h sums = found_verdict known middle left s passed words now count x none d taken end no_more h sums.0 sums.1
 found_answer known middle left s passed words now count (Err f) none d taken end no_more h sums = found_end known middle left s passed words now count f none d taken end h
 
--- where none was drop, the entries at hand are all
+-- if none was dropped, the kept entries are all entries
 pub own_is_fed : (c : Checker) → c.passed ≡ 0 → (own c, c.line.items) ≡ fed c
 own_is_fed c h = ap (λ n. (following (gone n) (own c), c.line.items)) (sym h)

@@ -6,7 +6,7 @@ use Rattle.bc_cert_defs.specs.Verdict.{Judged, Verdict}
 use Rattle.bc_cert.specs.declared.sums.Sums.{Sums}
 use Rattle.bc_cert.specs.Answer.{AreSums}
 
--- an entry of so many words
+-- an entry with this number of words
 abbrev of_words : ℕ → Judged
 of_words n = record { segment = 0; item = 0; root = Value 2 (Num 0); target = 0; first = 0; code = []; words = n }
 
@@ -21,14 +21,14 @@ two = record { table = Two; entries = of_words 4 ∷ of_words 3 ∷ [] }
 seven : AreSums (record { table = Two; entries = 2; words = 7 }) two
 seven = record { table = refl; entries = refl; words = refl }
 
--- no other number of words is their sum, and no other number is that of the entries
+-- another number isn't the sum of their words, and another one isn't the number of entries
 not_eight : AreSums (record { table = Two; entries = 2; words = 8 }) two → ⊥
 not_eight sums = absurd (let same : 8 ≡ 7 = sums.words in cc)
 
 not_one : AreSums (record { table = Two; entries = 1; words = 7 }) two → ⊥
 not_one sums = absurd (let same : 1 ≡ 2 = sums.entries in cc)
 
--- more words than a number of 64 bits has room for
+-- more words than fit into 64 bits
 abbrev many : Verdict
 many = record { table = Two; entries = of_words (2 ^ 64 - 2) ∷ of_words 3 ∷ [] }
 

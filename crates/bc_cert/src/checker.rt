@@ -1,4 +1,4 @@
-// What a check has found so far.
+//! The state of a check, which judges one line after another as bytes arrive.
 
 ghost use Rattle.std.specs.Prelude.{◌≡◌, ◌≤◌, ◌<◌, ◌+◌, ◌^◌, ◌++◌, map, length, [], Ok, OnOk, IfOk};
 ghost use Rattle.bc_cert_defs.specs.View.{judged as judged_of, verdict as verdict_of};
@@ -12,34 +12,36 @@ use crate::ends::first_line;
 use crate::stage::Stage;
 use crate::sums::Sums;
 use bc_cert_defs::{CheckFault, Head, Judged, Verdict};
-use bc_cert_read::{end_line, entry_line, header, node_line, root_line};
-use bc_cert_read::{Position, Rooted, Stack};
+use bc_cert_read::{Position, Rooted, Stack, end_line, entry_line, header, node_line, root_line};
 use bc_rules_defs::Table;
 use bc_word::Memory;
 use std::alloc::Global;
 use std::mem;
 
-/// What a check has found so far, over the lines that were read.
+/// The state of a check. After a call that returned a fault it has no meaning.
 #[derive(Drop)]
 pub struct Checker {
     alloc: Global,
-    /// The line at work, as far as it was read.
+    /// The bytes of the incomplete line at the end of the input read up to here.
     pub line: Vec<u8>,
-    /// How many whole lines stand before it.
+    /// The number of complete lines before it.
     pub lines: u64,
+    /// The rule table that the header names.
     pub table: Table,
+    /// The accepted entries that weren't dropped.
     pub entries: Vec<Judged>,
-    /// How many entries, before these, were drop.
+    /// The number of accepted entries before these that were dropped by `forget`.
     pub passed: u32,
+    /// Which line may come next.
     pub stage: Stage,
-    /// The trees of the present entry that no whole has taken yet.
+    /// The trees of the current entry that aren't parts of another one yet.
     pub trees: Stack,
-    /// How many node lines the present entry has so far.
+    /// The number of node lines of the current entry up to here.
     pub nodes: u64,
 }
 
 impl Checker {
-    /// Nothing was read.
+    /// The state before the first byte.
     pub fn new(alloc: Global) -> Checker
         ensures exact { fed result ≡ (start, []) }
         ensures parallel { AreParallel (state result).trees }
@@ -59,7 +61,10 @@ impl Checker {
         }
     }
 
-    /// The next bytes. Each line that they end is judged.
+    /// Takes the next bytes of the input, and judges each line that they complete.
+    ///
+    /// Returns the fault of the first line that has one, or `Memory` if an allocation fails. A line is judged where it lies in `bytes`; it
+    /// is copied only if it continues in the next bytes.
     pub fn feed(&mut self, bytes: &[u8]) -> Result<(), CheckFault>
         requires parallel { AreParallel (state self.old).trees }
         requires few { self.old.lines + length bytes.now < 2 ^ 62 }
@@ -85,7 +90,7 @@ impl Checker {
         Ok(())
     }
 
-    /// Bytes of a line that goes on after them.
+    /// Keeps bytes of a line that continues in the next ones.
     fn keep(&mut self, bytes: &[u8]) -> Result<(), CheckFault>
         ensures exact { Steps (fed self.new) result (Ok (state self.old, self.old.line.items ++ bytes.now)) }
         ensures trees { OnOk result (stack_of self.new.trees ≡ stack_of self.old.trees) }
@@ -96,7 +101,7 @@ impl Checker {
         Ok(())
     }
 
-    /// The end of the line at work, and its last bytes.
+    /// Judges the incomplete line, completed by its last bytes.
     #[tactic(auto, using(crate::proofs::Steps::fails_more))]
     fn end(&mut self, last: &[u8]) -> Result<(), CheckFault>
         requires parallel { AreParallel (state self.old).trees }
@@ -121,8 +126,8 @@ impl Checker {
         Ok(())
     }
 
-    /// Lets go of the entries that are at hand: from now on they are counted, and no more. Answers the sum of these words and theirs,
-    /// or 2^64 - 1 where it is more than that.
+    /// Drops the entries that are kept; from now on only their number counts. Returns the sum of `words` and the entries' words, at most
+    /// 2^64 - 1.
     pub fn forget(&mut self, words: u64) -> u64
         requires few { self.old.passed + length self.old.entries.items < 2 ^ 32 }
         ensures own { own self.new ≡ record (own self.old) { entries = [] } }
@@ -136,7 +141,8 @@ impl Checker {
         words
     }
 
-    /// Whether the input may end here.
+    /// Whether the input may end here. Returns `Header` if no line is complete, and `Truncated` if there is no end line or an incomplete
+    /// line follows it.
     fn ended(&self) -> Result<(), CheckFault>
         ensures { Gives (λ _. verdict_so_far self.now) result (finished (own self.now, self.now.line.items)) }
     {
@@ -153,7 +159,7 @@ impl Checker {
         }
     }
 
-    /// The verdict over the entries that are at hand, at the end of the input.
+    /// The verdict at the end of the input, with the entries that are kept. Returns the same faults as `ended`.
     pub fn finish(self) -> Result<Verdict, CheckFault>
         ensures { Gives verdict_of result (finished (own self, self.line.items)) }
     {
@@ -164,7 +170,7 @@ impl Checker {
         })
     }
 
-    /// The sums, at the end of the input: the words in all are these.
+    /// The sums at the end of the input. The caller has added up the words with `forget`. Returns the same faults as `ended`.
     pub fn sums(self, words: u64) -> Result<Sums, CheckFault>
         ensures exact { Gives (λ sums. table_alone sums (own self)) result (finished (own self, self.line.items)) }
         ensures sums { IfOk result (λ sums. (sums.entries ≡ self.passed) × (sums.words ≡ words)) }
@@ -177,7 +183,7 @@ impl Checker {
         })
     }
 
-    /// Where the line at work stands, which was counted.
+    /// The place of the line that is judged, which `lines` already counts.
     #[tactic(auto, using(crate::proofs::Lengths::counted_length))]
     fn place(&self) -> Position
         ensures { result ≡ place_of (state self.now) }
@@ -189,7 +195,7 @@ impl Checker {
         }
     }
 
-    /// Judges a line.
+    /// Judges a complete line, given without its LF.
     fn judge(&mut self, line: &[u8]) -> Result<(), CheckFault>
         requires parallel { AreParallel (state self.old).trees }
         requires few { self.old.lines < 2 ^ 62 }
@@ -213,7 +219,7 @@ impl Checker {
         }
     }
 
-    /// The first line.
+    /// Judges the first line.
     fn begin(&mut self, line: &[u8]) -> Result<(), CheckFault>
         ensures exact { Steps (state self.new) result (begin_step line.now (state self.old)) }
         ensures kept { OnOk result (Kept self.old self.new) }
@@ -228,7 +234,7 @@ impl Checker {
         }
     }
 
-    /// An `E` line or the `Z` line.
+    /// Judges an `E` line or the `Z` line.
     fn between(&mut self, line: &[u8], place: Position) -> Result<(), CheckFault>
         ensures exact { Steps (state self.new) result (between_step line.now place (state self.old)) }
         ensures line { OnOk result (self.new.line.items ≡ self.old.line.items) }
@@ -260,7 +266,7 @@ impl Checker {
         }
     }
 
-    /// A node line or a root line.
+    /// Judges a node line or a root line.
     fn within(&mut self, head: Head, line: &[u8], place: Position) -> Result<(), CheckFault>
         requires parallel { AreParallel (state self.old).trees }
         requires few { self.old.nodes < 2 ^ 62 }
@@ -290,7 +296,7 @@ impl Checker {
         }
     }
 
-    /// The code line.
+    /// Judges a code line.
     #[tactic(auto, using(crate::proofs::Lengths::entries_pushed))]
     fn code(
         &mut self,
@@ -309,14 +315,14 @@ impl Checker {
     }
 }
 
-/// A root in a box.
+/// Boxes a root. Dropping a large enum by value is expensive to prove, so `Stage` holds its root in a box.
 fn boxed(alloc: Global, rooted: Rooted) -> Result<Box<Rooted>, Memory>
     ensures { IfOk result (λ new. rooted_of new.value ≡ rooted_of rooted) }
 {
     Ok(Box::new(alloc, rooted)?)
 }
 
-/// These words and those of entries, or 2^64 - 1 where they are more.
+/// The sum of `words` and the entries' words, at most 2^64 - 1.
 fn sum_from(words: u64, entries: &[Judged]) -> u64
     ensures { result ≡ summed words (map judged_of entries.now) }
 {

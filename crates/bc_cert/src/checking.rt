@@ -1,4 +1,4 @@
-// Checking a certificate that a reader gives.
+//! Checks a certificate from a reader and returns its verdict.
 
 ghost use Rattle.std.specs.Prelude.{OnOk};
 ghost use Rattle.bc_cert.specs.Answer.{IsAnswer, IsShort};
@@ -8,18 +8,18 @@ use bc_cert_defs::{CheckFault, Verdict};
 use std::alloc::Global;
 use std::io::Read;
 
-/// The most bytes that a certificate may have.
+/// The greatest number of bytes of a certificate, 2^30.
 pub const LIMIT: usize = 1_073_741_824;
 
-/// Checks a certificate, which it reads once and line by line.
+/// Checks a certificate, which is read once, in pieces of 4096 bytes, and returns what it says.
 ///
-/// It answers what the certificate says, or the first fault in it. Each line is judged before more is read, so a
-/// fault of a line comes before a failure of `input` after it. `Read` comes where `input` failed, or gave
-/// more than 2^30 bytes, and `Memory` where an allocation was refused.
+/// Returns the first fault if the bytes aren't an accepted certificate, `Read` if `input` fails or has more than 2^30 bytes, and
+/// `Memory` if an allocation fails. The lines of a piece are judged before more is read, so a fault of a line takes precedence over a
+/// later failure of `input`.
 pub fn check<R: Read + Drop>(alloc: Global, mut input: R) -> Result<Verdict, CheckFault>
     ensures answer { IsAnswer (R.Read.remaining input) result }
 
-    // No longer one is taken.
+    // An accepted certificate has at most 2^30 bytes.
     ensures bound { OnOk result (IsShort (R.Read.remaining input)) }
 {
     let mut checker = Checker::new(alloc);

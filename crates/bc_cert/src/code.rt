@@ -1,4 +1,4 @@
-// Code lines.
+//! Judges the code line of an entry: the code must be that of the derivation that the node lines show.
 
 ghost use Rattle.std.specs.Prelude.{◌≡◌, IfOk};
 ghost use Rattle.bc_cert_defs.specs.View.{judged as judged_of};
@@ -13,8 +13,7 @@ ghost use Rattle.bc_cert_laws.specs.Judging.{same_item, same_piece, same_code, r
 ghost use Rattle.bc_cert.specs.View.{IsDerived};
 
 use bc_cert_defs::{CheckFault, Head, Judged};
-use bc_cert_read::code_line;
-use bc_cert_read::{Position, Rooted};
+use bc_cert_read::{Position, Rooted, code_line};
 use bc_core::Root;
 use bc_rules::{code_of, is_derivation_by, next_label, words};
 use bc_rules_defs::{Derivation, Piece, Table};
@@ -22,14 +21,14 @@ use bc_text_items::Item;
 use bc_word::Memory;
 use std::alloc::Global;
 
-/// Whether two items are the same.
+/// Whether two items are equal.
 fn is_same(item: Item, other: Item) -> bool
     ensures { result ≡ same_item item other }
 {
     item == other
 }
 
-/// Whether two pieces are the same, but for the number of items of a body.
+/// Whether two pieces are equal, except for the numbers of bodies.
 fn are_alike(piece: Piece, other: Piece) -> bool
     ensures { result ≡ same_piece piece other }
 {
@@ -45,7 +44,8 @@ fn are_alike(piece: Piece, other: Piece) -> bool
     }
 }
 
-/// Whether two codes are the same, but for the numbers of items of bodies.
+/// Whether two codes are equal, except for the numbers of bodies. A body's number is that of its items in a certificate, and that of
+/// the VALOF in a derivation's code.
 fn has_code(code: &[Piece], right: &[Piece]) -> bool
     ensures { result ≡ same_code code.now right.now }
 {
@@ -60,14 +60,14 @@ fn has_code(code: &[Piece], right: &[Piece]) -> bool
     true
 }
 
-/// Whether the rules are a derivation of the root.
+/// Whether the rules are a derivation of the root by this table.
 fn derives(table: Table, root: &Root, derivation: &Derivation) -> bool
     ensures { result ≡ root_fits table (root_of root.now) (tree derivation.now) }
 {
     is_derivation_by(table, root, derivation)
 }
 
-/// The code of a derivation of the root, where its labels have room.
+/// The code of the root's derivation. None if one of its labels would be over 65,535. Returns `Memory` if an allocation fails.
 fn right_code(alloc: Global, head: Head, rooted: &Rooted) -> Result<Option<Vec<Piece>>, Memory>
     requires { IsDerived (rooted_of rooted.now) }
     ensures { IfOk result (λ found. code found ≡ right_of head (rooted_of rooted.now)) }
@@ -87,7 +87,7 @@ fn right_code(alloc: Global, head: Head, rooted: &Rooted) -> Result<Option<Vec<P
     }
 }
 
-/// Whether a code is this one, of so many words.
+/// Compares a code with the right one and its words with the stated ones. Returns `WrongCode` or `WrongWords` if they differ.
 fn compared(
     head: Head,
     least: u128,
@@ -108,7 +108,10 @@ fn compared(
     }
 }
 
-/// Whether a code is that of the rules, which are a derivation.
+/// Whether a code is that of the root's rules.
+///
+/// `code_of` and `next_label` require a derivation, so that is checked first. The check always succeeds, as `bc_cert_laws` shows: the
+/// rules that judged node lines show make a derivation. So `WrongRule` is never returned here.
 fn fits(
     alloc: Global,
     table: Table,
@@ -129,7 +132,7 @@ fn fits(
     }
 }
 
-/// The code of an entry's code line.
+/// The pieces of a code line. Returns `Line` if it isn't one.
 fn read_code(alloc: Global, line: &[u8], place: Position) -> Result<Vec<Piece>, CheckFault>
     ensures { Gives (λ v. v.items) result (with_whole place (code_of_line line.now)) }
 {
@@ -139,7 +142,7 @@ fn read_code(alloc: Global, line: &[u8], place: Position) -> Result<Vec<Piece>, 
     }
 }
 
-/// The code of an entry's code line, where it is that of the rules.
+/// The pieces of a code line, if they are the code of the root's rules.
 fn judged_line(
     alloc: Global,
     table: Table,
@@ -155,7 +158,7 @@ fn judged_line(
     Ok(code)
 }
 
-/// An entry that was accepted.
+/// The accepted entry.
 fn accepted(head: Head, rooted: Box<Rooted>, code: Vec<Piece>) -> Judged
     ensures { judged_of result ≡ judged_with head (rooted_of rooted.value) code.items }
 {
@@ -171,7 +174,10 @@ fn accepted(head: Head, rooted: Box<Rooted>, code: Vec<Piece>) -> Judged
     }
 }
 
-/// Judges the code line of an entry.
+/// Judges the code line of an entry and returns the accepted entry.
+///
+/// Returns `Line` if it isn't a code line, `WrongCode` if the code isn't that of the rules or one of its labels would be over 65,535,
+/// `WrongWords` if the stated words aren't those of the code, and `Memory` if an allocation fails.
 pub fn judge_code(
     alloc: Global,
     table: Table,

@@ -1,10 +1,10 @@
-// The ends of lines.
+//! Splits bytes at the first LF.
 
 ghost use Rattle.std.specs.Prelude.{◌≡◌, ◌≤◌, ◌+◌, length, IfSome};
 ghost use Rattle.bc_cert_read.specs.Fields.{cut as cut_of};
 ghost use Rattle.bc_cert_read.specs.View.{cut as seen_cut};
 
-/// The bytes up to the first end of a line, and those after it, if there is one.
+/// The bytes before the first LF, and those after it. Without an LF: all bytes and None.
 #[inline(always)]
 pub fn first_line(text: &[u8]) -> (&[u8], Option<&[u8]>)
     ensures exact { seen_cut result ≡ cut_of 10 text.now }

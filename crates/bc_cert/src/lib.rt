@@ -1,4 +1,6 @@
-//! Certificates, checked by nothing but themselves.
+//! The checker of certificates. It needs only the bytes of a certificate, and answers what they say or their first fault.
+//!
+//! The crate also re-exports the comparison with segments and the writer, so that a caller needs only this crate.
 #![tactic(auto)]
 
 mod checker;

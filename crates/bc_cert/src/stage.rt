@@ -1,17 +1,19 @@
+//! Which line may come next.
+
 use bc_cert_defs::Head;
 use bc_cert_read::Rooted;
 
-/// What may come next.
+/// Which line may come next.
 #[derive(Drop)]
 pub enum Stage {
-    /// The first line.
+    /// The header.
     Header,
-    /// An entry, or the end.
+    /// The `E` line of an entry, or the end line.
     Between,
-    /// A node line or the root line of the entry.
+    /// A node line or the root line of the entry with this `E` line.
     Nodes(Head),
-    /// The code line of the entry.
+    /// The code line of the entry with this `E` line and root.
     Code(Head, Box<Rooted>),
-    /// Nothing.
+    /// No line: the end line was read.
     End,
 }

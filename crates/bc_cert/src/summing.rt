@@ -1,4 +1,4 @@
-// Checking a certificate for its sums alone.
+//! Checks a certificate from a reader and returns only the sums of its verdict.
 
 ghost use Rattle.std.specs.Prelude.{OnOk};
 ghost use Rattle.bc_cert.specs.Answer.{IsShort, IsSumsAnswer};
@@ -10,14 +10,14 @@ use bc_cert_defs::CheckFault;
 use std::alloc::Global;
 use std::io::Read;
 
-/// Checks a certificate as `check` does, and answers just what it answers, but only the sums of the verdict. So nothing of an
-/// entry is kept, and memory is taken for one entry and one piece of the input at a time, however long the certificate is.
+/// Checks a certificate like `check`, and returns the sums of its verdict instead of the verdict.
 ///
-/// Its faults are those of `check`.
+/// Entries are dropped after each piece of the input, so memory is needed for one entry and one piece at a time, however long the
+/// certificate is. The faults are those of `check`.
 pub fn check_sums<R: Read + Drop>(alloc: Global, mut input: R) -> Result<Sums, CheckFault>
     ensures answer { IsSumsAnswer (R.Read.remaining input) result }
 
-    // No longer one is taken.
+    // An accepted certificate has at most 2^30 bytes.
     ensures bound { OnOk result (IsShort (R.Read.remaining input)) }
 {
     let mut checker = Checker::new(alloc);

@@ -1,12 +1,14 @@
+//! The sums of a verdict.
+
 use bc_rules_defs::Table;
 
 /// The sums of a verdict.
 #[derive(Clone, Copy)]
 pub struct Sums {
-    /// The table that the certificate was judged by.
+    /// The rule table by which the certificate was judged.
     pub table: Table,
-    /// How many entries it has.
+    /// The number of its entries.
     pub entries: u64,
-    /// Their words in all, or 2^64 - 1 where there are more.
+    /// The sum of the entries' words, at most 2^64 - 1.
     pub words: u64,
 }

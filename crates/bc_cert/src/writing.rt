@@ -1,4 +1,4 @@
-// Writing a certificate.
+//! Writes a certificate: the calls of `bc_cert_write`, with the promise that the certificate is accepted.
 
 ghost use Rattle.std.specs.Prelude.{◌≡◌, List, OnOk, IfErr, map};
 ghost use Rattle.std.specs.List.{AllByRecursion, AllZip};
@@ -15,15 +15,14 @@ use bc_rules_defs::Entry;
 use std::alloc::Global;
 use std::io::Write;
 
-/// Writes the certificate of the entries, by table 2: the header, the lines of each entry, and the last line.
+/// Writes the certificate of the entries by table 2: the header, the lines of each entry, and the end line.
 ///
-/// The derivation of each entry is one of its root by table 2; of other entries nothing is said. Where no derivation of a
-/// root has fewer words than the entry's, and the numbers have room in the lines, the certificate is accepted, and says
-/// just these entries.
+/// Each entry's derivation must be one of its root by table 2; otherwise nothing is promised. If no derivation of a root has fewer words
+/// than the entry's, and the numbers are within the bounds of the lines, the certificate is accepted and says exactly these entries.
 ///
-/// `Write` comes where the writer failed: it answered an error, or took nothing. `Memory` comes where an allocation was
-/// refused, and at an entry for which `bc_cert_write::workings_of` answers `NoRoom`: its root has more than 2^32 nodes, or
-/// an offset of the frame or a label of its code would be over 65,535. After either the writer has taken a front of the text.
+/// Returns `Write` if the writer returns an error or takes nothing. Returns `Memory` if an allocation fails, and at an entry for which
+/// `bc_cert_write::workings_of` returns `NoRoom`: its root has more than 2^32 nodes, or an offset in the frame or a label of its code
+/// would be over 65,535. After an error the writer has taken the first bytes of the certificate.
 pub fn write_cert<W: Write>(alloc: Global, entries: &[Entry], out: &mut W) -> Result<(), CertFault>
     ensures written { (ds : List Derived) → map entry_seen entries.now ≡ map entry_of ds
         → OnOk result (Appends (W.contents out.old) (W.contents out.new) (certificate ds)) }
@@ -35,8 +34,8 @@ pub fn write_cert<W: Write>(alloc: Global, entries: &[Entry], out: &mut W) -> Re
     bc_cert_write::write_cert(alloc, entries, out)
 }
 
-/// The same, with the workings of the entries, which whoever chose the derivations has: the n-th are those of the n-th
-/// entry. `Memory` comes only where an allocation was refused.
+/// Writes the certificate like `write_cert`, for a caller that has the workings already: the n-th are those of the n-th entry.
+/// `Memory` then means that an allocation failed, since no number can lack room.
 pub fn write_worked<W: Write>(
     alloc: Global,
     entries: &[Entry],

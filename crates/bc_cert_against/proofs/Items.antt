@@ -1,4 +1,4 @@
--- Equality of items is that of the code.
+-- The derived equality of items is equality.
 use Rattle.std.proofs.Common.{◌≡◌, ℕ, Bool, true, false, nat_eq, ◌&&◌, refl, ap, rules}
 use Rattle.std.proofs.lemmas.Bool.{eqb-true}
 use denote.Enum.Bare.{same_true}

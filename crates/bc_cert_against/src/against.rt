@@ -1,3 +1,5 @@
+//! Whether the code of a verdict's entries is in segments.
+
 ghost use Rattle.std.specs.Prelude.{◌≡◌, ◌<◌, ◌≤◌, ◌⊎◌, ◌↔◌, IsTrue, MatchResult, MatchOption};
 ghost use Rattle.bc_text_items.specs.declared.item.Item.{Item};
 ghost use Rattle.std.specs.Prelude.{List, length, drop};
@@ -9,12 +11,12 @@ use bc_cert_defs::{Judged, Mismatch, Verdict};
 use bc_rules_defs::Piece;
 use bc_text_items::{Item, Segment};
 
-/// Whether the verdict's entries stand in the segments: each not before the one before it (else `Order`), its
-/// items within its segment (else `OutsideText`), and they are its code, the items of a VALOF's body being passed
-/// over (else `CodeDiffers`).
+/// Checks that the code of the verdict's entries is in the segments, each at the segment and item that the entry states.
 ///
-/// A refusal is that of the first entry with a fault, counted from 0, and the first of its faults in this order. It
-/// takes no memory.
+/// Returns `Order` if an entry's place is before that of the preceding entry, `OutsideText` if its segment doesn't exist or its items
+/// aren't all within it, and `CodeDiffers` if these items aren't its code; the items of a VALOF's body are skipped. The error has the
+/// number of the first entry at fault, counted from 0. If several things are wrong with that entry, the first in this order is
+/// returned. Nothing is allocated.
 pub fn check_against(verdict: &Verdict, segments: &[Segment]) -> Result<(), Mismatch>
     ensures { MatchResult result (λ done. Fit segments.now 0 0 (verdict_of verdict.now).entries)
         (λ fault. Misfit segments.now 0 0 0 (verdict_of verdict.now).entries fault) }
@@ -37,14 +39,14 @@ pub fn check_against(verdict: &Verdict, segments: &[Segment]) -> Result<(), Mism
     Ok(())
 }
 
-/// Whether the entry stands at this place or after it.
+/// Whether the entry's place is this segment and item, or a later one.
 fn is_after(judged: &Judged, segment: u64, item: u64) -> bool
     ensures { IsTrue result ↔ IsAfter segment item (judged_of judged.now) }
 {
     segment < judged.segment || segment == judged.segment && item <= judged.item
 }
 
-/// Whether the entry's items lie in the segments.
+/// Whether the entry's segment exists and all of the entry's items are within it.
 fn lies_in(judged: &Judged, segments: &[Segment]) -> bool
     ensures { IsTrue result ↔ LiesIn segments.now (judged_of judged.now) }
 {
@@ -56,7 +58,7 @@ fn lies_in(judged: &Judged, segments: &[Segment]) -> bool
         && has_room(judged.code.as_slice(), items.len() as u64 - judged.item)
 }
 
-/// Whether code takes no more than so many items.
+/// Whether code has at most this number of items.
 fn has_room(code: &[Piece], items: u64) -> bool
     ensures { IsTrue result ↔ (extent code.now ≤ items) }
 {
@@ -71,7 +73,7 @@ fn has_room(code: &[Piece], items: u64) -> bool
     true
 }
 
-/// How many items a piece takes.
+/// The number of items of a piece.
 fn items_taken(piece: &Piece) -> u64
     ensures { result ≡ taken piece.now }
 {
@@ -81,7 +83,7 @@ fn items_taken(piece: &Piece) -> u64
     }
 }
 
-/// Whether the entry's code stands at its place in the segments, in which its items lie.
+/// Whether the entry's code is at its place. The entry's items must be within the segments.
 fn stands_in(judged: &Judged, segments: &[Segment]) -> bool
     requires { LiesIn segments.now (judged_of judged.now) }
     ensures { IsTrue result ↔ StandsIn segments.now (judged_of judged.now) }
@@ -90,7 +92,7 @@ fn stands_in(judged: &Judged, segments: &[Segment]) -> bool
     is_there(judged.code.as_slice(), after(items, judged.item as usize))
 }
 
-/// Whether code stands before these items.
+/// Whether the items begin with this code.
 fn is_there(code: &[Piece], items: &[Item]) -> bool
     ensures { IsTrue result ↔ Stands code.now items.now }
 {
@@ -104,7 +106,7 @@ fn is_there(code: &[Piece], items: &[Item]) -> bool
     true
 }
 
-/// The items after a piece, where it stands before these.
+/// The items after this piece. None if the items don't begin with it.
 fn following<'s>(piece: &Piece, items: &'s [Item]) -> Option<&'s [Item]>
     ensures { MatchOption result ((more : List Item) → Passes piece.now items.now more → ⊥) (λ more. Passes piece.now items.now more.now) }
 {
@@ -133,7 +135,7 @@ fn begins_with(items: &[Item], item: Item) -> bool
     !items.is_empty() && is_same(items[0], item)
 }
 
-/// Whether two items are the same.
+/// Whether two items are equal.
 fn is_same(item: Item, other: Item) -> bool
     ensures same { IsTrue result → item ≡ other }
     ensures only { item ≡ other → IsTrue result }
@@ -141,7 +143,7 @@ fn is_same(item: Item, other: Item) -> bool
     item == other
 }
 
-/// The items from a place on.
+/// The items from this index on.
 fn after(items: &[Item], place: usize) -> &[Item]
     requires { place ≤ length items.now }
     ensures { result.now ≡ drop place items.now }

@@ -1,4 +1,4 @@
-//! Whether a verdict's code stands in the segments.
+//! Compares the verdict of a certificate with the segments of a program.
 #![tactic(auto)]
 
 mod against;

@@ -1,4 +1,4 @@
--- Entries that fit, one at a time.
+-- Entries that fit, taken one at a time.
 use Rattle.std.proofs.Common.{◌≡◌, ℕ, ◌+◌, ◌<◌, ◌↔◌, length, IsTrue, Bool, true, false, List, ◌∷◌, map, drop, get_or, subst, sym, ap, ◌∙◌}
 use Rattle.std.proofs.lemmas.List.{drop_more}
 use Rattle.bc_text_items.specs.declared.item.Item.{Item}
@@ -8,7 +8,7 @@ use Rattle.bc_cert_defs.specs.Verdict.{Judged}
 use Rattle.bc_cert_defs.specs.View.{judged}
 use Rattle.bc_cert_defs.specs.Against.{IsAfter, LiesIn, StandsIn, Fit, Misfit, later}
 
--- what holds of the entries that are left, counted from n on, holds of all
+-- what holds of the remaining entries, counted from n on, holds of all
 pub record Gone (segments : List (List Item)) (segment item n : ℕ) (rest all : List Judged) : Type 0 where
   pub fit : Fit segments segment item rest → Fit segments 0 0 all
   pub misfit : (m : Mismatch) → Misfit segments segment item n rest m → Misfit segments 0 0 0 all m
@@ -19,7 +19,7 @@ gone_start segments all = record { fit = λ h. h; misfit = λ m h. h }
 pub gone_turn : (segments : List (List Item)) (segment item n : ℕ) (e : Judged) (rest all : List Judged) → Gone segments segment item n (e ∷ rest) all → IsAfter segment item e → LiesIn segments e → StandsIn segments e → Gone segments e.segment e.item (n + 1) rest all
 gone_turn segments segment item n e rest all g b l s = record { fit = λ h. g.fit (b, l, s, h); misfit = λ m h. g.misfit m (later b l s h) }
 
--- the entries that are left are the next one and those after it
+-- the remaining entries are the next one and those after it
 pub next_entry : (xs : List code.Judged) (i : ℕ) (d : code.Judged) → i < length xs → map judged (drop i xs) ≡ judged (get_or xs i d) ∷ map judged (drop (i + 1) xs)
 next_entry xs i d le = ap (map judged) (drop_more xs i d le)
 

@@ -1,4 +1,4 @@
--- Code before items, a piece at a time.
+-- Whether items begin with code, decided a piece at a time.
 use Rattle.std.proofs.Common.{◌≡◌, ℕ, ◌+◌, ◌≤◌, ◌<◌, ◌↔◌, List, [], ◌∷◌, length, take, drop, get_or, refl, sym, subst, ap, arith, length-append}
 use Rattle.std.proofs.Math.Seq.{drop-append_seam}
 use Rattle.std.proofs.lemmas.List.{length-take-le, take-append-drop, drop_more}
@@ -33,7 +33,7 @@ after_first (one_more {ps = ps} h k) = subst (Stands ps) (after_is h) k
 pub first_passes : {p : Piece} {ps : List Piece} {items : List Item} → Stands (p ∷ ps) items → (following : List Item) × Passes p items following
 first_passes (one_more {following = following} h k) = (following, h)
 
--- code from the i-th piece on, before the items that are left
+-- code from the i-th piece on, with which the remaining items begin
 pub turn : (code : List Piece) (i : ℕ) (d : Piece) (items following : List Item) → i < length code → Passes (get_or code i d) items following → Stands (drop (i + 1) code) following ↔ Stands (drop i code) items
 turn code i d items following le h = (
   (λ k. subst (λ ps. Stands ps items) (sym (drop_more code i d le)) (one_more h k)),

@@ -1,4 +1,4 @@
--- What the program's verdicts mean.
+-- The program's verdicts as those of `Verdict`.
 use Rattle.std.specs.Prelude.{map}
 use Rattle.bc_core.specs.View.{root}
 use Rattle.bc_cert_defs.specs.declared.verdict.Judged as code

@@ -1,38 +1,40 @@
+//! Why a certificate is refused.
+
 use bc_word::Memory;
 use std::alloc::{AllocError, AllocFailed};
 use thiserror::Error;
 
-/// Why a certificate was refused. Lines are counted from 1, entries and the nodes of an entry from 0.
+/// Why a certificate is refused: its first fault. Lines are counted from 1, entries and the nodes of an entry from 0.
 #[derive(Clone, Copy, Debug, PartialEq, Eq, Hash, Error)]
 pub enum CheckFault {
-    /// The first line is no header.
+    /// The first line isn't a header, or the input ends before it does.
     #[error("the first line is not a certificate's")]
     Header,
-    /// The line is not of its form, or does not fit what stands before it.
+    /// The line has none of the forms that are allowed here, or it doesn't fit the lines before it.
     #[error("line {0} is not of its form")]
     Line(u64),
-    /// The certificate ends before its last line does.
+    /// The input ends without an end line, or with a line that lacks its LF.
     #[error("the certificate ends before its last line does")]
     Truncated,
-    /// A number of the node is not the least words of its derivations.
+    /// Entry and node: one of the four numbers of the node isn't its least number of words.
     #[error("entry {0}, node {1}: a number is not the least")]
     WrongCost(u64, u64),
-    /// The rules that are named make no derivation with these words.
+    /// Entry and node: the named rules don't make a derivation with the stated words. At a root line the node is the number of nodes.
     #[error("entry {0}, node {1}: the rules make no derivation with these words")]
     WrongRule(u64, u64),
-    /// The code is not that of the derivation.
+    /// The entry's code isn't that of its derivation, or a label of the derivation would be over 65,535.
     #[error("entry {0}: the code is not that of its derivation")]
     WrongCode(u64),
-    /// The code has another number of words.
+    /// The entry states another number of words than its code has.
     #[error("entry {0}: the code has another number of words")]
     WrongWords(u64),
-    /// The node of this line has more than 399 nodes one within another below it.
+    /// With the node of this line the tree is more than 400 nodes deep.
     #[error("line {0}: more than 400 nodes one within another")]
     TooDeep(u64),
     /// The reader failed, or gave more than 2^30 bytes.
     #[error("the certificate could not be read")]
     Read,
-    /// An allocation was refused.
+    /// An allocation failed.
     #[error("out of memory")]
     Memory,
 }

@@ -1,4 +1,4 @@
-//! Certificates: what they say, what may be wrong with one, and how the code of a verdict stands in a text.
+//! Certificates: what an accepted one says, what can be wrong with one, and what it means that a verdict fits a program's segments.
 #![tactic(auto)]
 
 mod check_fault;

@@ -1,4 +1,4 @@
--- Bytes say one thing or have one first fault, since the checker answers one thing.
+-- Bytes say one verdict or have one first fault, because the checker's function returns one result.
 use Rattle.std.proofs.Common.{◌≡◌, ◌⊎◌, Result, Ok, Err, inl, inr, refl, sym, ◌∙◌}
 use Rattle.bc_cert_defs.specs.declared.check_fault.CheckFault.{CheckFault}
 use Rattle.bc_cert_defs.specs.Verdict.{Verdict}

@@ -1,4 +1,4 @@
--- The rules at a node, of any form: what the checker finds they make, and the derivations that begin with them.
+-- The rules at a node of any form: which ones the checker finds, and the derivations that begin with them.
 use Rattle.std.proofs.Common.{◌≡◌, ℕ, true, Some, List, inl, inr, ◌⊎◌, refl, ap, sym, subst, ◌∙◌}
 use Rattle.bc_core.specs.Tree.{Exp, Frame, Glob, Place}
 use Rattle.bc_rules_defs.specs.declared.rule.Table.{Table}
@@ -12,7 +12,7 @@ use Rattle.bc_cert_read.specs.declared.facts.Facts.{Facts}
 use Rattle.bc_cert_read.specs.declared.form.Form.{Form}
 use Rattle.bc_cert_read.specs.Node.{Node, recipe_by}
 use Rattle.bc_cert_read.specs.Recipe.{of_form}
-use Rattle.bc_cert_read.specs.declared.mark.Mark.{Mark}
+use Rattle.bc_cert_read.specs.declared.mark.TreeFacts.{TreeFacts}
 use Rattle.bc_cert_read.specs.Showing.{makes_by, makes}
 use Rattle.bc_cert_write.specs.Shown.{Shown, below}
 use Rattle.bc_cert_laws.specs.Standing.{IsFewest, Begins, begun}
@@ -28,11 +28,11 @@ by_form : (r : Rule) (n : Node) (aim : Aim) → ¬ (r ≡ V1) → recipe_by n r 
 by_form V1 n aim h = absurd (h refl)
 by_form r n aim h = refl
 
-made : (T : Table) (s : ℕ) (form : Form) (e : Exp) (ps : List Facts) (ms : List Mark) (k : ℕ) (r : Rule) (aim : Aim) → ¬ (r ≡ V1) → makes (node_at T s form e ps) ms r aim (Some k) ≡ true
+made : (T : Table) (s : ℕ) (form : Form) (e : Exp) (ps : List Facts) (ms : List TreeFacts) (k : ℕ) (r : Rule) (aim : Aim) → ¬ (r ≡ V1) → makes (node_at T s form e ps) ms r aim (Some k) ≡ true
     → makes_by (node_at T s form e ps) ms (Some k) (of_form r aim T s form ps) ≡ true
 made T s form e ps ms k r aim n g = ap (λ x. makes_by (node_at T s form e ps) ms (Some k) x) (sym (by_form r (node_at T s form e ps) aim n)) ∙ g
 
-form_to : {T : Table} {s : ℕ} {form : Form} {ns : List Shown} {ms : List Mark} {ps : List Facts} {xs : List Tree} {e : Exp} → Over T s form ns ms ps xs e → (r : Rule) (aim : Aim) (k : ℕ) → ¬ (r ≡ V1)
+form_to : {T : Table} {s : ℕ} {form : Form} {ns : List Shown} {ms : List TreeFacts} {ps : List Facts} {xs : List Tree} {e : Exp} → Over T s form ns ms ps xs e → (r : Rule) (aim : Aim) (k : ℕ) → ¬ (r ≡ V1)
     → makes (node_at T s form e ps) ms r aim (Some k) ≡ true → makes_by (node_at T s form e ps) ms (Some k) (of_form r aim T s form ps) ≡ true → Begins T e aim s r k ns
 form_to {T = T} {s = s} (num {n = m}) r aim k n h g = number_to T s m r aim k g
 form_to frame r aim k n h g = cc
@@ -46,8 +46,8 @@ form_to (bin i j) r aim k n h g = pair_to i j r aim k n h
 form_to (choice i j l) r aim k n h g = choice_to i j l r aim k g
 form_to (call {n = m} i) r aim k n h g = call_to m i r aim k g
 
--- where the checker finds that a rule makes a derivation of so many words, one begins with it
-pub begins_to : {T : Table} {s : ℕ} {form : Form} {ns : List Shown} {ms : List Mark} {ps : List Facts} {xs : List Tree} {e : Exp} → Over T s form ns ms ps xs e → (r : Rule) (aim : Aim) (k : ℕ)
+-- if the checker finds that a rule makes a derivation with these words, there is one that begins with it
+pub begins_to : {T : Table} {s : ℕ} {form : Form} {ns : List Shown} {ms : List TreeFacts} {ps : List Facts} {xs : List Tree} {e : Exp} → Over T s form ns ms ps xs e → (r : Rule) (aim : Aim) (k : ℕ)
     → makes (node_at T s form e ps) ms r aim (Some k) ≡ true → Begins T e aim s r k ns
 begins_to {T = T} {s = s} {form = form} {ns = ns} {ms = ms} {ps = ps} {e = e} o r aim k g =
     elim (operand_or_not r) [
@@ -55,7 +55,7 @@ begins_to {T = T} {s = s} {form = form} {ns = ns} {ms = ms} {ps = ps} {e = e} o 
       | inr n ↦ form_to o r aim k n g (made T s form e ps ms k r aim n g)
     ]
 
-operand_from : {T : Table} {s : ℕ} {form : Form} {ns : List Shown} {ms : List Mark} {ps : List Facts} {xs : List Tree} {e : Exp} {aim : Aim} → Over T s form ns ms ps xs e → (d : Derives T e aim) → first_rule d ≡ V1 → below d s ≡ ns
+operand_from : {T : Table} {s : ℕ} {form : Form} {ns : List Shown} {ms : List TreeFacts} {ps : List Facts} {xs : List Tree} {e : Exp} {aim : Aim} → Over T s form ns ms ps xs e → (d : Derives T e aim) → first_rule d ≡ V1 → below d s ≡ ns
     → (makes (node_at T s form e ps) ms (first_rule d) aim (Some (cost d s)) ≡ true) × (shape d ≡ begun (first_rule d) ps xs)
 operand_from i (v1 k) r b = operand_makes i k b
 operand_from i d r b = cc
@@ -76,7 +76,7 @@ place_rule (v1 i) g = refl
 place_rule (j6 i d) g = absurd (not_tested d g)
 
 -- and of a derivation of least words that shows the lines of the parts the checker finds the rule
-pub begins_from : {T : Table} {s : ℕ} {form : Form} {ns : List Shown} {ms : List Mark} {ps : List Facts} {xs : List Tree} {e : Exp} {aim : Aim} → Over T s form ns ms ps xs e → (d : Derives T e aim) → Alone d → below d s ≡ ns → IsFewest d s
+pub begins_from : {T : Table} {s : ℕ} {form : Form} {ns : List Shown} {ms : List TreeFacts} {ps : List Facts} {xs : List Tree} {e : Exp} {aim : Aim} → Over T s form ns ms ps xs e → (d : Derives T e aim) → Alone d → below d s ≡ ns → IsFewest d s
     → (makes (node_at T s form e ps) ms (first_rule d) aim (Some (cost d s)) ≡ true) × (shape d ≡ begun (first_rule d) ps xs)
 begins_from {s = s} num d g b f = number_from s d g b
 begins_from frame d g b f = operand_from frame d (frame_rule d g) b

@@ -1,4 +1,4 @@
--- The rules that a line names, and the derivations that show them at their node.
+-- The rules that a line names, and the derivations that have them at their node.
 use Rattle.std.proofs.Common.{◌≡◌, ℕ, ◌+◌, ◌==◌, Bool, true, false, cond, Option, Some, None, List, [], ◌∷◌, ◌++◌, refl, ap, sym, subst, ◌∙◌, arith}
 use Rattle.std.specs.Prelude.{◌&&◌, IsTrue}
 use Rattle.std.proofs.lemmas.Bool.{eqb-true, eq-eqb, and_parts, and_from}
@@ -24,7 +24,7 @@ use Rattle.bc_cert_read.specs.Costs.{cost_of}
 use Rattle.bc_cert_read.specs.Parts.{AreLeast}
 use Rattle.bc_cert_read.specs.declared.chain.Chain.{Chain}
 use Rattle.bc_cert_read.specs.declared.chain.Rules.TheVariants.{Named}
-use Rattle.bc_cert_read.specs.declared.mark.Mark.{Mark}
+use Rattle.bc_cert_read.specs.declared.mark.TreeFacts.{TreeFacts}
 use Rattle.bc_cert_read.specs.declared.mark.Shown as marks
 use Rattle.bc_cert_read.specs.Marks.{has_aim}
 use Rattle.bc_cert_read.specs.Derived.{derived, over_if as made_over}
@@ -79,7 +79,7 @@ none_has : (x : Option ℕ) → has_words x None ≡ true → ⊥
 none_has None h = never h
 none_has (Some n) h = never h
 
-no_words : (n : Node) (ms : List Mark) (x : Option Recipe) → makes_by n ms None x ≡ true → ⊥
+no_words : (n : Node) (ms : List TreeFacts) (x : Option Recipe) → makes_by n ms None x ≡ true → ⊥
 no_words n ms None h = never h
 no_words n ms (Some r) h = none_has _ (and_parts _ _ h).0
 
@@ -116,7 +116,7 @@ any_chain : {T : Table} {e : Exp} (d : Derives T e (Gets Any)) → record { is_t
 any_chain (v0 d) = refl
 any_chain d = refl
 
--- rules of values and of tests that do not go on at the same node
+-- rules of values and of tests other than V0 and J6
 is_own : ℕ → ℕ → Rule → Bool
 is_own letter n r = cond (rule_letter r == letter) (cond (rule_number r == n) false true) false
 
@@ -178,7 +178,7 @@ chain_is (Gets Push) d = subst IsChain (push_chain d) (value_is_chain false fals
 chain_is (Gets Any) d = subst IsChain (any_chain d) (value_is_chain false (value_chain d).is_freed (value_chain d).rule (any_own d))
 chain_is (Jumps sense) d = jump_is_chain d
 
--- rules at a node come of one chain alone
+-- the rules at a node are those of only one chain
 one_chain : (t f u g : Bool) (r q : Rule) → over_if t J6 (over_if f V0 (r ∷ [])) ≡ over_if u J6 (over_if g V0 (q ∷ [])) → ◌≡◌ {A = Chain} (record { is_tested = t; is_freed = f; rule = r }) (record { is_tested = u; is_freed = g; rule = q })
 one_chain true true true true r q h = cc
 one_chain true true true false r q h = cc
@@ -218,7 +218,7 @@ test_begins (j6 p d) = by_value p d
 test_begins d = own refl refl refl
 
 -- what a number of the line says of a derivation
-module _ {T : Table} {s : ℕ} {form : Form} {ns : List Shown} {ms : List Mark} {ps : List Facts} {xs : List Tree} {e : Exp} (o : Over T s form ns ms ps xs e) (c : Costs) (h : AreLeast T e s c) where
+module _ {T : Table} {s : ℕ} {form : Form} {ns : List Shown} {ms : List TreeFacts} {ps : List Facts} {xs : List Tree} {e : Exp} (o : Over T s form ns ms ps xs e) (c : Costs) (h : AreLeast T e s c) where
   shows : {aim : Aim} (rules : List Rule) (k : ℕ) (d : Derives T e aim) → rules_at d ≡ rules → below d s ≡ ns → cost d s ≡ k → cost_of aim c ≡ Some k → Shows T (tree_at e s ns rules) aim
   shows rules k d r b w g =
       record { derivation = d; shown = ap (λ us. us ++ node e s rules ∷ []) (sym b) ∙ ap (λ rs. below d s ++ node e s rs ∷ []) (sym r); fewest = fewest_of h d k g w }
@@ -283,7 +283,7 @@ module _ {T : Table} {s : ℕ} {form : Form} {ns : List Shown} {ms : List Mark} 
   value_shows r false freed (Jumps false) g = cc
   value_shows r false freed (Jumps true) g = cc
 
-  -- a rule of tests stands alone
+  -- a rule of tests is the only rule at its node
   alone_shows : (ch : Chain) → ch.is_tested ≡ false → ch.is_freed ≡ false → (aim : Aim) → Shows T (tree_at e s ns (ch.rule ∷ [])) aim → Shows T (tree_at e s ns (chain_rules ch)) aim
   alone_shows ch t f aim h = subst (λ rs. Shows T (tree_at e s ns rs) aim) (sym (ap (λ b. over_if b J6 (over_if ch.is_freed V0 (ch.rule ∷ []))) t ∙ ap (λ b. over_if b V0 (ch.rule ∷ [])) f)) h
 

@@ -1,4 +1,4 @@
--- What a code line comes to, against what it may say.
+-- The checker's step at a code line agrees with the relations.
 use Rattle.std.proofs.Common.{◌≡◌, ℕ, ◌+◌, ◌==◌, Bool, true, false, cond, List, [], ◌∷◌, ◌++◌, length, Option, Some, None, Result, Ok, Err, refl, ap, sym, subst, ◌∙◌}
 use Rattle.std.specs.Prelude.{◌&&◌, nat_eq, nat_le}
 use Rattle.std.specs.List.{AllZip, AllByRecursion}
@@ -102,7 +102,7 @@ pieces_true [] (q ∷ qs) h = absurd h
 pieces_true (p ∷ ps) [] h = absurd h
 pieces_true (p ∷ ps) (q ∷ qs) h = true_if (same_piece p q) (same_code ps qs) (piece_true p q h.0) (pieces_true ps qs h.1)
 
--- what a code line comes to, once it was read
+-- the result of the step at a code line, once it was read
 abbrev next_of : Head → {T : Table} {r : Root} → RootDerives T r → State → List Piece → State
 next_of h {r = r} d st ps = record st { entries = st.entries ++ judged h r ps ∷ []; stage = between }
 
@@ -160,7 +160,7 @@ step_so {r = r} st d h l p ps k =
 in_table : {T : Table} {r : Root} (st : State) (d : RootDerives T r) (P : (T : Table) → RootDerives T r → Type 0) → st.table ≡ T → ((e : RootDerives st.table r) → P st.table e) → P T d
 in_table {r = r} st d P h k = subst (λ T. (e : RootDerives T r) → P T e) h k d
 
--- what a code line comes to where it was read
+-- the same for a state
 pub code_step_is : {T : Table} {r : Root} (st : State) (d : RootDerives T r) (h : Head) (l : List ℕ) (p : Position) (ps : List Piece) → st.table ≡ T → code_of_line l ≡ Some ps
     → code_step h (rooted_by d) l p st ≡ decided (has_labels h d) (has_code h d ps) (has_words h d) p (next_of h d st ps)
 code_step_is st d h l p ps t k = in_table st d (λ T d. code_step h (rooted_by d) l p st ≡ decided (has_labels h d) (has_code h d ps) (has_words h d) p (next_of h d st ps)) t (λ d. step_so st d h l p ps k)
@@ -168,7 +168,7 @@ code_step_is st d h l p ps t k = in_table st d (λ T d. code_step h (rooted_by d
 unread : {T : Table} {r : Root} (st : State) (d : RootDerives T r) (h : Head) (l : List ℕ) (p : Position) → code_of_line l ≡ None → code_step h (rooted_by d) l p st ≡ Err (faults.Line p.line)
 unread st d h l p k = ap (λ o. from_read st.table h (rooted_by d) p st o) k
 
--- a code line that was taken
+-- a code line that was accepted
 pub record CodeTaken {T : Table} {r : Root} (d : RootDerives T r) (h : Head) (l : List ℕ) (st after : State) : Type 0 where
   pub pieces : List Piece
   pub room : AllByRecursion PieceHasRoom pieces
@@ -198,7 +198,7 @@ code_taken st next d h l p t g = at (code_of_line l) refl where
   at None k = let bad : ◌≡◌ {A = Result State CheckFault} (Err (faults.Line p.line)) (Ok next) = sym (unread st d h l p k) ∙ g in cc
   at (Some ps) k = let read = code_read l ps k in taken_so st next d h l p ps _ _ _ read.1 read.0 refl refl refl (sym (code_step_is st d h l p ps t k) ∙ g)
 
--- and where it was not
+-- a code line that was refused
 fault_so : {T : Table} {r : Root} (text : List ℕ) (js : List Judged) (st : State) (d : RootDerives T r) (h : Head) (l : List ℕ) (p : Position) (f : CheckFault) (ps : List Piece) (labels same sums : Bool) → p.entry ≡ length js → AllByRecursion PieceHasRoom ps
     → has_labels h d ≡ labels → has_code h d ps ≡ same → has_words h d ≡ sums → decided labels same sums p (next_of h d st ps) ≡ Err f → LineFault text (code T js h r d) (pieces_line ps) f
 fault_so text js st d h l p f ps true true true e room i j k g = cc
@@ -223,7 +223,7 @@ code_fault {T = T} {r = r} text js n st d h l p f stands t g = at (code_of_line 
       let read = code_read l ps k in
       subst (λ m. LineFault text (code T js h r d) m f) (sym read.0) (fault_so text js st d h l p f ps _ _ _ stands.entry read.1 refl refl refl (sym (code_step_is st d h l p ps t k) ∙ g))
 
--- a code line is taken where it is right
+-- a code line is accepted if it is right
 pub code_made : {T : Table} {r : Root} (st : State) (d : RootDerives T r) (h : Head) (l : List ℕ) (p : Position) (ps : List Piece) → st.table ≡ T → AllByRecursion PieceHasRoom ps → IsCode d h ps → root_cost d ≡ h.words
     → l ++ 10 ∷ [] ≡ pieces_line ps → code_step h (rooted_by d) l p st ≡ Ok (next_of h d st ps)
 code_made st d h l p ps t room c w text =

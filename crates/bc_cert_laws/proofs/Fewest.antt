@@ -1,4 +1,4 @@
--- The parts of a derivation of least words are of least words: else the whole with a lesser part had fewer.
+-- The parts of a derivation of least words have least words, since the whole would have fewer with a shorter part.
 use Rattle.std.proofs.Common.{ℕ, ◌+◌, ◌≤◌, arith}
 use Rattle.bc_core.specs.Tree.{Exp, Args}
 use Rattle.bc_rules_defs.specs.declared.rule.Table.{Table}

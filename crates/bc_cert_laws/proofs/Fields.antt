@@ -1,4 +1,4 @@
--- Fields: a text is cut, and taken apart, just where it is fields with separators between them.
+-- Fields: a text is cut into fields exactly if it is these fields with separators between them.
 use Rattle.std.proofs.Common.{◌≡◌, ◌≢◌, ℕ, ◌<◌, ◌≤◌, ◌==◌, Bool, true, false, cond, List, [], ◌∷◌, ◌++◌, Option, Some, None, refl, ap, sym, ◌∙◌, arith, ne_eqb, eq-eqb, append_assoc}
 use Rattle.std.specs.List.{AllByRecursion}
 use Rattle.std.proofs.lemmas.Bool.{eqb-true}
@@ -109,7 +109,7 @@ line_from l f fs h = ap (λ x. x ++ 10 ∷ []) h ∙ sym (line_joined f fs)
 pub line_to : (l f : List ℕ) (fs : List (List ℕ)) → l ++ 10 ∷ [] ≡ line f fs → l ≡ joined 32 f fs
 line_to l f fs h = append_cancel_right l (joined 32 f fs) (10 ∷ []) (h ∙ line_joined f fs)
 
--- a line alone, with its end
+-- a single line with its LF
 abbrev pub IsOneLine : List ℕ → Type 0
 IsOneLine text = (l : List ℕ) × (text ≡ l ++ 10 ∷ []) × (lines l ≡ 0)
 

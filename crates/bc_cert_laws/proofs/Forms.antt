@@ -1,4 +1,4 @@
--- Forms as fields: a letter or sign, and a number after a letter.
+-- Forms as fields: a text is read as a form exactly if it is a sign, or a letter and a number, of that form.
 use Rattle.std.proofs.Common.{◌≡◌, ⊎_elim, ℕ, ◌^◌, ◌<◌, ◌≤◌, ◌==◌, true, cond, List, [], ◌∷◌, Option, Some, None, IfSome, refl, ap, sym, subst, ◌∙◌, arith}
 use Rattle.std.specs.List.{AllByRecursion}
 use Rattle.std.specs.Int.{IsInRange}

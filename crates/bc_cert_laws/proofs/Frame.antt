@@ -1,4 +1,4 @@
--- The checker's step at a line against the lines that lead to a stage, and against the fault of a line.
+-- The checker's step at any line agrees with the relations: it succeeds exactly if the line leads on, else it returns the line's fault.
 use Rattle.std.proofs.Common.{◌≡◌, ℕ, ◌+◌, ◌==◌, Bool, true, false, cond, List, [], ◌∷◌, ◌++◌, length, Option, Some, None, Result, Ok, Err, refl, ap, sym, subst, ◌∙◌, arith}
 use Rattle.std.specs.List.{AllByRecursion}
 use Rattle.std.proofs.lemmas.Bool.{eqb-true}
@@ -96,7 +96,7 @@ stands text js n st h i k = record { line = ap (λ m. m + 1) h; entry = ap lengt
 to_text : {a b : List ℕ} (text : List ℕ) (stage : Stage) → b ≡ a → Reaches (text ++ a) stage → Reaches (text ++ b) stage
 to_text text stage e r = subst (λ x. Reaches (text ++ x) stage) (sym e) r
 
--- A line at which the checker goes on leads on.
+-- If the checker's step at a line succeeds, the line leads on.
 header_right : (text : List ℕ) (st next : State) (l : List ℕ) → lines l ≡ 0 → Reaches text the_header → Related text the_header st → begun (counted st) (read_header l) ≡ Ok next → Leads (text ++ (l ++ 10 ∷ [])) next
 header_right text st next l u r h k = at (read_header l) refl where
   at : (o : Option Table) → read_header l ≡ o → Leads (text ++ (l ++ 10 ∷ [])) next
@@ -184,7 +184,7 @@ line_right text (nodes T js e ts) st next l u r h k = within_right text T js st 
 line_right text (code T js e x d) st next l u r h k = code_right text T js st next l u e x d r h (sym (step_from (at_code e (rooted_by d)) l st h.at.stage) ∙ k)
 line_right text (the_end T js) st next l u r h k = never (sym (step_from at_end l st h.at.stage) ∙ k)
 
--- A line at which the checker finds a fault has that fault.
+-- If the checker's step at a line fails, the line has that fault.
 header_wrong : (text : List ℕ) (st : State) (l : List ℕ) (f : CheckFault) → begun (counted st) (read_header l) ≡ Err f → LineFault text the_header (l ++ 10 ∷ []) f
 header_wrong text st l f k = at (read_header l) refl where
   at : (o : Option Table) → read_header l ≡ o → LineFault text the_header (l ++ 10 ∷ []) f
@@ -235,7 +235,7 @@ line_wrong text (code T js e x d) st l f h k =
 line_wrong text (the_end T js) st l f h k =
     subst (LineFault text (the_end T js) (l ++ 10 ∷ [])) (sym (ap (λ n. Line (n + 1)) h.lines) ∙ err_same (sym (step_from at_end l st h.at.stage) ∙ k)) following
 
--- A line with a fault is one at which the checker finds it.
+-- If a line has a fault, the checker's step at it returns that fault.
 header_fails : (text : List ℕ) (st : State) (l m : List ℕ) (f : CheckFault) → m ≡ l ++ 10 ∷ [] → LineFault text the_header m f → begun (counted st) (read_header l) ≡ Err f
 header_fails text st l m f is (no_header none) = at (read_header l) refl where
   at : (o : Option Table) → read_header l ≡ o → begun (counted st) (read_header l) ≡ Err Header
@@ -280,7 +280,7 @@ line_fails text (code T js e x d) st l m f h is k =
     ∙ code_fails text js st.nodes (counted st) d e l m (place_of (counted st)) f (stands text js st.nodes st h.lines h.at.entries refl) h.at.table is k
 line_fails text (the_end T js) st l m f h is k = step_from at_end l st h.at.stage ∙ end_fails text T js st l m f h k
 
--- A line that leads on is one at which the checker goes on.
+-- If a line leads on, the checker's step at it succeeds.
 pub header_made : (T : Table) (st : State) (l : List ℕ) → lines l ≡ 0 → header_line T ≡ l ++ 10 ∷ [] → Related [] the_header st → Made (header_line T) (between T []) (line_step l st)
 header_made T st l u is h = record {
   next = record (counted st) { table = T; stage = at_entries };

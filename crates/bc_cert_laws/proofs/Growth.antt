@@ -1,4 +1,4 @@
--- The node lines of a derivation of least words, and those of expressions without rules, lead on line by line.
+-- The node lines of a derivation of least words, and those of expressions that show no rules, are right one after another.
 use Rattle.std.proofs.Common.{◌≡◌, ℕ, ◌+◌, ◌*◌, Bool, true, false, cond, Some, List, [], ◌∷◌, ◌++◌, map, flat_map, refl, ap, sym, subst, ◌∙◌, append-nil, append_assoc}
 use Rattle.std.specs.List.{AllByRecursion}
 use Rattle.std.proofs.lemmas.List.{map-append}

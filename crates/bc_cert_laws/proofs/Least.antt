@@ -1,4 +1,4 @@
--- Accepted entries are code of least words, and entries that name derivations have a certificate.
+-- Accepted entries are code of least words, and entries whose rules are derivations have a certificate.
 use Rattle.std.proofs.Common.{◌≡◌, ℕ, List, [], ◌∷◌, map, refl, ap, sym, ◌∙◌}
 use Rattle.std.specs.List.{AllByRecursion}
 use Rattle.bc_rules_defs.specs.declared.rule.Table.{Table}

@@ -1,4 +1,4 @@
--- The lines of an accepted certificate lead from the beginning to its end, and lines that lead to an end are those of one.
+-- The lines of an accepted certificate lead from the beginning to the end, and lines that lead to the end are those of one.
 use Rattle.std.proofs.Common.{◌≡◌, ℕ, ◌+◌, ◌*◌, ◌≤◌, Bool, cond, None, List, [], ◌∷◌, ◌++◌, map, length, flat_map, refl, ap, sym, subst, ◌∙◌, append-nil, append_assoc, arith}
 use Rattle.std.specs.Prelude.{is_some}
 use Rattle.std.specs.Fmt.{decimal}

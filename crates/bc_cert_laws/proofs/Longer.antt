@@ -1,4 +1,4 @@
--- Bytes that go on.
+-- A first fault remains the first one if more bytes follow.
 use Rattle.std.proofs.Common.{◌≡◌, ℕ, List, ◌∷◌, ◌++◌, refl, subst, append_assoc}
 use Rattle.bc_cert_defs.specs.declared.check_fault.CheckFault.{CheckFault}
 use Rattle.bc_cert_defs.specs.declared.check_fault.CheckFault.TheVariants.{Header, Truncated}

@@ -1,4 +1,4 @@
--- A node line over the trees of its parts: the tree that it makes stands, or its rules are those of no derivation.
+-- A node line with true trees as its parts: its own tree is true, or no derivation of least words has its rules.
 use Rattle.std.proofs.Common.{◌≡◌, ℕ, Bool, true, false, cond, Option, Some, Result, Ok, Err, List, [], ◌∷◌, ◌++◌, map, inl, inr, refl, ap, sym, subst, ◌∙◌}
 use Rattle.std.specs.Prelude.{◌&&◌, ◌||◌}
 use Rattle.std.proofs.lemmas.Bool.{and_from, or_cases, or_left, or_right}
@@ -22,7 +22,7 @@ use Rattle.bc_cert_read.specs.declared.chain.Rules.{Rules}
 use Rattle.bc_cert_read.specs.declared.chain.Rules.TheVariants.{Taken, Named}
 use Rattle.bc_cert_read.specs.declared.lines.NodeLine.{NodeLine}
 use Rattle.bc_rules_defs.specs.Names.{rule_named}
-use Rattle.bc_cert_read.specs.declared.mark.Mark.{Mark}
+use Rattle.bc_cert_read.specs.declared.mark.TreeFacts.{TreeFacts}
 use Rattle.bc_cert_read.specs.declared.mark.Shown as marks
 use Rattle.bc_cert_read.specs.declared.position.Position.{Position}
 use Rattle.bc_cert_read.specs.Marks.{has_aim, is_some, levels_fit, depth_over, all_bare}
@@ -109,7 +109,7 @@ none_shown s f p h = by_cases (is_some s) refl h where
   by_cases true i h = cc
   by_cases false i h = (cc, i)
 
--- rules that stand
+-- rules that are those of a derivation of least words
 stands_where : {T : Table} {e : Exp} {s : ℕ} {nodes : List Shown} (rules : List Rule) → RulesStand T e s nodes → StandsBy T e s rules nodes
 stands_where [] h = tt
 stands_where (r ∷ rs) h = h
@@ -118,7 +118,7 @@ where_stands : {T : Table} {e : Exp} {s : ℕ} {nodes : List Shown} (rules : Lis
 where_stands [] n h = absurd (n refl)
 where_stands (r ∷ rs) n h = h
 
-module _ {T : Table} {s : ℕ} {form : Form} {ns : List Shown} {ms : List Mark} {ps : List Facts} {xs : List Tree} {e : Exp} (o : Over T s form ns ms ps xs e) (c : Costs) (h : AreLeast T e s c) where
+module _ {T : Table} {s : ℕ} {form : Form} {ns : List Shown} {ms : List TreeFacts} {ps : List Facts} {xs : List Tree} {e : Exp} (o : Over T s form ns ms ps xs e) (c : Costs) (h : AreLeast T e s c) where
   -- the rules of a derivation that shows these
   shown_rules : (rules : List Rule) (aim : Aim) (d : Derives T e aim) → ns ++ node e s rules ∷ [] ≡ shown d s → rules ≡ chain_rules (chain_of d)
   shown_rules rules aim d k =
@@ -190,11 +190,11 @@ module _ {T : Table} {s : ℕ} {form : Form} {ns : List Shown} {ms : List Mark} 
   accepted rs names rules k (wrong n none) w p = absurd (no_wrong names n none rules k w)
 
 -- the depth that the checker computes is that of the expression
-pub depth_is : (T : Table) (n : NodeLine) (ts : List Grown) (ms : List Mark) (fs : List Facts) (es : List Exp) (xs : List Tree) (e : Exp) → AllStand T ts ms fs es xs → levels_fit n.level n.form ms ≡ true → whole n.form es ≡ Some e → depth_over ms ≡ nested e
+pub depth_is : (T : Table) (n : NodeLine) (ts : List Grown) (ms : List TreeFacts) (fs : List Facts) (es : List Exp) (xs : List Tree) (e : Exp) → AllStand T ts ms fs es xs → levels_fit n.level n.form ms ≡ true → whole n.form es ≡ Some e → depth_over ms ≡ nested e
 depth_is T n ts ms fs es xs e h l k = depth_of (over_levelled T n.level n.form ts ms fs es xs e h l k)
 
--- where the checker found no fault the tree of the node stands, and so do its rules
-pub new_stands : (T : Table) (n : NodeLine) (ts : List Grown) (ms : List Mark) (fs : List Facts) (es : List Exp) (xs : List Tree) (e : Exp) → IsOver T n ts ms fs es xs e → (rules : List Rule) → ShowsRules n.rules rules → (p : Position) (sh : marks.Shown)
+-- if the checker found no fault, what it keeps of the node's tree is true, and its rules are those of a derivation of least words
+pub new_stands : (T : Table) (n : NodeLine) (ts : List Grown) (ms : List TreeFacts) (fs : List Facts) (es : List Exp) (xs : List Tree) (e : Exp) → IsOver T n ts ms fs es xs e → (rules : List Rule) → ShowsRules n.rules rules → (p : Position) (sh : marks.Shown)
     → shown_for (line_node T n e fs) ms n p ≡ Ok sh
     → Stands T (grown e n.level rules ts) (new_mark n (depth_over ms) sh ms) (new_facts n e fs) e (derived n.rules (second_zero fs) xs) × StandsBy T e n.level rules (all_shown ts ++ node e n.level rules ∷ [])
 new_stands T n ts ms fs es xs e i rules r p sh g =
@@ -214,11 +214,11 @@ new_stands T n ts ms fs es xs e i rules r p sh g =
     )
 
 -- a fault is that no derivation of least words shows the rules
-pub no_rules : (T : Table) (n : NodeLine) (ts : List Grown) (ms : List Mark) (fs : List Facts) (es : List Exp) (xs : List Tree) (e : Exp) → IsOver T n ts ms fs es xs e → (names : List Name) → AreNamed names n.rules → (p : Position) (f : CheckFault)
+pub no_rules : (T : Table) (n : NodeLine) (ts : List Grown) (ms : List TreeFacts) (fs : List Facts) (es : List Exp) (xs : List Tree) (e : Exp) → IsOver T n ts ms fs es xs e → (names : List Name) → AreNamed names n.rules → (p : Position) (f : CheckFault)
     → shown_for (line_node T n e fs) ms n p ≡ Err f → (f ≡ WrongRule p.entry p.node) × ((rules : List Rule) → names ≡ map name rules → ¬ StandsBy T e n.level rules (all_shown ts ++ node e n.level rules ∷ []))
 no_rules T n ts ms fs es xs e i names a p f g = refused (over_is i) n.costs i.costs n.rules names a p f g
 
 -- where one shows them there is none
-pub right_rules : (T : Table) (n : NodeLine) (ts : List Grown) (ms : List Mark) (fs : List Facts) (es : List Exp) (xs : List Tree) (e : Exp) → IsOver T n ts ms fs es xs e → (names : List Name) (rules : List Rule) → names ≡ map name rules → AreNamed names n.rules
+pub right_rules : (T : Table) (n : NodeLine) (ts : List Grown) (ms : List TreeFacts) (fs : List Facts) (es : List Exp) (xs : List Tree) (e : Exp) → IsOver T n ts ms fs es xs e → (names : List Name) (rules : List Rule) → names ≡ map name rules → AreNamed names n.rules
     → StandsBy T e n.level rules (all_shown ts ++ node e n.level rules ∷ []) → (p : Position) → ShowsRules n.rules rules × ((sh : marks.Shown) × (shown_for (line_node T n e fs) ms n p ≡ Ok sh))
 right_rules T n ts ms fs es xs e i names rules k a w p = accepted (over_is i) n.costs i.costs n.rules names rules k a w p

@@ -1,4 +1,4 @@
--- The numbers of a node line are the least words just where the test says so.
+-- The numbers of a node line are the least words exactly if the checker's test succeeds.
 use Rattle.std.proofs.Common.{◌≡◌, ℕ, ◌+◌, true, false, List, [], ◌∷◌, ◌++◌, Option, Some, None, refl, ap, sym, subst, ◌∙◌, arith}
 use Rattle.std.proofs.lemmas.Bool.{eqb-true, and_parts}
 use Rattle.bc_core.specs.Tree.{Exp, Num, Frame, Glob, Place, Load, Neg, Not, Bin, Cond, Call, Valof, Args, no_argument, argument, count}
@@ -19,7 +19,7 @@ use Rattle.bc_cert_read.specs.Parts.{AreLeast, IsPart, AreCallParts, AreParts, n
 use Rattle.bc_cert_read.specs.Recipe.{words_of_operand_of}
 use Rattle.bc_cert_read.proofs.Least.{least_is}
 use Rattle.bc_cert_read.specs.declared.lines.NodeLine.{NodeLine}
-use Rattle.bc_cert_read.specs.declared.mark.Mark.{Mark}
+use Rattle.bc_cert_read.specs.declared.mark.TreeFacts.{TreeFacts}
 use Rattle.bc_cert_read.specs.Stacks.{line_node}
 use Rattle.bc_cert_laws.specs.Faults.{Grown, all_parts, parts, AreLeastCosts}
 use Rattle.bc_cert_laws.proofs.Over.{some_same}
@@ -33,7 +33,7 @@ PartsHave T [] [] = Unit {0}
 PartsHave T (p ∷ ps) (f ∷ fs) = IsPart T p.0 p.1 f × PartsHave T ps fs
 PartsHave T _ _ = ⊥
 
-have_facts : {T : Table} {ts : List Grown} {ms : List Mark} {fs : List Facts} {es : List Exp} {xs : List Tree} → Kept T ts ms fs es xs → PartsHave T (placed ts) fs
+have_facts : {T : Table} {ts : List Grown} {ms : List TreeFacts} {fs : List Facts} {es : List Exp} {xs : List Tree} → Kept T ts ms fs es xs → PartsHave T (placed ts) fs
 have_facts nothing = tt
 have_facts (further a rest) = (a.part, have_facts rest)
 
@@ -75,7 +75,7 @@ are_parts T (Cond c x y) s (p ∷ q ∷ r ∷ []) h = (h.0, (h.1.0, h.1.1.0))
 are_parts T (Cond c x y) s (p ∷ q ∷ r ∷ t ∷ fs) h = absurd h.1.1.1
 are_parts T (Call es f) s fs h = call_have T es f (s + 2) (s + 2 + count es) fs refl h
 
-pub own_parts : {T : Table} {ts : List Grown} {ms : List Mark} {fs : List Facts} {es : List Exp} {xs : List Tree} (e : Exp) (s : ℕ) → Kept T ts ms fs es xs → placed ts ≡ parts e s → AreParts T e s fs
+pub own_parts : {T : Table} {ts : List Grown} {ms : List TreeFacts} {fs : List Facts} {es : List Exp} {xs : List Tree} (e : Exp) (s : ℕ) → Kept T ts ms fs es xs → placed ts ≡ parts e s → AreParts T e s fs
 own_parts {T = T} {fs = fs} e s h k = are_parts T e s fs (subst (λ ps. PartsHave T ps fs) k (have_facts h))
 
 -- the test of the numbers

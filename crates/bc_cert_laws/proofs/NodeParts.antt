@@ -1,4 +1,4 @@
--- The last trees are the parts of an expression, just where the tests of levels, of their number and of the whole say so.
+-- The last trees are the parts of an expression exactly if the checker's tests of their number, their levels and the whole succeed.
 use Rattle.std.proofs.Common.{◌≡◌, ℕ, zero, suc, ◌+◌, ◌==◌, Bool, true, false, cond, map, List, [], ◌∷◌, ◌++◌, length, Option, Some, None, refl, ap, sym, subst, ◌∙◌, arith, add-zero}
 use Rattle.std.proofs.lemmas.Bool.{eqb-true}
 use Rattle.bc_core.specs.Tree.{Exp, Num, Frame, Glob, Place, Load, Neg, Not, Bin, Cond, Call, Valof, Args, no_argument, argument, count}
@@ -11,7 +11,7 @@ use Rattle.bc_cert_read.specs.declared.form.Form.TheVariants as forms
 use Rattle.bc_cert_read.specs.Form.{parts_of}
 use Rattle.bc_cert_read.specs.Parts.{form_of}
 use Rattle.bc_cert_write.specs.Lines.{form_field}
-use Rattle.bc_cert_read.specs.declared.mark.Mark.{Mark}
+use Rattle.bc_cert_read.specs.declared.mark.TreeFacts.{TreeFacts}
 use Rattle.bc_cert_read.specs.Marks.{first_level, levels_from}
 use Rattle.bc_cert_read.specs.Wholes.{leaf, one_of, with_one, two_of, three_of, with_argument, called_of, whole}
 use Rattle.bc_cert_laws.specs.Entries.{HasSmallNumber}
@@ -32,11 +32,11 @@ abbrev pub levels_of : ℕ → ℕ → List (Exp × ℕ) → Bool
 levels_of s step [] = true
 levels_of s step (p ∷ ps) = cond (p.1 == s) (levels_of (s + step) step ps) false
 
-pub expressions_are : {T : Table} {ts : List Grown} {ms : List Mark} {fs : List Facts} {es : List Exp} {xs : List Tree} → Kept T ts ms fs es xs → es ≡ expressions (placed ts)
+pub expressions_are : {T : Table} {ts : List Grown} {ms : List TreeFacts} {fs : List Facts} {es : List Exp} {xs : List Tree} → Kept T ts ms fs es xs → es ≡ expressions (placed ts)
 expressions_are nothing = refl
 expressions_are (further a rest) = let e = a.expression in let es = expressions_are rest in cc
 
-pub levels_are : {T : Table} {ts : List Grown} {ms : List Mark} {fs : List Facts} {es : List Exp} {xs : List Tree} (s step : ℕ) → Kept T ts ms fs es xs → levels_from s step ms ≡ levels_of s step (placed ts)
+pub levels_are : {T : Table} {ts : List Grown} {ms : List TreeFacts} {fs : List Facts} {es : List Exp} {xs : List Tree} (s step : ℕ) → Kept T ts ms fs es xs → levels_from s step ms ≡ levels_of s step (placed ts)
 levels_are s step nothing = refl
 levels_are s step (further {t = t} {m = m} {ms = ms} a rest) = ap (λ l. cond (l == s) (levels_from (s + step) step ms) false) a.level ∙ ap (λ b. cond (t.level == s) b false) (levels_are (s + step) step rest)
 
@@ -242,7 +242,7 @@ parts_right (forms.Bin op) e s ps l k = two_parts op e s ps l k
 parts_right forms.Cond e s ps l k = three_parts e s ps l k
 parts_right (forms.Call n) e s ps l k = let c = call_parts (s + 2) ps e l k in c.parts ∙ ap (λ x. parts x s) (sym c.is)
 
--- a whole over as many parts as the form has is of this form
+-- a whole with as many parts as the form has is of this form
 abbrev FormIs : Form → Exp → Type 0
 FormIs form e = form ≡ own_form e
 
@@ -291,7 +291,7 @@ whole_form (forms.Bin op) es e h k = two_form op es e k
 whole_form forms.Cond es e h k = three_form es e k
 whole_form (forms.Call n) es e h k = call_form es e n h k
 
--- and there is a whole over so many parts
+-- and there is a whole with this number of parts
 leaf_made : (es : List Exp) (x : Exp) → length es ≡ 0 → (e : Exp) × (leaf es x ≡ Some e)
 leaf_made [] x h = (x, refl)
 leaf_made (y ∷ es) x h = absurd (omega (arith, h))

@@ -1,4 +1,4 @@
--- What a node line comes to over trees that stand, against what it may say.
+-- The checker's step at a node line agrees with the relations.
 use Rattle.std.proofs.Common.{◌≡◌, ℕ, ◌+◌, ◌-◌, ◌≤◌, ◌<◌, Bool, true, false, cond, map, List, [], ◌∷◌, ◌++◌, length, take, drop, Some, Result, Ok, Err, refl, ap, sym, subst, ◌∙◌, arith}
 use Rattle.std.specs.Prelude.{nat_lt, nat_le}
 use Rattle.std.proofs.lemmas.List.{length-map, length-append, length-drop, take-append-drop}
@@ -15,7 +15,7 @@ use Rattle.bc_cert_read.specs.Node.{least_words_of}
 use Rattle.bc_cert_read.specs.Parts.{AreLeast}
 use Rattle.bc_cert_read.specs.declared.lines.NodeLine.{NodeLine}
 use Rattle.bc_cert_read.specs.declared.chain.Rules.{Rules}
-use Rattle.bc_cert_read.specs.declared.mark.Mark.{Mark}
+use Rattle.bc_cert_read.specs.declared.mark.TreeFacts.{TreeFacts}
 use Rattle.bc_cert_read.specs.declared.mark.Shown.{Shown}
 use Rattle.bc_cert_read.specs.declared.position.Position.{Position}
 use Rattle.bc_cert_read.specs.Marks.{levels_fit, depth_over}
@@ -112,7 +112,7 @@ node_decided {T = T} n ts x p h = at (nat_lt (length x.facts) (parts_of n.form))
       ∙ ap (λ b. cond b (cond (nat_le (depth_over (drop (place_of n x) x.marks)) 400) (Ok (depth_over (drop (place_of n x) x.marks))) (Err (faults.TooDeep p.line))) (Err (faults.Line p.line)) >>= (λ depth. node_whole T n p x (place_of n x) depth)) j)
       (λ e form ends. let f = (fits_of_ends n ts x ends h form).levels in let bad : true ≡ false = sym f ∙ j in cc)
 
--- what the step is where the line fits
+-- the step if the line fits
 abbrev new_stack : NodeLine → Stack → Exp → Shown → Stack
 new_stack n x e shown = put_over n (without_expressions (place_of n x) x) (place_of n x) (depth_over (drop (place_of n x) x.marks)) e shown
 
@@ -147,19 +147,19 @@ depth_over_is : {T : Table} {e : Exp} {n : NodeLine} {ts : List Grown} {x : Stac
 depth_over_is {T = T} {e = e} {n = n} {x = x} {ends = ends} fit =
     depth_is T n ends.own (drop (place_of n x) x.marks) (drop (place_of n x) x.facts) (drop (place_of n x) x.expressions) (drop (place_of n x) x.derivations) e (all_stand fit.own) fit.levels fit.is_whole
 
--- the rules that names say where a step goes on
+-- which rules the names mean if a step succeeds
 record NamesShow (names : List Name) (rs : Rules) : Type 0 where
   rules : List Rule
   names_are : names ≡ map name rules
   shows : ShowsRules rs rules
 
-names_show : (T : Table) {names : List Name} {rs : Rules} (n : NodeLine) (e : Exp) (fs : List Facts) (ms : List Mark) (p : Position) (shown : Shown) → n.rules ≡ rs → AreNamed names rs → shown_for (line_node T n e fs) ms n p ≡ Ok shown → NamesShow names rs
+names_show : (T : Table) {names : List Name} {rs : Rules} (n : NodeLine) (e : Exp) (fs : List Facts) (ms : List TreeFacts) (p : Position) (shown : Shown) → n.rules ≡ rs → AreNamed names rs → shown_for (line_node T n e fs) ms n p ≡ Ok shown → NamesShow names rs
 names_show T n e fs ms p shown h no_name k = record { rules = []; names_are = refl; shows = no_rule }
 names_show T n e fs ms p shown h (named {c = c} is) k = record { rules = chain_rules c; names_are = refl; shows = by_chain is }
 names_show T n e fs ms p shown h (wrong some none) k =
     let bad : ◌≡◌ {A = Result Shown CheckFault} (Err (faults.WrongRule p.entry p.node)) (Ok shown) = sym (ap (λ r. shown_with (line_node T n e fs) ms n.costs r p) h) ∙ k in cc
 
--- A node line that was taken: the tree of its node stands over its parts.
+-- A node line that was accepted: what is kept of its tree is true.
 pub record NodeRight (T : Table) (n : NodeLine) (ts : List Grown) (names : List Name) (e : Exp) (ends : Ends e n.level ts) (y : Stack) : Type 0 where
   pub rules : List Rule
   pub names_are : names ≡ map name rules
@@ -169,7 +169,7 @@ pub record NodeRight (T : Table) (n : NodeLine) (ts : List Grown) (names : List 
   pub stands : StandsBy T e n.level rules (all_shown ends.own ++ node e n.level rules ∷ [])
   pub trees : StackStands T (ends.before ++ grown e n.level rules ends.own ∷ []) y
 
--- the fault of a node line whose form fits
+-- the fault of a node line that fits
 pub data NodeWrong (T : Table) (n : NodeLine) (ts : List Grown) (names : List Name) (e : Exp) (ends : Ends e n.level ts) (p : Position) : CheckFault → Type 0 where
   is_deep : 400 < nested e → NodeWrong T n ts names e ends p (faults.TooDeep p.line)
   is_cost : nested e ≤ 400 → ¬ AreLeast T e n.level n.costs → NodeWrong T n ts names e ends p (faults.WrongCost p.entry p.node)
@@ -222,7 +222,7 @@ node_wrong {T = T} {e = e} {n = n} {ts = ts} {x = x} {ends = ends} p names f fit
     deep_so : depth_over (drop (place_of n x) x.marks) ≡ nested e → ¬ (depth_over (drop (place_of n x) x.marks) ≤ 400) → 400 < nested e
     deep_so same h = grind (arith, same, h)
 
--- a line whose rules stand is taken, with just these
+-- a line whose rules are those of a derivation of least words is accepted, with exactly these rules
 pub record NodeMade (T : Table) (n : NodeLine) (p : Position) (x : Stack) (trees : List Grown) : Type 0 where
   pub stack : Stack
   pub is : node_step T n p x ≡ Ok stack

@@ -1,4 +1,4 @@
--- Numbers as fields: a text is read as a number just where it is that number in decimal digits.
+-- Numbers as fields: a text is read as a number exactly if it is that number in decimal digits.
 use Rattle.std.proofs.Common.{◌≡◌, ◌⊎◌, inl, inr, ℕ, zero, suc, ◌+◌, ◌-◌, ◌*◌, ◌^◌, ◌<◌, ◌≤◌, ◌==◌, Bool, true, false, cond, List, [], ◌∷◌, length, get_or, Option, Some, None, IfSome, refl, ap, sym, ◌∙◌, arith, rules, ne_eqb, ⊎_elim}
 use Rattle.std.specs.Prelude.{nat_le, nat_lt}
 use Rattle.std.specs.List.{AllByRecursion}
@@ -31,7 +31,7 @@ pub kept : {A : Type 0} (t : Bool) (o : Option A) (a : A) → cond t None o ≡ 
 kept true o a h = absurd (cc)
 kept false o a h = (refl, h)
 
--- digits alone
+-- digits only
 abbrev pub Digits : List ℕ → Type 0
 Digits = AllByRecursion (IsInRange 48 57)
 

@@ -1,4 +1,4 @@
--- The rules at a node but those of operators: what the checker finds they make, and the derivations that begin with them.
+-- The rules at nodes other than dyadic operators: which ones the checker finds, and the derivations that begin with them.
 use Rattle.std.proofs.Common.{◌≡◌, ℕ, ◌+◌, ◌≤◌, Bool, true, false, cond, Option, Some, None, List, [], ◌∷◌, ◌++◌, refl, ap, sym, subst, ◌∙◌, arith, append_assoc}
 use Rattle.std.specs.Prelude.{◌&&◌, not}
 use Rattle.std.proofs.lemmas.Bool.{and_parts, and_from}
@@ -24,7 +24,7 @@ use Rattle.bc_rules_defs.specs.declared.takes.Takes.TheVariants as takes
 use Rattle.bc_cert_read.specs.Costs.{cost_of}
 use Rattle.bc_cert_read.specs.Node.{Node, more_words, words_from, no_parts}
 use Rattle.bc_cert_read.specs.Recipe.{words_of_operand, words_of_operand_of, of_operand, of_number, of_load, of_neg, of_not, of_cond, of_call, of_valof}
-use Rattle.bc_cert_read.specs.declared.mark.Mark.{Mark}
+use Rattle.bc_cert_read.specs.declared.mark.TreeFacts.{TreeFacts}
 use Rattle.bc_cert_read.specs.Marks.{all_bare}
 use Rattle.bc_cert_read.specs.Showing.{has_words, agree, makes_by, makes}
 use Rattle.bc_cert_read.specs.Derived.{trees}
@@ -55,11 +55,11 @@ unfolding sum
 nothing_more s n at [] = refl
 nothing_more s n at (p ∷ ps) = ap (λ k. words_from takes.Nothing s (Some k) (at + 1) ps) (omega arith) ∙ nothing_more s n (at + 1) ps
 
-agree_bare : (at : ℕ) (ms : List Mark) → agree takes.Nothing at ms ≡ all_bare ms
+agree_bare : (at : ℕ) (ms : List TreeFacts) → agree takes.Nothing at ms ≡ all_bare ms
 agree_bare at [] = refl
 agree_bare at (m ∷ ms) = ap (λ b. cond m.is_bare b false) (agree_bare (at + 1) ms)
 
-pub operand_begins : {T : Table} {s : ℕ} {form : Form} {ns : List Shown} {ms : List Mark} {ps : List Facts} {xs : List Tree} {e : Exp} → Over T s form ns ms ps xs e → (aim : Aim) (k : ℕ) (o : Option Operand) → operand_of e ≡ o
+pub operand_begins : {T : Table} {s : ℕ} {form : Form} {ns : List Shown} {ms : List TreeFacts} {ps : List Facts} {xs : List Tree} {e : Exp} → Over T s form ns ms ps xs e → (aim : Aim) (k : ℕ) (o : Option Operand) → operand_of e ≡ o
     → makes_by (node_at T s form e ps) ms (Some k) (of_operand aim (words_of_operand o)) ≡ true → Begins T e aim s V1 k ns
 operand_begins i (Gets Push) k None g h = cc
 operand_begins {s = s} {ms = ms} {ps = ps} {e = e} i (Gets Push) k (Some o) g h =
@@ -69,7 +69,7 @@ operand_begins {s = s} {ms = ms} {ps = ps} {e = e} i (Gets Push) k (Some o) g h 
 operand_begins i (Gets Any) k o g h = cc
 operand_begins i (Jumps sense) k o g h = cc
 
-pub operand_makes : {T : Table} {s : ℕ} {form : Form} {ns : List Shown} {ms : List Mark} {ps : List Facts} {xs : List Tree} {e : Exp} {o : Operand} → Over T s form ns ms ps xs e → operand_of e ≡ Some o → below_bare e s ≡ ns
+pub operand_makes : {T : Table} {s : ℕ} {form : Form} {ns : List Shown} {ms : List TreeFacts} {ps : List Facts} {xs : List Tree} {e : Exp} {o : Operand} → Over T s form ns ms ps xs e → operand_of e ≡ Some o → below_bare e s ≡ ns
     → (makes (node_at T s form e ps) ms V1 (Gets Push) (Some (operand_words o)) ≡ true) × (by V1 no_part ≡ begun V1 ps xs)
 operand_makes {T = T} {s = s} {form = form} {ms = ms} {ps = ps} {e = e} {o = o} i g b =
     let same : operand_words o + 0 ≡ operand_words o = omega arith in (
@@ -88,45 +88,45 @@ record OnPart (T : Table) (a : Exp) (s : ℕ) (ns : List Shown) (aim : Aim) (k n
   parts : shown derivation s ≡ ns
   words : cost derivation s + k ≡ n
 
-one_to : {T : Table} {a : Exp} {s : ℕ} {ns : List Shown} {m : Mark} {p : Facts} {x : Tree} → StandsAt T a s ns m p x → (aim : Aim) (k n : ℕ) → has_words (words_from (takes.First aim) s (Some k) 0 (p ∷ [])) (Some n) && agree (takes.First aim) 0 (m ∷ []) ≡ true
+one_to : {T : Table} {a : Exp} {s : ℕ} {ns : List Shown} {m : TreeFacts} {p : Facts} {x : Tree} → StandsAt T a s ns m p x → (aim : Aim) (k n : ℕ) → has_words (words_from (takes.First aim) s (Some k) 0 (p ∷ [])) (Some n) && agree (takes.First aim) 0 (m ∷ []) ≡ true
     → OnPart T a s ns aim k n
 one_to {s = s} {p = p} h aim k n g =
     let c = and_parts _ _ g in
     let d = part_to h aim (two_true _ _ c.1).0 in
     record { derivation = d.derivation; parts = d.shown; words = some_same (sym (one_words s p aim k _ d.counted) ∙ words_are _ n c.0) }
 
-one_from : {T : Table} {a : Exp} {s : ℕ} {ns : List Shown} {m : Mark} {p : Facts} {x : Tree} {aim : Aim} → StandsAt T a s ns m p x → (d : Derives T a aim) (k n : ℕ) → cost d s + k ≡ n → shown d s ≡ ns → IsFewest d s
+one_from : {T : Table} {a : Exp} {s : ℕ} {ns : List Shown} {m : TreeFacts} {p : Facts} {x : Tree} {aim : Aim} → StandsAt T a s ns m p x → (d : Derives T a aim) (k n : ℕ) → cost d s + k ≡ n → shown d s ≡ ns → IsFewest d s
     → (has_words (words_from (takes.First aim) s (Some k) 0 (p ∷ [])) (Some n) && agree (takes.First aim) 0 (m ∷ []) ≡ true) × (shape d ≡ x)
 one_from {s = s} {p = p} {aim = aim} h d k n e b f =
     let o = part_from h d b f in
     (and_from _ _ (are_words _ n (one_words s p aim k _ o.counted ∙ ap Some e)) (true_two _ _ o.agrees refl), o.shape)
 
 -- what the rules of a form make
-pub load_to : {T : Table} {a : Exp} {s : ℕ} {ns : List Shown} {m : Mark} {p : Facts} {x : Tree} → StandsAt T a s ns m p x → (r : Rule) (aim : Aim) (k : ℕ) → makes_by (node_at T s forms.Load (Load a) (p ∷ [])) (m ∷ []) (Some k) (of_load r aim) ≡ true
+pub load_to : {T : Table} {a : Exp} {s : ℕ} {ns : List Shown} {m : TreeFacts} {p : Facts} {x : Tree} → StandsAt T a s ns m p x → (r : Rule) (aim : Aim) (k : ℕ) → makes_by (node_at T s forms.Load (Load a) (p ∷ [])) (m ∷ []) (Some k) (of_load r aim) ≡ true
     → Begins T (Load a) aim s r k ns
 load_to h V2 (Gets m) k g = let o = one_to h (Gets m) 1 k g in record { derivation = v2 o.derivation; first = refl; counted = o.words; parts = o.parts }
 load_to h r aim k g = cc
 
-pub load_from : {T : Table} {a : Exp} {s : ℕ} {ns : List Shown} {m : Mark} {p : Facts} {x : Tree} {aim : Aim} → StandsAt T a s ns m p x → (d : Derives T (Load a) aim) → Alone d → below d s ≡ ns → IsFewest d s
+pub load_from : {T : Table} {a : Exp} {s : ℕ} {ns : List Shown} {m : TreeFacts} {p : Facts} {x : Tree} {aim : Aim} → StandsAt T a s ns m p x → (d : Derives T (Load a) aim) → Alone d → below d s ≡ ns → IsFewest d s
     → (makes (node_at T s forms.Load (Load a) (p ∷ [])) (m ∷ []) (first_rule d) aim (Some (cost d s)) ≡ true) × (shape d ≡ begun (first_rule d) (p ∷ []) (x ∷ []))
 load_from h (v0 d) g b f = cc
 load_from h (v1 i) g b f = operand_makes (load h) i b
 load_from {s = s} h (v2 d) g b f = let o = one_from h d 1 _ refl b (λ other. let i = f (v2 other) in omega arith) in (o.0, ap (λ t. by V2 (one t)) o.1)
 load_from h (j6 i d) g b f = absurd (not_tested d g)
 
-pub neg_to : {T : Table} {a : Exp} {s : ℕ} {ns : List Shown} {m : Mark} {p : Facts} {x : Tree} → StandsAt T a s ns m p x → (r : Rule) (aim : Aim) (k : ℕ) → makes_by (node_at T s forms.Neg (Neg a) (p ∷ [])) (m ∷ []) (Some k) (of_neg r aim) ≡ true
+pub neg_to : {T : Table} {a : Exp} {s : ℕ} {ns : List Shown} {m : TreeFacts} {p : Facts} {x : Tree} → StandsAt T a s ns m p x → (r : Rule) (aim : Aim) (k : ℕ) → makes_by (node_at T s forms.Neg (Neg a) (p ∷ [])) (m ∷ []) (Some k) (of_neg r aim) ≡ true
     → Begins T (Neg a) aim s r k ns
 neg_to h V3 (Gets m) k g = let o = one_to h (Gets m) 1 k g in record { derivation = v3 o.derivation; first = refl; counted = o.words; parts = o.parts }
 neg_to h r aim k g = cc
 
-pub neg_from : {T : Table} {a : Exp} {s : ℕ} {ns : List Shown} {m : Mark} {p : Facts} {x : Tree} {aim : Aim} → StandsAt T a s ns m p x → (d : Derives T (Neg a) aim) → Alone d → below d s ≡ ns → IsFewest d s
+pub neg_from : {T : Table} {a : Exp} {s : ℕ} {ns : List Shown} {m : TreeFacts} {p : Facts} {x : Tree} {aim : Aim} → StandsAt T a s ns m p x → (d : Derives T (Neg a) aim) → Alone d → below d s ≡ ns → IsFewest d s
     → (makes (node_at T s forms.Neg (Neg a) (p ∷ [])) (m ∷ []) (first_rule d) aim (Some (cost d s)) ≡ true) × (shape d ≡ begun (first_rule d) (p ∷ []) (x ∷ []))
 neg_from h (v0 d) g b f = cc
 neg_from h (v1 i) g b f = operand_makes (neg h) i b
 neg_from {s = s} h (v3 d) g b f = let o = one_from h d 1 _ refl b (λ other. let i = f (v3 other) in omega arith) in (o.0, ap (λ t. by V3 (one t)) o.1)
 neg_from h (j6 i d) g b f = absurd (not_tested d g)
 
-pub not_to : {T : Table} {a : Exp} {s : ℕ} {ns : List Shown} {m : Mark} {p : Facts} {x : Tree} → StandsAt T a s ns m p x → (r : Rule) (aim : Aim) (k : ℕ) → makes_by (node_at T s forms.Not (Not a) (p ∷ [])) (m ∷ []) (Some k) (of_not r aim) ≡ true
+pub not_to : {T : Table} {a : Exp} {s : ℕ} {ns : List Shown} {m : TreeFacts} {p : Facts} {x : Tree} → StandsAt T a s ns m p x → (r : Rule) (aim : Aim) (k : ℕ) → makes_by (node_at T s forms.Not (Not a) (p ∷ [])) (m ∷ []) (Some k) (of_not r aim) ≡ true
     → Begins T (Not a) aim s r k ns
 not_to h V4 (Gets m) k g = let o = one_to h (Gets m) 1 k g in record { derivation = v4 o.derivation; first = refl; counted = o.words; parts = o.parts }
 not_to h J1 (Jumps sense) k g =
@@ -135,7 +135,7 @@ not_to h J1 (Jumps sense) k g =
     record { derivation = j1 o.derivation; first = refl; counted = omega arith; parts = o.parts }
 not_to h r aim k g = cc
 
-pub not_from : {T : Table} {a : Exp} {s : ℕ} {ns : List Shown} {m : Mark} {p : Facts} {x : Tree} {aim : Aim} → StandsAt T a s ns m p x → (d : Derives T (Not a) aim) → Alone d → below d s ≡ ns → IsFewest d s
+pub not_from : {T : Table} {a : Exp} {s : ℕ} {ns : List Shown} {m : TreeFacts} {p : Facts} {x : Tree} {aim : Aim} → StandsAt T a s ns m p x → (d : Derives T (Not a) aim) → Alone d → below d s ≡ ns → IsFewest d s
     → (makes (node_at T s forms.Not (Not a) (p ∷ [])) (m ∷ []) (first_rule d) aim (Some (cost d s)) ≡ true) × (shape d ≡ begun (first_rule d) (p ∷ []) (x ∷ []))
 not_from h (v0 d) g b f = cc
 not_from h (v1 i) g b f = operand_makes (not_over h) i b
@@ -181,7 +181,7 @@ record OnThree (T : Table) (s : ℕ) (sense : Bool) (a b c : Exp) (ns : List Sho
   parts : (shown condition s ++ shown this s) ++ shown that s ≡ ns
   words : cost condition s + cost this s + cost that s + k ≡ n
 
-three_to : {T : Table} {a b c : Exp} {s : ℕ} {ks ns os : List Shown} {l m n : Mark} {o p q : Facts} {x y z : Tree} → StandsAt T a s ks l o x → StandsAt T b s ns m p y → StandsAt T c s os n q z → (sense : Bool) (k j : ℕ)
+three_to : {T : Table} {a b c : Exp} {s : ℕ} {ks ns os : List Shown} {l m n : TreeFacts} {o p q : Facts} {x y z : Tree} → StandsAt T a s ks l o x → StandsAt T b s ns m p y → StandsAt T c s os n q z → (sense : Bool) (k j : ℕ)
     → has_words (words_from (takes.Choice sense) s (Some k) 0 (o ∷ p ∷ q ∷ [])) (Some j) && agree (takes.Choice sense) 0 (l ∷ m ∷ n ∷ []) ≡ true → OnThree T s sense a b c ((ks ++ ns) ++ os) k j
 three_to {s = s} {ks = ks} {ns = ns} {os = os} {o = o} {p = p} {q = q} h i j sense k n g =
     let c = and_parts _ _ g in
@@ -191,13 +191,13 @@ three_to {s = s} {ks = ks} {ns = ns} {os = os} {o = o} {p = p} {q = q} h i j sen
     let f = part_to j (Gets Any) (two_true _ _ v.1).0 in
     record { condition = d.derivation; this = e.derivation; that = f.derivation; parts = pair_of _ _ (ks ++ ns) os (pair_of _ _ ks ns d.shown e.shown) f.shown; words = some_same (sym (three_words s o p q sense k _ _ _ d.counted e.counted f.counted) ∙ words_are _ n c.0) }
 
-record HasThree (s : ℕ) (sense : Bool) (l m n : Mark) (o p q : Facts) (x y z t u v : Tree) (k j : ℕ) : Type 0 where
+record HasThree (s : ℕ) (sense : Bool) (l m n : TreeFacts) (o p q : Facts) (x y z t u v : Tree) (k j : ℕ) : Type 0 where
   makes : has_words (words_from (takes.Choice sense) s (Some k) 0 (o ∷ p ∷ q ∷ [])) (Some j) && agree (takes.Choice sense) 0 (l ∷ m ∷ n ∷ []) ≡ true
   condition : t ≡ x
   this : u ≡ y
   that : v ≡ z
 
-three_from : {T : Table} {a b c : Exp} {s : ℕ} {ks ns os : List Shown} {l m n : Mark} {o p q : Facts} {x y z : Tree} {sense : Bool} → StandsAt T a s ks l o x → StandsAt T b s ns m p y → StandsAt T c s os n q z
+three_from : {T : Table} {a b c : Exp} {s : ℕ} {ks ns os : List Shown} {l m n : TreeFacts} {o p q : Facts} {x y z : Tree} {sense : Bool} → StandsAt T a s ks l o x → StandsAt T b s ns m p y → StandsAt T c s os n q z
     → (d : Derives T a (Jumps sense)) (e : Derives T b (Gets Any)) (f : Derives T c (Gets Any)) (k j : ℕ) → cost d s + cost e s + cost f s + k ≡ j → (shown d s ++ shown e s) ++ shown f s ≡ (ks ++ ns) ++ os → IsFewest d s → IsFewest e s → IsFewest f s
     → HasThree s sense l m n o p q x y z (shape d) (shape e) (shape f) k j
 three_from {s = s} {ks = ks} {ns = ns} {os = os} {o = o} {p = p} {q = q} {sense = sense} h i j d e f k n w b fd fe ff =
@@ -208,7 +208,7 @@ three_from {s = s} {ks = ks} {ns = ns} {os = os} {o = o} {p = p} {q = q} {sense 
     let t = part_from j f rest.1 ff in
     record { makes = and_from _ _ (are_words _ n (three_words s o p q sense k _ _ _ u.counted v.counted t.counted ∙ ap Some w)) (true_two _ _ u.agrees (true_two _ _ v.agrees (true_two _ _ t.agrees refl))); condition = u.shape; this = v.shape; that = t.shape }
 
-pub choice_to : {T : Table} {a b c : Exp} {s : ℕ} {ks ns os : List Shown} {l m n : Mark} {o p q : Facts} {x y z : Tree} → StandsAt T a s ks l o x → StandsAt T b s ns m p y → StandsAt T c s os n q z → (r : Rule) (aim : Aim) (k : ℕ)
+pub choice_to : {T : Table} {a b c : Exp} {s : ℕ} {ks ns os : List Shown} {l m n : TreeFacts} {o p q : Facts} {x y z : Tree} → StandsAt T a s ks l o x → StandsAt T b s ns m p y → StandsAt T c s os n q z → (r : Rule) (aim : Aim) (k : ℕ)
     → makes_by (node_at T s forms.Cond (Cond a b c) (o ∷ p ∷ q ∷ [])) (l ∷ m ∷ n ∷ []) (Some k) (of_cond r aim) ≡ true → Begins T (Cond a b c) aim s r k ((ks ++ ns) ++ os)
 choice_to h i j V20 (Gets Any) k g = let o = three_to h i j false 2 k g in record { derivation = v20 o.condition o.this o.that; first = refl; counted = o.words; parts = o.parts }
 choice_to h i j V21 (Gets Any) k g =
@@ -220,7 +220,7 @@ choice_to h i j r aim k g = cc
 two_more : (t u v x y z : Tree) → t ≡ x → u ≡ y → v ≡ z → part t (part u (one v)) ≡ part x (part y (one z))
 two_more t u v x y z h i j = ap (λ a. part a (part u (one v))) h ∙ ap (λ a. part x (part a (one v))) i ∙ ap (λ a. part x (part y (one a))) j
 
-pub choice_from : {T : Table} {a b c : Exp} {s : ℕ} {ks ns os : List Shown} {l m n : Mark} {o p q : Facts} {x y z : Tree} {aim : Aim} → StandsAt T a s ks l o x → StandsAt T b s ns m p y → StandsAt T c s os n q z → (d : Derives T (Cond a b c) aim) → Alone d
+pub choice_from : {T : Table} {a b c : Exp} {s : ℕ} {ks ns os : List Shown} {l m n : TreeFacts} {o p q : Facts} {x y z : Tree} {aim : Aim} → StandsAt T a s ks l o x → StandsAt T b s ns m p y → StandsAt T c s os n q z → (d : Derives T (Cond a b c) aim) → Alone d
     → below d s ≡ (ks ++ ns) ++ os → IsFewest d s
     → (makes (node_at T s forms.Cond (Cond a b c) (o ∷ p ∷ q ∷ [])) (l ∷ m ∷ n ∷ []) (first_rule d) aim (Some (cost d s)) ≡ true) × (shape d ≡ begun (first_rule d) (o ∷ p ∷ q ∷ []) (x ∷ y ∷ z ∷ []))
 choice_from h i j (v0 d) g b f = cc
@@ -234,7 +234,7 @@ choice_from {s = s} h i j (v21 d t e) g b f =
 choice_from h i j (j6 k d) g b f = absurd (not_tested d g)
 
 -- a call
-some_parts : {T : Table} {es : Args} {f : Exp} {s : ℕ} {ns : List Shown} {ms : List Mark} {ps : List Facts} {xs : List Tree} → AreArguments T es f s ns ms ps xs → no_parts ps ≡ false
+some_parts : {T : Table} {es : Args} {f : Exp} {s : ℕ} {ns : List Shown} {ms : List TreeFacts} {ps : List Facts} {xs : List Tree} → AreArguments T es f s ns ms ps xs → no_parts ps ≡ false
 some_parts (routine h) = refl
 some_parts (next h i) = refl
 
@@ -254,7 +254,7 @@ argument_words s at k c p ps h i =
     ap (λ b. words_from takes.Call s (Some (k + (p.costs.any + cond b 0 (w (s + 2 + at))))) (at + 1) ps) i
     ∙ ap (λ n. words_from takes.Call s (Some (k + (n + w (s + 2 + at)))) (at + 1) ps) (some_same h)
 
-all_to : {T : Table} {es : Args} {f : Exp} {l : ℕ} {ns : List Shown} {ms : List Mark} {ps : List Facts} {xs : List Tree} → AreArguments T es f l ns ms ps xs → (s at : ℕ) → l ≡ s + 2 + at → agree takes.Call at ms ≡ true → OnAll T es f s at l ns ps
+all_to : {T : Table} {es : Args} {f : Exp} {l : ℕ} {ns : List Shown} {ms : List TreeFacts} {ps : List Facts} {xs : List Tree} → AreArguments T es f l ns ms ps xs → (s at : ℕ) → l ≡ s + 2 + at → agree takes.Call at ms ≡ true → OnAll T es f s at l ns ps
 all_to {f = f} {l = l} (routine {p = p} h) s at e g =
     let d = part_to h (Gets Any) (two_true _ _ g).0 in
     let same : l + 0 ≡ l = omega arith in
@@ -279,7 +279,7 @@ all_to {f = f} {l = l} (next {es = es} {ns = ns} {os = os} {p = p} {ps = ps} h i
           ∙ ap Some (omega arith);
     }
 
-pub call_to : (n : ℕ) {T : Table} {es : Args} {f : Exp} {s : ℕ} {ns : List Shown} {ms : List Mark} {ps : List Facts} {xs : List Tree} → AreArguments T es f (s + 2) ns ms ps xs → (r : Rule) (aim : Aim) (k : ℕ)
+pub call_to : (n : ℕ) {T : Table} {es : Args} {f : Exp} {s : ℕ} {ns : List Shown} {ms : List TreeFacts} {ps : List Facts} {xs : List Tree} → AreArguments T es f (s + 2) ns ms ps xs → (r : Rule) (aim : Aim) (k : ℕ)
     → makes_by (node_at T s (forms.Call n) (Call es f) ps) ms (Some k) (of_call r aim s) ≡ true → Begins T (Call es f) aim s r k ns
 call_to n {s = s} h V22 (Gets Any) k g =
     let level : s + 2 ≡ s + 2 + 0 = omega arith in
@@ -288,12 +288,12 @@ call_to n {s = s} h V22 (Gets Any) k g =
     record { derivation = v22 o.arguments o.routine; first = refl; counted = some_same (sym (o.words (w s)) ∙ words_are _ k c.0); parts = o.parts }
 call_to n h r aim k g = cc
 
-record HasAll (s at : ℕ) (ms : List Mark) (ps : List Facts) (xs : List Tree) (words : ℕ) (ts : Trees) : Type 0 where
+record HasAll (s at : ℕ) (ms : List TreeFacts) (ps : List Facts) (xs : List Tree) (words : ℕ) (ts : Trees) : Type 0 where
   agrees : agree takes.Call at ms ≡ true
   counted : (k : ℕ) → words_from takes.Call s (Some k) at ps ≡ Some (words + k)
   shapes : ts ≡ trees xs
 
-all_from : {T : Table} {es : Args} {f : Exp} {l : ℕ} {ns : List Shown} {ms : List Mark} {ps : List Facts} {xs : List Tree} → AreArguments T es f l ns ms ps xs → (s at : ℕ) → l ≡ s + 2 + at → (ds : DerivesAll T es) (d : Derives T f (Gets Any))
+all_from : {T : Table} {es : Args} {f : Exp} {l : ℕ} {ns : List Shown} {ms : List TreeFacts} {ps : List Facts} {xs : List Tree} → AreArguments T es f l ns ms ps xs → (s at : ℕ) → l ≡ s + 2 + at → (ds : DerivesAll T es) (d : Derives T f (Gets Any))
     → all_shown ds l ++ shown d (l + count es) ≡ ns → ((others : DerivesAll T es) (other : Derives T f (Gets Any)) → all_cost ds l + cost d (l + count es) ≤ all_cost others l + cost other (l + count es))
     → HasAll s at ms ps xs (all_cost ds l + cost d (l + count es)) (end_with (shapes ds) (shape d))
 all_from {f = f} {l = l} (routine {p = p} h) s at e no_more d b g =
@@ -321,7 +321,7 @@ all_from {T = T} {f = f} {l = l} (next {es = es} {ns = ns} {os = os} {p = p} {ps
       shapes = ap (λ t. part t (end_with (shapes ds) (shape r))) o.shape ∙ ap (λ ts. part x ts) rest.shapes;
     }
 
-pub call_from : (n : ℕ) {T : Table} {es : Args} {f : Exp} {s : ℕ} {ns : List Shown} {ms : List Mark} {ps : List Facts} {xs : List Tree} {aim : Aim} → AreArguments T es f (s + 2) ns ms ps xs → (d : Derives T (Call es f) aim) → Alone d → below d s ≡ ns → IsFewest d s
+pub call_from : (n : ℕ) {T : Table} {es : Args} {f : Exp} {s : ℕ} {ns : List Shown} {ms : List TreeFacts} {ps : List Facts} {xs : List Tree} {aim : Aim} → AreArguments T es f (s + 2) ns ms ps xs → (d : Derives T (Call es f) aim) → Alone d → below d s ≡ ns → IsFewest d s
     → (makes (node_at T s (forms.Call n) (Call es f) ps) ms (first_rule d) aim (Some (cost d s)) ≡ true) × (shape d ≡ begun (first_rule d) ps xs)
 call_from n h (v0 d) g b f = cc
 call_from n h (v1 k) g b f = operand_makes (call {n = n} h) k b

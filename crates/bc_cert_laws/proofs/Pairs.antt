@@ -1,4 +1,4 @@
--- The rules of an operator, by what the lines of its two parts show.
+-- The rules at a dyadic operator: which ones the checker finds, from what the lines of the two operands show.
 use Rattle.std.proofs.Common.{◌≡◌, ℕ, ◌+◌, ◌*◌, Bool, true, false, cond, Option, Some, None, List, [], ◌∷◌, ◌++◌, is_some, refl, ap, sym, subst, ◌∙◌, arith}
 use Rattle.bc_word.specs.declared.operator.Op.{Op}
 use Rattle.bc_word.specs.declared.operator.Op.TheVariants.{Add, Subtract, Equal, NotEqual, And, Or}
@@ -29,7 +29,7 @@ use Rattle.bc_cert_read.specs.declared.recipe.Recipe.{Recipe}
 use Rattle.bc_cert_read.specs.Recipe.{recipe, value_of_two, test_of_two, without_zero, less_number, beside_zero, facts_of, where_so, words_of_operand_of}
 use Rattle.bc_cert_read.specs.Node.{Node}
 use Rattle.bc_cert_read.specs.Parts.{IsPart}
-use Rattle.bc_cert_read.specs.declared.mark.Mark.{Mark}
+use Rattle.bc_cert_read.specs.declared.mark.TreeFacts.{TreeFacts}
 use Rattle.bc_cert_read.specs.Showing.{makes}
 use Rattle.bc_cert_write.specs.Shown.{Shown, rules_of_value, rules_at, shown, below, bare}
 use Rattle.bc_cert_laws.specs.Standing.{IsFewest, Begins, begun}
@@ -298,11 +298,11 @@ rule_from {T = T} (j9 {a = a} {b = b} {c = c} {sense = sense} t e d) s l k two a
     let q = beside_from T a b s l k two NotEqual (Gets Any) 2 _ c e d h (λ i. omega (arith, low (j9 t e i))) refl in
     (so_made T a b s l k two NotEqual _ _ _ (ap has_tests_of_zero t) q.0, ap (λ ts. by J9 ts) q.1)
 
--- the two results, of parts that stand; V1 is a rule of any operand, and before V0 and J6 stands a rule of their own
+-- the two results, if what is kept of the parts is true; V1 is a rule of any operand, and V0 and J6 are followed by another rule
 both_known : (T : Table) (a b : Exp) (s : ℕ) (p q : Facts) → IsPart T a (s + 1) p → IsPart T b (s + 1) q → facts_of a (has_call a) p.costs ∷ facts_of b (has_call b) q.costs ∷ [] ≡ p ∷ q ∷ []
 both_known T a b s p q h i = ap (λ f. f ∷ facts_of b (has_call b) q.costs ∷ []) (sym h.facts) ∙ ap (λ g. p ∷ g ∷ []) (sym i.facts)
 
-abbrev two_trees : {T : Table} {a b : Exp} {s : ℕ} {l k : List Shown} {m n : Mark} {p q : Facts} {x y : Tree} → StandsAt T a (s + 1) l m p x → StandsAt T b (s + 1) k n q y → TwoTrees T a b s l k
+abbrev two_trees : {T : Table} {a b : Exp} {s : ℕ} {l k : List Shown} {m n : TreeFacts} {p q : Facts} {x y : Tree} → StandsAt T a (s + 1) l m p x → StandsAt T b (s + 1) k n q y → TwoTrees T a b s l k
 two_trees {T = T} {a = a} {b = b} {s = s} {l = l} {k = k} {m = m} {n = n} {p = p} {q = q} {x = x} {y = y} h i = record {
   left_mark = m;
   right_mark = n;
@@ -318,14 +318,14 @@ abbrev pub pair_node : Table → Op → Exp → Exp → ℕ → List Facts → N
 pair_node T op a b s ps = record { table = T; level = s; form = forms.Bin op; operand = words_of_operand_of (Bin op a b); parts = ps }
 
 -- a rule that the checker finds begins a derivation
-pub pair_to : {T : Table} {op : Op} {a b : Exp} {s : ℕ} {l k : List Shown} {m n : Mark} {p q : Facts} {x y : Tree} → StandsAt T a (s + 1) l m p x → StandsAt T b (s + 1) k n q y
+pub pair_to : {T : Table} {op : Op} {a b : Exp} {s : ℕ} {l k : List Shown} {m n : TreeFacts} {p q : Facts} {x y : Tree} → StandsAt T a (s + 1) l m p x → StandsAt T b (s + 1) k n q y
     → (r : Rule) (aim : Aim) (words : ℕ) → ¬ (r ≡ V1) → makes (pair_node T op a b s (p ∷ q ∷ [])) (m ∷ n ∷ []) r aim (Some words) ≡ true → Begins T (Bin op a b) aim s r words (l ++ k)
 pair_to {T = T} {op = op} {a = a} {b = b} {s = s} {l = l} {k = k} {m = m} {n = n} {p = p} {q = q} h i r aim words other g =
     let P : List Facts → Type 0 = λ ps. makes (pair_node T op a b s ps) (m ∷ n ∷ []) r aim (Some words) ≡ true in
     rule_to T a b s l k (two_trees h i) op r aim words other (subst P (sym (both_known T a b s p q h.part i.part)) g)
 
 -- and of a derivation of least words that shows the lines of the parts the checker finds the rule
-pub pair_from : {T : Table} {op : Op} {a b : Exp} {s : ℕ} {l k : List Shown} {m n : Mark} {p q : Facts} {x y : Tree} {aim : Aim} → StandsAt T a (s + 1) l m p x → StandsAt T b (s + 1) k n q y
+pub pair_from : {T : Table} {op : Op} {a b : Exp} {s : ℕ} {l k : List Shown} {m n : TreeFacts} {p q : Facts} {x y : Tree} {aim : Aim} → StandsAt T a (s + 1) l m p x → StandsAt T b (s + 1) k n q y
     → (d : Derives T (Bin op a b) aim) → rules_at d ≡ first_rule d ∷ [] → ¬ (first_rule d ≡ V1) → below d s ≡ l ++ k → IsFewest d s
     → (makes (pair_node T op a b s (p ∷ q ∷ [])) (m ∷ n ∷ []) (first_rule d) aim (Some (cost d s)) ≡ true) × (shape d ≡ begun (first_rule d) (p ∷ q ∷ []) (x ∷ y ∷ []))
 pair_from {T = T} {op = op} {a = a} {b = b} {s = s} {l = l} {k = k} {m = m} {n = n} {p = p} {q = q} {x = x} {y = y} {aim = aim} h i d alone other g low =

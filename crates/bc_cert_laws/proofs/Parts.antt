@@ -1,4 +1,4 @@
--- What a part gives a rule that takes it, and what it has of a derivation that shows its lines.
+-- A part of a node: what it contributes to a rule that takes it, and which derivation its lines show.
 use Rattle.std.proofs.Common.{◌≡◌, ℕ, true, Option, Some, None, List, [], ◌∷◌, ◌++◌, refl, ap, sym, subst, ◌∙◌, arith}
 use Rattle.std.proofs.lemmas.Bool.{eqb-true, eq-eqb}
 use Rattle.bc_core.specs.Tree.{Exp, Value, Test}
@@ -15,7 +15,7 @@ use Rattle.bc_cert_defs.specs.declared.costs.Costs.{Costs}
 use Rattle.bc_cert_read.specs.declared.facts.Facts.{Facts}
 use Rattle.bc_cert_read.specs.Costs.{cost_of}
 use Rattle.bc_cert_read.specs.Parts.{AreLeast}
-use Rattle.bc_cert_read.specs.declared.mark.Mark.{Mark}
+use Rattle.bc_cert_read.specs.declared.mark.TreeFacts.{TreeFacts}
 use Rattle.bc_cert_read.specs.Marks.{has_aim}
 use Rattle.bc_cert_read.specs.Showing.{has_words}
 use Rattle.bc_cert_write.specs.Shown.{Shown, shown, below}
@@ -34,7 +34,7 @@ shown_order {T = T} {e = e} (Gets Any) d s = nodes_in_order T (Value s e) (value
 shown_order {T = T} {e = e} (Gets Push) d s = other_rules (below d s) _ _ refl ∙ nodes_in_order T (Value s e) (value (v0 d))
 shown_order {T = T} {e = e} (Jumps sense) d s = nodes_in_order T (Test s sense e) (test d)
 
--- a derivation has the least words just where no other has fewer
+-- a derivation has the least words exactly if no other has fewer
 least_words : (T : Table) (e : Exp) (s : ℕ) (c : Costs) → AreLeast T e s c → (aim : Aim) → AreLeastWords T e aim s (cost_of aim c)
 least_words T e s c h aim = subst (AreLeastWords T e aim s) (h.words aim) (choices_are_least T e aim s).0
 
@@ -64,15 +64,15 @@ pub record Part (T : Table) (a : Exp) (s : ℕ) (ns : List Shown) (p : Facts) (a
   pub shown : shown derivation s ≡ ns
   pub counted : cost_of aim p.costs ≡ Some (cost derivation s)
 
-pub part_to : {T : Table} {a : Exp} {s : ℕ} {ns : List Shown} {m : Mark} {p : Facts} {x : Tree} → StandsAt T a s ns m p x → (aim : Aim) → has_aim m.shown aim ≡ true → Part T a s ns p aim
+pub part_to : {T : Table} {a : Exp} {s : ℕ} {ns : List Shown} {m : TreeFacts} {p : Facts} {x : Tree} → StandsAt T a s ns m p x → (aim : Aim) → has_aim m.shown aim ≡ true → Part T a s ns p aim
 part_to h aim k = let d = h.shows aim k in record { derivation = d.derivation; shown = sym d.shown; counted = counted_of h.part.costs d.derivation d.fewest }
 
-pub record Has (m : Mark) (p : Facts) (x : Tree) (aim : Aim) (words : ℕ) (t : Tree) : Type 0 where
+pub record Has (m : TreeFacts) (p : Facts) (x : Tree) (aim : Aim) (words : ℕ) (t : Tree) : Type 0 where
   pub agrees : has_aim m.shown aim ≡ true
   pub counted : cost_of aim p.costs ≡ Some words
   pub shape : t ≡ x
 
-pub part_from : {T : Table} {a : Exp} {s : ℕ} {ns : List Shown} {m : Mark} {p : Facts} {x : Tree} {aim : Aim} → StandsAt T a s ns m p x → (d : Derives T a aim) → shown d s ≡ ns → IsFewest d s → Has m p x aim (cost d s) (shape d)
+pub part_from : {T : Table} {a : Exp} {s : ℕ} {ns : List Shown} {m : TreeFacts} {p : Facts} {x : Tree} {aim : Aim} → StandsAt T a s ns m p x → (d : Derives T a aim) → shown d s ≡ ns → IsFewest d s → Has m p x aim (cost d s) (shape d)
 part_from {aim = aim} h d k f = let o = h.has aim d (sym k) f in record { agrees = o.0; counted = counted_of h.part.costs d f; shape = o.1 }
 
 -- the words of a recipe

@@ -1,4 +1,4 @@
--- What a line is read as, and what it is read from.
+-- Each kind of line is read exactly if the line, with its LF, is the text of what was read.
 use Rattle.std.proofs.Common.{◌≡◌, ⊎_elim, ℕ, ◌<◌, ◌==◌, List, [], ◌∷◌, ◌++◌, length, get_or, Option, Some, None, refl, ap, ap₂, sym, ◌∙◌, arith}
 use Rattle.std.specs.List.{AllByRecursion}
 use Rattle.std.specs.Fmt.{decimal}
@@ -69,7 +69,7 @@ header_ends Two = (title ++ 50 ∷ [], refl, refl)
 next : (text : List ℕ) (p : List ℕ × List ℕ) (f rest : List ℕ) → field text ≡ Some p → p.0 ≡ f → p.1 ≡ rest → text ≡ f ++ 32 ∷ rest
 next text p f rest h e k = field_read text p.0 p.1 h ∙ ap₂ (λ x y. x ++ 32 ∷ y) e k
 
--- a step, and what stands after it
+-- a step, and the rest of the line
 then : {A B : Type 0} {o : Option A} {a : A} {b : B} (f : A → Option B) → o ≡ Some a → f a ≡ Some b → o >>= f ≡ Some b
 then f h k = ap (λ x. x >>= f) h ∙ k
 

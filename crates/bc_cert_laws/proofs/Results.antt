@@ -1,4 +1,4 @@
--- What comes of steps one after another, and tests as what they say.
+-- Sequences of steps that may fail, and Boolean tests as statements.
 use Rattle.std.proofs.Common.{◌≡◌, ℕ, ◌==◌, ◌≤◌, Bool, true, false, cond, List, length, Result, Ok, Err, refl, arith}
 use Rattle.std.specs.Prelude.{◌+◌, ◌&&◌, nat_le}
 use Rattle.bc_cert_defs.specs.declared.check_fault.CheckFault.{CheckFault}
@@ -7,7 +7,7 @@ use Rattle.bc_cert_read.specs.declared.position.Position.{Position}
 use Rattle.bc_cert_read.specs.Stacks.{◌>>=◌}
 use Rattle.bc_cert_laws.specs.Faults.{lines}
 
--- the place of the next line, after these lines, these entries and so many nodes
+-- the place of the next line, after these lines, these entries and this number of nodes
 pub record StandsAfter (text : List ℕ) (js : List Judged) (nodes : ℕ) (p : Position) : Type 0 where
   pub line : p.line ≡ lines text + 1
   pub entry : p.entry ≡ length js
@@ -19,7 +19,7 @@ ok_same h = cc
 pub err_same : {A : Type 0} {e f : CheckFault} → ◌≡◌ {A = Result A CheckFault} (Err e) (Err f) → e ≡ f
 err_same h = cc
 
--- what comes of a step that did not fail
+-- a step that didn't fail
 pub record Bound {A B : Type 0} (r : Result A CheckFault) (f : A → Result B CheckFault) (y : B) : Type 0 where
   pub value : A
   pub was : r ≡ Ok value

@@ -1,4 +1,4 @@
--- The items of a derivation's code have room where its nodes and labels do.
+-- The items of a derivation's code fit into a code line if the derivation's nodes and labels have room.
 use Rattle.std.proofs.Common.{◌≡◌, ℕ, ◌+◌, ◌%◌, ◌≤◌, Bool, true, false, cond, Option, Some, None, List, [], ◌∷◌, ◌++◌, refl, sym, subst, arith}
 use Rattle.std.specs.List.{AllByRecursion}
 use Rattle.bc_word.specs.declared.operator.Op.TheVariants as operators
@@ -107,7 +107,7 @@ operand_small (Load e) s o h room = content_small (operand_of e) o (λ x i. oper
 operand_small (Bin operators.Add a b) s o h room = either_small (moved a (constant_of b)) (moved b (constant_of a)) o (λ x i. moved_small a (constant_of b) x i) (λ x i. moved_small b (constant_of a) x i) h
 operand_small e s o h room = cc
 
--- what is known where layers stand
+-- what is known at each layer of the code
 record Fits (H : Here) : Type 0 where
   sees : (e : Exp) (u : ℕ) → H.sees e u → AllRoomy e u
   target : (sense : Bool) → H.aim ≡ Jumps sense → IsSmall H.target

@@ -1,4 +1,4 @@
--- What a root line comes to, against what it may say.
+-- The checker's step at a root line agrees with the relations.
 use Rattle.std.proofs.Common.{◌≡◌, ℕ, ◌+◌, ◌*◌, ◌==◌, ◌≤◌, ◌<◌, Bool, true, false, cond, List, [], ◌∷◌, ◌++◌, Option, Some, None, Result, Ok, Err, refl, ap, sym, subst, ◌∙◌, append-nil, arith, IsTrue}
 use Rattle.std.specs.Prelude.{◌&&◌}
 use Rattle.std.specs.Fmt.{decimal}
@@ -30,7 +30,7 @@ use Rattle.bc_cert_write.specs.Shown.{Shown, shown, bare}
 use Rattle.bc_cert_write.specs.Lines.{line}
 use Rattle.bc_cert_read.specs.declared.lines.RootLine.{RootLine}
 use Rattle.bc_cert_read.specs.declared.lines.RootLine.TheVariants as lines
-use Rattle.bc_cert_read.specs.declared.mark.Mark.{Mark}
+use Rattle.bc_cert_read.specs.declared.mark.TreeFacts.{TreeFacts}
 use Rattle.bc_cert_read.specs.declared.position.Position.{Position}
 use Rattle.bc_cert_read.specs.Marks.{has_aim}
 use Rattle.bc_cert_read.specs.Sides.{words_at, words_by, least_of, same}
@@ -60,7 +60,7 @@ data OneOf (T : Table) : List Grown → Option One → Type 0 where
   just_one : {t : Grown} {o : One} → OneStands T t o → OneOf T (t ∷ []) (Some o)
   not_one : {ts : List Grown} → ((t : Grown) → ¬ (ts ≡ t ∷ [])) → OneOf T ts None
 
-one_of : {T : Table} {ts : List Grown} {ms : List Mark} {fs : List Facts} {es : List Exp} {xs : List Tree} → Kept T ts ms fs es xs → OneOf T ts (one_among ms fs es xs)
+one_of : {T : Table} {ts : List Grown} {ms : List TreeFacts} {fs : List Facts} {es : List Exp} {xs : List Tree} → Kept T ts ms fs es xs → OneOf T ts (one_among ms fs es xs)
 one_of nothing = not_one (λ t i. cc)
 one_of (further a nothing) = just_one a
 one_of (further a (further b rest)) = not_one (λ t i. cc)
@@ -69,7 +69,7 @@ data TwoOf (T : Table) : List Grown → Option (One × One) → Type 0 where
   just_two : {t u : Grown} {q : One × One} → OneStands T t q.0 → OneStands T u q.1 → TwoOf T (t ∷ u ∷ []) (Some q)
   not_two : {ts : List Grown} → ((t u : Grown) → ¬ (ts ≡ t ∷ u ∷ [])) → TwoOf T ts None
 
-two_of : {T : Table} {ts : List Grown} {ms : List Mark} {fs : List Facts} {es : List Exp} {xs : List Tree} → Kept T ts ms fs es xs → TwoOf T ts (two_among ms fs es xs)
+two_of : {T : Table} {ts : List Grown} {ms : List TreeFacts} {fs : List Facts} {es : List Exp} {xs : List Tree} → Kept T ts ms fs es xs → TwoOf T ts (two_among ms fs es xs)
 two_of nothing = not_two (λ t u i. cc)
 two_of (further a nothing) = not_two (λ t u i. cc)
 two_of (further a (further b nothing)) = just_two a b
@@ -79,7 +79,7 @@ two_of (further a (further b (further c rest))) = not_two (λ t u i. cc)
 least_cost : {T : Table} {e : Exp} {aim : Aim} (s n : ℕ) (c : Costs) (d : Derives T e aim) → AreLeast T e s c → cost_of aim c ≡ Some n → IsFewest d s → cost d s ≡ n
 least_cost s n c d h i k = some_same (sym (counted_of h d k) ∙ i)
 
--- A root over trees that stand, with the derivation that their lines show.
+-- A root with true trees, and the derivation that their lines show.
 pub record RootRight (T : Table) (rl : RootLine) (ts : List Grown) : Type 0 where
   pub root : Root
   pub over : IsRootOf rl ts root
@@ -304,7 +304,7 @@ assignment_made _ s v a q p third sides (a1 h x) k = absurd (names_differ 3 1 s 
 assignment_made _ s v a q p third sides (a2 h is_free y x) k = absurd (names_differ 3 2 s (omega arith) (omega arith) (λ e. omega (arith, e)) k.is)
 assignment_made _ s v a q p third sides (a3 h x y) k = third_made s v a q p h x y sides k.shown k.fewest
 
--- what an assignment that was taken tells
+-- what is known of an accepted assignment
 record AssignmentTaken (T : Table) (r : Rule) (s : ℕ) (v a : Grown) (q : One × One) : Type 0 where
   sides : SidesStand T s v a q
   words : ℕ
@@ -419,7 +419,7 @@ assignment_wrong {T = T} r s v a q p f is room h i k = at (q.0.mark.level == sid
       subst (RootWrong (lines.Assign r s) (v ∷ a ∷ []) p) (least_refused r s p q.0 q.1 _ f k) (no_derivation (of_assignment is room sides.value_level sides.address_level))
   at false e k = subst (RootWrong (lines.Assign r s) (v ∷ a ∷ []) p) (err_same k) (no_root (over_none e))
 
--- what a root line comes to over trees that stand
+-- the result of the step at a root line with true trees
 pub root_made : {T : Table} (ts : List Grown) (r : Root) (rl : RootLine) (x : Stack) (p : Position) → StackStands T ts x → IsRootOf rl ts r → (d : RootDerives T r) → RootStands T r (all_shown ts) (root_text rl) d → root_step rl p x ≡ Ok (rooted_by d)
 root_made {T = T} _ _ _ x p h (of_value {t = t}) (value d) k = at (one_tree x) (one_of (kept T (t ∷ []) x.marks x.facts x.expressions x.derivations h)) where
   at : (o : Option One) → OneOf T (t ∷ []) o → (with_whole p o >>= (λ o. value_root p o)) ≡ Ok (rooted_by (value {s = t.level} d))

@@ -1,4 +1,4 @@
--- The least words of an assignment, from what is kept of its sides.
+-- The least words of an assignment are those that the checker computes from its sides.
 use Rattle.std.proofs.Common.{◌≡◌, ℕ, ◌+◌, ◌*◌, ◌≤◌, Bool, true, false, cond, Option, Some, None, [], ◌∷◌, refl, ap, sym, ◌∙◌, arith}
 use Rattle.std.specs.Prelude.{is_some}
 use Rattle.bc_core.specs.declared.operands.Operand.{Operand}

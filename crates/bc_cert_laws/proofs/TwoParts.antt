@@ -1,4 +1,4 @@
--- What a rule of an operator takes of its two parts, and what a derivation that shows their lines has.
+-- What a rule of a dyadic operator takes of its operands, and which derivation their lines show.
 use Rattle.std.proofs.Common.{◌≡◌, ℕ, ◌+◌, ◌==◌, ◌&&◌, Bool, true, false, cond, Option, Some, None, List, [], ◌∷◌, ◌++◌, refl, ap, sym, subst, ◌∙◌, arith}
 use Rattle.std.proofs.lemmas.Bool.{eqb-true, and_parts, eq-eqb}
 use Rattle.bc_word.specs.declared.operator.Op.{Op}
@@ -25,7 +25,7 @@ use Rattle.bc_cert_read.specs.declared.recipe.Recipe.{Recipe}
 use Rattle.bc_cert_read.specs.Recipe.{facts_of, recipe, adding, where_so, only_at, words_of_operand, words_of_operand_of}
 use Rattle.bc_cert_read.specs.Node.{Node, more_words}
 use Rattle.bc_cert_read.specs.Lines.{op_numbered}
-use Rattle.bc_cert_read.specs.declared.mark.Mark.{Mark}
+use Rattle.bc_cert_read.specs.declared.mark.TreeFacts.{TreeFacts}
 use Rattle.bc_cert_read.specs.Derived.{taken, trees}
 use Rattle.bc_cert_read.specs.Showing.{has_words, makes_by}
 use Rattle.bc_cert_write.specs.Shown.{Shown, shown, bare}
@@ -96,8 +96,8 @@ joined xs ys us vs h i = ap (λ l. l ++ ys) h ∙ ap (λ l. us ++ l) i
 
 -- the trees of the two parts
 pub record TwoTrees (T : Table) (a b : Exp) (s : ℕ) (l k : List Shown) : Type 0 where
-  pub left_mark : Mark
-  pub right_mark : Mark
+  pub left_mark : TreeFacts
+  pub right_mark : TreeFacts
   pub left_costs : Costs
   pub right_costs : Costs
   pub left_tree : Tree
@@ -105,7 +105,7 @@ pub record TwoTrees (T : Table) (a b : Exp) (s : ℕ) (l k : List Shown) : Type 
   pub left : StandsAt T a (s + 1) l left_mark (facts_of a (has_call a) left_costs) left_tree
   pub right : StandsAt T b (s + 1) k right_mark (facts_of b (has_call b) right_costs) right_tree
 
--- a rule takes both parts, or one of them and the other as it stands
+-- a rule derives both parts, or one of them and takes the other as it is
 pub record Both (T : Table) (a b : Exp) (s : ℕ) (l : List Shown) (p q : Aim) (j words : ℕ) : Type 0 where
   pub left : Derives T a p
   pub right : Derives T b q
@@ -144,7 +144,7 @@ module _ (T : Table) (a b : Exp) (s : ℕ) (l k : List Shown) (two : TwoTrees T 
   abbrev pub over : Op → Node
   over op = record { table = T; level = s; form = forms.Bin op; operand = words_of_operand_of (Bin op a b); parts = parts_known }
 
-  -- the recipe makes so many words of what the parts show
+  -- the recipe has these words over what the parts show
   abbrev pub Makes : Op → ℕ → Option Recipe → Type 0
   Makes op words r = makes_by (over op) (two.left_mark ∷ two.right_mark ∷ []) (Some words) r ≡ true
 

@@ -1,4 +1,4 @@
--- What the checker makes of bytes is what they say, or their first fault.
+-- The checker's function returns what the bytes say, or their first fault.
 use Rattle.std.proofs.Common.{◌≡◌, ℕ, ◌+◌, ◌==◌, Bool, true, false, cond, List, [], ◌∷◌, ◌++◌, Result, Ok, Err, refl, ap, sym, subst, ◌∙◌, append-nil, append_assoc, arith}
 use Rattle.std.proofs.lemmas.Bool.{eqb-true}
 use Rattle.bc_rules_defs.specs.declared.rule.Table.{Table}
@@ -173,7 +173,7 @@ judged_says bytes v h = at (feed_from bytes (start, [])) h (fares bytes [] [] th
   at (Err f) h k = never h
   at (Ok s) h k = says_at bytes s v k.text k.stage k.is k.reaches k.related h
 
--- the want of a last line
+-- a missing end line
 lacks_end : (bytes text rest : List ℕ) (T : Table) (js : List Judged) (st : State) (f : CheckFault) → bytes ≡ text ++ rest → Reaches text (the_end T js) → lines rest ≡ 0 → no_rest rest st ≡ Err f → Lacks bytes f
 lacks_end bytes text [] T js st f e r u h = never_wrong h
 lacks_end bytes text (b ∷ rest) T js st f e r u h =

@@ -1,4 +1,4 @@
--- What a line within an entry comes to, node line or root line, against what it may say.
+-- The checker's step at a node line or root line agrees with the relations.
 use Rattle.std.proofs.Common.{◌≡◌, ℕ, ◌+◌, ◌≤◌, ◌<◌, true, false, map, List, [], ◌∷◌, ◌++◌, length, Option, Some, None, IfSome, Result, Ok, Err, refl, ap, sym, subst, ◌∙◌, arith}
 use Rattle.std.specs.Fmt.{decimal}
 use Rattle.bc_cert_defs.specs.declared.check_fault.CheckFault.{CheckFault}
@@ -36,7 +36,7 @@ use Rattle.bc_cert_laws.proofs.NodeParts.{own_form, form_text_is, small_form, sm
 use Rattle.bc_cert_laws.proofs.NodeCosts.{by_derivations, by_choices, least_costs}
 use Rattle.bc_cert_laws.proofs.NodeSteps.{fits_of_ends, NodeDecision, fits, misfit, node_decided, NodeRight, NodeWrong, is_deep, is_cost, is_rule, node_right, node_wrong, node_made}
 
--- what a line within an entry was, and what comes after it
+-- what a line within an entry was, and the stage after it
 pub data WithinTaken (T : Table) (ts : List Grown) (h : Head) (l : List ℕ) (st after : State) : Type 0 where
   a_node : (e : Exp) (s : ℕ) (rules : List Rule) (ends : Ends e s ts) → NodeHasRoom T (node e s rules) → StandsBy T e s rules (all_shown ends.own ++ node e s rules ∷ []) → l ++ 10 ∷ [] ≡ line_of_node T (node e s rules)
       → (x : Stack) → StackStands T (ends.before ++ grown e s rules ends.own ∷ []) x → after ≡ record st { stage = at_nodes h; trees = x; nodes = st.nodes + 1 } → WithinTaken T ts h l st after
@@ -131,7 +131,7 @@ read_so {l = l} {e = e} {s = s} {c = c} {names = names} h =
 ends_at : {e : Exp} {s k : ℕ} {ts : List Grown} → k ≡ s → Ends e s ts → Ends e k ts
 ends_at {e = e} {ts = ts} h ends = subst (λ n. Ends e n ts) (sym h) ends
 
--- a line that was taken
+-- a line that was accepted
 node_room : {T : Table} {e : Exp} {n : NodeLine} {l : List ℕ} (rules : List Rule) → n.form ≡ own_form e → NodeRead n l → AreLeast T e n.level n.costs → nested e ≤ 400 → NodeHasRoom T (node e n.level rules)
 node_room {e = e} {n = n} rules form read least depth =
     record { level = read.level; number = small_number e (subst FormIsSmall form read.form); words = λ aim. subst (λ o. IfSome o IsNumber) (sym (least.words aim)) (cost_room aim); depth = depth } where
@@ -234,7 +234,7 @@ within_fault text T js ts st h l p f place t stands k = at (node_line l) refl (r
   at None i None j =
       subst (LineFault text (nodes T js h ts) (l ++ 10 ∷ [])) (ap faults.Line (sym place.line) ∙ err_same (sym (no_line_so h l p st i j) ∙ k)) (no_form (λ e s c names ends. unread_node l i) (λ r. unread_root l j))
 
--- a node line is taken where it is right
+-- a node line is accepted if it is right
 record NodeTaken (T : Table) (ts : List Grown) (st : State) (h : Head) (l : List ℕ) (p : Position) (trees : List Grown) : Type 0 where
   stack : Stack
   stands : StackStands T trees stack

@@ -1,4 +1,4 @@
--- Node lines as they are written, by the rules' names.
+-- The node lines of the writer have the form that the relations require.
 use Rattle.std.proofs.Common.{◌≡◌, ℕ, ◌≤◌, true, false, List, [], ◌∷◌, ◌++◌, map, refl, ap, sym, subst, arith}
 use Rattle.std.specs.List.{AllByRecursion}
 use Rattle.std.specs.Fmt.{decimal}

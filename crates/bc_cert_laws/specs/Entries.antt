@@ -1,4 +1,4 @@
--- The certificates that are accepted, and what each says.
+-- Which bytes are an accepted certificate, and what it says.
 use Rattle.std.specs.Prelude.{◌≡◌, ℕ, ◌+◌, ◌^◌, ◌≤◌, ◌<◌, List, [], ◌∷◌, ◌++◌, map, length, flat_map, IfSome, max}
 use Rattle.std.specs.List.{AllZip, AllByRecursion}
 use Rattle.std.specs.Fmt.{decimal}
@@ -15,7 +15,7 @@ use Rattle.bc_cert_defs.specs.Verdict.{Judged, Verdict}
 use Rattle.bc_cert_write.specs.Shown.{Shown, root_shown}
 use Rattle.bc_cert_write.specs.Lines.{line, entry_line, node_line, root_line, least_words}
 
--- numbers of a certificate: any, those of labels, targets and forms, and levels
+-- the bounds of the numbers in a certificate: of any number; of labels, targets and the numbers of forms; of levels
 abbrev pub IsNumber : ℕ → Type 0
 IsNumber n = n < 2 ^ 64
 
@@ -25,7 +25,7 @@ IsSmall n = n ≤ 65535
 abbrev pub IsLevel : ℕ → Type 0
 IsLevel s = s ≤ 32768
 
--- the number of a form
+-- the number in the form of an expression, if it has one, is small
 abbrev pub HasSmallNumber : Exp → Type 0
 HasSmallNumber (Num n) = IsSmall n
 HasSmallNumber (Frame k) = IsSmall k
@@ -35,7 +35,7 @@ HasSmallNumber (Valof n) = IsSmall n
 HasSmallNumber (Call es f) = IsSmall (count es)
 HasSmallNumber _ = Unit {0}
 
--- how many nodes stand one within another
+-- the depth of an expression: 1 for one without parts
 abbrev mutual
   pub nested : Exp → ℕ
   nested (Load e) = nested e + 1
@@ -50,14 +50,14 @@ abbrev mutual
   all_nested no_argument = 0
   all_nested (argument e es) = max (nested e) (all_nested es)
 
--- a node line has room for the node
+-- the node can be written as a node line: its numbers are within their bounds, and it is at most 400 nodes deep
 pub record NodeHasRoom (T : Table) (n : Shown) : Type 0 where
   pub level : IsLevel n.level
   pub number : HasSmallNumber n.expression
   pub words : (aim : Aim) → IfSome (least_words T aim n) IsNumber
   pub depth : nested n.expression ≤ 400
 
--- a piece of a code line: an item as it is printed, and `?n` for a body of n items
+-- a field of a code line: an item as it is printed, or `?n` for a body of n items
 abbrev pub piece_field : Piece → List ℕ
 piece_field (Item i) = printed i
 piece_field (Body n) = 63 ∷ decimal n
@@ -69,26 +69,27 @@ PieceHasRoom (Body n) = IsNumber n
 abbrev pub pieces_line : List Piece → List ℕ
 pieces_line ps = line (67 ∷ []) (map piece_field ps)
 
--- the code of a certificate has the number of a body's items where that of a derivation has the VALOF's number
+-- a piece in a certificate is this piece of a derivation's code: the same item, or a body for a body. The number of a body differs:
+-- in a certificate it is the number of its items, in a derivation the number of the VALOF.
 abbrev pub SamePiece : Piece → Piece → Type 0
 SamePiece (Item i) (Item j) = i ≡ j
 SamePiece (Body m) (Body n) = Unit {0}
 SamePiece _ _ = ⊥
 
--- the level of an assignment stands in its root line
+-- the level of an assignment, which its root line states, is within its bound
 abbrev pub RootHasRoom : Root → Type 0
 RootHasRoom (Value s e) = Unit {0}
 RootHasRoom (Test s sense e) = Unit {0}
 RootHasRoom (Assign s v a) = IsLevel s
 
--- An accepted entry, and its lines: there is a derivation of its root that none beats in words, its nodes stand in
--- the lines with their least words and the derivation's rules, and the code is the derivation's.
+-- The text is the lines of this accepted entry: there is a derivation of its root that no other beats in words, the lines are those of
+-- the root's nodes with their least words and the derivation's rules, and the code is the derivation's.
 pub record Listed (T : Table) (j : Judged) (text : List ℕ) : Type 0 where
   pub derivation : RootDerives T j.root
   pub code : AllZip SamePiece j.code (root_code derivation j.target j.first)
   pub words : root_cost derivation ≡ j.words
   pub fewest : (other : RootDerives T j.root) → j.words ≤ root_cost other
-  -- the numbers have room
+  -- the numbers are within their bounds
   pub segment : IsNumber j.segment
   pub item : IsNumber j.item
   pub target : IsSmall j.target
@@ -101,12 +102,12 @@ pub record Listed (T : Table) (j : Judged) (text : List ℕ) : Type 0 where
   pub lines : text ≡ entry_line j.segment j.item j.target j.first j.words
       ++ (flat_map (node_line T) (root_shown derivation) ++ (root_line derivation ++ pieces_line j.code))
 
--- the lines of all entries
+-- the text is the lines of all these entries
 pub data AllListed (T : Table) : List Judged → List ℕ → Type 0 where
   none : AllListed T [] []
   more : {j : Judged} {js : List Judged} {text texts : List ℕ} → AllListed T js texts → Listed T j text → AllListed T (js ++ j ∷ []) (texts ++ text)
 
--- these bytes are an accepted certificate that says this
+-- the bytes are an accepted certificate that says this verdict
 pub record Says (bytes : List ℕ) (v : Verdict) : Type 0 where
   pub texts : List ℕ
   pub entries : AllListed v.table v.entries texts

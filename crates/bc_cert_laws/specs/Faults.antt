@@ -1,4 +1,4 @@
--- The first fault of bytes that are no accepted certificate.
+-- The first fault of bytes that aren't an accepted certificate.
 use Rattle.std.specs.Prelude.{◌≡◌, ℕ, ◌+◌, ◌==◌, ◌≤◌, ◌<◌, Bool, true, false, cond, List, [], ◌∷◌, ◌++◌, map, length, flat_map, Some, IfSome}
 use Rattle.std.specs.List.{AllByRecursion, AllZip}
 use Rattle.std.specs.Fmt.{decimal}
@@ -25,7 +25,7 @@ use Rattle.bc_cert_defs.specs.declared.costs.Costs.{Costs}
 use Rattle.bc_cert_defs.specs.declared.head.Head.{Head}
 use Rattle.bc_cert_laws.specs.Entries.{IsNumber, IsSmall, IsLevel, HasSmallNumber, nested, NodeHasRoom, PieceHasRoom, pieces_line, SamePiece}
 
--- the numbers of an entry's first line have room
+-- the numbers of an `E` line are within their bounds
 pub record HeadHasRoom (h : Head) : Type 0 where
   pub segment : IsNumber h.segment
   pub item : IsNumber h.item
@@ -36,7 +36,7 @@ pub record HeadHasRoom (h : Head) : Type 0 where
 abbrev pub head_line : Head → List ℕ
 head_line h = entry_line h.segment h.item h.target h.first h.words
 
--- A tree: an expression at a level, and the nodes that its lines show.
+-- A tree that node lines have built: an expression at a level, and the nodes that its lines show.
 pub record Grown : Type 0 where
   pub expression : Exp
   pub level : ℕ
@@ -60,14 +60,14 @@ parts (Cond c x y) s = (c, s) ∷ (x, s) ∷ (y, s) ∷ []
 parts (Call es f) s = all_parts es (s + 2) ++ (f, s + 2 + count es) ∷ []
 parts _ s = []
 
--- the last of these trees are the parts of this expression at this level
+-- the last of these trees are the parts of the expression at this level
 pub record Ends (e : Exp) (s : ℕ) (trees : List Grown) : Type 0 where
   pub before : List Grown
   pub own : List Grown
   pub cut : trees ≡ before ++ own
   pub parts : map (λ t. (t.expression, t.level)) own ≡ parts e s
 
--- the name of a rule, which need not be in the table: a letter and a number
+-- the name of a rule: a letter and a number; the rule needn't be in the table
 pub record Name : Type 0 where
   pub letter : ℕ
   pub number : ℕ
@@ -91,14 +91,14 @@ abbrev pub names_field : List Name → List ℕ
 names_field [] = 45 ∷ []
 names_field (x ∷ xs) = name_text x ++ further_names xs
 
--- the four numbers of a node line
+-- the four numbers of a node line are within their bounds
 pub record CostsHaveRoom (c : Costs) : Type 0 where
   pub any : IsNumber c.any
   pub push : IfSome c.push IsNumber
   pub on_false : IsNumber c.on_false
   pub on_true : IsNumber c.on_true
 
--- a line of the form of a node line, for this expression at this level
+-- the text has the form of a node line for this expression at this level, with these numbers and names
 pub record IsNodeLine (e : Exp) (s : ℕ) (c : Costs) (names : List Name) (text : List ℕ) : Type 0 where
   pub level : IsLevel s
   pub number : HasSmallNumber e
@@ -106,31 +106,32 @@ pub record IsNodeLine (e : Exp) (s : ℕ) (c : Costs) (names : List Name) (text 
   pub all_names : AllByRecursion IsName names
   pub is : text ≡ line (decimal s) (form_field e ∷ decimal c.any ∷ words_field c.push ∷ decimal c.on_false ∷ decimal c.on_true ∷ names_field names ∷ [])
 
+-- the four numbers are the fewest words of the expression's derivations
 pub record AreLeastCosts (T : Table) (e : Exp) (s : ℕ) (c : Costs) : Type 0 where
   pub any : AreLeastWords T e (Gets Any) s (Some c.any)
   pub push : AreLeastWords T e (Gets Push) s c.push
   pub on_false : AreLeastWords T e (Jumps false) s (Some c.on_false)
   pub on_true : AreLeastWords T e (Jumps true) s (Some c.on_true)
 
--- the rules that stand at a node and below it are those of a derivation of least words, for some aim
+-- the rules at these nodes are those of a derivation that has the fewest words for some aim
 pub record RulesStand (T : Table) (e : Exp) (s : ℕ) (nodes : List Shown) : Type 0 where
   pub aim : Aim
   pub derivation : Derives T e aim
   pub shown : nodes ≡ shown derivation s
   pub fewest : (other : Derives T e aim) → cost derivation s ≤ cost other s
 
--- a node without rules owes nothing
+-- the same for a node that names rules; a node without rules is always right
 abbrev pub StandsBy : Table → Exp → ℕ → List Rule → List Shown → Type 0
 StandsBy T e s [] nodes = Unit {0}
 StandsBy T e s rules nodes = RulesStand T e s nodes
 
--- the rules of assignments
+-- the rule is one of assignments
 pub data IsAssignment : Rule → Type 0 where
   first : IsAssignment A1
   second : IsAssignment A2
   third : IsAssignment A3
 
--- the code of a derivation, its labels having room
+-- the pieces are the code of the derivation, and its labels are at most 65,535
 pub record IsCode {T : Table} {r : Root} (d : RootDerives T r) (h : Head) (ps : List Piece) : Type 0 where
   pub same : AllZip SamePiece ps (root_code d h.target h.first)
   pub labels : h.first + root_labels d ≤ 65536
@@ -138,20 +139,21 @@ pub record IsCode {T : Table} {r : Root} (d : RootDerives T r) (h : Head) (ps : 
 abbrev pub judged : Head → Root → List Piece → Judged
 judged h r ps = record { segment = h.segment; item = h.item; root = r; target = h.target; first = h.first; code = ps; words = h.words }
 
--- A root over the trees of an entry, and a line of the form of its root line.
+-- The trees of an entry make this root, and the text has the form of its root line.
 pub data RootOver : List Grown → Root → List ℕ → Type 0 where
   value : {t : Grown} → RootOver (t ∷ []) (Value t.level t.expression) (line (82 ∷ []) ((86 ∷ []) ∷ []))
   test : {t : Grown} {sense : Bool} → RootOver (t ∷ []) (Test t.level sense t.expression) (line (82 ∷ []) (sense_field sense ∷ []))
   assign : {v a : Grown} {s : ℕ} {r : Rule} → IsAssignment r → IsLevel s → v.level ≡ side_level a.expression s → a.level ≡ side_level a.expression s
       → RootOver (v ∷ a ∷ []) (Assign s v.expression a.expression) (line (82 ∷ []) (rule_name r ∷ decimal s ∷ []))
 
--- the lines of an entry so far are those of a derivation of the root of least words
+-- the lines of an entry, up to its root line, are those of a derivation of the root that has the fewest words
 pub record RootStands (T : Table) (r : Root) (nodes : List Shown) (text : List ℕ) (d : RootDerives T r) : Type 0 where
   pub shown : nodes ≡ root_shown d
   pub is : text ≡ line_of_root d
   pub fewest : (other : RootDerives T r) → root_cost d ≤ root_cost other
 
--- What may come next: after the header and whole entries, after some node lines, after a root line.
+-- Where right lines have led: to the beginning, after the header and whole entries, after node lines of an entry, after its root line,
+-- or after the end line.
 pub data Stage : Type 0 where
   the_header : Stage
   between : Table → List Judged → Stage
@@ -162,11 +164,11 @@ pub data Stage : Type 0 where
 abbrev pub node : Exp → ℕ → List Rule → Shown
 node e s rules = record { expression = e; level = s; rules = rules }
 
--- the tree of a node over its parts
+-- the tree of a node with these trees as its parts
 abbrev pub grown : Exp → ℕ → List Rule → List Grown → Grown
 grown e s rules own = record { expression = e; level = s; shown = all_shown own ++ node e s rules ∷ [] }
 
--- whole lines that are right lead from the beginning to a stage
+-- The text consists of whole lines that are all right, and they lead from the beginning to this stage.
 pub data Reaches : List ℕ → Stage → Type 0 where
   nothing : Reaches [] the_header
   header : {T : Table} → Reaches (header_line T) (between T [])
@@ -185,12 +187,12 @@ pub data Reaches : List ℕ → Stage → Type 0 where
   last_line : {text : List ℕ} {T : Table} {js : List Judged} → Reaches text (between T js) → IsNumber (length js)
       → Reaches (text ++ end_line (length js)) (the_end T js)
 
--- how many lines end in these bytes
+-- the number of lines that end in these bytes
 abbrev pub lines : List ℕ → ℕ
 lines [] = 0
 lines (b ∷ bs) = cond (b == 10) (lines bs + 1) (lines bs)
 
--- A line that comes next, with its end, and the fault that it has there.
+-- This line, with its LF, comes after right lines that have led to this stage, and there it has this fault.
 pub data LineFault (text : List ℕ) : Stage → List ℕ → CheckFault → Type 0 where
   no_header : {l : List ℕ} → ((T : Table) → ¬ (l ≡ header_line T)) → LineFault text the_header l Header
   no_entry : {T : Table} {js : List Judged} {l : List ℕ} → ((h : Head) → HeadHasRoom h → ¬ (l ≡ head_line h))
@@ -219,11 +221,11 @@ pub data LineFault (text : List ℕ) : Stage → List ℕ → CheckFault → Typ
       → IsCode d h ps → ¬ (root_cost d ≡ h.words) → LineFault text (code T js h r d) (pieces_line ps) (WrongWords (length js))
   following : {T : Table} {js : List Judged} {l : List ℕ} → LineFault text (the_end T js) l (Line (lines text + 1))
 
--- bytes that end no line
+-- the bytes don't end a line
 abbrev pub IsUnended : List ℕ → Type 0
 IsUnended bytes = lines bytes ≡ 0
 
--- the first fault: that of a line after lines that are right, or the want of a last line
+-- the bytes have this first fault: that of a line after right lines, or an end that is missing
 pub data Lacks : List ℕ → CheckFault → Type 0 where
   at_line : {text : List ℕ} {stage : Stage} {f : CheckFault} (l rest : List ℕ) → Reaches text stage → IsUnended l → LineFault text stage (l ++ 10 ∷ []) f
       → Lacks (text ++ (l ++ 10 ∷ rest)) f

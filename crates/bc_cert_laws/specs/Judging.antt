@@ -1,4 +1,4 @@
--- For proofs: what a certificate comes to, line by line: the first fault of a line, or what comes after it.
+-- For proofs: the function of the bytes that the checker computes. It goes line by line and returns the verdict or the first fault.
 use Rattle.std.specs.Prelude.{ℕ, ◌+◌, ◌==◌, Bool, true, false, ◌&&◌, cond, nat_le, length, List, [], ◌∷◌, ◌++◌, Option, Some, None, Result, Ok, Err}
 use Rattle.bc_text_items.specs.declared.item.Item.{Item}
 use Rattle.bc_text_items.specs.contracts.item.ItemPartialEq.TheImpl.{ghosts}
@@ -19,7 +19,7 @@ use Rattle.bc_cert_read.specs.Lines.{header, entry_line, end_line, node_line, ro
 use Rattle.bc_cert_read.specs.declared.position.Position.{Position}
 use Rattle.bc_cert_read.specs.Stacks.{◌>>=◌, with_whole, Stack, no_trees, Rooted, node_step, root_step}
 
--- what may come next
+-- which lines may come next
 pub data Stage : Type 0 where
   the_header : Stage
   between : Stage
@@ -28,7 +28,7 @@ pub data Stage : Type 0 where
   the_end : Stage
 
 pub record State : Type 0 where
-  -- how many lines were judged
+  -- the number of lines that were judged
   pub lines : ℕ
   pub table : Table
   pub entries : List Judged
@@ -39,7 +39,7 @@ pub record State : Type 0 where
 abbrev pub start : State
 start = record { lines = 0; table = One; entries = []; stage = the_header; trees = no_trees; nodes = 0 }
 
--- the same code, but for the numbers of items of bodies
+-- two codes are the same, except for the numbers of bodies
 abbrev pub same_item : Item → Item → Bool
 same_item i j = ghosts.eq i j
 
@@ -55,7 +55,7 @@ same_code (p ∷ ps) (q ∷ qs) = cond (same_piece p q) (same_code ps qs) false
 same_code [] (q ∷ qs) = false
 same_code (p ∷ ps) [] = false
 
--- an entry whose code is this
+-- the accepted entry with this code
 abbrev pub judged_with : Head → Rooted → List Piece → Judged
 judged_with h r ps = record { segment = h.segment; item = h.item; root = r.root; target = h.target; first = h.first; code = ps; words = h.words }
 
@@ -65,7 +65,7 @@ code_against h least ps p right =
     (cond (words right == h.words && least == h.words) (Ok tt) (Err (WrongWords p.entry)))
     (Err (WrongCode p.entry))
 
--- the code of the rules, where its labels have room
+-- the code of the derivation, if its labels are at most 65,535
 abbrev pub right_of : Head → Rooted → Option (List Piece)
 right_of h r = cond (nat_le (h.first + root_labels_by r.root r.derivation) 65536) (Some (root_code_by r.root r.derivation h.target h.first)) None
 
@@ -125,7 +125,7 @@ step_at (nodes h) line p st = within_step h line p st
 step_at (code h r) line p st = code_step h r line p st
 step_at the_end line p st = Err (Line p.line)
 
--- a line: its number is one more than that of those before it
+-- the place of a line, whose number is one more than that of the lines before it
 abbrev pub place_of : State → Position
 place_of st = record { line = st.lines; entry = length st.entries; node = st.nodes }
 
@@ -135,7 +135,7 @@ counted st = record st { lines = st.lines + 1; stage = the_end }
 abbrev pub line_step : List ℕ → State → Result State CheckFault
 line_step line st = step_at st.stage line (place_of (counted st)) (counted st)
 
--- a byte, after those of a line that has not ended yet
+-- the next byte, after those of an incomplete line
 abbrev pub byte_step : ℕ → State × List ℕ → Result (State × List ℕ) CheckFault
 byte_step b s = cond (b == 10) (line_step s.1 s.0 >>= (λ st. Ok (st, []))) (Ok (s.0, s.1 ++ b ∷ []))
 
@@ -156,7 +156,7 @@ finished_at _ s = Err Truncated
 abbrev pub finished : State × List ℕ → Result Verdict CheckFault
 finished s = finished_at s.0.stage s
 
--- what a certificate says, or the first fault in it
+-- what the bytes say, or their first fault
 abbrev pub judged_from : List ℕ → State × List ℕ → Result Verdict CheckFault
 judged_from bytes s = feed_from bytes s >>= (λ t. finished t)
 

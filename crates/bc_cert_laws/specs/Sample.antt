@@ -1,4 +1,4 @@
--- A worked example: the certificate of WRCH('A') in a routine without variables, what it says, and the faults of some that are none.
+-- Worked examples: the certificate of WRCH('A') in a routine without variables, what it says, and the first faults of texts near it.
 use Rattle.std.specs.Prelude.{ℕ, ◌≡◌, true, false, List, [], ◌∷◌, ◌++◌, Ok, Err, refl}
 use Rattle.bc_text_items.specs.declared.item.Item.TheVariants.{Operation}
 use Rattle.bc_text_items.specs.declared.item.Base.TheVariants.{Number, G}
@@ -51,7 +51,7 @@ end_line = 90 ∷ 32 ∷ 49 ∷ 10 ∷ []
 abbrev sample : List ℕ
 sample = header_line ++ (entry_line ++ (number_line ++ (global_line ++ (load_line ++ (call_line ++ (root_line ++ (code_line ++ end_line)))))))
 
--- a call of what global 14 holds, with 65, at level 2
+-- the entry that it says: a call of the routine in global 14 with the argument 65, at level 2
 abbrev said : Judged
 said = record {
   segment = 0;
@@ -67,7 +67,7 @@ pub sample_says : judged sample ≡ Ok (record { table = Two; entries = said ∷
 unfolding sum
 sample_says = refl
 
--- without its last line, and without a line's end
+-- without its end line, and an incomplete first line
 pub sample_truncated : judged (header_line ++ (entry_line ++ (number_line ++ (global_line ++ (load_line ++ (call_line ++ (root_line ++ code_line)))))))
     ≡ Err Truncated
 unfolding sum
@@ -76,22 +76,22 @@ sample_truncated = refl
 pub no_line : judged (66 ∷ 67 ∷ []) ≡ Err Header
 no_line = refl
 
--- a root line where a node line is wanted
+-- a root line where a node line is missing
 pub sample_unfinished : judged (header_line ++ (entry_line ++ (number_line ++ (global_line ++ (load_line ++ root_line))))) ≡ Err (Line 6)
 unfolding sum
 sample_unfinished = refl
 
--- `4 N65 2 1 0 2 V0.V1`: one word does
+-- `4 N65 2 1 0 2 V0.V1`: one word is enough
 pub dear_number : judged (header_line
     ++ (entry_line ++ (52 ∷ 32 ∷ 78 ∷ 54 ∷ 53 ∷ 32 ∷ 50 ∷ 32 ∷ 49 ∷ 32 ∷ 48 ∷ 32 ∷ 50 ∷ 32 ∷ 86 ∷ 48 ∷ 46 ∷ 86 ∷ 49 ∷ 10 ∷ []))) ≡ Err (WrongCost 0 0)
 dear_number = refl
 
--- `4 N65 1 1 0 2 V0.V2`: a number is no content
+-- `4 N65 1 1 0 2 V0.V2`: V2 is the rule of a cell's content, and this is a number
 pub other_rule : judged (header_line
     ++ (entry_line ++ (52 ∷ 32 ∷ 78 ∷ 54 ∷ 53 ∷ 32 ∷ 49 ∷ 32 ∷ 49 ∷ 32 ∷ 48 ∷ 32 ∷ 50 ∷ 32 ∷ 86 ∷ 48 ∷ 46 ∷ 86 ∷ 50 ∷ 10 ∷ []))) ≡ Err (WrongRule 0 0)
 other_rule = refl
 
--- `C L66 SP4 LIG14 K2`
+-- `C L66 SP4 LIG14 K2`: another number is loaded
 pub other_code : judged (header_line
     ++ (entry_line ++ (number_line
     ++ (global_line ++ (load_line ++
@@ -100,14 +100,14 @@ pub other_code : judged (header_line
 unfolding sum
 other_code = refl
 
--- `E 0 1 0 2 5`
+-- `E 0 1 0 2 5`: the code has four words
 pub other_words : judged (header_line
     ++ ((69 ∷ 32 ∷ 48 ∷ 32 ∷ 49 ∷ 32 ∷ 48 ∷ 32 ∷ 50 ∷ 32 ∷ 53 ∷ 10 ∷ [])
     ++ (number_line ++ (global_line ++ (load_line ++ (call_line ++ (root_line ++ code_line))))))) ≡ Err (WrongWords 0)
 unfolding sum
 other_words = refl
 
--- after the last line there is nothing
+-- a line after the end line
 pub further_line : judged (sample ++ header_line) ≡ Err (Line 10)
 unfolding sum
 further_line = refl

@@ -1,5 +1,5 @@
--- Worked examples of certificates: what some say, the first fault of others near them, and how a verdict stands against segments. They are
--- lemmas that compute, in `specs`.
+-- Worked examples: what some certificates say, the first faults of texts near them, and how verdicts fit segments. They are lemmas that
+-- hold by computation.
 pub mod Against
 pub mod Written
 pub mod Accepted

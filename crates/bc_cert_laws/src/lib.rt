@@ -1,4 +1,4 @@
-//! What the bytes of a certificate say, and the first fault of those that are none.
+//! Laws about certificates: which bytes are an accepted certificate, what it says, and what the first fault of all other bytes is.
 #![tactic(auto)]
 
 pub mod laws;

@@ -34,7 +34,7 @@ use Rattle.bc_cert_read.specs.Node.{Node, more_words, words_where, words_by, wor
 use Rattle.bc_cert_read.specs.Parts.{AreLeast, AreCallParts, AreParts, form_of, node_over}
 use Rattle.bc_cert_read.proofs.Minima.{lesser_none, lesser_turned, lesser_grouped, least_after, Give, give_least, better_words}
 
--- what a recipe has in words, at two parts
+-- the words of a recipe at two parts
 abbrev pair_words : ℕ → Facts → Facts → Option Recipe → Option ℕ
 pair_words s p q r = words_where s (p ∷ q ∷ []) r
 
@@ -43,7 +43,7 @@ unfolding given
 so_words s p q true r x h = h
 so_words s p q false r x h = refl
 
--- sums of what parts have
+-- sums of the words of parts
 none_first : (x : Option ℕ) (j : ℕ) → sum (sum (Some j) (more_words x 0)) (Some 0) ≡ sum x (Some j)
 unfolding sum
 none_first None j = refl
@@ -124,7 +124,7 @@ beside_words s p q aim x y k true u h i = only_first s p q aim x k h
 beside_words s p q aim x y k false true h i = only_second s p q aim y k i
 beside_words s p q aim x y k false false h i = refl
 
--- an operand alone
+-- a node that is an operand
 alone : (s : ℕ) (p q : Facts) (o : Option Operand) → pair_words s p q (adding Nothing (words_of_operand o) 0) ≡ operand_cost o
 unfolding operand_cost sum
 alone s p q None = refl
@@ -139,7 +139,7 @@ so_none : (s : ℕ) (p q : Facts) (t : Bool) → pair_words s p q (where_so t No
 so_none s p q true = refl
 so_none s p q false = refl
 
--- V0 goes on from the value that is pushed, J6 from the value
+-- V0 takes the words of the pushed value, J6 adds to those of the value
 no_given : (x : Option ℕ) → given false x ≡ None
 unfolding given
 no_given x = refl
@@ -169,7 +169,7 @@ value_words : (form : Form) (x : Option ℕ) → by_value form x ≡ given (is_p
 value_words form None = none_given (is_plain form)
 value_words form (Some n) = some_given (is_plain form) n
 
--- a fold over candidates, over their words alone
+-- a fold over candidates depends only on their words
 abbrev folded : Option ℕ → List Candidate → Option ℕ
 folded x [] = x
 folded x (c ∷ cs) = folded (lesser x c.words) cs
@@ -206,7 +206,7 @@ five a b v e f a1 b1 v1 e1 f1 h i j k m =
     ∙ ap (λ q. lesser (lesser (lesser (lesser a1 b1) v1) q) f) k
     ∙ ap (λ q. lesser (lesser (lesser (lesser a1 b1) v1) e1) q) m
 
--- a line of choices is what the rules give
+-- the choices of an expression are what the rules give
 pub record IsLine (n : Node) (c : Choices) : Type 0 where
   pub push : least_push n ≡ words_in c.push
   pub any : least_any n ≡ words_in c.any
@@ -362,7 +362,7 @@ module _ (T : Table) (a b : Exp) (s : ℕ) (c d : Costs) (h : AreLeast T a (s + 
   pair_line : (op : Op) → IsLine (over_pair op) (choices T (Bin op a b) s)
   pair_line op = record { push = pair_push op; any = pair_any op; on_false = pair_false op; on_true = pair_true op }
 
--- the lines of the other forms; a value whose test is made of itself
+-- the choices of the other forms; a value of which a test is made
 tested : (n : Node) (any : Option Choice) → least_any n ≡ words_in any → is_plain n.form ≡ true → tests_of n.form ≡ [] → (sense : Bool) → least_on n sense ≡ words_in (least_from None (by_value_choice (words_in any) sense))
 tested n any h plain none sense =
     ap (λ rs. lesser (by_value n.form (least_any n)) (least n (Jumps sense) None rs)) none
@@ -383,7 +383,7 @@ unfolding operand_cost
 operand_alone s ps None = refl
 operand_alone s ps (Some o) = nothing_more s (operand_words o + 0) 0 ps ∙ ap Some (omega arith)
 
--- by which rules an expression is pushed and computed, and its test goes by the value
+-- by which rules an expression is pushed and computed, and when a test is made of its value
 plain_line : (T : Table) (e : Exp) (k s : ℕ) (ps : List Facts) (rs qs : List Rule) (pushes values : List Candidate)
     → pushes_of (form_of e k) ≡ rule.V1 ∷ rs → values_of (form_of e k) ≡ qs → tests_of (form_of e k) ≡ [] → is_plain (form_of e k) ≡ true
     → Give (node_over T e k s ps) (Gets Push) rs pushes → Give (node_over T e k s ps) (Gets Any) qs values
@@ -524,7 +524,7 @@ call_line T es f k s ps h =
     plain_line T (Call es f) k s ps [] (rule.V22 ∷ []) _ _ refl refl refl refl tt
     (call_sum T es f s 0 (s + 2) ps (Some (w s)) (omega arith) h ∙ turned _ _ ∙ sum_some _ _, tt)
 
--- Over facts that are true of the parts of an expression, the least words that the rules give are those of its choices.
+-- If the facts are true of the parts of an expression, the least words that the rules give are those of its choices.
 pub least_is : (T : Table) (e : Exp) (k s : ℕ) (ps : List Facts) → AreParts T e s ps → IsLine (node_over T e k s ps) (choices T e s)
 least_is T (Num n) k s [] h = number_line T n k s
 least_is T (Num n) k s (p ∷ ps) h = absurd h

@@ -28,7 +28,7 @@ lesser_grouped (Some l) (Some m) (Some n) = ap Some (omega arith)
 pub lesser_middle : (x y z : Option ℕ) → lesser (lesser x y) z ≡ lesser y (lesser x z)
 lesser_middle x y z = ap (λ q. lesser q z) (lesser_turned x y) ∙ lesser_grouped y x z
 
--- a fold from something on
+-- a fold that begins with a number
 pub least_on_from : (n : Node) (aim : Aim) (x y : Option ℕ) (rs : List Rule) → least n aim (lesser x y) rs ≡ lesser x (least n aim y rs)
 least_on_from n aim x y [] = refl
 least_on_from n aim x y (r ∷ rs) = ap (λ q. least n aim q rs) (lesser_grouped x y (words_by n r aim)) ∙ least_on_from n aim x (lesser y (words_by n r aim)) rs
@@ -49,13 +49,13 @@ better_words (Some b) r (Some n) = ap Some (taken (nat_lt n b.words) ∙ less_on
   taken true = refl
   taken false = refl
 
--- the rules give the words of the candidates, each one
+-- each rule gives the words of its candidate
 abbrev pub Give : Node → Aim → List Rule → List Candidate → Type 0
 Give n aim [] [] = Unit {0}
 Give n aim (r ∷ rs) (c ∷ cs) = (words_by n r aim ≡ c.words) × Give n aim rs cs
 Give n aim _ _ = ⊥
 
--- and so the least of both are the same
+-- so the least words are the same
 pub give_least : (n : Node) (aim : Aim) (best : Option Choice) (rs : List Rule) (cs : List Candidate) → Give n aim rs cs → least n aim (words_of best) rs ≡ words_of (least_from best cs)
 unfolding least_from
 give_least n aim best [] [] h = refl

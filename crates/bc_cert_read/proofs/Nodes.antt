@@ -1,4 +1,4 @@
--- The steps of a node line.
+-- The steps by which a node line is judged.
 use Rattle.std.proofs.Common.{◌≡◌, refl, ap, sym, ◌∙◌, ℕ, zero, suc, ◌-◌, ◌<◌, ◌≤◌, Bool, true, false, List, [], ◌∷◌, ◌++◌, map, take, drop, length, Result, Ok, Err, cond, arith, length-append, length-take}
 use Rattle.std.specs.Prelude.{nat_lt}
 use Rattle.bc_cert_defs.specs.declared.check_fault.CheckFault.{CheckFault}
@@ -53,7 +53,7 @@ fails_with (faults.TooDeep l) r h = h
 fails_with faults.Read r h = h
 fails_with faults.Memory r h = tt
 
--- what fails goes on failing
+-- a failed step fails the whole
 pub fails_along : {X Y : Type 0} (f : CheckFault) (r : Result X CheckFault) (k : Result Y CheckFault) → (r ≡ Err f → k ≡ Err f) → Fails f r → Fails f k
 fails_along faults.Header r k g h = g h
 fails_along (faults.Line l) r k g h = g h
@@ -85,7 +85,7 @@ whole_fault T line p st at depth f h = ap (λ r. r >>= (λ e. node_judged_over T
 pub whole_judged : (T : Table) (line : NodeLine) (p : Position) (st : Stack) (at depth : ℕ) (e : Exp) → with_whole p (whole line.form (drop at st.expressions)) ≡ Ok e → node_whole T line p st at depth ≡ node_judged_over T line p (without_expressions at st) at depth e
 whole_judged T line p st at depth e h = ap (λ r. r >>= (λ x. node_judged_over T line p (without_expressions at st) at depth x)) h
 
--- a stack stays parallel
+-- the four lists of a stack keep equal lengths
 pub put_parallel : (line : NodeLine) (st : Stack) (at depth : ℕ) (e : Exp) (shown : Shown) → at ≤ length st.marks → at ≤ length st.facts → at ≤ length st.derivations → length st.expressions ≡ at → AreParallel (put_over line st at depth e shown)
 put_parallel line st at depth e shown h i j k = record {
   marks = simp (length-append, length-take) (omega arith);

@@ -1,4 +1,4 @@
--- Lists that are taken from their end.
+-- Lists whose elements are removed from the end.
 use Rattle.std.proofs.Common.{◌≡◌, List, [], ◌∷◌, ◌++◌, Some, None, map, length, refl, ap, ◌∙◌, arith, length-append}
 use Rattle.bc_word.specs.declared.operator.Op.{Op}
 use Rattle.bc_core.specs.declared.expression.CoreExp.{CoreExp}

@@ -1,4 +1,4 @@
--- For proofs: the rules that a field names, by computing.
+-- For proofs: the rules that the last field of a node line names, computed as the program does it.
 use Rattle.std.specs.Prelude.{ℕ, ◌==◌, ◌&&◌, ◌||◌, Bool, true, false, cond, List, [], ◌∷◌, Option, Some, None}
 use Rattle.bc_rules_defs.specs.declared.rule.Rule.{Rule}
 use Rattle.bc_rules_defs.specs.declared.rule.Rule.TheVariants.{V0, J6}

@@ -1,4 +1,4 @@
--- For proofs: the least words of a node for each aim.
+-- For proofs: the words of a node for an aim, and when the computed ones equal the stated ones.
 use Rattle.std.specs.Prelude.{ℕ, ◌==◌, Bool, true, false, ◌&&◌, Option, Some, None}
 use Rattle.bc_rules_defs.specs.declared.rule.Mode.TheVariants.{Any, Push}
 use Rattle.bc_rules_defs.specs.declared.rule.Aim.{Aim}
@@ -23,6 +23,6 @@ same_words (Some m) (Some n) = m == n
 same_words None None = true
 same_words _ _ = false
 
--- these are those numbers
+-- the computed words equal the stated ones
 abbrev pub are_costs : LeastWords → Costs → Bool
 are_costs x c = same_words x.any (Some c.any) && same_words x.push c.push && same_words x.on_false (Some c.on_false) && same_words x.on_true (Some c.on_true)

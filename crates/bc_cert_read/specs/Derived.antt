@@ -1,4 +1,4 @@
--- For proofs: the derivation that the rules of a line make of those of its parts, by computing.
+-- For proofs: the derivation that the rules of a node line make from those of the node's parts, computed as the program does it.
 use Rattle.std.specs.Prelude.{Bool, true, false, take, List, [], ◌∷◌}
 use Rattle.bc_rules_defs.specs.declared.rule.Mode.TheVariants.{Any}
 use Rattle.bc_rules_defs.specs.declared.rule.Aim.TheVariants.{Gets}
@@ -20,7 +20,7 @@ abbrev pub last_turned : List Tree → List Tree
 last_turned (c ∷ x ∷ y ∷ []) = c ∷ y ∷ x ∷ []
 last_turned ds = ds
 
--- the parts that are taken, in the order of the code
+-- the parts that the rule derives, in the order of the code
 abbrev pub taken : Takes → List Tree → List Tree
 taken kinds.Nothing ds = []
 taken (kinds.First aim) ds = take 1 ds

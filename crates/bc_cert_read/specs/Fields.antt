@@ -1,4 +1,4 @@
--- For proofs: the fields of a line, and the numbers in them, by computing.
+-- For proofs: the fields of a line and the numbers in them, computed as the program does it.
 use Rattle.std.specs.Prelude.{ℕ, ◌+◌, ◌*◌, ◌-◌, ◌^◌, ◌==◌, ◌&&◌, Bool, cond, nat_lt, nat_le, List, [], ◌∷◌, ◌++◌, Option, Some, None}
 
 infixl 10 ◌>>=◌
@@ -6,7 +6,7 @@ abbrev pub ◌>>=◌ : {A B : Type 0} → Option A → (A → Option B) → Opti
 (Some x) >>= f = f x
 None >>= f = None
 
--- the bytes up to the first separator, and those after it, if there is one
+-- the bytes before the first separator, and those after it, if there is one
 pub record Cut : Type 0 where
   pub first : List ℕ
   pub following : Option (List ℕ)
@@ -18,7 +18,7 @@ abbrev pub cut : ℕ → List ℕ → Cut
 cut separator [] = record { first = []; following = None }
 cut separator (b ∷ bs) = cond (b == separator) (record { first = []; following = Some bs }) (longer (b ∷ []) (cut separator bs))
 
--- the fields between separators
+-- the fields between the separators
 abbrev pub put : ℕ → List (List ℕ) → List (List ℕ)
 put b [] = (b ∷ []) ∷ []
 put b (f ∷ fs) = (b ∷ f) ∷ fs
@@ -27,7 +27,7 @@ abbrev pub fields : ℕ → List ℕ → List (List ℕ)
 fields separator [] = [] ∷ []
 fields separator (b ∷ bs) = cond (b == separator) ([] ∷ fields separator bs) (put b (fields separator bs))
 
--- the first field, and what stands after it and its blank
+-- the first field, and the text after the blank that ends it
 abbrev pub field_of : List ℕ → Option (List ℕ) → Option (List ℕ × List ℕ)
 field_of first None = None
 field_of first (Some rest) = Some (first, rest)
@@ -35,7 +35,7 @@ field_of first (Some rest) = Some (first, rest)
 abbrev pub field : List ℕ → Option (List ℕ × List ℕ)
 field text = field_of (cut 32 text).first (cut 32 text).following
 
--- what stands after a letter and a blank
+-- the text after this letter and a blank
 abbrev pub following : List ℕ → ℕ → Option (List ℕ)
 following (a ∷ b ∷ rest) letter = cond (a == letter) (cond (b == 32) (Some rest) None) None
 following _ letter = None
@@ -43,12 +43,12 @@ following _ letter = None
 abbrev pub is_digit : ℕ → Bool
 is_digit b = nat_le 48 b && nat_le b 57
 
--- the number that the digits so far and these make
+-- the number that n, as the value of the digits read up to here, and the remaining digits make
 abbrev pub digits_from : ℕ → List ℕ → Option ℕ
 digits_from n [] = Some n
 digits_from n (b ∷ bs) = cond (is_digit b) (cond (nat_lt (n * 10 + (b - 48)) (2 ^ 64)) (digits_from (n * 10 + (b - 48)) bs) None) None
 
--- the number whose decimal digits these are, without leading zeros
+-- a number in decimal digits without leading zeros
 abbrev pub number : List ℕ → Option ℕ
 number [] = None
 number (b ∷ []) = digits_from 0 (b ∷ [])
@@ -58,7 +58,7 @@ abbrev pub up_to : ℕ → Option ℕ → Option ℕ
 up_to bound None = None
 up_to bound (Some n) = cond (nat_le n bound) (Some n) None
 
--- up to 65,535, and a level
+-- a number up to 65,535, and a level
 abbrev pub small : List ℕ → Option ℕ
 small text = up_to 65535 (number text)
 

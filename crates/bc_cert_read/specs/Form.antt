@@ -1,4 +1,4 @@
--- For proofs: what a form has by itself.
+-- For proofs: what the form of a node determines: the number of parts, whether it is a call, whether a test may be made of its value.
 use Rattle.std.specs.Prelude.{ℕ, ◌+◌, Bool, true, false}
 use Rattle.bc_rules_defs.specs.Free.{is_plain_operator}
 use Rattle.bc_cert_read.specs.declared.form.Form.{Form}

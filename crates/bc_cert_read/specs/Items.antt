@@ -1,4 +1,4 @@
--- For proofs: the item that a field says, by computing.
+-- For proofs: the item of INTCODE that a field describes, computed as the program does it.
 use Rattle.std.specs.Prelude.{ℕ, ◌==◌, Bool, true, false, cond, nat_le, nat_lt, List, [], ◌∷◌, Option, Some, None}
 use Rattle.bc_text_items.specs.declared.item.Item.{Item}
 use Rattle.bc_text_items.specs.declared.item.Item.TheVariants as items

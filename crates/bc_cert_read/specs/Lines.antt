@@ -1,4 +1,4 @@
--- For proofs: what a line says, by computing.
+-- For proofs: what a line says, computed as the program does it.
 use Rattle.std.specs.Prelude.{◌≡◌, ℕ, ◌==◌, ◌&&◌, Bool, true, false, cond, List, [], ◌∷◌, ◌++◌, Option, Some, None}
 use Rattle.bc_word.specs.declared.operator.Op.{Op}
 use Rattle.bc_word.specs.declared.operator.Op.TheVariants.{Multiply, Divide, Remainder, Add, Subtract, Equal, NotEqual, Less, GreaterEqual, Greater, LessEqual, ShiftLeft, ShiftRight, And, Or, NotEquivalent, Equivalent}
@@ -19,7 +19,7 @@ use Rattle.bc_cert_read.specs.Fields.{◌>>=◌, field, fields, following, numbe
 use Rattle.bc_cert_read.specs.Chains.{rules}
 use Rattle.bc_cert_read.specs.Items.{item}
 
--- the table of the last byte of a first line
+-- the rule table that the last byte of a header names
 abbrev pub table_of : List ℕ → Option Table
 table_of (b ∷ []) = cond (b == 49) (Some One) (cond (b == 50) (Some Two) None)
 table_of _ = None
@@ -32,7 +32,7 @@ abbrev pub after_bytes : List ℕ → List ℕ → Option (List ℕ)
 after_bytes [] text = Some text
 after_bytes (b ∷ bs) text = after_byte b text >>= (λ rest. after_bytes bs rest)
 
--- `BCPLCERT `
+-- `BCPLCERT `, followed by the table
 abbrev pub header : List ℕ → Option Table
 header line = after_bytes (66 ∷ 67 ∷ 80 ∷ 76 ∷ 67 ∷ 69 ∷ 82 ∷ 84 ∷ 32 ∷ []) line >>= (λ rest. table_of rest)
 
@@ -114,7 +114,7 @@ root_of _ = None
 abbrev pub root_line : List ℕ → Option RootLine
 root_line line = following line 82 >>= (λ text. root_of text)
 
--- a code line
+-- the pieces of a code line
 abbrev pub body_of : Option ℕ → Option Piece
 body_of None = None
 body_of (Some n) = Some (pieces.Body n)
@@ -127,7 +127,7 @@ abbrev pub piece : List ℕ → Option Piece
 piece [] = None
 piece (b ∷ bs) = cond (b == 63) (body_of (number bs)) (item_piece (item (b ∷ bs)))
 
--- whether a piece was said, and it stands after the others
+-- the flag says whether the field describes a piece; if so, that piece is appended
 abbrev pub Adds : Bool → Option Piece → (old new : List Piece) → Type 0
 Adds true (Some p) old new = new ≡ old ++ p ∷ []
 Adds false None old new = Unit {0}

@@ -1,4 +1,4 @@
--- For proofs: the words that the rules give at a node, and the least of them, by computing.
+-- For proofs: the words that the rules give at a node, and the least of them, computed as the program does it.
 use Rattle.std.specs.Prelude.{ℕ, ◌+◌, min, Bool, true, false, cond, List, [], ◌∷◌, Option, Some, None}
 use Rattle.bc_rules_defs.specs.declared.rule.Table.{Table}
 use Rattle.bc_rules_defs.specs.declared.rule.Mode.TheVariants.{Any, Push}
@@ -31,7 +31,7 @@ pub record Node : Type 0 where
 abbrev pub node : code.Node → Node
 node n = record { table = n.table; level = n.level; form = n.form; operand = n.operand; parts = n.parts.now }
 
--- such a node with another form and other parts
+-- the same node with another form and other parts
 abbrev pub node_of : code.Node → Form → List Facts → Node
 node_of n form parts = record { table = n.table; level = n.level; form = form; operand = n.operand; parts = parts }
 
@@ -39,7 +39,7 @@ abbrev pub recipe_by : Node → Rule → Aim → Option Recipe
 recipe_by n V1 aim = of_operand aim n.operand
 recipe_by n r aim = of_form r aim n.table n.level n.form n.parts
 
--- the words that put an argument of a call in its cell
+-- the words that store an argument of a call in its cell
 abbrev pub held : Takes → ℕ → ℕ → (is_last : Bool) → ℕ
 held Call s at is_last = cond is_last 0 (w (s + 2 + at))
 held _ s at is_last = 0
@@ -122,7 +122,7 @@ least_any n = lesser (least_push n) (least n (Gets Any) None (values_of n.form))
 abbrev pub least_on : Node → Bool → Option ℕ
 least_on n sense = lesser (by_value n.form (least_any n)) (least n (Jumps sense) None (tests_of n.form))
 
--- the least words for each aim, of the least by the rules of each kind
+-- the least words for each aim, from the least by each kind of rule
 abbrev pub gathered : Form → (push values on_false on_true : Option ℕ) → LeastWords
 gathered form push values on_false on_true = record {
   any = lesser push values;

@@ -1,4 +1,4 @@
--- For proofs: facts that are true of expressions.
+-- For proofs: that facts are true of the parts of an expression.
 use Rattle.std.specs.Prelude.{◌≡◌, ℕ, ◌+◌, List, [], ◌∷◌}
 use Rattle.bc_core.specs.Tree.{Exp, Num, Frame, Glob, Place, Load, Neg, Not, Bin, Cond, Call, Valof, Args, no_argument, argument}
 use Rattle.bc_core.specs.Value.{has_call}
@@ -13,15 +13,16 @@ use Rattle.bc_cert_read.specs.Costs.{cost_of}
 use Rattle.bc_cert_read.specs.Recipe.{facts_of, words_of_operand_of}
 use Rattle.bc_cert_read.specs.Node.{Node}
 
--- these are the least words of the expression
+-- the costs are the least words of the expression at this level
 pub record AreLeast (T : Table) (e : Exp) (s : ℕ) (c : Costs) : Type 0 where
   pub words : (aim : Aim) → words_for aim (choices T e s) ≡ cost_of aim c
 
+-- the facts are those of the expression, with its least words
 pub record IsPart (T : Table) (e : Exp) (s : ℕ) (p : Facts) : Type 0 where
   pub facts : p ≡ facts_of e (has_call e) p.costs
   pub costs : AreLeast T e s p.costs
 
--- of the arguments of a call, the first one at this level, and of its routine
+-- the facts are those of a call's arguments, the first of them at this level, followed by those of its routine
 abbrev pub AreCallParts : Table → Args → Exp → ℕ → List Facts → Type 0
 AreCallParts T no_argument f s (p ∷ []) = IsPart T f s p
 AreCallParts T no_argument f s ps = ⊥
@@ -44,7 +45,7 @@ abbrev pub NoParts : List Facts → Type 0
 NoParts [] = Unit {0}
 NoParts _ = ⊥
 
--- of the parts of an expression
+-- the facts are those of the expression's parts
 abbrev pub AreParts : Table → Exp → ℕ → List Facts → Type 0
 AreParts T (Load e) s ps = IsOnePart T e s ps
 AreParts T (Neg e) s ps = IsOnePart T e s ps
@@ -67,6 +68,6 @@ form_of (Cond c x y) k = forms.Cond
 form_of (Call es f) k = forms.Call k
 form_of (Valof n) k = forms.Valof n
 
--- the expression's node over these facts; a call's own number of arguments is of no account to the rules
+-- the node of the expression with these facts; the number of arguments that a call's form states doesn't matter to the rules
 abbrev pub node_over : Table → Exp → ℕ → ℕ → List Facts → Node
 node_over T e k s ps = record { table = T; level = s; form = form_of e k; operand = words_of_operand_of e; parts = ps }

@@ -1,4 +1,4 @@
--- For proofs: what a rule makes at a node, from what is known of its parts, by computing.
+-- For proofs: the parts that a rule derives at a node and the words that it adds, computed from the facts of the parts.
 use Rattle.std.specs.Prelude.{ℕ, ◌+◌, ◌*◌, ◌==◌, Bool, true, false, not, ◌||◌, cond, List, [], ◌∷◌, Option, Some, None, is_some}
 use Rattle.bc_word.specs.declared.operator.Op.{Op}
 use Rattle.bc_word.specs.declared.operator.Op.TheVariants.{Add, Subtract, Equal, NotEqual, And, Or}
@@ -59,11 +59,11 @@ abbrev pub in_any : Mode → Option Recipe → Option Recipe
 in_any Any r = r
 in_any Push r = None
 
--- what the table has, where the second part is not a 0
+-- what the table of rules says the rule takes if the second part isn't a 0, with these words
 abbrev pub by_table : Rule → Aim → ℕ → Option Recipe
 by_table r aim words = recipe (takes r aim false) words
 
--- beside a 0; of two 0s the right one is dropped
+-- a rule that drops an operand 0; if both are 0 the right one is dropped
 abbrev pub beside_zero : Rule → Facts → Facts → Aim → ℕ → Option Recipe
 beside_zero r a b aim words = cond (zero_number b.constant) (recipe (takes r aim true) words) (cond (zero_number a.constant) (by_table r aim words) None)
 
@@ -76,7 +76,7 @@ abbrev pub less_number : Option ℕ → Aim → Option Recipe
 less_number None aim = None
 less_number (Some n) aim = by_table V9 aim (w (negated n))
 
--- the rules of a value at an operator that have both parts
+-- the rules of values at an operator that derive both operands
 abbrev pub both_parts : Rule → Op → ℕ → (are_free : Bool) → Option Recipe
 both_parts V12 op s f = by_table V12 (Gets Any) 1
 both_parts V13 op s f = where_so (is_some (mirror_of op)) (where_so f (by_table V13 (Gets Any) 1))
@@ -88,7 +88,7 @@ both_parts V18 op s f = only_at Add op (by_table V18 (Gets Any) (2 * w s))
 both_parts V19 op s f = only_at Subtract op (by_table V19 (Gets Any) (1 + 2 * w s))
 both_parts _ op s f = None
 
--- the rules of a value at an operator
+-- the rules of values at an operator
 abbrev pub value_of_two : Rule → Mode → Op → ℕ → Facts → Facts → Option Recipe
 value_of_two V6 m op s a b = only_at Add op (adding (takes V6 (Gets m) false) b.operand 0)
 value_of_two V7 m op s a b = only_at Add op (where_so (free a b) (adding (takes V7 (Gets m) false) a.operand 0))
@@ -101,7 +101,7 @@ value_of_two r m op s a b = in_any m (both_parts r op s (free a b))
 abbrev pub zero_test : Rule → Table → Facts → Facts → Option Recipe
 zero_test r T a b = where_so (has_tests_of_zero T) (beside_zero r a b (Gets Any) 2)
 
--- the rules of a test at an operator, but for J6
+-- the rules of tests at an operator, other than J6
 abbrev pub test_of_two : Rule → Table → (sense : Bool) → Op → Facts → Facts → Option Recipe
 test_of_two J2 T sense op a b = only_at And op (where_so (not sense) (by_table J2 (Jumps sense) 0))
 test_of_two J3 T sense op a b = only_at And op (where_so sense (by_table J3 (Jumps sense) 0))
@@ -160,7 +160,7 @@ of_form r aim T s (forms.Call n) ps = of_call r aim s
 of_form r aim T s (forms.Valof n) ps = of_valof r aim
 of_form r aim T s _ ps = None
 
--- the node itself as operand, pushed
+-- the node itself as operand of an instruction, pushed
 abbrev pub of_operand : Aim → Option ℕ → Option Recipe
 of_operand (Gets Push) o = adding (takes V1 (Gets Push) false) o 0
 of_operand _ o = None

@@ -1,4 +1,4 @@
--- For proofs: the least words of an assignment, from what is known of its sides.
+-- For proofs: the least words of an assignment, computed from the facts of its sides.
 use Rattle.std.specs.Prelude.{ℕ, ◌+◌, ◌*◌, ◌==◌, cond, Option, Some, None}
 use Rattle.bc_rules_defs.specs.declared.rule.Rule.{Rule}
 use Rattle.bc_rules_defs.specs.declared.rule.Rule.TheVariants.{A1, A2, A3}
@@ -20,7 +20,7 @@ abbrev pub words_at : Option ℕ → ℕ → Facts → Facts → Rule → Option
 words_at (Some o) s v a r = at_operand o v r
 words_at None s v a r = at_address s v a r
 
--- the words of a rule, where it applies
+-- the words of a rule, if it applies
 abbrev pub words_by : ℕ → Facts → Facts → Rule → Option ℕ
 words_by s v a r = words_at a.operand s v a r
 

@@ -1,4 +1,4 @@
--- For proofs: what node lines and a root line make of the trees of an entry, by computing.
+-- For proofs: what node lines and a root line do to the stack of trees, computed as the program does it.
 use Rattle.std.specs.Prelude.{◌≡◌, ℕ, ◌+◌, ◌-◌, ◌==◌, Bool, true, false, ◌&&◌, ◌||◌, cond, nat_lt, nat_le, length, take, drop, List, [], ◌∷◌, ◌++◌, Option, Some, None, Result, Ok, Err}
 use Rattle.bc_cert_defs.specs.declared.check_fault.CheckFault.{CheckFault}
 use Rattle.bc_cert_defs.specs.declared.check_fault.CheckFault.TheVariants.{Line, TooDeep, WrongRule}
@@ -19,7 +19,7 @@ use Rattle.bc_cert_read.specs.declared.chain.Rules.TheVariants.{Taken}
 use Rattle.bc_cert_read.specs.declared.lines.NodeLine.{NodeLine}
 use Rattle.bc_cert_read.specs.declared.lines.RootLine.TheVariants as lines
 use Rattle.bc_cert_read.specs.declared.lines.RootLine.{RootLine}
-use Rattle.bc_cert_read.specs.declared.mark.Mark.{Mark}
+use Rattle.bc_cert_read.specs.declared.mark.TreeFacts.{TreeFacts}
 use Rattle.bc_cert_read.specs.declared.mark.Shown.{Shown}
 use Rattle.bc_cert_read.specs.declared.position.Position.{Position}
 use Rattle.bc_cert_read.specs.Marks.{has_aim, levels_fit, depth_over, all_bare}
@@ -33,9 +33,9 @@ abbrev pub ◌>>=◌ : {A B : Type 0} → Result A CheckFault → (A → Result 
 (Ok x) >>= f = f x
 (Err e) >>= f = Err e
 
--- the trees of an entry that no whole has taken yet, in the order of their lines
+-- the trees of an entry that aren't parts of another one yet, in the order of their lines
 pub record Stack : Type 0 where
-  pub marks : List Mark
+  pub marks : List TreeFacts
   pub facts : List Facts
   pub expressions : List Exp
   pub derivations : List Tree
@@ -43,12 +43,13 @@ pub record Stack : Type 0 where
 abbrev pub no_trees : Stack
 no_trees = record { marks = []; facts = []; expressions = []; derivations = [] }
 
+-- the four lists have the same length
 pub record AreParallel (st : Stack) : Type 0 where
   pub marks : length st.marks ≡ length st.facts
   pub expressions : length st.expressions ≡ length st.facts
   pub derivations : length st.derivations ≡ length st.facts
 
-abbrev pub fitting : NodeLine → List Mark → Position → Result ℕ CheckFault
+abbrev pub fitting : NodeLine → List TreeFacts → Position → Result ℕ CheckFault
 fitting line ms p = cond (levels_fit line.level line.form ms) (cond (nat_le (depth_over ms) 400) (Ok (depth_over ms)) (Err (TooDeep p.line)))
     (Err (Line p.line))
 
@@ -67,7 +68,7 @@ is_taken _ = false
 abbrev pub line_node : Table → NodeLine → Exp → List Facts → Node
 line_node T line e ps = record { table = T; level = line.level; form = line.form; operand = words_of_operand_of e; parts = ps }
 
-abbrev pub new_mark : NodeLine → ℕ → Shown → List Mark → Mark
+abbrev pub new_mark : NodeLine → ℕ → Shown → List TreeFacts → TreeFacts
 new_mark line depth shown ms = record { level = line.level; depth = depth; shown = shown; is_bare = is_taken line.rules && all_bare ms }
 
 abbrev pub new_facts : NodeLine → Exp → List Facts → Facts
@@ -77,7 +78,7 @@ abbrev pub with_whole : {A : Type 0} → Position → Option A → Result A Chec
 with_whole p None = Err (Line p.line)
 with_whole p (Some e) = Ok e
 
--- A node over the trees from a place on: their expressions are taken off first, then comes its own tree in their place.
+-- A node whose parts are the trees from an index on: their expressions are removed first, then its own tree replaces them.
 abbrev pub without_expressions : ℕ → Stack → Stack
 without_expressions at st = record st { expressions = take at st.expressions }
 
@@ -117,21 +118,21 @@ node_from T line p st at = fitting line (drop at st.marks) p >>= (λ depth. node
 abbrev pub node_step : Table → NodeLine → Position → Stack → Result Stack CheckFault
 node_step T line p st = cond (nat_lt (length st.facts) (parts_of line.form)) (Err (Line p.line)) (node_from T line p st (length st.facts - parts_of line.form))
 
--- a tree
+-- one tree of the stack
 pub record One : Type 0 where
-  pub mark : Mark
+  pub mark : TreeFacts
   pub facts : Facts
   pub expression : Exp
   pub derivation : Tree
 
-abbrev pub one_among : List Mark → List Facts → List Exp → List Tree → Option One
+abbrev pub one_among : List TreeFacts → List Facts → List Exp → List Tree → Option One
 one_among (m ∷ []) (f ∷ []) (e ∷ []) (x ∷ []) = Some (record { mark = m; facts = f; expression = e; derivation = x })
 one_among _ _ _ _ = None
 
 abbrev pub one_tree : Stack → Option One
 one_tree st = one_among st.marks st.facts st.expressions st.derivations
 
-abbrev pub two_among : List Mark → List Facts → List Exp → List Tree → Option (One × One)
+abbrev pub two_among : List TreeFacts → List Facts → List Exp → List Tree → Option (One × One)
 two_among (m ∷ n ∷ []) (f ∷ g ∷ []) (e ∷ h ∷ []) (x ∷ y ∷ []) =
     Some (record { mark = m; facts = f; expression = e; derivation = x }, record { mark = n; facts = g; expression = h; derivation = y })
 two_among _ _ _ _ = None
@@ -160,7 +161,7 @@ abbrev pub test_root : Bool → Position → One → Result Rooted CheckFault
 test_root sense p o = cond (has_aim o.mark.shown (Jumps sense))
     (Ok (record { root = Test o.mark.level sense o.expression; derivation = o.derivation; words = words_on sense o.facts })) (wrong_rule p)
 
--- the level of the sides
+-- the level of the sides of an assignment
 abbrev pub side : Option ℕ → ℕ → ℕ
 side None s = s + 1
 side (Some o) s = s
@@ -169,7 +170,7 @@ abbrev pub is_operand_rule : Rule → Bool
 is_operand_rule A1 = true
 is_operand_rule _ = false
 
-abbrev pub sides_show : Rule → Mark → Mark → Bool
+abbrev pub sides_show : Rule → TreeFacts → TreeFacts → Bool
 sides_show r v a = has_aim v.shown (Gets Any) && cond (is_operand_rule r) a.is_bare (has_aim a.shown (Gets Any))
 
 abbrev pub assigned : Rule → Tree → Tree → Tree
@@ -189,7 +190,7 @@ assign_root r s p q =
     (with_least r s p q.0 q.1 (same (words_by s q.0.facts q.1.facts r) (least_of s q.0.facts q.1.facts)))
     (Err (Line p.line))
 
--- the root of the trees
+-- the root that the trees make
 abbrev pub root_step : RootLine → Position → Stack → Result Rooted CheckFault
 root_step lines.Value p st = with_whole p (one_tree st) >>= (λ o. value_root p o)
 root_step (lines.Test sense) p st = with_whole p (one_tree st) >>= (λ o. test_root sense p o)

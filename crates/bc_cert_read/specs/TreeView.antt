@@ -1,4 +1,4 @@
--- For proofs: what the program's values mean, and when a call gives what was computed.
+-- For proofs: the program's trees as those of the definitions, and when a call returns what a definition computes.
 use Rattle.std.specs.Prelude.{◌≡◌, map, Option, Some, None, Result, Ok, Err}
 use Rattle.bc_core.specs.declared.expression.CoreExp.{CoreExp}
 use Rattle.bc_core.specs.Tree.{Exp}
@@ -32,17 +32,17 @@ both (Some p) = Some (one p.0, one p.1)
 abbrev pub rooted : code_rooted.Rooted → Rooted
 rooted r = record { root = root r.root; derivation = derivation r.derivation; words = r.words }
 
--- what was computed is this fault; an allocation may be refused at any time
+-- the definition computes this fault, and so the call returns it; if the fault is `Memory` the call may return anything
 abbrev pub Fails : {X : Type 0} → CheckFault → Result X CheckFault → Type 0
 Fails Memory r = Unit {0}
 Fails f r = r ≡ Err f
 
--- what was computed is what was returned, seen by view
+-- the definition computes the view of what the call returns
 abbrev pub Gives : {X Y : Type 0} → (X → Y) → Result X CheckFault → Result Y CheckFault → Type 0
 Gives view (Ok x) r = r ≡ Ok (view x)
 Gives view (Err f) r = Fails f r
 
--- what was computed is what stands there now
+-- the definition computes the new state
 abbrev pub Steps : {X Y : Type 0} → Y → Result X CheckFault → Result Y CheckFault → Type 0
 Steps new (Ok x) r = r ≡ Ok new
 Steps new (Err f) r = Fails f r

@@ -1,4 +1,4 @@
--- For proofs: what borrowed fields mean.
+-- For proofs: borrowed fields as lists of bytes.
 use Rattle.std.specs.Prelude.{ℕ, List, Vec, Option, Some, None}
 use Rattle.std.specs.declared.alloc.Global.{Global}
 use Rattle.bc_rules_defs.specs.declared.piece.Piece.{Piece}

@@ -1,4 +1,4 @@
--- For proofs: the expression of a node over its parts, and the derivation, by computing.
+-- For proofs: the expression of a node from those of its parts, computed as the program does it.
 use Rattle.std.specs.Prelude.{List, [], ◌∷◌, Option, Some, None}
 use Rattle.bc_word.specs.declared.operator.Op.{Op}
 use Rattle.bc_core.specs.Tree.{Exp, Num, Frame, Glob, Place, Load, Neg, Not, Bin, Cond, Call, Valof, no_argument, argument}
@@ -29,7 +29,7 @@ abbrev pub with_argument : Exp → Option Exp → Option Exp
 with_argument e (Some (Call es f)) = Some (Call (argument e es) f)
 with_argument e _ = None
 
--- the last one is the routine
+-- the last part is the routine
 abbrev pub called_of : List Exp → Option Exp
 called_of [] = None
 called_of (f ∷ []) = Some (Call no_argument f)

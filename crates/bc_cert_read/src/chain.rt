@@ -1,4 +1,4 @@
-// The rules that a node line names.
+//! The rules that a node line names.
 
 ghost use Rattle.std.specs.Prelude.{◌≡◌};
 ghost use Rattle.bc_cert_read.specs.Chains.{rule_name, whole as whole_of, of_value as of_value_rule, longer as longer_of, ended as ended_of, rules as rules_of, names as names_of};
@@ -6,27 +6,29 @@ ghost use Rattle.bc_cert_read.specs.Chains.{rule_name, whole as whole_of, of_val
 use crate::fields::{cut, small};
 use bc_rules_defs::Rule;
 
-/// The rules that a node line names at its node, the outermost first: perhaps `J6`, perhaps `V0`, and a rule of
-/// the form.
+/// The rules that a node line names: optionally `J6`, optionally `V0`, and then one other rule.
 #[derive(Clone, Copy)]
 pub struct Chain {
+    /// Whether the outermost rule is `J6`: a test that is made of the value.
     pub is_tested: bool,
+    /// Whether `V0` precedes the last rule: a value that is computed as if it were pushed.
     pub is_freed: bool,
+    /// The last rule, which is neither `V0` nor `J6`.
     pub rule: Rule,
 }
 
-/// What stands at a node line's end.
+/// The last field of a node line.
 #[derive(Clone, Copy)]
 pub enum Rules {
-    /// `-`: a rule above takes the node as operand or as constant.
+    /// `-`: a rule above takes the node, or one above it, as its operand, its number or the 0 that it drops.
     Taken,
-    /// Rules that may stand at one node.
+    /// Rules that can be at one node.
     Named(Chain),
-    /// Names of which no derivation has these at one node.
+    /// Names that no derivation has at one node, or of which one isn't in the table.
     Wrong,
 }
 
-/// A rule's name: a letter and a number, in the table or not; with the rule, if it is.
+/// A rule's name: the letter V, J or A and a number up to 65,535. None if the text isn't a name, `Some(None)` if no rule has it.
 fn named(text: &[u8]) -> Option<Option<Rule>>
     ensures { result ≡ rule_name text.now }
 {
@@ -45,18 +47,22 @@ fn named(text: &[u8]) -> Option<Option<Rule>>
     }
 }
 
-/// The names of a chain so far.
+/// The names of a chain that are read up to here.
 #[derive(Clone, Copy)]
 pub enum Names {
+    /// None yet.
     Nothing,
     /// `J6`.
     Tested,
     /// `V0`, perhaps after `J6`.
     Freed(bool),
+    /// A complete chain.
     Whole(Chain),
+    /// Names that no derivation has at one node, or of which one isn't in the table.
     Wrong,
 }
 
+/// A complete chain.
 fn whole(is_tested: bool, is_freed: bool, rule: Rule) -> Names
     ensures { result ≡ whole_of is_tested is_freed rule }
 {
@@ -67,7 +73,7 @@ fn whole(is_tested: bool, is_freed: bool, rule: Rule) -> Names
     })
 }
 
-/// Only where the rule is one of values.
+/// These names if the rule is one of values.
 fn of_value(rule: Rule, names: Names) -> Names
     ensures { result ≡ of_value_rule rule names }
 {
@@ -79,7 +85,7 @@ fn of_value(rule: Rule, names: Names) -> Names
 }
 
 impl Names {
-    /// With a rule more.
+    /// The names followed by this rule; None is a name that isn't in the table.
     fn longer(self, rule: Option<Rule>) -> Names
         ensures { result ≡ longer_of self rule }
     {
@@ -104,6 +110,7 @@ impl Names {
         }
     }
 
+    /// The field's meaning, if no more names follow.
     fn ended(self) -> Rules
         ensures { result ≡ ended_of self }
     {
@@ -114,7 +121,7 @@ impl Names {
     }
 }
 
-/// The rules of a node line: `-`, or names joined by dots.
+/// The last field of a node line: `-`, or names joined by dots. None if it is neither.
 pub fn rules_field(text: &[u8]) -> Option<Rules>
     ensures { result ≡ rules_of text.now }
 {
@@ -130,6 +137,7 @@ pub fn rules_field(text: &[u8]) -> Option<Rules>
     }
 }
 
+/// Names joined by dots.
 fn joined(text: &[u8]) -> Option<Rules>
     ensures { result ≡ names_of text.now }
 {

@@ -1,4 +1,4 @@
-// Code lines.
+//! Code lines, the only lines whose reading allocates.
 
 ghost use Rattle.std.specs.Prelude.{◌≡◌, ◌++◌, ◌∷◌, [], IfOk, OnOk};
 ghost use Rattle.bc_cert_read.specs.Lines.{code_of_line, piece as piece_of, pieces_after, Adds};
@@ -13,7 +13,7 @@ use bc_text_items::Item;
 use bc_word::Memory;
 use std::alloc::Global;
 
-/// A code line.
+/// The pieces of a code line, which comes without its LF. None if it isn't one. Returns `Memory` if an allocation fails.
 pub fn code_line(alloc: Global, line: &[u8]) -> Result<Option<Vec<Piece>>, Memory>
     ensures { IfOk result (λ found. code found ≡ code_of_line line.now) }
 {
@@ -32,6 +32,7 @@ pub fn code_line(alloc: Global, line: &[u8]) -> Result<Option<Vec<Piece>>, Memor
     }
 }
 
+/// The pieces of a text of fields.
 fn pieces(alloc: Global, text: &[u8]) -> Result<Option<Vec<Piece>>, Memory>
     ensures { IfOk result (λ found. code found ≡ pieces_after [] (fields 32 text.now)) }
 {
@@ -50,7 +51,7 @@ fn pieces(alloc: Global, text: &[u8]) -> Result<Option<Vec<Piece>>, Memory>
     Ok(None)
 }
 
-/// Adds the piece that a field says; whether it says one.
+/// Appends the piece that the field describes. Returns false if the field describes none.
 fn add_piece(pieces: &mut Vec<Piece>, field: &[u8]) -> Result<bool, Memory>
     ensures { IfOk result (λ added. Adds added (piece_of field.now) pieces.old.items pieces.new.items) }
 {
@@ -78,7 +79,7 @@ fn add_piece(pieces: &mut Vec<Piece>, field: &[u8]) -> Result<bool, Memory>
     }
 }
 
-/// Adds an item.
+/// Appends an item as a piece.
 fn add_item(pieces: &mut Vec<Piece>, item: Item) -> Result<(), Memory>
     ensures { OnOk result (pieces.new.items ≡ pieces.old.items ++ forms.Item item ∷ []) }
 {

@@ -1,3 +1,5 @@
+//! What the rules need to know of a part of a node. It is computed once for each part, so that a rule needn't look at expressions.
+
 ghost use Rattle.std.specs.Prelude.{◌≡◌};
 ghost use Rattle.bc_core.specs.View.{exp};
 ghost use Rattle.bc_core.specs.Operand.{constant_of};
@@ -8,22 +10,23 @@ use bc_cert_defs::Costs;
 use bc_core::{CoreExp, constant, operand};
 use bc_rules_defs::operand_words;
 
-/// What the rules ask of a part.
+/// What the rules need to know of a part.
 #[derive(Clone, Copy)]
 pub struct Facts {
-    /// The words of an instruction with it as its operand, if there is one.
+    /// The words of an instruction that has the part as its operand. None if it can't be an operand.
     pub operand: Option<u8>,
-    /// Whether it is a number or an address as operand, and not the content of a cell.
+    /// Whether it is an operand that is a number or an address, and not the content of a cell.
     pub is_direct: bool,
-    /// The number that it is, if it is a number.
+    /// Its number, if it is a number.
     pub constant: Option<u16>,
-    /// Whether it holds a call or a VALOF.
+    /// Whether it contains a call or a VALOF.
     pub calls: bool,
+    /// Its words, as its node line states them. That line has been judged, so they are the least.
     pub costs: Costs,
 }
 
 impl Facts {
-    /// What the rules ask of an expression whose holding of calls and whose costs are known.
+    /// The facts of an expression. `calls` says whether it contains a call or a VALOF.
     pub fn of(e: &CoreExp, calls: bool, costs: Costs) -> Facts
         ensures { result ≡ facts_of (exp e.now) calls costs }
     {
@@ -49,7 +52,7 @@ impl Facts {
     }
 }
 
-/// The words of an instruction with the expression as its operand, if there is one.
+/// The words of an instruction that has the expression as its operand. None if it can't be an operand.
 pub fn words_as_operand(e: &CoreExp) -> Option<u8>
     ensures { result ≡ words_of_operand_of (exp e.now) }
 {
@@ -59,7 +62,7 @@ pub fn words_as_operand(e: &CoreExp) -> Option<u8>
     }
 }
 
-/// The same, and whether it is a number or an address as operand, and not the content of a cell.
+/// The same, and whether the operand is a number or an address, and not the content of a cell.
 fn as_operand(e: &CoreExp) -> (Option<u8>, bool)
     ensures { result ≡ (words_of_operand_of (exp e.now), is_direct_expression (exp e.now)) }
 {
@@ -72,7 +75,7 @@ fn as_operand(e: &CoreExp) -> (Option<u8>, bool)
     }
 }
 
-/// The number that an expression is, if it is a number.
+/// The number of an expression that is a number.
 fn number_of(e: &CoreExp) -> Option<u16>
     ensures { result ≡ constant_of (exp e.now) }
 {
@@ -82,7 +85,7 @@ fn number_of(e: &CoreExp) -> Option<u16>
     }
 }
 
-/// Whether the work on two parts may be done in either order.
+/// Whether two parts may be evaluated in either order: neither contains a call or VALOF, or one of them is a number or an address.
 #[inline(always)]
 pub fn are_free(a: &Facts, b: &Facts) -> bool
     ensures { result ≡ free a.now b.now }

@@ -1,10 +1,10 @@
-// The fields of a line, and the numbers in them.
+//! The fields of a line, and the numbers in them.
 
 ghost use Rattle.std.specs.Prelude.{◌≡◌, ◌≤◌, ◌+◌, length, drop, IfSome};
 ghost use Rattle.bc_cert_read.specs.Fields.{cut as cut_of, field as field_of, following as after_letter, number as number_of, small as small_of, level as level_of, number_or_none as number_or_none_of, digits_from, some_number};
 ghost use Rattle.bc_cert_read.specs.View.{cut as seen_cut, pair as seen_pair, slice as seen};
 
-/// The bytes up to the first separator, and those after it, if there is one.
+/// The bytes before the first separator, and those after it. Without a separator: the whole text and None.
 pub fn cut(text: &[u8], separator: u8) -> (&[u8], Option<&[u8]>)
     ensures exact { seen_cut result ≡ cut_of separator text.now }
     ensures shorter { IfSome result.1 (λ rest. length rest.now + 1 ≤ length text.now) }
@@ -17,7 +17,7 @@ pub fn cut(text: &[u8], separator: u8) -> (&[u8], Option<&[u8]>)
     (text, None)
 }
 
-/// The first field, and what stands after it and its blank.
+/// The first field, and the text after the blank that ends it. None if the text has no blank.
 #[inline(always)]
 pub fn field(text: &[u8]) -> Option<(&[u8], &[u8])>
     ensures { seen_pair result ≡ field_of text.now }
@@ -28,7 +28,7 @@ pub fn field(text: &[u8]) -> Option<(&[u8], &[u8])>
     }
 }
 
-/// What stands after a letter and a blank.
+/// The text after this letter and a blank. None if the line doesn't begin with them.
 pub fn following(line: &[u8], letter: u8) -> Option<&[u8]>
     ensures { seen result ≡ after_letter line.now letter }
 {
@@ -44,7 +44,7 @@ pub fn following(line: &[u8], letter: u8) -> Option<&[u8]>
     }
 }
 
-/// The number whose decimal digits these are, without leading zeros.
+/// A number up to 2^64 - 1 in decimal digits without leading zeros. None if the text isn't one.
 #[inline(always)]
 pub fn number(text: &[u8]) -> Option<u64>
     ensures { result ≡ number_of text.now }
@@ -56,6 +56,7 @@ pub fn number(text: &[u8]) -> Option<u64>
     }
 }
 
+/// A number up to 2^64 - 1 in decimal digits; leading zeros are accepted, and an empty text is 0.
 #[inline(always)]
 fn digits(text: &[u8]) -> Option<u64>
     ensures { result ≡ digits_from 0 text.now }
@@ -74,7 +75,7 @@ fn digits(text: &[u8]) -> Option<u64>
     Some(value)
 }
 
-/// Such a number up to 65,535.
+/// A number up to 65,535, written as `number` requires.
 #[inline(always)]
 pub fn small(text: &[u8]) -> Option<u16>
     ensures { result ≡ small_of text.now }
@@ -91,7 +92,7 @@ pub fn small(text: &[u8]) -> Option<u16>
     }
 }
 
-/// A level: such a number up to 32,768.
+/// A level: a number up to 32,768, written as `number` requires.
 #[inline(always)]
 pub fn level(text: &[u8]) -> Option<u16>
     ensures { result ≡ level_of text.now }
@@ -102,7 +103,7 @@ pub fn level(text: &[u8]) -> Option<u16>
     }
 }
 
-/// A number, or `-` for none.
+/// A number, or `-`, which is `Some(None)`. None if the text is neither.
 #[inline(always)]
 pub fn number_or_none(text: &[u8]) -> Option<Option<u64>>
     ensures { result ≡ number_or_none_of text.now }
@@ -119,6 +120,7 @@ pub fn number_or_none(text: &[u8]) -> Option<Option<u64>>
     }
 }
 
+/// A number that is there, as `number_or_none` returns it.
 #[inline(always)]
 fn some(number: Option<u64>) -> Option<Option<u64>>
     ensures { result ≡ some_number number }

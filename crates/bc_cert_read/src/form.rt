@@ -1,3 +1,5 @@
+//! The form of a node, as a node line states it.
+
 ghost use Rattle.std.specs.Prelude.{◌≡◌};
 ghost use Rattle.bc_cert_read.specs.Form.{parts_of, calls_itself, is_plain as is_plain_form};
 
@@ -7,22 +9,32 @@ use bc_word::{Op, Word};
 /// What a node is, without its parts.
 #[derive(Clone, Copy)]
 pub enum Form {
+    /// A number.
     Num(Word),
+    /// The address of the frame's cell with this offset.
     Frame(u16),
+    /// The address of the global with this number.
     Glob(u16),
+    /// The address of the place with this label.
     Place(u16),
+    /// The VALOF with this number.
     Valof(u16),
+    /// The content of a cell.
     Load,
+    /// The negative.
     Neg,
+    /// NOT.
     Not,
+    /// A dyadic operator.
     Bin(Op),
+    /// `condition -> this, that`.
     Cond,
-    /// A call with so many arguments.
+    /// A call with this number of arguments.
     Call(u16),
 }
 
 impl Form {
-    /// How many parts such a node has.
+    /// The number of parts of such a node. The routine of a call is its last part.
     #[inline(always)]
     pub fn parts(self) -> usize
         ensures { result ≡ parts_of self }
@@ -36,7 +48,7 @@ impl Form {
         }
     }
 
-    /// Whether such a node is a call or a VALOF.
+    /// Whether such a node is itself a call or a VALOF.
     #[inline(always)]
     pub fn calls(self) -> bool
         ensures { result ≡ calls_itself self }
@@ -55,7 +67,7 @@ impl Form {
         }
     }
 
-    /// Whether neither NOT, `&` nor the bar is on top, so that a test may go by the value.
+    /// Whether a test of such a node may be made of its value (rule J6): it is neither NOT, `&` nor the bar.
     #[inline(always)]
     pub fn is_plain(self) -> bool
         ensures { result ≡ is_plain_form self }

@@ -1,4 +1,4 @@
-// An item as it is printed in a text of INTCODE.
+//! Items of INTCODE in a code line, written as in a text. Every reader returns None if the text isn't of its form.
 
 ghost use Rattle.std.specs.Prelude.{◌≡◌};
 ghost use Rattle.bc_cert_read.specs.Items.{item as item_of, label_of, data_of, plain_data_of, byte_of, global_of, function_of, operation_of, addressed_of, numbered_of};
@@ -8,6 +8,7 @@ use crate::fields::{cut, small};
 use bc_text_items::{Base, Function, GlobalNumber, Item};
 use bc_word::Word;
 
+/// A word: a number up to 65,535.
 fn word(text: &[u8]) -> Option<Word>
     ensures { result ≡ small_of text.now }
 {
@@ -17,7 +18,7 @@ fn word(text: &[u8]) -> Option<Word>
     }
 }
 
-/// An item as it is printed.
+/// An item as it is printed in a text of INTCODE.
 pub fn item(text: &[u8]) -> Option<Item>
     ensures { result ≡ item_of text.now }
 {
@@ -42,6 +43,7 @@ pub fn item(text: &[u8]) -> Option<Item>
     }
 }
 
+/// A label: its number.
 fn label(text: &[u8]) -> Option<Item>
     ensures { result ≡ label_of (small_of text.now) }
 {
@@ -51,6 +53,7 @@ fn label(text: &[u8]) -> Option<Item>
     }
 }
 
+/// What follows the `D` of data: a number, or `L` and a label.
 fn data(text: &[u8]) -> Option<Item>
     ensures { result ≡ data_of text.now }
 {
@@ -69,6 +72,7 @@ fn data(text: &[u8]) -> Option<Item>
     }
 }
 
+/// Data that is a number.
 fn plain_data(text: &[u8]) -> Option<Item>
     ensures { result ≡ plain_data_of (small_of text.now) }
 {
@@ -78,6 +82,7 @@ fn plain_data(text: &[u8]) -> Option<Item>
     }
 }
 
+/// What follows the `C` of a byte: a number up to 255.
 fn byte(text: &[u8]) -> Option<Item>
     ensures { result ≡ byte_of (small_of text.now) }
 {
@@ -93,6 +98,7 @@ fn byte(text: &[u8]) -> Option<Item>
     }
 }
 
+/// What follows the `G` that sets a global: its number, `L`, and a label.
 fn global(text: &[u8]) -> Option<Item>
     ensures { result ≡ global_of text.now }
 {
@@ -108,7 +114,7 @@ fn global(text: &[u8]) -> Option<Item>
     }
 }
 
-/// The function of a letter.
+/// The function with this letter.
 fn function(letter: u8) -> Option<Function>
     ensures { result ≡ function_of letter }
 {
@@ -133,7 +139,7 @@ fn function(letter: u8) -> Option<Function>
     }
 }
 
-/// An operation after its function's letter.
+/// What follows the letter of an operation: `I` if it is indirect, then its base and number.
 fn operation(function: Function, text: &[u8]) -> Option<Item>
     ensures { result ≡ operation_of function text.now }
 {
@@ -149,7 +155,7 @@ fn operation(function: Function, text: &[u8]) -> Option<Item>
     }
 }
 
-/// An operation's base and number.
+/// What follows in an operation after `I` or its absence: `P`, `G`, `L` or no base, and the number.
 fn addressed(function: Function, indirect: bool, text: &[u8]) -> Option<Item>
     ensures { result ≡ addressed_of function indirect text.now }
 {
@@ -169,6 +175,7 @@ fn addressed(function: Function, indirect: bool, text: &[u8]) -> Option<Item>
     }
 }
 
+/// An operation with this number.
 fn numbered(function: Function, indirect: bool, base: Base, digits: &[u8]) -> Option<Item>
     ensures { result ≡ numbered_of function indirect base (small_of digits.now) }
 {

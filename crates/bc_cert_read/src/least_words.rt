@@ -1,5 +1,7 @@
-// The least words of a node. The forms that stand in a program most have each their own rules one after another, so that
-// what a rule asks is computed where the rule is known.
+//! The least words of a node.
+//!
+//! The most frequent forms (a dyadic operator, the content of a cell, a number) list their rules one after another. Each call then has a
+//! constant rule, so that the compiler keeps only the conditions of that rule. The other forms loop over a list of rules.
 #![tactic(auto, unfolding(bc_select_defs::specs::Options::plus, bc_select_defs::specs::Options::sum, bc_select_defs::specs::Options::given))]
 
 ghost use Rattle.std.specs.Prelude.{◌≡◌, ◌<◌, ◌+◌, ◌^◌, List, [], ◌∷◌, None, IfSome};
@@ -17,17 +19,21 @@ use crate::recipe::{Recipe, makes, with_operand};
 use bc_rules_defs::{Aim, Mode, Rule, jumps};
 use bc_word::{Op, Word};
 
+/// A value, where register B must end up with the former A.
 const PUSH: Aim = Aim::Gets(Mode::Push);
 
-/// The two parts of a dyadic operator.
+/// A dyadic operator and its operands.
 #[derive(Clone, Copy)]
 pub struct Pair<'p> {
+    /// The operator.
     pub op: Op,
+    /// The facts of its left operand.
     pub left: &'p Facts,
+    /// The facts of its right operand.
     pub right: &'p Facts,
 }
 
-/// The words of a test that goes by the value, which has so many.
+/// The words of a test that is made of the value (rule `J6`), given the value's words.
 #[inline(always)]
 fn by_value(form: Form, any: Option<u128>) -> Option<u128>
     requires { IfSome any (λ n. n < 2 ^ 127 + 2 ^ 70) }
@@ -45,8 +51,8 @@ fn by_value(form: Form, any: Option<u128>) -> Option<u128>
     }
 }
 
-/// The least words for each aim: of a value that is pushed, of one by the rules of values alone, and of tests on false and on
-/// true by the rules of tests alone.
+/// The least words for each aim, from those by each kind of rule: of a pushed value, of a value without `V0`, and of tests on false and
+/// on true without `J6`.
 #[inline(always)]
 fn gather(
     form: Form,
@@ -70,7 +76,7 @@ fn gather(
 }
 
 impl<'p> Node<'p> {
-    /// The words of what a rule makes over no parts.
+    /// The words of a rule at a node without parts. None if the rule doesn't apply.
     #[inline(always)]
     fn words_alone(&self, recipe: Option<Recipe>) -> Option<u128>
         ensures exact { result ≡ words_where self.now.level [] recipe }
@@ -82,7 +88,7 @@ impl<'p> Node<'p> {
         }
     }
 
-    /// The words of what a rule makes over one part.
+    /// The words of a rule at a node with one part. None if the rule doesn't apply.
     #[inline(always)]
     fn words_over(&self, recipe: Option<Recipe>, part: &Facts) -> Option<u128>
         ensures exact { result ≡ words_where self.now.level (part.now ∷ []) recipe }
@@ -97,7 +103,7 @@ impl<'p> Node<'p> {
         }
     }
 
-    /// The words of what a rule makes over two parts.
+    /// The words of a rule at a node with two parts. None if the rule doesn't apply.
     #[inline(always)]
     fn words_over_both(&self, recipe: Option<Recipe>, pair: Pair<'_>) -> Option<u128>
         ensures exact { result ≡ words_where self.now.level (both pair.entry) recipe }
@@ -113,7 +119,7 @@ impl<'p> Node<'p> {
         }
     }
 
-    /// The words of a rule of values at a dyadic operator.
+    /// The words of a rule of values at a dyadic operator. None if it doesn't apply.
     #[inline(always)]
     fn value_by(&self, rule: Rule, mode: Mode, pair: Pair<'_>) -> Option<u128>
         ensures exact { result ≡ value_words self.now pair.entry rule mode }
@@ -123,7 +129,7 @@ impl<'p> Node<'p> {
         self.words_over_both(recipe, pair)
     }
 
-    /// The words of a rule of tests at a dyadic operator.
+    /// The words of a rule of tests at a dyadic operator. None if it doesn't apply.
     #[inline(always)]
     fn test_by(&self, rule: Rule, sense: bool, pair: Pair<'_>) -> Option<u128>
         ensures exact { result ≡ test_words self.now pair.entry rule sense }
@@ -133,7 +139,7 @@ impl<'p> Node<'p> {
         self.words_over_both(recipe, pair)
     }
 
-    /// The least words of a dyadic operator's value that is pushed.
+    /// The least words of a dyadic operator's pushed value.
     fn pushed_pair(&self, pair: Pair<'_>) -> Option<u128>
         ensures exact { result ≡ least_of (pair_node self.now pair.entry) (aims.Gets modes.Push) None (pushes_of (forms.Bin pair.entry.op)) }
         ensures few { IfSome result (λ n. n < 2 ^ 127 + 2 ^ 70) }
@@ -150,7 +156,7 @@ impl<'p> Node<'p> {
         lesser(words, self.value_by(Rule::V11, Mode::Push, pair))
     }
 
-    /// The least words of a dyadic operator's value, but for `V0`.
+    /// The least words of a dyadic operator's value by rules other than `V0`.
     fn value_of_pair(&self, pair: Pair<'_>) -> Option<u128>
         ensures exact { result ≡ least_of (pair_node self.now pair.entry) (aims.Gets modes.Any) None (values_of (forms.Bin pair.entry.op)) }
         ensures few { IfSome result (λ n. n < 2 ^ 127 + 2 ^ 70) }
@@ -171,7 +177,7 @@ impl<'p> Node<'p> {
         lesser(words, self.value_by(Rule::V19, Mode::Any, pair))
     }
 
-    /// The least words of a dyadic operator's test, but for `J6`.
+    /// The least words of a dyadic operator's test by rules other than `J6`.
     fn test_of_pair(&self, sense: bool, pair: Pair<'_>) -> Option<u128>
         ensures { result ≡ least_of (pair_node self.now pair.entry) (aims.Jumps sense) None (tests_of (forms.Bin pair.entry.op)) }
     {
@@ -183,7 +189,7 @@ impl<'p> Node<'p> {
         lesser(words, self.test_by(Rule::J9, sense, pair))
     }
 
-    /// The least words of a dyadic operator.
+    /// The least words of a dyadic operator for each aim.
     #[inline(always)]
     fn of_pair(&self, pair: Pair<'_>) -> LeastWords
         ensures { result ≡ least_words_of (pair_node self.now pair.entry) }
@@ -197,7 +203,7 @@ impl<'p> Node<'p> {
         )
     }
 
-    /// The least words of the content of a cell.
+    /// The least words of the content of a cell for each aim.
     #[inline(always)]
     fn of_content(&self, part: &Facts) -> LeastWords
         ensures { result ≡ least_words_of (node_of self.now forms.Load (part.now ∷ [])) }
@@ -217,7 +223,7 @@ impl<'p> Node<'p> {
         )
     }
 
-    /// The least words of a number.
+    /// The least words of a number for each aim.
     #[inline(always)]
     fn of_number(&self, number: Word) -> LeastWords
         ensures { result ≡ least_words_of (node_of self.now (forms.Num number) []) }
@@ -233,7 +239,7 @@ impl<'p> Node<'p> {
         )
     }
 
-    /// The least words by the lists of rules.
+    /// The least words for each aim, by the lists of rules.
     fn by_rules(&self) -> LeastWords
         ensures { result ≡ least_words_of (node self.now) }
     {
@@ -247,7 +253,7 @@ impl<'p> Node<'p> {
         )
     }
 
-    /// The least words of the node's derivations for each aim.
+    /// The least words of the node's derivations for each aim, from the stated words of its parts.
     #[inline(always)]
     pub fn least_words(&self) -> LeastWords
         ensures { result ≡ least_words_of (node self.now) }

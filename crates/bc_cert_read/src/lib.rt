@@ -1,8 +1,7 @@
-//! What the rules make at a node of a certificate, from what is known of its parts alone.
+//! The parts of the checker of certificates: what a line says, which rules apply at a node and with how many words, and the stack of
+//! trees that the node lines of an entry build.
 //!
-//! What the lines of a certificate say.
-//!
-//! The trees of an entry of a certificate: what its node lines and its root line make of them.
+//! `bc_cert` drives them line by line.
 #![tactic(auto)]
 
 mod chain;
@@ -26,14 +25,19 @@ mod stack;
 mod taken;
 mod whole;
 
+// Lines.
 pub use chain::{Chain, Rules};
 pub use codes::code_line;
-pub use costs::LeastWords;
-pub use facts::{Facts, are_free, words_as_operand};
 pub use form::Form;
 pub use lines::{NodeLine, RootLine, end_line, entry_line, header, node_line, root_line};
+
+// The rules at a node.
+pub use costs::LeastWords;
+pub use facts::{Facts, are_free, words_as_operand};
 pub use node::{Node, lesser};
-pub use position::Position;
 pub use recipe::Recipe;
+
+// The trees of an entry.
+pub use position::Position;
 pub use rooted::Rooted;
 pub use stack::Stack;

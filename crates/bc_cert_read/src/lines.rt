@@ -1,4 +1,4 @@
-// What the lines of a certificate say.
+//! What each kind of line says. Every reader returns None if the line isn't of its form; a line comes without its LF.
 
 ghost use Rattle.std.specs.Prelude.{◌≡◌};
 ghost use Rattle.bc_cert_read.specs.Lines.{header as header_of, entry_line as entry_line_of, end_line as end_line_of, node_line as node_line_of, root_line as root_line_of, assigned as assigned_of, form as form_of, lettered, sign, op_among, op_numbered};
@@ -14,23 +14,28 @@ use bc_word::{Op, Word};
 /// What a node line says.
 #[derive(Clone, Copy)]
 pub struct NodeLine {
+    /// The level of the node, up to 32,768.
     pub level: u16,
+    /// What the node is, without its parts.
     pub form: Form,
+    /// The four stated numbers of words.
     pub costs: Costs,
+    /// The rules that the derivation has at the node.
     pub rules: Rules,
 }
 
 /// What a root line says.
 #[derive(Clone, Copy)]
 pub enum RootLine {
+    /// A value.
     Value,
-    /// The sense.
+    /// A test that jumps if its expression is true, or false.
     Test(bool),
-    /// The rule and the level.
+    /// An assignment, with its rule (A1, A2 or A3) and its level.
     Assign(Rule, u16),
 }
 
-/// The table of a first line.
+/// A header: the rule table that it names.
 pub fn header(line: &[u8]) -> Option<Table>
     ensures { result ≡ header_of line.now }
 {
@@ -41,7 +46,7 @@ pub fn header(line: &[u8]) -> Option<Table>
     }
 }
 
-/// An `E` line.
+/// An `E` line: `E segment item target first words`.
 pub fn entry_line(line: &[u8]) -> Option<Head>
     ensures { result ≡ entry_line_of line.now }
 {
@@ -63,14 +68,14 @@ pub fn entry_line(line: &[u8]) -> Option<Head>
     })
 }
 
-/// A `Z` line.
+/// A `Z` line: the number of entries.
 pub fn end_line(line: &[u8]) -> Option<u64>
     ensures { result ≡ end_line_of line.now }
 {
     number(following(line, b'Z')?)
 }
 
-/// A node line.
+/// A node line: `level form any push false true rules`.
 pub fn node_line(line: &[u8]) -> Option<NodeLine>
     ensures { result ≡ node_line_of line.now }
 {
@@ -100,7 +105,7 @@ pub fn node_line(line: &[u8]) -> Option<NodeLine>
     })
 }
 
-/// All operators.
+/// All dyadic operators.
 const OPERATORS: [Op; 17] = [
     Op::Multiply,
     Op::Divide,
@@ -121,7 +126,7 @@ const OPERATORS: [Op; 17] = [
     Op::Equivalent,
 ];
 
-/// The first of some operators with this number.
+/// The first of these operators that has this number.
 fn operator_among(operators: &[Op], number: u16) -> Option<Op>
     ensures { result ≡ op_among number operators.now }
 {
@@ -133,14 +138,14 @@ fn operator_among(operators: &[Op], number: u16) -> Option<Op>
     None
 }
 
-/// The operator with this number.
+/// The dyadic operator with this number.
 fn operator(number: u16) -> Option<Op>
     ensures { result ≡ op_numbered number }
 {
     operator_among(&OPERATORS, number)
 }
 
-/// The form of a node.
+/// The form of a node: a sign, or a letter and a number.
 fn form(text: &[u8]) -> Option<Form>
     ensures { result ≡ form_of text.now }
 {
@@ -154,6 +159,7 @@ fn form(text: &[u8]) -> Option<Form>
     }
 }
 
+/// A form that has no number.
 fn by_sign(letter: u8) -> Option<Form>
     ensures { result ≡ sign letter }
 {
@@ -170,6 +176,7 @@ fn by_sign(letter: u8) -> Option<Form>
     }
 }
 
+/// A form with a letter and a number.
 fn by_letter(letter: u8, number: u16) -> Option<Form>
     ensures { result ≡ lettered letter number }
 {
@@ -195,7 +202,7 @@ fn by_letter(letter: u8, number: u16) -> Option<Form>
     }
 }
 
-/// A root line.
+/// A root line: `R V`, `R F`, `R T`, or `R A1 level` to `R A3 level`.
 pub fn root_line(line: &[u8]) -> Option<RootLine>
     ensures { result ≡ root_line_of line.now }
 {
@@ -222,6 +229,7 @@ pub fn root_line(line: &[u8]) -> Option<RootLine>
     }
 }
 
+/// The root line of an assignment, from the digit after `A` and the level.
 fn assignment(number: u8, digits: &[u8]) -> Option<RootLine>
     ensures { result ≡ assigned_of number digits.now }
 {

@@ -1,20 +1,26 @@
+//! What the lines above a node need to know of it, beside what the rules need.
+
 ghost use Rattle.std.specs.Prelude.{◌≡◌, ◌≤◌};
 ghost use Rattle.bc_cert_read.specs.Marks.{has_aim, is_some as is_some_of, levels_fit as levels_fit_of, first_level, depth_over as depth_of, all_bare as all_bare_of};
 
 use crate::Form;
 use bc_rules_defs::{Aim, Mode};
 
-/// The aims for which the rules shown at a node make a derivation.
+/// For which aims the rules that a node shows make a derivation.
 #[derive(Clone, Copy)]
 pub struct Shown {
+    /// A value where register B may be lost.
     pub any: bool,
+    /// A value where B must end up with the former A.
     pub push: bool,
+    /// A test that jumps if the value is false.
     pub on_false: bool,
+    /// A test that jumps if the value is true.
     pub on_true: bool,
 }
 
 impl Shown {
-    /// Whether it is so for this aim.
+    /// Whether they make one for this aim.
     pub fn has(&self, aim: Aim) -> bool
         ensures { result ≡ has_aim self.now aim }
     {
@@ -26,7 +32,7 @@ impl Shown {
         }
     }
 
-    /// Whether it is so for some aim.
+    /// Whether they make one for any aim.
     pub fn is_some(&self) -> bool
         ensures { result ≡ is_some_of self.now }
     {
@@ -34,18 +40,20 @@ impl Shown {
     }
 }
 
-/// What the lines above ask of a tree.
+/// What the lines above a tree need to know of it.
 #[derive(Clone, Copy)]
-pub struct Mark {
+pub struct TreeFacts {
+    /// The level of its outermost node.
     pub level: u16,
-    /// How many nodes stand one within another in it.
+    /// Its depth: 1 for a node without parts.
     pub depth: u16,
+    /// The aims for which its outermost node shows rules.
     pub shown: Shown,
-    /// Whether no node of it shows rules.
+    /// Whether none of its nodes shows rules.
     pub is_bare: bool,
 }
 
-/// The level of a node's first part above its own, and how much higher each next one is.
+/// How much higher than its own level the level of a node's first part is, and how much each further part is higher than the last.
 fn steps(form: Form) -> (u64, u64)
     ensures exact { result ≡ first_level form }
     ensures few { (result.0 ≤ 2) × (result.1 ≤ 1) }
@@ -65,8 +73,8 @@ fn steps(form: Form) -> (u64, u64)
     }
 }
 
-/// Whether the levels of the parts are those that they have in such a node at this level.
-pub fn levels_fit(level: u16, form: Form, parts: &[Mark]) -> bool
+/// Whether the parts have the levels that a node of this form at this level requires.
+pub fn levels_fit(level: u16, form: Form, parts: &[TreeFacts]) -> bool
     ensures { result ≡ levels_fit_of level form parts.now }
 {
     let (first, step) = steps(form);
@@ -80,8 +88,8 @@ pub fn levels_fit(level: u16, form: Form, parts: &[Mark]) -> bool
     true
 }
 
-/// How many nodes stand one within another in a node over these parts.
-pub fn depth_over(parts: &[Mark]) -> u32
+/// The depth of a node with these parts.
+pub fn depth_over(parts: &[TreeFacts]) -> u32
     ensures { result ≡ depth_of parts.now }
 {
     let mut depth: u32 = 0;
@@ -91,8 +99,8 @@ pub fn depth_over(parts: &[Mark]) -> u32
     depth + 1
 }
 
-/// Whether no tree shows rules.
-pub fn all_bare(parts: &[Mark]) -> bool
+/// Whether none of these trees shows rules at any of its nodes.
+pub fn all_bare(parts: &[TreeFacts]) -> bool
     ensures { result ≡ all_bare_of parts.now }
 {
     for part in parts {

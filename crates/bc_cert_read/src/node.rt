@@ -1,4 +1,6 @@
-// A node with what is known of its parts: the rules that apply to it, and the least words that they give.
+//! A node with what is known of its parts: which rules apply, with how many words.
+//!
+//! Sums are kept in 128 bits because a line may state any number up to 2^64 - 1.
 #![tactic(auto, unfolding(bc_select_defs::specs::Options::plus, bc_select_defs::specs::Options::sum, bc_select_defs::specs::Options::given))]
 
 ghost use Rattle.std.specs.Prelude.{◌≡◌, ◌<◌, ◌≤◌, ◌+◌, ◌^◌, None, IfSome};
@@ -13,23 +15,27 @@ use crate::recipe::{Recipe, makes, only, with_operand};
 use bc_rules_defs::{Aim, Mode, Rule, Table, Takes, jumps, number_words};
 use bc_word::{Op, Word, mirror};
 
-/// A node of a certificate, over what the rules ask of its parts.
+/// A node of a certificate, with what the rules need to know of its parts.
 #[derive(Clone, Copy)]
 pub struct Node<'p> {
+    /// The rule table by which it is judged.
     pub table: Table,
+    /// Its level.
     pub level: u16,
+    /// What it is, without its parts.
     pub form: Form,
-    /// The words of an instruction with the node itself as its operand, if there is one.
+    /// The words of an instruction that has the node itself as its operand. None if it can't be an operand.
     pub operand: Option<u8>,
-    /// The parts in the order of the tree.
+    /// The facts of its parts, in the order of the tree.
     pub parts: &'p [Facts],
 }
 
+/// A value, where register B may be lost.
 const ANY: Aim = Aim::Gets(Mode::Any);
 
 impl<'p> Node<'p> {
-    /// What a rule makes for an aim at this node, where it applies. The rules that go on from the node itself, `V0`
-    /// and `J6`, are not among them.
+    /// What a rule takes and adds for this aim at this node. None if the rule doesn't apply, and for `V0` and `J6`, which apply at the
+    /// same node as the rule below them.
     pub fn recipe(&self, rule: Rule, aim: Aim) -> Option<Recipe>
         ensures { result ≡ recipe_by (node self.now) rule aim }
     {
@@ -42,6 +48,7 @@ impl<'p> Node<'p> {
         }
     }
 
+    /// The same for rules other than `V1`.
     fn by_form(&self, rule: Rule, aim: Aim) -> Option<Recipe>
         ensures { result ≡ of_form rule aim self.now.table self.now.level self.now.form self.now.parts.now }
     {
@@ -90,7 +97,7 @@ impl<'p> Node<'p> {
         }
     }
 
-    /// The words of what a rule makes here, each part with its least.
+    /// The words of a rule at this node, with the stated words of each part. None if a part has no derivation for its aim.
     pub fn words_of(&self, recipe: Recipe) -> Option<u128>
         ensures exact { result ≡ words_of_recipe self.now.level self.now.parts.now recipe }
         ensures few { IfSome result (λ n. n < 2 ^ 127 + 2 ^ 70) }
@@ -106,7 +113,8 @@ impl<'p> Node<'p> {
         words
     }
 
-    /// The words that a rule wants of a part; of an argument of a call also those that put it in its cell.
+    /// The words that a part adds: those stated for the aim that the rule requires, and those that store an argument of a call in its cell.
+    /// A part that the rule doesn't derive adds 0. None if the part has no derivation for that aim.
     #[inline(always)]
     pub fn wanted(&self, takes: Takes, at: usize, part: &Facts, is_last: bool) -> Option<u128>
         requires { at < 2 ^ 63 }
@@ -122,7 +130,7 @@ impl<'p> Node<'p> {
         }
     }
 
-    /// The words that put an argument of a call in its cell.
+    /// The words that store an argument of a call in its cell: 0 for the routine, and for a node that isn't a call.
     #[inline(always)]
     fn held(&self, takes: Takes, at: usize, is_last: bool) -> u64
         requires { at < 2 ^ 63 }
@@ -146,7 +154,7 @@ impl<'p> Node<'p> {
         }
     }
 
-    /// The words of a rule's derivations for an aim, where it applies and its parts have derivations.
+    /// The fewest words of derivations by this rule for this aim. None if it doesn't apply, or a part has no derivation.
     pub fn words_by(&self, rule: Rule, aim: Aim) -> Option<u128>
         ensures exact { result ≡ words_by (node self.now) rule aim }
         ensures few { IfSome result (λ n. n < 2 ^ 127 + 2 ^ 70) }
@@ -157,7 +165,7 @@ impl<'p> Node<'p> {
         }
     }
 
-    /// The least words over some rules.
+    /// The fewest words by any of these rules. None if none of them applies.
     pub fn least(&self, rules: &[Rule], aim: Aim) -> Option<u128>
         ensures exact { result ≡ least (node self.now) aim None rules.now }
         ensures few { IfSome result (λ n. n < 2 ^ 127 + 2 ^ 70) }
@@ -170,7 +178,7 @@ impl<'p> Node<'p> {
     }
 }
 
-/// The words of both.
+/// The sum of two numbers of words. None if either is None.
 #[inline(always)]
 pub fn sum(x: Option<u128>, y: Option<u128>) -> Option<u128>
     requires first { IfSome x (λ n. n < 2 ^ 127 + 2 ^ 70) }
@@ -183,7 +191,7 @@ pub fn sum(x: Option<u128>, y: Option<u128>) -> Option<u128>
     }
 }
 
-/// The lesser of two numbers of words, where there are any.
+/// The lesser of two numbers of words. None counts as more than any number.
 #[inline(always)]
 pub fn lesser(x: Option<u128>, y: Option<u128>) -> Option<u128>
     ensures { result ≡ lesser_of x y }
@@ -195,7 +203,7 @@ pub fn lesser(x: Option<u128>, y: Option<u128>) -> Option<u128>
     }
 }
 
-/// The rules of a value that is pushed.
+/// The rules that a pushed value of this form can have.
 pub fn pushes(form: Form) -> &'static [Rule]
     ensures { result.now ≡ pushes_of form }
 {
@@ -222,7 +230,7 @@ pub fn pushes(form: Form) -> &'static [Rule]
     }
 }
 
-/// The rules of a value, but for `V0`.
+/// The rules other than `V0` that a value of this form can have.
 pub fn values(form: Form) -> &'static [Rule]
     ensures { result.now ≡ values_of form }
 {
@@ -252,7 +260,7 @@ pub fn values(form: Form) -> &'static [Rule]
     }
 }
 
-/// The rules of a test, but for `J6`.
+/// The rules other than `J6` that a test of this form can have.
 pub fn tests(form: Form) -> &'static [Rule]
     ensures { result.now ≡ tests_of form }
 {
@@ -271,7 +279,7 @@ pub fn tests(form: Form) -> &'static [Rule]
     }
 }
 
-/// Only where it is so.
+/// The recipe if the condition holds.
 #[inline(always)]
 fn given(holds: bool, recipe: Option<Recipe>) -> Option<Recipe>
     ensures { result ≡ where_so holds recipe }
@@ -279,7 +287,7 @@ fn given(holds: bool, recipe: Option<Recipe>) -> Option<Recipe>
     if holds { recipe } else { None }
 }
 
-/// Only for the mode Any.
+/// The recipe if the mode is Any.
 #[inline(always)]
 fn in_any(mode: Mode, recipe: Option<Recipe>) -> Option<Recipe>
     ensures { result ≡ in_any_of mode recipe }
@@ -290,7 +298,7 @@ fn in_any(mode: Mode, recipe: Option<Recipe>) -> Option<Recipe>
     }
 }
 
-/// A rule of the part beside a 0; of two 0s the right one is dropped.
+/// A rule that drops an operand 0 and takes the other one. If both are 0 the right one is dropped. None if neither is 0.
 #[inline(always)]
 fn beside_zero(rule: Rule, a: &Facts, b: &Facts, aim: Aim, words: u64) -> Option<Recipe>
     ensures { result ≡ beside_by rule a.now b.now aim words }
@@ -304,7 +312,7 @@ fn beside_zero(rule: Rule, a: &Facts, b: &Facts, aim: Aim, words: u64) -> Option
     }
 }
 
-/// The same for a sum, and for a difference where the second part is 0.
+/// The rule `V8`, which drops a 0: either operand of a sum, or the right one of a difference.
 #[inline(always)]
 fn without_zero(op: Op, a: &Facts, b: &Facts, aim: Aim) -> Option<Recipe>
     ensures { result ≡ without_by op a.now b.now aim }
@@ -316,7 +324,7 @@ fn without_zero(op: Op, a: &Facts, b: &Facts, aim: Aim) -> Option<Recipe>
     }
 }
 
-/// The negation of a number added.
+/// The rule `V9`, which adds the negative of a number instead of subtracting it.
 #[inline(always)]
 fn less_number(number: Option<u16>, aim: Aim) -> Option<Recipe>
     ensures { result ≡ less_by number aim }
@@ -330,7 +338,7 @@ fn less_number(number: Option<u16>, aim: Aim) -> Option<Recipe>
     }
 }
 
-/// The rules of the value of a dyadic operator.
+/// What a rule of values takes and adds at a dyadic operator with operands `a` and `b`. None if it doesn't apply.
 #[inline(always)]
 pub fn value_of_two(
     rule: Rule,
@@ -371,7 +379,7 @@ pub fn value_of_two(
     }
 }
 
-/// The rules that have both parts.
+/// The same for the rules that derive both operands. `free` says whether these may be evaluated in either order.
 #[inline(always)]
 fn both_parts(rule: Rule, op: Op, level: u16, free: bool) -> Option<Recipe>
     ensures { result ≡ both_by rule op level free }
@@ -393,7 +401,7 @@ fn both_parts(rule: Rule, op: Op, level: u16, free: bool) -> Option<Recipe>
     }
 }
 
-/// The rules of the test of a dyadic operator, but for `J6`.
+/// What a rule of tests other than `J6` takes and adds at a dyadic operator with operands `a` and `b`. None if it doesn't apply.
 #[inline(always)]
 pub fn test_of_two(
     rule: Rule,
@@ -417,7 +425,7 @@ pub fn test_of_two(
     }
 }
 
-/// The rules of table 2, of a test against 0.
+/// The rules of tests against 0, which only table 2 has.
 #[inline(always)]
 fn of_zero(rule: Rule, table: Table, a: &Facts, b: &Facts) -> Option<Recipe>
     ensures { result ≡ zero_test rule table a.now b.now }

@@ -1,20 +1,22 @@
-// The aims for which the rules of a line make a derivation.
+//! For which aims the rules that a node line names make a derivation with the stated words.
 
 ghost use Rattle.std.specs.Prelude.{◌≡◌};
 ghost use Rattle.bc_cert_read.specs.Node.{node as node_of};
 ghost use Rattle.bc_cert_read.specs.Showing.{makes as makes_of, agree as agree_of, has_words as has_words_of, is_test as is_test_of, shown_by as shown_by_of, tested as tested_of, tests as tests_of, is_value as is_value_of, shown_for as shown_for_of, judged as judged_of};
 
-use crate::mark::{Mark, Shown};
+use crate::mark::{Shown, TreeFacts};
 use crate::position::Position;
 use crate::{Chain, Node, NodeLine, Rules};
 use bc_cert_defs::{CheckFault, Costs};
 use bc_rules_defs::{Aim, Mode, Rule, Takes};
 
+/// A value, where register B may be lost.
 const ANY: Aim = Aim::Gets(Mode::Any);
 
+/// A value, where B must end up with the former A.
 const PUSH: Aim = Aim::Gets(Mode::Push);
 
-/// Whether both are there and are one number.
+/// Whether both are the same number. False if either is None.
 fn has_words(words: Option<u128>, stated: Option<u64>) -> bool
     ensures { result ≡ has_words_of words stated }
 {
@@ -24,8 +26,8 @@ fn has_words(words: Option<u128>, stated: Option<u64>) -> bool
     }
 }
 
-/// Whether each part shows rules for the aim that is asked of it, and the others show none.
-fn agree(takes: Takes, parts: &[Mark]) -> bool
+/// Whether each part that the rule derives shows rules for its aim, and the other parts show none.
+fn agree(takes: Takes, parts: &[TreeFacts]) -> bool
     ensures { result ≡ agree_of takes 0 parts.now }
 {
     for at in 0..parts.len() {
@@ -40,8 +42,8 @@ fn agree(takes: Takes, parts: &[Mark]) -> bool
     true
 }
 
-/// Whether a rule makes a derivation for an aim of what the parts show, of so many words.
-fn makes(node: &Node, parts: &[Mark], rule: Rule, aim: Aim, words: Option<u64>) -> bool
+/// Whether the rule applies for this aim, its parts show what it needs, and it has exactly the stated words.
+fn makes(node: &Node, parts: &[TreeFacts], rule: Rule, aim: Aim, words: Option<u64>) -> bool
     ensures { result ≡ makes_of (node_of node.now) parts.now rule aim words }
 {
     match node.recipe(rule, aim) {
@@ -50,7 +52,7 @@ fn makes(node: &Node, parts: &[Mark], rule: Rule, aim: Aim, words: Option<u64>) 
     }
 }
 
-/// Whether the rule is one of tests.
+/// Whether this is a rule of tests.
 fn is_test(rule: Rule) -> bool
     ensures { result ≡ is_test_of rule }
 {
@@ -68,15 +70,15 @@ fn is_test(rule: Rule) -> bool
     }
 }
 
-/// Whether a test that goes by a value of so many words has the stated ones.
+/// Whether a test that is made of a value with `any` words has the stated words: the jump adds two.
 fn tested(any: u64, stated: u64) -> bool
     ensures { result ≡ tested_of any stated }
 {
     u128::from(any) + 2 == u128::from(stated)
 }
 
-/// The aims of a rule of tests.
-fn tests(node: &Node, parts: &[Mark], costs: &Costs, rule: Rule) -> Shown
+/// The aims for which a rule of tests, other than `J6`, makes a derivation with the stated words.
+fn tests(node: &Node, parts: &[TreeFacts], costs: &Costs, rule: Rule) -> Shown
     ensures { result ≡ tests_of (node_of node.now) parts.now costs.now rule }
 {
     Shown {
@@ -87,7 +89,7 @@ fn tests(node: &Node, parts: &[Mark], costs: &Costs, rule: Rule) -> Shown
     }
 }
 
-/// Whether a pushed value has the words of a value.
+/// Whether a pushed value is stated to have as many words as a value, so that `V0` gives the value's words.
 fn is_value(costs: &Costs) -> bool
     ensures { result ≡ is_value_of costs.now }
 {
@@ -97,9 +99,9 @@ fn is_value(costs: &Costs) -> bool
     }
 }
 
-/// The aims for which the rules of a chain make derivations of what the parts show, each rule's words being the
-/// stated ones.
-pub fn shown_by(node: &Node, parts: &[Mark], costs: &Costs, chain: Chain) -> Shown
+/// The aims for which the rules of a chain make a derivation over what the parts show. Each of the rules must have the words that
+/// are stated for its aim.
+pub fn shown_by(node: &Node, parts: &[TreeFacts], costs: &Costs, chain: Chain) -> Shown
     ensures { result ≡ shown_by_of (node_of node.now) parts.now costs.now chain }
 {
     let rule = chain.rule;
@@ -130,10 +132,10 @@ pub fn shown_by(node: &Node, parts: &[Mark], costs: &Costs, chain: Chain) -> Sho
     }
 }
 
-/// The aims that a node line shows: none where it shows no rules.
+/// The aims for which a node line shows rules; none if its field is `-`. Returns `WrongRule` if its rules make no derivation.
 fn shown_for(
     node: &Node,
-    parts: &[Mark],
+    parts: &[TreeFacts],
     line: &NodeLine,
     place: Position,
 ) -> Result<Shown, CheckFault>
@@ -158,10 +160,12 @@ fn shown_for(
     }
 }
 
-/// The same, where the line's numbers are the least words.
+/// The aims for which a node line shows rules; none if its field is `-`.
+///
+/// Returns `WrongCost` if one of the line's numbers isn't the least, else `WrongRule` if its rules make no derivation.
 pub fn judged(
     node: &Node,
-    parts: &[Mark],
+    parts: &[TreeFacts],
     line: &NodeLine,
     place: Position,
 ) -> Result<Shown, CheckFault>

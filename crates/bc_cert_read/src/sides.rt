@@ -1,4 +1,4 @@
-// The two sides of an assignment: the rules that apply to it, and the least words that they give.
+//! The rules of an assignment, and the fewest words that they give. It has no node line, so these aren't in `node.rt`.
 
 ghost use Rattle.std.specs.Prelude.{◌≡◌};
 ghost use Rattle.bc_cert_read.specs.Sides.{words_by as words_by_of, least_of, same as same_of};
@@ -6,16 +6,19 @@ ghost use Rattle.bc_cert_read.specs.Sides.{words_by as words_by_of, least_of, sa
 use crate::{Facts, are_free, lesser};
 use bc_rules_defs::{Rule, number_words};
 
-/// An assignment at a level, over what the rules ask of its sides.
+/// An assignment, with what the rules need to know of its sides.
 #[derive(Clone, Copy)]
 pub struct Sides {
+    /// The level of the assignment.
     pub level: u16,
+    /// The facts of the value.
     pub value: Facts,
+    /// The facts of the address.
     pub address: Facts,
 }
 
 impl Sides {
-    /// The words of a rule's derivations, where it applies.
+    /// The fewest words of derivations by this rule. None if the rule doesn't apply.
     fn words_by(&self, rule: Rule) -> Option<u128>
         ensures { result ≡ words_by_of self.now.level self.now.value self.now.address rule }
     {
@@ -42,7 +45,7 @@ impl Sides {
         }
     }
 
-    /// The least words of its derivations.
+    /// The fewest words of any derivation.
     pub fn least(&self) -> Option<u128>
         ensures { result ≡ least_of self.now.level self.now.value self.now.address }
     {
@@ -52,7 +55,7 @@ impl Sides {
         )
     }
 
-    /// The least words, where this rule gives them.
+    /// The fewest words, if this rule gives them. None if it doesn't apply, or another rule has fewer.
     pub fn least_by(&self, rule: Rule) -> Option<u128>
         ensures { result ≡ same_of (words_by_of self.now.level self.now.value self.now.address rule) (least_of self.now.level self.now.value self.now.address) }
     {

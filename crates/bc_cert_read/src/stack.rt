@@ -1,4 +1,4 @@
-// The trees of an entry that no whole has taken yet.
+//! The stack of trees that the node lines of an entry build, and the root that its root line makes of them.
 
 ghost use Rattle.std.specs.Prelude.{◌≡◌, ◌≤◌, drop, length, OnOk, IfOk};
 ghost use Rattle.bc_core.specs.View.{exp};
@@ -8,7 +8,7 @@ ghost use Rattle.bc_cert_read.specs.Wholes.{whole as whole_of};
 ghost use Rattle.bc_cert_read.specs.Stacks.{no_trees, node_step, line_node, with_whole, without_expressions, node_judged_over, put_over, derived_over, seen_over, root_step, one_tree, two_trees, value_root, test_root, assign_root, side as side_of, sides_show as sides_show_of, assigned as assigned_of, fitting as fitting_of, any_calls, second_zero, AreParallel};
 ghost use Rattle.bc_cert_read.specs.TreeView.{stack, one as one_of, only as only_of, both as both_of, rooted as rooted_of, Steps, Gives};
 
-use crate::mark::{Mark, Shown, all_bare, depth_over, levels_fit};
+use crate::mark::{Shown, TreeFacts, all_bare, depth_over, levels_fit};
 use crate::one::One;
 use crate::position::Position;
 use crate::rooted::Rooted;
@@ -23,27 +23,30 @@ use bc_rules_defs::{Aim, Derivation, Mode, Rule, Table};
 use bc_word::Memory;
 use std::alloc::Global;
 
-/// The most nodes one within another.
+/// The greatest depth of a tree.
 const DEPTH_LIMIT: u32 = 400;
 
-/// The trees of an entry that no whole has taken yet, in the order of their lines.
+/// The trees of an entry that aren't parts of another one yet, in the order of their lines.
+///
+/// Its four vectors have the same length, one element for each tree. So the facts and marks of a node's parts are slices, and nothing is
+/// copied. After a call that failed, the stack has no meaning.
 #[derive(Drop)]
 pub struct Stack {
-    marks: Vec<Mark>,
+    marks: Vec<TreeFacts>,
     facts: Vec<Facts>,
     expressions: Vec<CoreExp>,
     derivations: Vec<Derivation>,
 }
 
-/// The marks from a place on.
-fn marks_from(items: &[Mark], at: usize) -> &[Mark]
+/// The marks from this index on.
+fn marks_from(items: &[TreeFacts], at: usize) -> &[TreeFacts]
     requires { at ≤ length items.now }
     ensures { result.now ≡ drop at items.now }
 {
     items.split_at(at).1
 }
 
-/// The facts from a place on.
+/// The facts from this index on.
 fn facts_from(items: &[Facts], at: usize) -> &[Facts]
     requires { at ≤ length items.now }
     ensures { result.now ≡ drop at items.now }
@@ -51,8 +54,9 @@ fn facts_from(items: &[Facts], at: usize) -> &[Facts]
     items.split_at(at).1
 }
 
-/// The depth of a node over these parts, where their levels are right and it is not too deep.
-fn fitting(line: &NodeLine, parts: &[Mark], place: Position) -> Result<u16, CheckFault>
+/// The depth of a node with these parts. Returns `Line` if a part has another level than the node requires, and `TooDeep` if the node
+/// is deeper than the limit.
+fn fitting(line: &NodeLine, parts: &[TreeFacts], place: Position) -> Result<u16, CheckFault>
     ensures { result ≡ fitting_of line.now parts.now place }
 {
     if levels_fit(line.level, line.form, parts) {
@@ -67,7 +71,7 @@ fn fitting(line: &NodeLine, parts: &[Mark], place: Position) -> Result<u16, Chec
     }
 }
 
-/// Whether a part holds a call or a VALOF.
+/// Whether one of the parts contains a call or a VALOF.
 fn calls(parts: &[Facts]) -> bool
     ensures { result ≡ any_calls parts.now }
 {
@@ -90,7 +94,7 @@ fn second_is_zero(parts: &[Facts]) -> bool
 }
 
 impl Stack {
-    /// No trees.
+    /// A stack without trees.
     pub fn new(alloc: Global) -> Stack
         ensures { stack result ≡ no_trees }
     {
@@ -102,7 +106,7 @@ impl Stack {
         }
     }
 
-    /// Takes all trees off.
+    /// Removes all trees.
     pub fn clear(&mut self)
         ensures { stack self.new ≡ no_trees }
     {
@@ -112,7 +116,10 @@ impl Stack {
         self.derivations.truncate(0);
     }
 
-    /// A node line: it takes the trees of its parts, and puts its own there.
+    /// Judges a node line, and replaces the trees of the node's parts by its own.
+    ///
+    /// Returns `Line` if there are fewer trees than parts or a part has the wrong level, `TooDeep` if the node is deeper than 400,
+    /// `WrongCost` if a stated number isn't the least, `WrongRule` if the rules make no derivation, and `Memory` if an allocation fails.
     pub fn node(
         &mut self,
         alloc: Global,
@@ -134,7 +141,7 @@ impl Stack {
         self.judge(alloc, table, line, expression, from, depth, place)
     }
 
-    /// The expression of a node over the trees from a place on, which it takes off.
+    /// Builds the expression of a node, and removes those of its parts, which begin at this index.
     #[tactic(auto, using(crate::proofs::Nodes::take_seen, crate::proofs::Nodes::drop_seen))]
     fn expression(
         &mut self,
@@ -155,7 +162,7 @@ impl Stack {
         }
     }
 
-    /// Judges a node line whose expression was taken off, and puts its tree there.
+    /// Judges a node line whose expression is built, and replaces the trees of its parts by its own.
     fn judge(
         &mut self,
         alloc: Global,
@@ -181,7 +188,7 @@ impl Stack {
         }
     }
 
-    /// The aims that a node line shows.
+    /// The aims for which a node line shows rules.
     fn shown(
         &self,
         table: Table,
@@ -204,7 +211,7 @@ impl Stack {
         judged(&node, marks_from(&self.marks, from), line, place)
     }
 
-    /// Puts the tree of a node there, in place of those of its parts.
+    /// Replaces the trees of a node's parts, which begin at this index, by its own.
     fn put(
         &mut self,
         alloc: Global,
@@ -226,7 +233,7 @@ impl Stack {
         Ok(())
     }
 
-    /// Puts the derivation of a node in place of those of its parts.
+    /// Replaces the derivations of a node's parts by its own.
     #[tactic(auto, using(crate::proofs::Nodes::trees_take_seen, crate::proofs::Nodes::trees_drop_seen, crate::proofs::Nodes::trees_push_seen))]
     fn derive(&mut self, alloc: Global, line: &NodeLine, from: usize) -> Result<(), Memory>
         requires facts { from ≤ length self.old.facts.items }
@@ -240,7 +247,7 @@ impl Stack {
         Ok(())
     }
 
-    /// Puts the mark and the facts of a node in place of those of its parts.
+    /// Replaces the marks and facts of a node's parts by its own.
     fn seen(
         &mut self,
         line: &NodeLine,
@@ -262,7 +269,7 @@ impl Stack {
         self.facts.truncate(from);
         self.facts.push(Facts::of(e, calls, line.costs))?;
         self.marks.truncate(from);
-        self.marks.push(Mark {
+        self.marks.push(TreeFacts {
             level: line.level,
             depth,
             shown,
@@ -271,7 +278,7 @@ impl Stack {
         Ok(())
     }
 
-    /// The one tree, if there is one alone.
+    /// The tree, if there is exactly one.
     fn only(&mut self) -> Option<One>
         requires { AreParallel (stack self.old) }
         ensures { only_of result ≡ one_tree (stack self.old) }
@@ -292,7 +299,7 @@ impl Stack {
         }
     }
 
-    /// The two trees, if there are just two.
+    /// The trees, if there are exactly two.
     fn both(&mut self) -> Option<(One, One)>
         requires { AreParallel (stack self.old) }
         ensures { both_of result ≡ two_trees (stack self.old) }
@@ -326,7 +333,11 @@ impl Stack {
         }
     }
 
-    /// A root line: the root that the trees are, with the rules that they show.
+    /// Judges a root line: the root that the trees make, with its derivation and least words.
+    ///
+    /// Returns `Line` if there are more or fewer trees than such a root has, or a side of an assignment has the wrong level. Returns
+    /// `WrongRule` if a tree shows no rules for what the line says, or if the rule of an assignment doesn't apply or isn't the shortest.
+    /// Returns `Memory` if an allocation fails.
     pub fn root(
         &mut self,
         alloc: Global,
@@ -353,7 +364,7 @@ impl Stack {
     }
 }
 
-/// A value as root.
+/// A root that is a value.
 fn value(one: One, place: Position) -> Result<Rooted, CheckFault>
     ensures { Gives rooted_of result (value_root place (one_of one)) }
 {
@@ -371,7 +382,7 @@ fn value(one: One, place: Position) -> Result<Rooted, CheckFault>
     }
 }
 
-/// A test as root.
+/// A root that is a test.
 fn test(one: One, sense: bool, place: Position) -> Result<Rooted, CheckFault>
     ensures { Gives rooted_of result (test_root sense place (one_of one)) }
 {
@@ -395,7 +406,7 @@ fn test(one: One, sense: bool, place: Position) -> Result<Rooted, CheckFault>
     }
 }
 
-/// The level of the sides of an assignment.
+/// The level of both sides of an assignment. `operand` is None if the address isn't an operand.
 fn side(operand: Option<u8>, level: u16) -> u32
     ensures { result ≡ side_of operand level }
 {
@@ -405,8 +416,8 @@ fn side(operand: Option<u8>, level: u16) -> u32
     }
 }
 
-/// Whether the sides of an assignment show what its rule asks of them.
-fn sides_show(rule: Rule, value: &Mark, address: &Mark) -> bool
+/// Whether the sides of an assignment show the rules that its rule requires.
+fn sides_show(rule: Rule, value: &TreeFacts, address: &TreeFacts) -> bool
     ensures { result ≡ sides_show_of rule value.now address.now }
 {
     let any = Aim::Gets(Mode::Any);
@@ -417,7 +428,7 @@ fn sides_show(rule: Rule, value: &Mark, address: &Mark) -> bool
         }
 }
 
-/// The derivation of an assignment.
+/// The derivation of an assignment, with its parts in the order of the code.
 fn assigned(
     alloc: Global,
     rule: Rule,
@@ -441,7 +452,7 @@ fn assigned(
     Ok(by_rule(rule, parts))
 }
 
-/// An assignment as root.
+/// A root that is an assignment.
 fn assignment(
     alloc: Global,
     rule: Rule,

@@ -1,4 +1,4 @@
-// The derivation that the rules of a line make of those of its parts.
+//! Builds the derivation that the rules of a node line make from those of the node's parts.
 
 ghost use Rattle.std.specs.Prelude.{◌≡◌, map, take, IfOk};
 ghost use Rattle.bc_rules_defs.specs.View.{derivation as tree, derivations};
@@ -10,10 +10,10 @@ use bc_rules_defs::{Aim, Derivation, Mode, Rule, Takes};
 use bc_word::Memory;
 use std::alloc::Global;
 
-/// Which parts are derived is the same for each aim.
+/// Which parts a rule derives is the same for each aim.
 const ANY: Aim = Aim::Gets(Mode::Any);
 
-/// Two parts turned round.
+/// Two parts in reverse order; any other number as they are.
 #[tactic(auto, using(crate::proofs::Derived::two_seen, crate::proofs::Derived::not_two_seen))]
 fn turned(mut parts: Vec<Derivation>) -> Vec<Derivation>
     ensures { map tree result.items ≡ two_turned (map tree parts.items) }
@@ -24,7 +24,7 @@ fn turned(mut parts: Vec<Derivation>) -> Vec<Derivation>
     parts
 }
 
-/// The last two of three parts turned round.
+/// Three parts with the last two swapped; any other number as they are.
 #[tactic(auto, using(crate::proofs::Derived::three_seen, crate::proofs::Derived::not_three_seen))]
 fn last_turned(mut parts: Vec<Derivation>) -> Vec<Derivation>
     ensures { map tree result.items ≡ last_two_turned (map tree parts.items) }
@@ -35,7 +35,7 @@ fn last_turned(mut parts: Vec<Derivation>) -> Vec<Derivation>
     parts
 }
 
-/// The first part alone.
+/// Only the first part.
 #[tactic(auto, using(crate::proofs::Derived::take_seen))]
 fn first(mut parts: Vec<Derivation>) -> Vec<Derivation>
     ensures { map tree result.items ≡ take 1 (map tree parts.items) }
@@ -44,7 +44,7 @@ fn first(mut parts: Vec<Derivation>) -> Vec<Derivation>
     parts
 }
 
-/// The parts that are derived, in the order of the code.
+/// The parts that a rule derives, in the order of the code.
 pub fn taken(takes: Takes, mut parts: Vec<Derivation>) -> Vec<Derivation>
     ensures { map tree result.items ≡ taken_of takes (map tree parts.items) }
 {
@@ -75,7 +75,7 @@ pub fn by_rule(rule: Rule, parts: Vec<Derivation>) -> Derivation
     rule_over(rule, parts)
 }
 
-/// A rule over one part.
+/// A rule with one part. Returns `Memory` if an allocation fails.
 fn over(alloc: Global, rule: Rule, part: Derivation) -> Result<Derivation, Memory>
     ensures { IfOk result (λ d. tree d ≡ by rule (one_tree (tree part))) }
 {
@@ -84,7 +84,7 @@ fn over(alloc: Global, rule: Rule, part: Derivation) -> Result<Derivation, Memor
     Ok(by_rule(rule, parts))
 }
 
-/// The derivation that a chain makes of those of the parts.
+/// The derivation by the rules of a chain, over these parts.
 fn chained(alloc: Global, chain: Chain, parts: Vec<Derivation>) -> Result<Derivation, Memory>
     ensures { IfOk result (λ d. tree d ≡ chained_of chain (map tree parts.items)) }
 {
@@ -101,7 +101,8 @@ fn chained(alloc: Global, chain: Chain, parts: Vec<Derivation>) -> Result<Deriva
     }
 }
 
-/// The derivation of a node line over those of its parts; of no meaning where the line shows no rules.
+/// The derivation of a node by the rules of its line, from those of its parts. It has no meaning if the line shows no rules.
+/// Returns `Memory` if an allocation fails.
 pub fn derived(
     alloc: Global,
     rules: Rules,

@@ -1,4 +1,4 @@
-// The expression of a node over its parts.
+//! Builds the expression of a node from those of its parts.
 
 ghost use Rattle.std.specs.Prelude.{◌≡◌, map, IfOk};
 ghost use Rattle.bc_core.specs.View.{exp};
@@ -10,7 +10,8 @@ use bc_core::CoreExp;
 use bc_word::{Memory, Op};
 use std::alloc::Global;
 
-/// The expression of a node over its parts, where it has as many.
+/// The expression of a node with these parts, in the order of the tree. None if a node of this form has another number of parts; a
+/// call may have any number but none. Returns `Memory` if an allocation fails.
 pub fn whole(alloc: Global, form: Form, parts: Vec<CoreExp>) -> Result<Option<CoreExp>, Memory>
     ensures { IfOk result (λ e. found e ≡ whole_of form (map exp parts.items)) }
 {
@@ -38,18 +39,21 @@ pub fn whole(alloc: Global, form: Form, parts: Vec<CoreExp>) -> Result<Option<Co
     }
 }
 
+/// An expression without parts.
 fn leaf(parts: Vec<CoreExp>, e: CoreExp) -> Option<CoreExp>
     ensures { found result ≡ leaf_of (map exp parts.items) (exp e) }
 {
     if parts.is_empty() { Some(e) } else { None }
 }
 
+/// The only part.
 fn single(mut parts: Vec<CoreExp>) -> Option<CoreExp>
     ensures { found result ≡ one_of (map exp parts.items) }
 {
     if parts.len() == 1 { parts.pop() } else { None }
 }
 
+/// A dyadic operator.
 fn pair(alloc: Global, op: Op, mut parts: Vec<CoreExp>) -> Result<Option<CoreExp>, Memory>
     ensures { IfOk result (λ e. found e ≡ two_of op (map exp parts.items)) }
 {
@@ -65,6 +69,7 @@ fn pair(alloc: Global, op: Op, mut parts: Vec<CoreExp>) -> Result<Option<CoreExp
     }
 }
 
+/// `condition -> this, that`.
 fn choice(alloc: Global, mut parts: Vec<CoreExp>) -> Result<Option<CoreExp>, Memory>
     ensures { IfOk result (λ e. found e ≡ three_of (map exp parts.items)) }
 {
@@ -81,6 +86,7 @@ fn choice(alloc: Global, mut parts: Vec<CoreExp>) -> Result<Option<CoreExp>, Mem
     }
 }
 
+/// A call: its routine is the last part.
 #[tactic(auto, using(bc_core::proofs::Rows::call_view, crate::proofs::Pops::call_popped))]
 fn call(alloc: Global, mut parts: Vec<CoreExp>) -> Result<Option<CoreExp>, Memory>
     ensures { IfOk result (λ e. found e ≡ called_of (map exp parts.items)) }

@@ -1,4 +1,4 @@
--- Nodes that show no rule, by the form of their expression: those of its parts, and then its own.
+-- Nodes that show no rule, form by form: those of the expression's parts, followed by its own.
 use Rattle.std.proofs.Common.{◌≡◌, ℕ, ◌+◌, ◌-◌, List, [], ◌∷◌, ◌++◌, map, take, length, length-append, refl, ap, ◌∙◌, arith}
 use Rattle.std.proofs.lemmas.List.{length-map, map-append}
 use Rattle.std.proofs.Math.Seq.{take-append_seam}

@@ -1,4 +1,4 @@
--- What is looked up in trees, and what the trees mean.
+-- What the program finds in its trees is what the definitions find in theirs.
 use Rattle.std.proofs.Common.{◌≡◌, ℕ, zero, suc, Bool, cond, Option, Some, None, List, [], ◌∷◌, drop, length, ◌+◌, refl, add-one, ap, sym, ◌∙◌, Bor}
 use Rattle.std.specs.Prelude.{slice_get}
 use Rattle.std.specs.Option.{option_copied}

@@ -1,4 +1,4 @@
--- The nodes of a derivation are those of its tree of rule names.
+-- The nodes that a derivation shows are those computed from its tree of rule names, with one line for each rule.
 use Rattle.std.proofs.Common.{◌≡◌, ℕ, ◌+◌, Bool, true, false, cond, Some, None, List, [], ◌∷◌, ◌++◌, refl, ap, sym, ◌∙◌}
 use Rattle.std.specs.Prelude.{is_some}
 use Rattle.bc_word.specs.declared.operator.Op.{Op}
@@ -37,7 +37,7 @@ chain_is : {T : Table} {e : Exp} {aim : Aim} (d : Derives T e aim) → rules_of 
 chain_is (j6 h d) = test_chain d
 chain_is d = value_chain d
 
--- the tree itself, where no rule goes on at the same node
+-- the tree itself, unless its outermost rule is J6 or V0
 own_pushed : {T : Table} {e : Exp} (d : Derives T e (Gets Push)) → own (Some (shape d)) ≡ Some (shape d)
 own_pushed (v1 h) = refl
 own_pushed (v2 d) = refl
@@ -74,7 +74,7 @@ no_test (v21 c y x) = refl
 no_test (v22 ds f) = refl
 no_test v22_valof = refl
 
--- nodes at which no rule stands
+-- nodes that show no rule
 none_after : (es : Args) → first (after_arguments es no_part) ≡ None
 none_after no_argument = refl
 none_after (argument e es) = none_after es
@@ -115,7 +115,7 @@ whole {e = e} d s h =
     ap (λ l. l ++ shown_at e s (Some (shape d)) ∷ []) h
     ∙ ap (λ r. ended (below d s) e s r) (chain_is d)
 
--- of two operands the one beside a 0
+-- the operand beside a 0
 dropped : {T : Table} {c : Exp} {aim : Aim} (z : Bool) (a b : Exp) (d : Derives T c aim) (s : ℕ) → cond z (Some a) (Some b) ≡ Some c → whole_with shown_at c s (Some (shape d)) ≡ shown d s
     → whole_with shown_at a s (at_slot (first_slot (beside (Gets Any) z)) (one (shape d))) ++ whole_with shown_at b s (at_slot (second_slot (beside (Gets Any) z)) (one (shape d))) ≡ cond z (shown d s ++ bare b s) (bare a s ++ shown d s)
 dropped {c = c} true a b d s h k =

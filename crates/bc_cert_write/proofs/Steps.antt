@@ -1,4 +1,4 @@
--- Arguments one after another.
+-- The nodes of a call's arguments, appended one argument at a time.
 use Rattle.std.proofs.Common.{◌≡◌, ℕ, ◌+◌, ◌<◌, Option, List, ◌∷◌, ◌++◌, length, get_or, drop, ap, sym, ◌∙◌, arith, add-one, append_assoc, drop-cons, Result, Ok, Err, OnOk}
 use Rattle.bc_core.specs.declared.expression.CoreExp.{CoreExp}
 use Rattle.bc_core.specs.Tree.{Exp, argument, count}
@@ -8,7 +8,7 @@ use Rattle.bc_rules_defs.specs.declared.derivation.Derivation.{Derivation}
 use Rattle.bc_rules_defs.specs.Rules.{Tree}
 use Rattle.bc_rules_defs.specs.View.{derivations}
 use Rattle.bc_select.proofs.Wholes.{args_count}
-use Rattle.bc_cert_write.specs.declared.mark.Mark.{Mark}
+use Rattle.bc_cert_write.specs.declared.mark.NodeMark.{NodeMark}
 use Rattle.bc_cert_write.specs.Walked.{first, rest, mark, all_with, whole_with, after_arguments}
 use Rattle.bc_cert_write.proofs.Seen.{next_trees, after_seen_all}
 
@@ -17,11 +17,11 @@ next_argument es i e h is =
     ap args (drop-cons es i e h ∙ ap (λ n. get_or es i e ∷ drop n es) (sym (add-one i)))
     ∙ ap (λ x. argument (exp x) (args (drop (i + 1) es))) (sym is)
 
-moved : (xs ys zs us vs ws : List Mark) → ys ≡ xs ++ zs → us ≡ zs ++ vs → xs ++ us ≡ ws → ys ++ vs ≡ ws
+moved : (xs ys zs us vs ws : List NodeMark) → ys ≡ xs ++ zs → us ≡ zs ++ vs → xs ++ us ≡ ws → ys ++ vs ≡ ws
 moved xs ys zs us vs ws h i j = ap (λ l. l ++ vs) h ∙ append_assoc xs zs vs ∙ ap (λ l. xs ++ l) (sym i) ∙ j
 
--- the nodes of the i-th argument come after those so far
-pub arguments_more : (now new whole : List Mark) (es : List CoreExp) (xs : List Derivation) (s i : ℕ) (e : CoreExp) (t : Option Tree)
+-- the nodes of the i-th argument follow those of the arguments before it
+pub arguments_more : (now new whole : List NodeMark) (es : List CoreExp) (xs : List Derivation) (s i : ℕ) (e : CoreExp) (t : Option Tree)
     → i < length es → e ≡ get_or es i e → t ≡ first (derivations (drop i xs)) → new ≡ now ++ whole_with mark (exp e) (s + i) t
     → now ++ all_with mark (args (drop i es)) (s + i) (derivations (drop i xs)) ≡ whole
     → new ++ all_with mark (args (drop (i + 1) es)) (s + (i + 1)) (derivations (drop (i + 1) xs)) ≡ whole
@@ -41,8 +41,8 @@ pub on_ok : {X E P Q : Type 0} (r : Result X E) → (P → Q) → OnOk r P → O
 on_ok (Ok x) f h = f h
 on_ok (Err e) f h = h
 
--- the routine's nodes come after those of the arguments
-pub routine_after : (old mid new : List Mark) (es : List CoreExp) (f : Exp) (s : ℕ) (xs : List Derivation) (t : Option Tree)
+-- the routine's nodes follow those of the arguments
+pub routine_after : (old mid new : List NodeMark) (es : List CoreExp) (f : Exp) (s : ℕ) (xs : List Derivation) (t : Option Tree)
     → mid ≡ old ++ all_with mark (args es) (s + 2) (derivations xs) → t ≡ first (derivations (drop (length es) xs))
     → new ≡ mid ++ whole_with mark f (s + 2 + length es) t
     → new ≡ old ++ (all_with mark (args es) (s + 2) (derivations xs) ++ whole_with mark f (s + 2 + count (args es)) (first (after_arguments (args es) (derivations xs))))

@@ -1,4 +1,4 @@
--- What the writer has taken of a certificate.
+-- What the writer has taken of a certificate after the i-th entry, and that it is always a beginning of the whole text.
 use Rattle.std.proofs.Common.{◌≡◌, ℕ, zero, suc, ◌+◌, ◌<◌, ◌≤◌, Option, List, [], ◌∷◌, ◌++◌, length, get_or, map, flat_map, take, drop, refl, ap, sym, subst, ◌∙◌, arith, add-one, append_assoc, append-nil, take-append-drop}
 use Rattle.std.specs.Io.KnownBytes.{Appends}
 use Rattle.std.proofs.KnownBytes.{Appends-nil, Appends-trans}
@@ -41,7 +41,7 @@ same_length [] (d ∷ ds) h = cc
 same_length (x ∷ xs) [] h = cc
 same_length (x ∷ xs) (d ∷ ds) h = let tail : map entry xs ≡ map entry_of ds = cc in ap suc (same_length xs ds tail)
 
--- the text so far, the next entry's lines, and what is after them
+-- the text up to here, the next entry's lines, and the rest of the text
 parted : (ds : List Derived) (i : ℕ) (e : Entry) (n : Next ds i e) → certificate ds ≡ (header_line Two ++ lines (take i ds)) ++ (entry_text n.derived ++ (lines (drop (suc i) ds) ++ end_line (length ds)))
 unfolding lines
 parted ds i e n =
@@ -52,7 +52,7 @@ parted ds i e n =
     ∙ simp append_assoc
 
 module _ (a b c : Option (List ℕ)) (es : List code.Entry) (ds : List Derived) (all : map entry es ≡ map entry_of ds) where
-  -- one entry more
+  -- after one more entry
   pub written_more : (i : ℕ) (e : code.Entry) (text bytes : List ℕ) → i < length es → e ≡ get_or es i e → IsEntryText (entry e) text → bytes ≡ text
       → Appends a b (header_line Two ++ flat_map entry_text (take i ds)) → Appends b c bytes → Appends a c (header_line Two ++ flat_map entry_text (take (i + 1) ds))
   written_more i e text bytes k is exact same so_far more =
@@ -66,7 +66,7 @@ module _ (a b c : Option (List ℕ)) (es : List code.Entry) (ds : List Derived) 
       ∙ ap (flat_map entry_text) (sym n.taken ∙ ap (λ m. take m ds) (sym (add-one i)))) in
       subst (Appends a c) grown (Appends-trans a b c _ bytes so_far more)
 
-  -- what it has taken where it fails
+  -- what it has taken when it fails
   pub front_of_header : AppendsFront a b (header_line Two) → AppendsFront a b (certificate ds)
   front_of_header h = front_joined a a b [] (header_line Two) _ _ (Appends-nil a) h refl
 

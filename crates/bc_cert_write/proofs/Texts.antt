@@ -1,4 +1,4 @@
--- The lines that are written of a root's nodes are those of its derivation.
+-- The node lines that the program writes for a root are those of its derivation.
 use Rattle.std.proofs.Common.{◌≡◌, ℕ, ◌+◌, Option, Some, None, List, [], ◌∷◌, ◌++◌, map, flat_map, get_or, refl, ap, sym, subst, ◌∙◌, arith, append-nil, append_assoc}
 use Rattle.std.specs.Fmt.{decimal}
 use Rattle.std.specs.Prelude.{true, false}
@@ -19,7 +19,7 @@ use Rattle.bc_select.specs.declared.row.Row.{Row}
 use Rattle.bc_select.specs.Rows.{AreCosts, IsRowOf}
 use Rattle.bc_cert_write.specs.declared.chain.Chain.{Chain}
 use Rattle.bc_cert_write.specs.declared.chain.Chain.TheVariants as chains
-use Rattle.bc_cert_write.specs.declared.mark.Mark.{Mark}
+use Rattle.bc_cert_write.specs.declared.mark.NodeMark.{NodeMark}
 use Rattle.bc_cert_write.specs.Shown.{root_shown}
 use Rattle.bc_cert_write.specs.Lines.{line, rule_name, rules_field, form_field, words_field, node_line, root_line, entry_line, code_line}
 use Rattle.bc_cert_write.specs.Walked.{own, mark, rules_of, chain_of, form_of, below_with, all_with, whole_with, root_with}
@@ -35,7 +35,7 @@ use Rattle.bc_cert_write.specs.Nodes.{Laid, laid, shown_at, node_at}
 use Rattle.bc_cert_write.specs.Laws.{NodesInOrder}
 use Rattle.bc_cert_write.proofs.Shapes.{root_nodes_shown}
 
--- what is seen of the nodes
+-- one list of nodes, seen by three functions
 map_both : {A B : Type 0} (g : A → B) (xs ys : List A) (us vs : List B) → map g xs ≡ us → map g ys ≡ vs → map g (xs ++ ys) ≡ us ++ vs
 map_both g [] ys us vs h i = i ∙ ap (λ l. l ++ vs) h
 map_both g (x ∷ xs) ys us vs h i = ap (λ l. g x ∷ l) (map_both g xs ys (map g xs) vs refl i) ∙ ap (λ l. l ++ vs) h
@@ -181,7 +181,7 @@ root_line_is (a1 h v) = refl
 root_line_is (a2 h free a v) = refl
 root_line_is (a3 h v a) = refl
 
-pub nodes_added : (r : Root) (x : Tree) (rows : List Row) (marks : List Mark) (old new : List ℕ) → AllZip IsRowOf (root_in_order r) rows → marks ≡ root_with mark r x → new ≡ old ++ mark_lines marks rows → AddsNodes r x old new
+pub nodes_added : (r : Root) (x : Tree) (rows : List Row) (marks : List NodeMark) (old new : List ℕ) → AllZip IsRowOf (root_in_order r) rows → marks ≡ root_with mark r x → new ≡ old ++ mark_lines marks rows → AddsNodes r x old new
 nodes_added r x rows marks old new h i j = record {
   exact = λ T d e.
       j ∙ ap (λ l. old ++ mark_lines l rows) (i ∙ ap (root_with mark r) (sym e))

@@ -1,4 +1,4 @@
--- The workings of the entries, one by one.
+-- The workings of the i-th entry, from those of all entries.
 use Rattle.std.proofs.Common.{◌≡◌, ℕ, zero, suc, ◌<◌, List, [], ◌∷◌, length, get_or, map, refl, ap, sym, subst, arith}
 use Rattle.std.specs.List.{AllZip}
 use Rattle.bc_rules_defs.specs.declared.entry.Entry as code

@@ -1,4 +1,4 @@
--- Worked examples: the lines of WRCH('A') in a routine without variables, whose numbers have room, and nodes that show no rule.
+-- Worked examples: the lines of WRCH('A') in a routine without variables, that its numbers have room, and nodes that show no rule.
 use Rattle.std.specs.Prelude.{ℕ, ◌≡◌, List, [], ◌∷◌, ◌++◌, Option, Some, None, refl}
 use Rattle.std.proofs.Common.{arith, inl, inr}
 use Rattle.std.specs.Fmt.{decimal}
@@ -53,7 +53,7 @@ sample_text = refl
 pub sample_has_room : ¬ HasNoRoom (entry_of sample)
 sample_has_room h = elim h [ inl many ↦ omega (arith, many) | inr lacks ↦ lacks.exact Two by_call refl (omega arith) (omega arith) ]
 
--- below NOT WRCH('A') at level 5, where none shows a rule
+-- the nodes below NOT WRCH('A') at level 5, none of which shows a rule
 abbrev no_rule : Exp → ℕ → Shown
 no_rule e s = record { expression = e; level = s; rules = [] }
 

@@ -1,4 +1,4 @@
--- For proofs: a node with the tree that stands there, and what is seen of it.
+-- For proofs: a node with the tree of rules that it has, and what the definitions show of it.
 use Rattle.std.specs.Prelude.{ℕ, Option}
 use Rattle.bc_core.specs.Tree.{Exp}
 use Rattle.bc_rules_defs.specs.Rules.{Tree}

@@ -1,4 +1,4 @@
--- For proofs: the lines of an entry, from what the program has of its nodes.
+-- For proofs: the lines of an entry, from the program's own types `Form`, `Chain`, `NodeMark` and `Row`.
 use Rattle.std.specs.Prelude.{ℕ, None, List, [], ◌∷◌, ◌++◌, get_or}
 use Rattle.std.specs.Fmt.{decimal}
 use Rattle.bc_core.specs.Tree.{Root, Value, Test, Assign}
@@ -8,7 +8,7 @@ use Rattle.bc_cert_write.specs.declared.chain.Chain.{Chain}
 use Rattle.bc_cert_write.specs.declared.chain.Chain.TheVariants as chains
 use Rattle.bc_cert_write.specs.declared.form.Form.{Form}
 use Rattle.bc_cert_write.specs.declared.form.Form.TheVariants as forms
-use Rattle.bc_cert_write.specs.declared.mark.Mark.{Mark}
+use Rattle.bc_cert_write.specs.declared.mark.NodeMark.{NodeMark}
 use Rattle.bc_cert_write.specs.Lines.{line, rule_name, words_field, sense_field}
 
 abbrev pub form_text : Form → List ℕ
@@ -33,10 +33,10 @@ chain_text (chains.Three r q p) = (rule_name r ++ 46 ∷ rule_name q) ++ 46 ∷ 
 abbrev pub cost_text : ℕ → Row → List ℕ
 cost_text i row = words_field (get_or row.costs i None)
 
-abbrev pub mark_line : Mark → Row → List ℕ
+abbrev pub mark_line : NodeMark → Row → List ℕ
 mark_line m row = line (decimal m.level) (form_text m.form ∷ cost_text 0 row ∷ cost_text 1 row ∷ cost_text 2 row ∷ cost_text 3 row ∷ chain_text m.rules ∷ [])
 
-abbrev pub mark_lines : List Mark → List Row → List ℕ
+abbrev pub mark_lines : List NodeMark → List Row → List ℕ
 mark_lines [] rows = []
 mark_lines (m ∷ ms) [] = []
 mark_lines (m ∷ ms) (row ∷ rows) = mark_line m row ++ mark_lines ms rows

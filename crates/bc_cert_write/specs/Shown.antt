@@ -1,6 +1,6 @@
--- The nodes of a root in the order of their lines, each with the rules that a derivation shows there: those used on
--- the node itself, the outermost first. No rule is shown where a rule above takes the node as its operand, as its
--- number or as the 0 that it drops, nor at the nodes below such a one.
+-- The nodes of a root in the order of their lines, each with the rules that a derivation has at it, the outermost first.
+-- A node shows no rules if a rule above takes it as its operand, as its number or as the 0 that it drops. The nodes below such
+-- a node show none either.
 use Rattle.std.specs.Prelude.{ℕ, ◌+◌, ◌-◌, cond, List, [], ◌∷◌, ◌++◌, map, take}
 use Rattle.bc_core.specs.Tree.{Exp, Num, Args, count, Root}
 use Rattle.bc_core.specs.WellFormed.{nodes}
@@ -18,18 +18,18 @@ pub record Shown : Type 0 where
   pub level : ℕ
   pub rules : List Rule
 
--- the nodes of an expression's parts, and then its own
+-- the nodes of an expression's parts, followed by its own
 abbrev pub ended : List Shown → Exp → ℕ → List Rule → List Shown
 ended parts e s rules = parts ++ record { expression = e; level = s; rules = rules } ∷ []
 
--- the nodes of an expression where none shows a rule, and those below it: all but the last
+-- the nodes of an expression, none of which shows a rule; below_bare has all but the last, which is the expression's own
 abbrev pub bare : Exp → ℕ → List Shown
 bare e s = map (λ n. record { expression = n.0; level = n.1; rules = [] }) (in_order e s)
 
 abbrev pub below_bare : Exp → ℕ → List Shown
 below_bare e s = take (nodes e - 1) (bare e s)
 
--- the rules at the derivation's own node: a test by the value and a value that is pushed go on at the same node
+-- the rules at the derivation's own node: the rules J6 and V0 apply at the same node as the rule below them
 abbrev pub rules_of_value : {T : Table} {e : Exp} {aim : Aim} → Derives T e aim → List Rule
 rules_of_value (v0 d) = V0 ∷ first_rule d ∷ []
 rules_of_value d = first_rule d ∷ []
@@ -38,10 +38,11 @@ abbrev pub rules_at : {T : Table} {e : Exp} {aim : Aim} → Derives T e aim → 
 rules_at (j6 h d) = J6 ∷ rules_of_value d
 rules_at d = rules_of_value d
 
+-- these nodes, followed by the derivation's own node with its rules
 abbrev pub ended_by : {T : Table} {e : Exp} {aim : Aim} → List Shown → Derives T e aim → ℕ → List Shown
 ended_by {e = e} parts d s = ended parts e s (rules_at d)
 
--- the nodes below that of a derivation, in the order of the tree, whatever the order of the code
+-- the nodes below that of a derivation, in the order of the source, even if the code has another order
 abbrev mutual
   pub below : {T : Table} {e : Exp} {aim : Aim} → Derives T e aim → ℕ → List Shown
   below (v0 d) s = below d s
@@ -84,10 +85,11 @@ abbrev mutual
   all_shown no_more s = []
   all_shown (one_more d ds) s = ended_by (below d s) d s ++ all_shown ds (s + 1)
 
+-- all nodes of a derivation
 abbrev pub shown : {T : Table} {e : Exp} {aim : Aim} → Derives T e aim → ℕ → List Shown
 shown d s = ended_by (below d s) d s
 
--- of an assignment the value's come before the address's
+-- all nodes of a root: of an assignment first those of the value, then those of the address
 abbrev pub root_shown : {T : Table} {r : Root} → RootDerives T r → List Shown
 root_shown (value {s = s} d) = shown d s
 root_shown (test {s = s} d) = shown d s

@@ -1,4 +1,4 @@
--- For proofs: the nodes of an expression in order, each with the tree of rule names that stands there, by computing.
+-- For proofs: the nodes of an expression in order, each with its tree of rule names, computed as the program does it.
 use Rattle.std.specs.Prelude.{ℕ, ◌+◌, Bool, true, false, cond, Option, Some, None, List, [], ◌∷◌, ◌++◌}
 use Rattle.std.specs.Borrow.{Bor}
 use Rattle.bc_core.specs.Tree.{Exp, Num, Frame, Glob, Place, Load, Neg, Not, Bin, Cond, Call, Valof, Args, no_argument, argument, count, Root, Value, Test, Assign}
@@ -19,11 +19,11 @@ use Rattle.bc_cert_write.specs.declared.chain.Chain.{Chain}
 use Rattle.bc_cert_write.specs.declared.chain.Chain.TheVariants as chains
 use Rattle.bc_cert_write.specs.declared.form.Form.{Form}
 use Rattle.bc_cert_write.specs.declared.form.Form.TheVariants as forms
-use Rattle.bc_cert_write.specs.declared.mark.Mark.{Mark}
+use Rattle.bc_cert_write.specs.declared.mark.NodeMark.{NodeMark}
 use Rattle.bc_cert_write.specs.declared.slot.Slot.{Slot}
 use Rattle.bc_cert_write.specs.declared.slot.Slot.TheVariants as slots
 
--- what the program's trees mean
+-- the program's trees as those of the definitions
 abbrev pub tree_of : Option (Bor Derivation) → Option Tree
 tree_of None = None
 tree_of (Some d) = Some (derivation d.now)
@@ -44,7 +44,7 @@ abbrev pub top_of : Option Tree → Option Rule
 top_of None = None
 top_of (Some (by r xs)) = Some r
 
--- without the rules that go on at the same node
+-- a tree without its outer rules J6 and V0, which apply at the same node as the rule below them
 abbrev pub is_v0 : Rule → Bool
 is_v0 V0 = true
 is_v0 _ = false
@@ -60,7 +60,7 @@ following skips (Some (by r xs)) = cond (skips r) (first xs) (Some (by r xs))
 abbrev pub own : Option Tree → Option Tree
 own x = following is_v0 (following is_j6 x)
 
--- the tree at a place
+-- the tree of this part of a rule
 abbrev pub at_slot : Slot → Trees → Option Tree
 at_slot slots.Nowhere xs = None
 at_slot slots.First xs = first xs
@@ -71,7 +71,7 @@ abbrev pub placed : (Rule → Slot) → Option Tree → Option Tree
 placed slot None = None
 placed slot (Some (by r xs)) = at_slot (slot r) xs
 
--- where the tree of a node's first, second or third part stands among those of its rule's parts
+-- which part of a rule derives the first, second or third part of a node
 abbrev pub first_slot : Takes → Slot
 first_slot taken.Nothing = slots.Nowhere
 first_slot (taken.First aim) = slots.First
@@ -97,7 +97,7 @@ third_slot (taken.Choice true) = slots.Second
 third_slot taken.Call = slots.Third
 third_slot _ = slots.Nowhere
 
--- the same by the rule, where the second part is a 0 or not
+-- the same for a rule; zero says whether the second part of the node is the number 0
 abbrev pub first_place : (zero : Bool) → Rule → Slot
 first_place zero r = first_slot (takes r (Gets Any) zero)
 
@@ -107,12 +107,12 @@ second_place zero r = second_slot (takes r (Gets Any) zero)
 abbrev pub third_place : Rule → Slot
 third_place r = third_slot (takes r (Gets Any) false)
 
--- the trees after those of arguments
+-- the trees after those of the arguments
 abbrev pub after_arguments : Args → Trees → Trees
 after_arguments no_argument xs = xs
 after_arguments (argument e es) xs = after_arguments es (rest xs)
 
--- the nodes, each as f has it, where x stands at the whole and y is its own tree
+-- the nodes, each passed to f; x is the tree of the whole, y is x without outer rules J6 and V0
 abbrev pub ended_with : {X : Type 0} → (Exp → ℕ → Option Tree → X) → List X → Exp → ℕ → Option Tree → List X
 ended_with f ns e s x = ns ++ f e s x ∷ []
 
@@ -140,14 +140,14 @@ abbrev mutual
 abbrev pub whole_with : {X : Type 0} → (Exp → ℕ → Option Tree → X) → Exp → ℕ → Option Tree → List X
 whole_with f e s x = ended_with f (below_with f e s (own x)) e s x
 
--- the same of a root; of an assignment the value's come first
+-- the same for a root; of an assignment the nodes of the value come first
 abbrev pub root_with : {X : Type 0} → (Exp → ℕ → Option Tree → X) → Root → Tree → List X
 root_with f (Value s e) x = whole_with f e s (Some x)
 root_with f (Test s sense e) x = whole_with f e s (Some x)
 root_with f (Assign s v a) x =
     whole_with f v (side_level a s) (placed (first_place false) (Some x)) ++ whole_with f a (side_level a s) (placed (second_place false) (Some x))
 
--- the rules at one node
+-- the rules at one node, the outermost first
 abbrev pub after_value : Option Rule → Chain
 after_value None = chains.One V0
 after_value (Some r) = chains.Two V0 r
@@ -172,7 +172,7 @@ rules_of (chains.One r) = r ∷ []
 rules_of (chains.Two r q) = r ∷ q ∷ []
 rules_of (chains.Three r q p) = r ∷ q ∷ p ∷ []
 
--- a node without its parts
+-- the form of an expression, without its parts
 abbrev pub form_of : Exp → Form
 form_of (Num n) = forms.Num n
 form_of (Frame k) = forms.Frame k
@@ -186,5 +186,5 @@ form_of (Cond c x y) = forms.Cond
 form_of (Call es f) = forms.Call (count es)
 form_of (Valof n) = forms.Valof n
 
-abbrev pub mark : Exp → ℕ → Option Tree → Mark
+abbrev pub mark : Exp → ℕ → Option Tree → NodeMark
 mark e s x = record { level = s; form = form_of e; rules = chain_of x }

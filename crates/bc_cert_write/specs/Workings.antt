@@ -1,4 +1,4 @@
--- What is computed of an entry for its lines, and when its numbers have no room.
+-- What must be computed for an entry before its lines can be written, and when its numbers have no room.
 use Rattle.std.specs.Prelude.{ℕ, ◌<◌, ◌^◌, ◌⊎◌}
 use Rattle.std.specs.List.{AllZip}
 use Rattle.bc_core.specs.Tree.{Root}
@@ -9,15 +9,15 @@ use Rattle.bc_select_defs.specs.Nodes.{root_in_order, root_nodes}
 use Rattle.bc_select.specs.Rows.{IsRowOf}
 use Rattle.bc_cert_write.specs.declared.workings.Workings.{Workings}
 
--- a row for each node of the root, and the code of the derivation with these rules
+-- the workings have a row for each node of the root, and the code of each derivation of the root that has these rules
 pub record AreWorkings (r : Root) (x : Tree) (target first : ℕ) (w : Workings) : Type 0 where
   pub rows : AllZip IsRowOf (root_in_order r) w.rows.items
   pub code : IsCodeOf r x target first w.code.items
 
--- these are the workings of the entry. What can hold in but one way may stand beside fields, so it is said that there is a proof.
+-- these are the workings of the entry; truncated, so that it can be kept beside the fields of a struct
 abbrev pub WorkedOut : Entry → Workings → Type 0
 WorkedOut e w = ∥ AreWorkings e.root e.derivation e.target e.first w ∥₁
 
--- its root has more than 2^32 nodes, or a number of its code is no word
+-- the entry's root has more than 2^32 nodes, or a number of its code doesn't fit into 16 bits
 abbrev pub HasNoRoom : Entry → Type 0
 HasNoRoom e = (2 ^ 32 < root_nodes e.root) ⊎ LacksRoom e.root e.derivation e.first

@@ -1,15 +1,17 @@
+//! Why a certificate isn't written.
+
 use crate::workings_fault::WorkingsFault;
 use bc_word::Memory;
 use std::alloc::{AllocError, AllocFailed};
 use thiserror::Error;
 
-/// Why a certificate was not written.
+/// Why a certificate isn't written.
 #[derive(Clone, Copy, Debug, PartialEq, Eq, Hash, Error)]
 pub enum CertFault {
-    /// The writer failed.
+    /// The writer returned an error, or took none of the remaining bytes.
     #[error("the certificate could not be written")]
     Write,
-    /// An allocation was refused, or an entry has no workings for want of room.
+    /// An allocation failed, or `workings_of` returned `NoRoom` for an entry.
     #[error("out of memory")]
     Memory,
 }

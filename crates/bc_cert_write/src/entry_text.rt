@@ -1,4 +1,4 @@
-//! The lines of an entry.
+//! The whole text of one entry.
 
 ghost use Rattle.std.specs.Prelude.{OnOk};
 ghost use Rattle.std.specs.List.{AllZip};
@@ -20,7 +20,8 @@ use bc_select::Row;
 use bc_word::Memory;
 use std::alloc::Global;
 
-/// The node lines of a root with its derivation, from the rows of its nodes, as many as it has nodes. Memory has room for fewer than 2^60 rows.
+/// Appends the node lines of a root. `rows` has a row for each node. So the root has fewer than 2^60 nodes, since a slice can't
+/// have more rows. Returns `Memory` if an allocation fails.
 #[tactic(auto, using(crate::proofs::Counted::few_nodes))]
 fn root_nodes(
     alloc: Global,
@@ -36,9 +37,7 @@ fn root_nodes(
     node_lines(text, marks.as_slice(), rows)
 }
 
-/// The lines of an entry with these workings, instead of what the text was.
-///
-/// `Memory` comes where an allocation was refused.
+/// Replaces the text by the lines of an entry. The workings must be those of the entry. Returns `Memory` if an allocation fails.
 pub fn entry_text(
     alloc: Global,
     entry: &Entry,

@@ -1,4 +1,4 @@
-//! Fields of lines: each adds a blank and then its text.
+//! Appends fields to a line: each function appends a blank followed by the field. All return `Memory` if an allocation fails.
 
 ghost use Rattle.std.specs.Prelude.{◌≡◌, ◌++◌, ◌∷◌, OnOk};
 ghost use Rattle.std.specs.Fmt.{decimal};
@@ -14,7 +14,7 @@ use bc_rules_defs::Rule;
 use bc_text_items::{Base, Function, Item};
 use bc_word::Memory;
 
-/// The form of a node.
+/// Appends the form of a node: a letter or sign, and the number of forms that have one.
 pub fn form_field(text: &mut Text, form: Form) -> Result<(), Memory>
     ensures { OnOk result (text.new.bytes.items ≡ text.old.bytes.items ++ 32 ∷ form_text form) }
 {
@@ -33,7 +33,7 @@ pub fn form_field(text: &mut Text, form: Form) -> Result<(), Memory>
     }
 }
 
-/// A number of words, or `-`.
+/// Appends a number of words, or `-` for None.
 pub fn words_field(text: &mut Text, words: Option<u64>) -> Result<(), Memory>
     ensures { OnOk result (text.new.bytes.items ≡ text.old.bytes.items ++ 32 ∷ words_text words) }
 {
@@ -43,7 +43,7 @@ pub fn words_field(text: &mut Text, words: Option<u64>) -> Result<(), Memory>
     }
 }
 
-/// A mark and the name of a rule.
+/// Appends these bytes and the name of the rule.
 pub fn named(text: &mut Text, mark: &[u8], rule: Rule) -> Result<(), Memory>
     ensures { OnOk result (text.new.bytes.items ≡ text.old.bytes.items ++ (mark.now ++ rule_name rule)) }
 {
@@ -51,7 +51,7 @@ pub fn named(text: &mut Text, mark: &[u8], rule: Rule) -> Result<(), Memory>
     text.marked(rule.letter(), u64::from(rule.number()))
 }
 
-/// The names of the rules at a node, or `-`.
+/// Appends the names of the rules at a node, joined by dots, or `-` if there are none.
 pub fn rules_field(text: &mut Text, rules: Chain) -> Result<(), Memory>
     ensures { OnOk result (text.new.bytes.items ≡ text.old.bytes.items ++ 32 ∷ chain_text rules) }
 {
@@ -70,7 +70,7 @@ pub fn rules_field(text: &mut Text, rules: Chain) -> Result<(), Memory>
     }
 }
 
-/// An item as it is printed.
+/// Appends an item as it is printed in a text of INTCODE.
 pub fn item_field(text: &mut Text, item: &Item) -> Result<(), Memory>
     ensures { OnOk result (text.new.bytes.items ≡ text.old.bytes.items ++ 32 ∷ printed item.now) }
 {
@@ -95,7 +95,7 @@ pub fn item_field(text: &mut Text, item: &Item) -> Result<(), Memory>
     }
 }
 
-/// A blank, the letter of a function, and the `I` of an indirect operation.
+/// Appends a blank, the letter of a function, and `I` if the operation is indirect.
 fn letters(text: &mut Text, function: Function, indirect: bool) -> Result<(), Memory>
     ensures { OnOk result (text.new.bytes.items ≡ text.old.bytes.items ++ 32 ∷ letter_of function ∷ indirection_of indirect) }
 {
@@ -107,7 +107,7 @@ fn letters(text: &mut Text, function: Function, indirect: bool) -> Result<(), Me
     }
 }
 
-/// The letter of a base, and a number.
+/// Appends the letter of a base, if it has one, and the number.
 fn based(text: &mut Text, base: Base, number: u64) -> Result<(), Memory>
     ensures { OnOk result (text.new.bytes.items ≡ text.old.bytes.items ++ (base_letter_of base ++ decimal number)) }
 {

@@ -1,4 +1,4 @@
-//! What a node is, without its parts.
+//! The form of a node, which is all that its line shows of the expression.
 
 ghost use Rattle.std.specs.Prelude.{◌≡◌};
 ghost use Rattle.bc_core.specs.View.{exp};
@@ -7,21 +7,30 @@ ghost use Rattle.bc_cert_write.specs.Walked.{form_of};
 use bc_core::CoreExp;
 use bc_word::Word;
 
-/// What a node is, without its parts.
+/// What a node is, without its parts. A number is the field's number, as docs/certificate.md has it.
 #[derive(Clone, Copy)]
 pub enum Form {
+    /// A number.
     Num(u16),
+    /// The address of the frame's cell with this offset.
     Frame(u16),
+    /// The address of the global with this number.
     Glob(u16),
+    /// The address of the place with this label.
     Place(u16),
+    /// The content of a cell.
     Load,
+    /// The negative.
     Neg,
+    /// NOT.
     Not,
     /// The dyadic operator with this number.
     Operator(u16),
+    /// `condition -> this, that`.
     Cond,
-    /// A call with so many arguments.
+    /// A call with this number of arguments.
     Call(u64),
+    /// The VALOF with this number.
     Valof(u16),
 }
 

@@ -1,4 +1,4 @@
-//! The lines of an entry.
+//! Appends the lines of an entry to a text. All functions return `Memory` if an allocation fails.
 
 ghost use Rattle.std.specs.Prelude.{◌≡◌, ◌++◌, ◌∷◌, OnOk, []};
 ghost use Rattle.bc_core.specs.View.{root as root_of};
@@ -7,7 +7,7 @@ ghost use Rattle.bc_cert_write.specs.Lines.{entry_line as text_of_entry, code_li
 ghost use Rattle.bc_cert_write.specs.Printed.{mark_line, mark_lines, line_of_root};
 
 use crate::fields::{form_field, item_field, named, rules_field, words_field};
-use crate::mark::Mark;
+use crate::mark::NodeMark;
 use crate::text::Text;
 use bc_core::Root;
 use bc_rules_defs::{Derivation, Entry, Piece};
@@ -15,7 +15,7 @@ use bc_select::Row;
 use bc_text_items::Item;
 use bc_word::Memory;
 
-/// The `E` line.
+/// Appends the `E` line. `words` is the number of words of the entry's code.
 #[tactic(auto, using(crate::proofs::Joined::of_five))]
 pub fn entry_line(text: &mut Text, entry: &Entry, words: u64) -> Result<(), Memory>
     ensures { OnOk result (text.new.bytes.items ≡ text.old.bytes.items
@@ -29,8 +29,8 @@ pub fn entry_line(text: &mut Text, entry: &Entry, words: u64) -> Result<(), Memo
     text.push(b"\n")
 }
 
-/// A node line.
-pub fn node_line(text: &mut Text, mark: &Mark, row: &Row) -> Result<(), Memory>
+/// Appends the line of a node, with the least words from its row.
+pub fn node_line(text: &mut Text, mark: &NodeMark, row: &Row) -> Result<(), Memory>
     ensures { OnOk result (text.new.bytes.items ≡ text.old.bytes.items ++ mark_line mark.now row.now) }
 {
     text.number(mark.level)?;
@@ -43,8 +43,8 @@ pub fn node_line(text: &mut Text, mark: &Mark, row: &Row) -> Result<(), Memory>
     text.push(b"\n")
 }
 
-/// The node lines, as far as there are rows.
-pub fn node_lines(text: &mut Text, marks: &[Mark], rows: &[Row]) -> Result<(), Memory>
+/// Appends the lines of these nodes: the n-th has the n-th row. Nodes without a row have no line.
+pub fn node_lines(text: &mut Text, marks: &[NodeMark], rows: &[Row]) -> Result<(), Memory>
     ensures { OnOk result (text.new.bytes.items ≡ text.old.bytes.items ++ mark_lines marks.now rows.now) }
 {
     for (i, mark) in marks.iter().enumerate() {
@@ -56,7 +56,7 @@ pub fn node_lines(text: &mut Text, marks: &[Mark], rows: &[Row]) -> Result<(), M
     Ok(())
 }
 
-/// The root line.
+/// Appends the root line. The rule of an assignment is that of the derivation.
 pub fn root_line(text: &mut Text, root: &Root, derivation: &Derivation) -> Result<(), Memory>
     ensures { OnOk result (text.new.bytes.items ≡ text.old.bytes.items ++ line_of_root (root_of root.now) (tree derivation.now)) }
 {
@@ -71,7 +71,7 @@ pub fn root_line(text: &mut Text, root: &Root, derivation: &Derivation) -> Resul
     }
 }
 
-/// The code line. The n-th body has the n-th number of items, or 0.
+/// Appends the code line. The n-th body of a VALOF has the n-th of these numbers of items, or 0 if there are fewer numbers.
 pub fn code_line(text: &mut Text, code: &[Piece], bodies: &[u64]) -> Result<(), Memory>
     ensures { OnOk result (text.new.bytes.items ≡ text.old.bytes.items ++ text_of_code code.now bodies.now) }
 {

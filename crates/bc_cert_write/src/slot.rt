@@ -1,20 +1,24 @@
-//! Which of a rule's parts is the derivation of which part of a node.
+//! Which of a rule's parts derives which part of a node: rules list their parts in the order of the code, nodes in that of the source.
 
 ghost use Rattle.std.specs.Prelude.{◌≡◌};
 ghost use Rattle.bc_cert_write.specs.Walked.{first_slot as first_of, second_slot as second_of, third_slot as third_of};
 
 use bc_rules_defs::Takes;
 
-/// The place of a derivation among those of a rule's parts.
+/// Which part of a rule derives a part of a node.
 #[derive(Clone, Copy)]
 pub enum Slot {
+    /// None: the rule doesn't derive this part.
     Nowhere,
+    /// The first.
     First,
+    /// The second.
     Second,
+    /// The third.
     Third,
 }
 
-/// The place for the first part of a node.
+/// Which part of a rule derives the first part of a node, by what the rule takes.
 #[inline]
 pub fn first_slot(takes: Takes) -> Slot
     ensures { result ≡ first_of takes }
@@ -26,7 +30,7 @@ pub fn first_slot(takes: Takes) -> Slot
     }
 }
 
-/// The place for the second part.
+/// The same for the second part of a node.
 #[inline]
 pub fn second_slot(takes: Takes) -> Slot
     ensures { result ≡ second_of takes }
@@ -39,7 +43,7 @@ pub fn second_slot(takes: Takes) -> Slot
     }
 }
 
-/// The place for the third part.
+/// The same for the third part of a node.
 #[inline]
 pub fn third_slot(takes: Takes) -> Slot
     ensures { result ≡ third_of takes }

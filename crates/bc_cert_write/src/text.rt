@@ -1,3 +1,5 @@
+//! The buffer in which the lines of an entry are collected.
+
 ghost use Rattle.std.specs.Prelude.{◌≡◌, ◌++◌, ◌∷◌, OnOk, []};
 ghost use Rattle.std.specs.Fmt.{decimal};
 
@@ -5,14 +7,14 @@ use bc_word::Memory;
 use itoa::Buffer;
 use std::alloc::Global;
 
-/// Text as it grows.
+/// A text that only grows, until it is cleared. The methods that append return `Memory` if an allocation fails.
 #[derive(Drop)]
 pub struct Text {
     bytes: Vec<u8>,
 }
 
 impl Text {
-    /// No text.
+    /// An empty text.
     pub fn new(alloc: Global) -> Text
         ensures { result.bytes.items ≡ [] }
     {
@@ -21,21 +23,21 @@ impl Text {
         }
     }
 
-    /// Takes all of the text away, and keeps its room for the next.
+    /// Empties the text and keeps its memory for the next entry.
     pub fn clear(&mut self)
         ensures { self.new.bytes.items ≡ [] }
     {
         self.bytes.clear();
     }
 
-    /// Adds bytes.
+    /// Appends bytes.
     pub fn push(&mut self, bytes: &[u8]) -> Result<(), Memory>
         ensures { OnOk result (self.new.bytes.items ≡ self.old.bytes.items ++ bytes.now) }
     {
         Ok(self.bytes.extend_from_slice(bytes)?)
     }
 
-    /// Adds a number in decimal digits. Most numbers of a certificate have one digit, which is put there at once.
+    /// Appends a number in decimal digits. Most numbers of a certificate have one digit, so these are appended without formatting.
     #[inline(always)]
     #[tactic(auto, using(std::proofs::lemmas::Fmt::decimal_digit))]
     pub fn number(&mut self, number: u64) -> Result<(), Memory>
@@ -47,7 +49,7 @@ impl Text {
         self.digits(number)
     }
 
-    /// Adds a number of any size. Most of those that come here have two digits, as levels do.
+    /// Appends a number of any size. Most numbers that come here are levels with two digits, so these are appended without formatting.
     #[tactic(auto, using(crate::proofs::Digits::two_digits))]
     fn digits(&mut self, number: u64) -> Result<(), Memory>
         ensures { OnOk result (self.new.bytes.items ≡ self.old.bytes.items ++ decimal number) }
@@ -60,7 +62,7 @@ impl Text {
         self.formatted(number)
     }
 
-    /// Adds a number as it is formatted.
+    /// Appends a number by formatting it.
     fn formatted(&mut self, number: u64) -> Result<(), Memory>
         ensures { OnOk result (self.new.bytes.items ≡ self.old.bytes.items ++ decimal number) }
     {
@@ -68,7 +70,7 @@ impl Text {
         self.push(buffer.format(number).as_bytes())
     }
 
-    /// Adds a byte, and a number in decimal digits.
+    /// Appends a byte followed by a number in decimal digits.
     #[inline(always)]
     #[tactic(auto, using(std::proofs::lemmas::Fmt::decimal_digit))]
     pub fn marked(&mut self, mark: u8, number: u64) -> Result<(), Memory>
@@ -81,7 +83,7 @@ impl Text {
         self.digits(number)
     }
 
-    /// Adds bytes, and a number in decimal digits.
+    /// Appends bytes followed by a number in decimal digits.
     pub fn lettered(&mut self, letters: &[u8], number: u64) -> Result<(), Memory>
         ensures { OnOk result (self.new.bytes.items ≡ self.old.bytes.items ++ (letters.now ++ decimal number)) }
     {
@@ -89,7 +91,7 @@ impl Text {
         self.number(number)
     }
 
-    /// The bytes.
+    /// The bytes of the text.
     pub fn as_slice(&self) -> &[u8]
         ensures { result.now ≡ self.now.bytes.items }
     {

@@ -1,4 +1,7 @@
-//! Parts of trees of rules.
+//! Finds in a derivation which rules apply at each node of the expression.
+//!
+//! A derivation is a tree of rules and doesn't name the nodes. `V0` and `J6` apply at the same node as the rule below them, and the
+//! parts of a rule come in the order of the code.
 
 ghost use Rattle.std.specs.Prelude.{◌≡◌, drop};
 ghost use Rattle.bc_rules_defs.specs.Rules.{by};
@@ -9,10 +12,10 @@ use crate::chain::Chain;
 use crate::slot::{Slot, first_slot, second_slot, third_slot};
 use bc_rules_defs::{Aim, Derivation, Mode, Rule};
 
-/// Where the trees of parts stand is the same for each aim.
+/// Which parts a rule derives, and in which order, is the same for each aim.
 const ANY: Aim = Aim::Gets(Mode::Any);
 
-/// The tree at an index.
+/// The tree at this index.
 #[tactic(auto, using(crate::proofs::Seen::tree_at))]
 pub fn at(trees: &[Derivation], index: usize) -> Option<&Derivation>
     ensures { tree_of result ≡ first (derivations (drop index trees.now)) }
@@ -20,7 +23,7 @@ pub fn at(trees: &[Derivation], index: usize) -> Option<&Derivation>
     trees.get(index)
 }
 
-/// The parts of a tree.
+/// The parts of a tree; none without a tree.
 #[tactic(auto, using(crate::proofs::Seen::parts_seen))]
 pub fn parts(tree: Option<&Derivation>) -> &[Derivation]
     ensures { derivations result.now ≡ parts_of (tree_of tree.entry) }
@@ -31,7 +34,7 @@ pub fn parts(tree: Option<&Derivation>) -> &[Derivation]
     }
 }
 
-/// The rule of a tree.
+/// The outermost rule of a tree.
 #[tactic(auto, using(crate::proofs::Seen::top_seen))]
 pub fn top(tree: Option<&Derivation>) -> Option<Rule>
     ensures { result ≡ top_of (tree_of tree.entry) }
@@ -42,6 +45,7 @@ pub fn top(tree: Option<&Derivation>) -> Option<Rule>
     }
 }
 
+/// Whether the rule is `V0`.
 fn is_v0(rule: Rule) -> bool
     ensures { result ≡ is_v0_of rule }
 {
@@ -51,6 +55,7 @@ fn is_v0(rule: Rule) -> bool
     }
 }
 
+/// Whether the rule is `J6`.
 fn is_j6(rule: Rule) -> bool
     ensures { result ≡ is_j6_of rule }
 {
@@ -60,7 +65,7 @@ fn is_j6(rule: Rule) -> bool
     }
 }
 
-/// What stands after a `V0`.
+/// The tree below a `V0`; any other tree is returned as it is.
 #[tactic(auto, using(crate::proofs::Seen::after_seen))]
 fn after_v0(tree: Option<&Derivation>) -> Option<&Derivation>
     ensures { tree_of result ≡ following is_v0_of (tree_of tree.entry) }
@@ -73,7 +78,7 @@ fn after_v0(tree: Option<&Derivation>) -> Option<&Derivation>
     }
 }
 
-/// What stands after a `J6`.
+/// The tree below a `J6`; any other tree is returned as it is.
 #[tactic(auto, using(crate::proofs::Seen::after_seen))]
 fn after_j6(tree: Option<&Derivation>) -> Option<&Derivation>
     ensures { tree_of result ≡ following is_j6_of (tree_of tree.entry) }
@@ -86,14 +91,14 @@ fn after_j6(tree: Option<&Derivation>) -> Option<&Derivation>
     }
 }
 
-/// The tree without the rules that go on at the same node.
+/// The tree without its outer rules `J6` and `V0`, which apply at the same node as the rule below them.
 pub fn own(tree: Option<&Derivation>) -> Option<&Derivation>
     ensures { tree_of result ≡ own_of (tree_of tree.entry) }
 {
     after_v0(after_j6(tree))
 }
 
-/// The tree at a place among a rule's parts.
+/// The tree of this part of a rule.
 #[tactic(auto, using(crate::proofs::Seen::rest_seen))]
 pub fn at_slot(trees: &[Derivation], slot: Slot) -> Option<&Derivation>
     ensures { tree_of result ≡ slot_of slot (derivations trees.now) }
@@ -106,7 +111,7 @@ pub fn at_slot(trees: &[Derivation], slot: Slot) -> Option<&Derivation>
     }
 }
 
-/// The rules at the node of a value that begins with this one, over these trees.
+/// The rules at the node of a value whose outermost rule is this one, with these parts.
 fn value_rules(rule: Rule, trees: &[Derivation]) -> Chain
     ensures { result ≡ chain_of_value (Some (by rule (derivations trees.now))) }
 {
@@ -119,7 +124,7 @@ fn value_rules(rule: Rule, trees: &[Derivation]) -> Chain
     }
 }
 
-/// `J6` before the rules of the value that a test is made of.
+/// `J6`, followed by the rules of the value that is tested.
 fn test_rules(value: Chain) -> Chain
     ensures { result ≡ after_test value }
 {
@@ -131,7 +136,7 @@ fn test_rules(value: Chain) -> Chain
     }
 }
 
-/// The rules at the node of a value.
+/// The rules at the node of a value's tree.
 #[tactic(auto, using(crate::proofs::Seen::value_seen))]
 fn value_chain(tree: Option<&Derivation>) -> Chain
     ensures { result ≡ chain_of_value (tree_of tree.entry) }
@@ -142,7 +147,7 @@ fn value_chain(tree: Option<&Derivation>) -> Chain
     }
 }
 
-/// The rules at the node of a tree.
+/// The rules at the node of a tree, the outermost first.
 #[tactic(auto, using(crate::proofs::Seen::chain_seen))]
 pub fn rules_at(tree: Option<&Derivation>) -> Chain
     ensures { result ≡ chain_of (tree_of tree.entry) }
@@ -153,7 +158,7 @@ pub fn rules_at(tree: Option<&Derivation>) -> Chain
     }
 }
 
-/// The rules at a node that begin with this one, over these trees.
+/// The rules at a node whose outermost rule is this one, with these parts.
 fn rules_over(rule: Rule, trees: &[Derivation]) -> Chain
     ensures { result ≡ chain_of (Some (by rule (derivations trees.now))) }
 {
@@ -164,7 +169,7 @@ fn rules_over(rule: Rule, trees: &[Derivation]) -> Chain
     }
 }
 
-/// The tree of a node's first part, where the second one is a 0 or not.
+/// The tree that derives a node's first part. `zero` says whether the second part is the number 0.
 #[tactic(auto, using(crate::proofs::Seen::placed_seen))]
 pub fn first_part(tree: Option<&Derivation>, zero: bool) -> Option<&Derivation>
     ensures { tree_of result ≡ placed (first_place zero) (tree_of tree.entry) }
@@ -175,7 +180,7 @@ pub fn first_part(tree: Option<&Derivation>, zero: bool) -> Option<&Derivation>
     }
 }
 
-/// The tree of the second part, where it is a 0 or not.
+/// The tree that derives a node's second part. `zero` says whether that part is the number 0.
 #[tactic(auto, using(crate::proofs::Seen::placed_seen))]
 pub fn second_part(tree: Option<&Derivation>, zero: bool) -> Option<&Derivation>
     ensures { tree_of result ≡ placed (second_place zero) (tree_of tree.entry) }
@@ -186,7 +191,7 @@ pub fn second_part(tree: Option<&Derivation>, zero: bool) -> Option<&Derivation>
     }
 }
 
-/// The tree of the third part.
+/// The tree that derives a node's third part.
 #[tactic(auto, using(crate::proofs::Seen::placed_seen))]
 pub fn third_part(tree: Option<&Derivation>) -> Option<&Derivation>
     ensures { tree_of result ≡ placed third_place (tree_of tree.entry) }

@@ -1,4 +1,4 @@
-//! The nodes of a root in order, each with the rules that a tree has there.
+//! Lists the nodes of a root in the order of their lines, each with the rules that the derivation has at it.
 
 ghost use Rattle.std.specs.Prelude.{◌≡◌, ◌≤◌, ◌+◌, ◌*◌, ◌^◌, ◌++◌, OnOk, IfOk, drop, false};
 ghost use Rattle.bc_core.specs.Tree.{count};
@@ -11,21 +11,21 @@ ghost use Rattle.bc_rules_defs.specs.View.{derivation, derivations};
 ghost use Rattle.bc_cert_write.specs.Walked.{tree_of, first, parts as parts_of, mark, placed, first_place, second_place, third_place, after_arguments, below_with, all_with, whole_with, root_with};
 
 use crate::form::without_parts;
-use crate::mark::Mark;
+use crate::mark::NodeMark;
 use crate::trees::{at, first_part, own, parts, rules_at, second_part, third_part};
 use bc_core::{CoreExp, Root, operand};
 use bc_rules_defs::{Derivation, is_zero};
 use bc_word::Memory;
 use std::alloc::Global;
 
-/// Two operands, with the trees of the rule that stands above them.
+/// Appends the nodes of two operands. `own` is the tree of the node above them.
 #[cycle(walking)]
 fn pair(
     a: &CoreExp,
     b: &CoreExp,
     level: u64,
     own: Option<&Derivation>,
-    marks: &mut Vec<Mark>,
+    marks: &mut Vec<NodeMark>,
 ) -> Result<(), Memory>
     requires { level + 2 * (1 + nodes_in (exp a.now) + nodes_in (exp b.now)) ≤ 2 ^ 62 }
     ensures { OnOk result (marks.new.items ≡ marks.old.items
@@ -38,7 +38,7 @@ fn pair(
     lay(b, level + 1, second_part(other, zero), marks)
 }
 
-/// The condition of `->` and its two values.
+/// Appends the nodes of `->`: the condition, then its two values.
 #[cycle(walking)]
 fn triple(
     c: &CoreExp,
@@ -46,7 +46,7 @@ fn triple(
     y: &CoreExp,
     level: u64,
     own: Option<&Derivation>,
-    marks: &mut Vec<Mark>,
+    marks: &mut Vec<NodeMark>,
 ) -> Result<(), Memory>
     requires { level + 2 * (1 + nodes_in (exp c.now) + nodes_in (exp x.now) + nodes_in (exp y.now)) ≤ 2 ^ 62 }
     ensures { OnOk result (marks.new.items ≡ marks.old.items
@@ -61,13 +61,13 @@ fn triple(
     lay(y, level, third_part(third), marks)
 }
 
-/// The arguments of a call, with the first of these trees.
+/// Appends the nodes of a call's arguments. Their trees are the first of these.
 #[cycle(walking)]
 fn all(
     arguments: &[CoreExp],
     level: u64,
     trees: &[Derivation],
-    marks: &mut Vec<Mark>,
+    marks: &mut Vec<NodeMark>,
 ) -> Result<(), Memory>
     requires { level + 2 * nodes_of_args (args arguments.now) ≤ 2 ^ 62 }
     ensures { OnOk result (marks.new.items ≡ marks.old.items ++ all_with mark (args arguments.now) level (derivations trees.now)) }
@@ -78,14 +78,14 @@ fn all(
     Ok(())
 }
 
-/// The arguments of a call, and its routine.
+/// Appends the nodes of a call's arguments, then those of its routine.
 #[cycle(walking)]
 fn call(
     arguments: &[CoreExp],
     routine: &CoreExp,
     level: u64,
     trees: &[Derivation],
-    marks: &mut Vec<Mark>,
+    marks: &mut Vec<NodeMark>,
 ) -> Result<(), Memory>
     requires { level + 2 * (1 + nodes_of_args (args arguments.now) + nodes_in (exp routine.now)) ≤ 2 ^ 62 }
     ensures { OnOk result (marks.new.items ≡ marks.old.items
@@ -98,14 +98,14 @@ fn call(
     lay(routine, level + 2 + count as u64, at(trees, count), marks)
 }
 
-/// The nodes below that of an expression.
+/// Appends the nodes below the node of an expression.
 #[cycle(walking)]
 #[tactic(auto, using(bc_core::proofs::Rows::call_view))]
 fn below(
     e: &CoreExp,
     level: u64,
     own: Option<&Derivation>,
-    marks: &mut Vec<Mark>,
+    marks: &mut Vec<NodeMark>,
 ) -> Result<(), Memory>
     requires { level + 2 * nodes_in (exp e.now) ≤ 2 ^ 62 }
     ensures { OnOk result (marks.new.items ≡ marks.old.items ++ below_with mark (exp e.now) level (tree_of own.entry)) }
@@ -125,15 +125,13 @@ fn below(
     }
 }
 
-/// The nodes of an expression, with the tree that it has.
-///
-/// `Memory` comes where the vector could not grow.
+/// Appends the nodes of an expression with this tree. Returns `Memory` if the vector can't grow.
 #[cycle(walking)]
 fn lay(
     e: &CoreExp,
     level: u64,
     tree: Option<&Derivation>,
-    marks: &mut Vec<Mark>,
+    marks: &mut Vec<NodeMark>,
 ) -> Result<(), Memory>
     requires { level + 2 * nodes_in (exp e.now) ≤ 2 ^ 62 }
     ensures { OnOk result (marks.new.items ≡ marks.old.items ++ whole_with mark (exp e.now) level (tree_of tree.entry)) }
@@ -141,7 +139,7 @@ fn lay(
     let rules = rules_at(tree);
     let whole = tree;
     below(e, level, own(whole), marks)?;
-    marks.push(Mark {
+    marks.push(NodeMark {
         level,
         form: without_parts(e),
         rules,
@@ -149,7 +147,7 @@ fn lay(
     Ok(())
 }
 
-/// The level of both sides of an assignment to this address.
+/// The level of both sides of an assignment to this address at this level.
 fn side_level(address: &CoreExp, level: u16) -> u64
     ensures exact { result ≡ side_level_of (exp address.now) level }
     ensures small { result ≤ 65536 }
@@ -160,13 +158,13 @@ fn side_level(address: &CoreExp, level: u16) -> u64
     }
 }
 
-/// The two sides of an assignment, the value's first.
+/// Appends the nodes of an assignment's two sides, the value's first.
 fn sides(
     value_side: &CoreExp,
     address_side: &CoreExp,
     level: u64,
     tree: &Derivation,
-    marks: &mut Vec<Mark>,
+    marks: &mut Vec<NodeMark>,
 ) -> Result<(), Memory>
     requires { level + 2 * (nodes_in (exp value_side.now) + nodes_in (exp address_side.now)) ≤ 2 ^ 62 }
     ensures { OnOk result (marks.new.items ≡ marks.old.items
@@ -177,15 +175,14 @@ fn sides(
     lay(address_side, level, second_part(Some(tree), false), marks)
 }
 
-/// The nodes of a root, with the rules of its tree. There is room for so many from the start.
-///
-/// `Memory` comes where an allocation was refused.
+/// The nodes of a root with the rules of this derivation. `room` is the number of nodes for which memory is allocated at the start.
+/// Returns `Memory` if an allocation fails.
 pub fn marks_of(
     alloc: Global,
     root: &Root,
     tree: &Derivation,
     room: usize,
-) -> Result<Vec<Mark>, Memory>
+) -> Result<Vec<NodeMark>, Memory>
     requires { root_nodes (root_of root.now) ≤ 2 ^ 60 }
     ensures { IfOk result (λ marks. marks.items ≡ root_with mark (root_of root.now) (derivation tree.now)) }
 {

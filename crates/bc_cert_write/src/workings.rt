@@ -1,4 +1,4 @@
-//! What is computed of an entry for its lines.
+//! What must be computed for an entry before its lines can be written.
 
 ghost use Rattle.bc_rules_defs.specs.View.{entry as entry_of};
 ghost use Rattle.std.specs.Prelude.{◌≡◌, IfOk, IfErr};
@@ -11,20 +11,19 @@ use bc_rules_defs::{Entry, Piece};
 use bc_select::{Row, is_selectable, rows};
 use std::alloc::Global;
 
-/// What is computed of an entry for its lines, which whoever chose its derivation has too.
+/// What must be computed for an entry before its lines can be written. A caller that chose the derivation already has it.
 #[derive(Debug, Drop)]
 pub struct Workings {
-    /// A row for each node of the root, as `rows` of bc_select gives them.
+    /// A row for each node of the root, as `bc_select::rows` returns them.
     pub rows: Vec<Row>,
-    /// The code of the derivation, as `code_of` of bc_rules gives it.
+    /// The code of the derivation, as `bc_rules::code_of` returns it.
     pub code: Vec<Piece>,
 }
 
-/// The workings of an entry.
+/// Computes the workings of an entry. Nothing is promised if its rules aren't a derivation of its root.
 ///
-/// `Memory` comes where an allocation was refused, and `NoRoom` only where the root has more than 2^32 nodes, or where a
-/// label of the derivation or an offset of the frame that the work on the root uses would be over 65,535. Of rules that are
-/// no derivation of the root nothing is said.
+/// Returns `Memory` if an allocation fails. Returns `NoRoom` only if the root has more than 2^32 nodes, or if a label of the
+/// derivation or an offset in the frame that the code uses would be over 65,535.
 pub fn workings_of(alloc: Global, entry: &Entry) -> Result<Workings, WorkingsFault>
     ensures worked { IfOk result (WorkedOut (entry_of entry.now)) }
     ensures no_room { IfErr result (λ fault. fault ≡ NoRoom → HasNoRoom (entry_of entry.now)) }

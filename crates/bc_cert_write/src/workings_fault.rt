@@ -1,14 +1,16 @@
+//! Why the workings of an entry can't be computed.
+
 use bc_rules::CodeFault;
 use bc_word::Memory;
 use thiserror::Error;
 
-/// Why the workings of an entry could not be made.
+/// Why the workings of an entry can't be computed.
 #[derive(Clone, Copy, Debug, PartialEq, Eq, Error)]
 pub enum WorkingsFault {
-    /// An allocation was refused.
+    /// An allocation failed.
     #[error("out of memory")]
     Memory,
-    /// The root has more than 2^32 nodes, or an offset of the frame or a label of the code would be over 65,535.
+    /// The root has more than 2^32 nodes, or an offset in the frame or a label of the code would be over 65,535.
     #[error("a root of more than 2^32 nodes, or an offset of the frame or a label over 65,535")]
     NoRoom,
 }

@@ -1,4 +1,4 @@
-//! Writing a certificate.
+//! Writes a certificate to a writer, an entry at a time.
 
 ghost use Rattle.std.specs.Prelude.{◌≡◌, List, OnOk, IfOk, IfErr, map};
 ghost use Rattle.std.specs.List.{AllZip};
@@ -20,14 +20,14 @@ use bc_word::Memory;
 use std::alloc::Global;
 use std::io::Write;
 
-/// Writes the certificate of the entries, by table 2: the header, the lines of each entry, and the last line.
+/// Writes the certificate of the entries by table 2: the header, the lines of each entry, and the end line.
 ///
-/// The derivation of each entry is one of its root by table 2; of other entries nothing is said. The writer is handed the
-/// lines of an entry at a time.
+/// Each entry's derivation must be one of its root by table 2; otherwise nothing is promised. The writer gets the lines of one
+/// entry at a time.
 ///
-/// `Write` comes where the writer failed: it answered an error, or took nothing. `Memory` comes where an allocation was
-/// refused, and at an entry for which `workings_of` answers `NoRoom`: its root has more than 2^32 nodes, or an offset of the
-/// frame or a label of its code would be over 65,535. After either the writer has taken a front of the text.
+/// Returns `Write` if the writer returns an error or takes nothing. Returns `Memory` if an allocation fails, and at an entry for
+/// which `workings_of` returns `NoRoom`: its root has more than 2^32 nodes, or an offset in the frame or a label of its code
+/// would be over 65,535. After an error the writer has taken the first bytes of the certificate.
 pub fn write_cert<W: Write>(alloc: Global, entries: &[Entry], out: &mut W) -> Result<(), CertFault>
     ensures written { (ds : List Derived) → map entry_seen entries.now ≡ map entry_of ds
         → OnOk result (Appends (W.contents out.old) (W.contents out.new) (certificate ds)) }
@@ -45,8 +45,8 @@ pub fn write_cert<W: Write>(alloc: Global, entries: &[Entry], out: &mut W) -> Re
     put(out, text.as_slice())
 }
 
-/// The same, with the workings of the entries, which whoever chose the derivations has: the n-th are those of the n-th
-/// entry. `Memory` comes only where an allocation was refused.
+/// Writes the certificate like `write_cert`, for a caller that has the workings already: the n-th are those of the n-th entry.
+/// `Memory` then means that an allocation failed, since no number can lack room.
 pub fn write_worked<W: Write>(
     alloc: Global,
     entries: &[Entry],
@@ -69,7 +69,7 @@ pub fn write_worked<W: Write>(
     put(out, text.as_slice())
 }
 
-/// Hands the writer the first line.
+/// Writes the header.
 fn begin<W: Write>(out: &mut W) -> Result<(), CertFault>
     ensures written { OnOk result (Appends (W.contents out.old) (W.contents out.new) (header_line Two)) }
     ensures front { AppendsFront (W.contents out.old) (W.contents out.new) (header_line Two) }
@@ -78,7 +78,7 @@ fn begin<W: Write>(out: &mut W) -> Result<(), CertFault>
     put(out, b"BCPLCERT 2\n")
 }
 
-/// The last line of a certificate, instead of what the text was.
+/// Replaces the text by the end line. Returns `Memory` if an allocation fails.
 fn last_line(text: &mut Text, entries: u64) -> Result<(), Memory>
     ensures { OnOk result (text.new.bytes.items ≡ end_line entries) }
 {
@@ -88,7 +88,7 @@ fn last_line(text: &mut Text, entries: u64) -> Result<(), Memory>
     text.push(b"\n")
 }
 
-/// Hands the writer all of the bytes, or what it takes of them.
+/// Writes all of the bytes. After an error the writer has taken the first of them.
 fn put<W: Write>(out: &mut W, bytes: &[u8]) -> Result<(), CertFault>
     ensures written { OnOk result (Appends (W.contents out.old) (W.contents out.new) bytes.now) }
     ensures front { AppendsFront (W.contents out.old) (W.contents out.new) bytes.now }

@@ -106,7 +106,7 @@ valof_writes (Ok x) cvs least n v roots1 E1 l w0 w1 w2 h g e er ee h1 h2 =
     let P : Code Marked → Type 0 = λ c. Wrote w0 w2 c in
     subst P (sym b) (rw (h2.0, h2.1, h1.0, h1.1, er, ee) (append_assoc (there w0) (emit_block Plain (roots_of (valofs_in cvs) (n + 1)) (block_of v.body) v.level (body_exits l) w0.next).0 (Plain zero_item ∷ []), refl))
 
--- the body with this number has room, if it is asked for
+-- the body with this number has room
 which : (t : Bool) (X Y Z : Type 0) → (t ≡ true → X → Z) → (t ≡ false → Y → Z) → (elim t as (λ z. Type 0) [ true ↦ X | false ↦ Y ]) → Z
 which true X Y Z f g h = f refl h
 which false X Y Z f g h = g refl h

@@ -1,4 +1,4 @@
--- The choice is that of the derivations of least words.
+-- The choice opened: its derivations are those that the selector returns.
 use Rattle.std.proofs.Common.{ℕ, ◌+◌, ◌<◌, ◌≤◌, ◌≡◌, Bool, true, false, List, Some, refl, sym}
 use Rattle.std.specs.Prelude.{nat_le}
 use Rattle.std.proofs.lemmas.Bool.{leb-true, leb-false}
@@ -18,12 +18,12 @@ pub code_is : (r : Root) (x : Tree) (t f : ℕ) (ps : List Piece) → IsCodeOf r
 unfolding coding
 code_is r x t f ps h e = h.exact Two (chosen Two r) (sym e)
 
--- the label after those of a derivation
+-- the first label after those of a derivation
 pub next_is : (r : Root) (x : Tree) (f m : ℕ) → IsNextLabel r x f (Some m) → x ≡ coding.derivation r → m ≡ f + coding.labels r
 unfolding coding
 next_is r x f m h e = (h.exact Two (chosen Two r) (sym e)).1
 
--- where a number has no room, and offsets have, labels have none
+-- if a number doesn't fit, but all offsets do, then labels ran out
 pub labels_lack : (r : Root) (x : Tree) (f : ℕ) → LacksRoom r x f → x ≡ coding.derivation r → cells_of_root r ≤ 65536 → 65536 < f + coding.labels r
 unfolding coding
 labels_lack r x f h e c = by (nat_le (f + coding.labels r) 65536) refl

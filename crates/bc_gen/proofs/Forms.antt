@@ -1,4 +1,4 @@
--- The code of each form of command, from what the calls write one after another.
+-- The code of each form of command, from what its calls append one after another.
 use Rattle.std.proofs.lemmas.List.{length-map, map-append, take-map}
 use Rattle.std.proofs.Math.Seq.{drop-append_seam, take-append_seam}
 use Rattle.std.proofs.Common.{ℕ, zero, suc, ◌+◌, ◌≤◌, ◌≡◌, map, drop, take, insert, length, length-append, Bool, true, false, not, List, [], ◌∷◌, ◌++◌, Result, Ok, Err, refl, ap, sym, ◌∙◌, subst, append_assoc, arith}
@@ -17,7 +17,7 @@ use Rattle.bc_gen.specs.declared.context.Numbered.{Numbered}
 use Rattle.bc_gen.specs.declared.context.Around.{Around}
 use Rattle.bc_gen.specs.declared.gen_error.GenError.{GenError}
 use Rattle.bc_gen.specs.declared.writer.Writer.{Writer}
-use Rattle.bc_gen.specs.declared.marked_items.Part.{Part}
+use Rattle.bc_gen.specs.declared.marked_items.MarkedItem.{MarkedItem}
 use Rattle.bc_gen.specs.Parts.{part, parts}
 use Rattle.bc_gen.specs.Chosen.{coding}
 use Rattle.bc_gen.specs.Room.{Bodies, CommandHasRoom}
@@ -26,22 +26,22 @@ use Rattle.bc_gen.specs.Writing.{Writes, Puts}
 use Rattle.bc_gen.proofs.Rises.{out_of_memory}
 use Rattle.bc_gen.proofs.Labels.{labelled_is}
 
--- what stands there
+-- the parts that a writer has
 abbrev pub there : Writer → List Marked
 there w = parts w.parts.items
 
--- this code was written
+-- this code was appended
 abbrev pub Wrote : Writer → Writer → Code Marked → Type 0
 Wrote before after code = (there after ≡ there before ++ code.0) × (after.next ≡ code.1)
 
--- so many labels were taken, from this one on
+-- labels were taken, from this one to that
 abbrev pub Took : Writer → Writer → ℕ → ℕ → Type 0
 Took before after label n = (label ≡ before.next) × (after.next ≡ before.next + n)
 
 abbrev pub Same : Writer → Writer → Type 0
 Same before after = after.parts ≡ before.parts
 
--- items were written, and no label taken
+-- items were appended, and no label was taken
 abbrev pub Set : Writer → Writer → List Marked → Type 0
 Set before after ps = (there after ≡ there before ++ ps) × (after.next ≡ before.next)
 
@@ -153,11 +153,11 @@ append_nothing (x ∷ xs) = ap (λ (ys : List Marked). x ∷ ys) (append_nothing
 pub writes_nothing : (w : Writer) (code : Code Marked) → code ≡ ([], w.next) → Wrote w w code
 writes_nothing w code e = (sym (append_nothing (there w)) ∙ ap (λ (c : Code Marked). there w ++ c.0) (sym e), ap (λ (c : Code Marked). c.1) (sym e))
 
--- what was written is what stands after what stood there
+-- the parts that were appended come after those that were there
 pub grown : (w w1 : Writer) (ps : List Marked) → there w1 ≡ there w ++ ps → length w.parts.items ≤ length w1.parts.items
 grown w w1 ps h = let e = ap (λ (xs : List Marked). length xs) h in omega (arith, simp (length-map, length-append) at e)
 
-drop_parts : (xs : List Part) (n : ℕ) → parts (drop n xs) ≡ drop n (parts xs)
+drop_parts : (xs : List MarkedItem) (n : ℕ) → parts (drop n xs) ≡ drop n (parts xs)
 drop_parts xs zero = refl
 drop_parts [] (suc n) = refl
 drop_parts (x ∷ xs) (suc n) = drop_parts xs n
@@ -167,8 +167,8 @@ written_is w w1 ps h =
     drop_parts w1.parts.items (length w.parts.items) ∙ ap (λ (xs : List Marked). drop (length w.parts.items) xs) h
     ∙ ap (λ (n : ℕ). drop n (there w ++ ps)) (sym (length-map w.parts.items part)) ∙ drop-append_seam (there w) ps
 
--- what is put before what was written
-pub marked_in : (w w1 : Writer) (p : Part) (at : ℕ) (ps : List Marked) → there w1 ≡ there w ++ ps → at ≡ length w.parts.items → parts (insert w1.parts.items at p) ≡ there w ++ part p ∷ ps
+-- a part inserted before what was appended
+pub marked_in : (w w1 : Writer) (p : MarkedItem) (at : ℕ) (ps : List Marked) → there w1 ≡ there w ++ ps → at ≡ length w.parts.items → parts (insert w1.parts.items at p) ≡ there w ++ part p ∷ ps
 marked_in w w1 p at ps h e =
     let is = w1.parts.items in
     let n = length w.parts.items in
@@ -176,8 +176,8 @@ marked_in w w1 p at ps h e =
     ap (λ (k : ℕ). parts (insert is k p)) e ∙ map-append part (take n is) (p ∷ drop n is)
     ∙ ap (λ (xs : List Marked). xs ++ part p ∷ parts (drop n is)) front ∙ ap (λ (ys : List Marked). there w ++ part p ∷ ys) (written_is w w1 ps h)
 
--- a root's code, with the mark before it
-pub root_marked : (a : Around) (r : Root) (t : ℕ) (d : Tree) (ps : List Piece) (bs : List ℕ) (w0 w1 w2 : Writer) (ws : List Part) (p : Part) (at : ℕ)
+-- a root's code with the mark before it
+pub root_marked : (a : Around) (r : Root) (t : ℕ) (d : Tree) (ps : List Piece) (bs : List ℕ) (w0 w1 w2 : Writer) (ws : List MarkedItem) (p : MarkedItem) (at : ℕ)
     → d ≡ coding.derivation r → ps ≡ coding.pieces r t w0.next → w1.next ≡ w0.next + coding.labels r → w1.parts ≡ w0.parts
     → (let x = fill Plain (level_of (valofs_in a.valofs.now)) (bodies_of (valofs_in a.valofs.now) a.least) ps w1.next in Wrote w1 w2 (x.0, x.1) × (bs ≡ map count_items x.2))
     → part p ≡ Begins (record { target = t; first = w0.next; root = r; derivation = d; bodies = bs }) → at ≡ length w1.parts.items → ws ≡ insert w2.parts.items at p

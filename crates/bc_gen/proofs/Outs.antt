@@ -1,4 +1,4 @@
--- The labels after each part of a form are no more than those after the whole.
+-- The next label after each part of a form is at most the one after the whole form.
 use Rattle.std.proofs.Common.{ℕ, ◌+◌, ◌<◌, ◌≤◌, ◌≡◌, Bool, true, false, not, List, ◌∷◌, ◌++◌, map, drop, length, get_or, ap, sym, ◌∙◌, subst, refl, arith, Result, Ok, Err}
 use Rattle.std.proofs.lemmas.List.{drop_more}
 use Rattle.bc_core.specs.declared.command.ListItem.{ListItem}
@@ -238,12 +238,12 @@ pub root_filled : (a : Around) (r : Root) (t f n : ℕ) (ps : List Piece) → ps
     → (fill Plain (level_of (valofs_in a.valofs.now)) (bodies_of (valofs_in a.valofs.now) a.least) ps n).1 ≤ (roots_in a r t f).1
 root_filled a r t f n ps h k = rw (h, k) (same _)
 
--- what fails where labels run out in a part
+-- if labels run out in a part, they run out in the whole
 pub fails : {X : Type 0} (r : Result X GenError) (e : GenError) (w0 w1 : Writer) (n : ℕ) (c : Code Marked) → IsErrAnd r (λ y. y ≡ e) → RunsOut e n → n ≤ c.1 → Writes r w0 w1 c
 fails (Ok x) e w0 w1 n c h k l = absurd h
 fails (Err y) e w0 w1 n c h k l = out y n c.1 (subst (λ (z : GenError). RunsOut z n) (sym h) k) l
 
--- labels taken one by one
+-- labels that are taken one by one
 pub less_one : (f n : ℕ) → f + 2 ≤ n → f + 1 ≤ n
 less_one f n h = omega arith
 
@@ -313,7 +313,7 @@ routines_out roots r ps i x p l n m whole h g ex em inv =
     let e : whole ≡ z.1 = sym inv ∙ ap (λ (qs : List Place). (emit_routines Plain roots l (map place_of qs) n).1) d in
     rw (em, e) (routines_up roots r (l + 1) (map place_of (drop (i + 1) ps)) y.1)
 
--- what a section's code fails with
+-- the error of a whole section
 pub refused : {X : Type 0} (r : Result X GenError) (e : GenError) (n m : ℕ) → IsErrAnd r (λ y. y ≡ e) → RunsOut e n → n ≤ m → IfErr r (λ fault. fault ≡ errors.TooManyLabels → ¬ (m ≤ 20001))
 refused (Ok x) e n m h k l = absurd h
 refused (Err y) e n m h k l = λ t. λ few. let over : 20001 < n = subst (λ (z : GenError). RunsOut z n) (sym h ∙ t) k in omega arith

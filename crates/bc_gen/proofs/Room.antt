@@ -33,18 +33,18 @@ both_true : (a b : Bool) → (a && b) ≡ true → (a ≡ true) × (b ≡ true)
 both_true true b e = (refl, e)
 both_true false b e = absurd (let f : false ≡ true = e in cc)
 
--- a frame has at most so many cells
+-- the greatest number of cells of a frame
 abbrev most : ℕ
 most = 32768
 
 of_two : (a b n : ℕ) → max a b ≤ n → (a ≤ n) × (b ≤ n)
 of_two a b n h = (omega (arith, h), omega (arith, h))
 
--- what a body stands among has the levels of the section's VALOFs
+-- the context of a body has the levels of the section's VALOFs
 abbrev Agrees : (ℕ → ℕ) → Around → Type 0
 Agrees levels A = (n s : ℕ) → stands_at (slice_get A.levels n) s ≡ true → levels n ≡ s
 
--- the cells of a root's own work are no more than those with its VALOFs' bodies
+-- without the bodies of its VALOFs, a root uses no more cells than with them
 mutual
   own_cells : (V : Cells) (e : Exp) (s : ℕ) → cells_of_exp (λ n s. 0) e s ≤ cells_of_exp V e s
   own_cells V (Load e) s = own_cells V e s
@@ -63,7 +63,7 @@ mutual
   own_cells_of_all V no_argument s = omega arith
   own_cells_of_all V (argument e es) s = let h = own_cells V e s in let k = own_cells_of_all V es (s + 1) in omega (arith, h, k)
 
--- a VALOF counts 1 where its body, at its level, takes more cells than a frame may have
+-- a VALOF counts 1 if its body, at its level, takes more cells than a frame may have
 abbrev broken : Bool → ℕ
 broken t = cond t 0 1
 
@@ -78,7 +78,7 @@ is_kept : (t : Bool) → broken t ≡ 0 → t ≡ true
 is_kept true h = refl
 is_kept false h = absurd (omega (arith, h))
 
--- a block's list has no CASE and no DEFAULT
+-- a block's list has neither CASE nor DEFAULT
 no_entries : (is : Items) → not (has_entries is) ≡ true → entries_in is ≡ 0
 no_entries no_item h = refl
 no_entries (command c is) h = no_entries is h
@@ -164,11 +164,11 @@ module _ (V : Cells) (levels : ℕ → ℕ) (A : Around) (agrees : Agrees levels
       let o = m.0 in let i = n.0 in let j = n.1 in
       record { nodes = few _ l.0; cells = omega (arith, o, i, j, p, q); bodies = bodies_have (Assign s v a) (omega (arith, x, y)) }
 
-  -- an assignment to a cell works at its own level
+  -- the sides of an assignment to a cell are at its own level
   set_has : (v : Exp) (k s : ℕ) → assignment_fits A v (Frame k) s ≡ true → cells_of_exp V v s ≤ most → RootHasRoom B (Assign s v (Frame k))
   set_has v k s h c = assignment_has v (Frame k) s h (omega (arith, c))
 
-  -- the roots that have no tree of the source's in them
+  -- the roots that contain no expression of the source
   vector_has : (k s : ℕ) → RootHasRoom B (Assign s (Frame (k + 1)) (Frame k))
   vector_has k s = record { nodes = omega arith; cells = omega arith; bodies = bodies_have (Assign s (Frame (k + 1)) (Frame k)) refl }
 
@@ -274,7 +274,7 @@ global_has : (g : Option ℕ) → global_fits g ≡ true → IfSome g (λ n. n <
 global_has None h = tt
 global_has (Some n) h = ltb-true n 512 h
 
--- a choice between two bounds, each of which gives what is chosen with it
+-- a choice between two bounds, each with its own conclusion
 chosen : (t : Bool) (x y : ℕ) (X Y : Type 0) → (t ≡ true → x ≤ most → X) → (t ≡ false → y ≤ most → Y)
     → (elim t as (λ z. ℕ) [ true ↦ x | false ↦ y ]) ≤ most → elim t as (λ z. Type 0) [ true ↦ X | false ↦ Y ]
 chosen true x y X Y f g h = f refl h
@@ -351,7 +351,7 @@ settings_have_room core h k d l = (core_has_room core h k d l).1
 pub strings_have_room : (core : Core) → is_core core ≡ true → All StringHasRoom core.places
 strings_have_room core h k d l = (core_has_room core h k d l).2
 
--- a place of the program's
+-- a place of the section
 pub place_at : (P : commands.Place → Type 0) (ps : List code.Place) (i : ℕ) (p q : code.Place) → All P (map place_of ps) → i < length ps → p ≡ get_or ps i p → p ≡ q → P (place_of q)
 place_at P ps i p q all h e is =
     let found = get_or-map place_of ps i p ∙ ap place_of (sym e ∙ is) in

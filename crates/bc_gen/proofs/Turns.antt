@@ -1,4 +1,4 @@
--- One turn of each loop.
+-- One iteration of each loop.
 use Rattle.std.proofs.Common.{ℕ, zero, suc, subst, arith, ◌+◌, ◌<◌, ◌≡◌, List, [], ◌∷◌, ◌++◌, map, drop, length, get_or, refl, ap, sym, ◌∙◌, ◌≤◌, append_assoc, add_assoc, add-zero, drop_of_length-le}
 use Rattle.std.proofs.lemmas.List.{drop_more}
 use Rattle.bc_core.specs.declared.command.ListItem.{ListItem}
@@ -68,7 +68,7 @@ declarations_turn roots xs i x l l1 cells l0 w0 w w1 whole h g ec el wrote inv =
       add_assoc l k n ∙ sym c ∙ inv.2,
     )
 
--- what a variable is set to
+-- the initial value of a variable
 pub variable_emitted : (roots : Roots Marked) (v : commands.Variable) (k s f : ℕ) → emit_variable roots v k s f ≡ roots (Assign s (initial_of v k) (Frame k)) 0 f
 variable_emitted roots (commands.Initial e) k s f = refl
 variable_emitted roots (commands.Vector n) k s f = refl

@@ -1,5 +1,5 @@
--- Weights of commands, by which the generator's recursion ends: it goes down the trees, and from a VALOF's body to
--- VALOFs of greater numbers.
+-- Weights of commands, which decrease in the generator's recursion: it goes down the trees, and from a VALOF's body only to VALOFs
+-- of greater numbers.
 use Rattle.std.proofs.Common.{ℕ, zero, suc, ◌+◌, ◌*◌, ◌≡◌, ◌≤◌, ◌<◌, List, [], ◌∷◌, drop, length, get_or, Vec, Global, ap, add-one, arith}
 use Rattle.bc_core.specs.declared.command.ListItem.{ListItem}
 use Rattle.bc_core.specs.declared.command.ListItem.TheVariants as entries
@@ -82,7 +82,7 @@ weight_positive (case k is) = omega arith
 weight_positive (default is) = omega arith
 weight_positive (label l is) = omega arith
 
--- an item weighs no more than a list that has it
+-- an item weighs no more than a list that contains it
 pub weight_of_one : (xs : List ListItem) (i : ℕ) (x : ListItem) → i < length xs → weight_of_items (items_before (get_or xs i x) no_item) ≤ weight_of_items (items xs)
 weight_of_one [] i x h = absurd (omega (arith, h))
 weight_of_one (y ∷ xs) zero x h = omega (arith, weight_before y (items xs), weight_positive (items xs))
@@ -105,7 +105,7 @@ from_valof (u ∷ vs) (suc least) (suc i) v h g =
     let z : least ≤ i = omega (arith, h) in
     from_valof vs least i v z k
 
--- what is left after a VALOF, and its body, weigh less than what is left from an earlier one on
+-- a VALOF's body and the VALOFs after it weigh less than all VALOFs from an earlier one on
 pub weight_of_valof : (vs : List Valof) (least i : ℕ) (v : Valof) → least ≤ i → i < length vs
     → 64 + 64 * weight_of_block (block_of (get_or vs i v).body) + weight_of_valofs (drop (i + 1) vs) ≤ weight_of_valofs (drop least vs)
 weight_of_valof vs least i v h g = rw (add-one i) (from_valof vs least i v h g)

@@ -1,4 +1,4 @@
--- A section's code, put together.
+-- The code of a whole section, from its parts.
 use Rattle.std.proofs.Common.{ℕ, ◌+◌, ◌≤◌, ◌≡◌, List, [], ◌++◌, map, length, Vec, Global, refl, ap, ◌∙◌, append_assoc, arith}
 use Rattle.std.proofs.lemmas.List.{length-map}
 use Rattle.bc_text_items.specs.declared.item.Item.{Item}
@@ -12,7 +12,7 @@ use Rattle.bc_gen_defs.specs.Entries.{Marked, Plain, plain_items, marked_over, m
 use Rattle.bc_gen_defs.proofs.Standing.{marks_add_nothing}
 use Rattle.bc_gen_defs.proofs.Plainly.{section_plain}
 use Rattle.bc_gen.specs.declared.context.Around.{Around}
-use Rattle.bc_gen.specs.declared.marked_items.Part.{Part}
+use Rattle.bc_gen.specs.declared.marked_items.MarkedItem.{MarkedItem}
 use Rattle.bc_gen.specs.declared.writer.Writer.{Writer}
 use Rattle.bc_gen.specs.Chosen.{coding}
 use Rattle.bc_gen.specs.Parts.{parts}
@@ -27,7 +27,7 @@ Section = List Place × List Valof
 first_label : (ps : List Place) (f n : ℕ) → f ≡ 1 → n ≡ f + length ps → n ≡ length (map place_of ps) + 1
 first_label ps f n h g = let e = length-map ps place_of in omega (arith, h, g, e)
 
-pub routines_are : (core : Section) (ps : List Place) (vs : List Valof) (a : Around) (v0 : Vec Part Global) (f0 : ℕ) (w1 w2 : Writer) → ps ≡ core.0 → vs ≡ core.1
+pub routines_are : (core : Section) (ps : List Place) (vs : List Valof) (a : Around) (v0 : Vec MarkedItem Global) (f0 : ℕ) (w1 w2 : Writer) → ps ≡ core.0 → vs ≡ core.1
     → parts v0.items ≡ [] → f0 ≡ 1 → w1.next ≡ f0 + length ps → w1.parts ≡ v0 → roots_in a ≡ roots_of (valofs_in vs) 0
     → Wrote w1 w2 (emit_routines Plain (roots_in a) 0 (map place_of ps) w1.next)
     → (there w2 ≡ marked_code coding (section core)) × (w2.next ≡ (routines_code coding (section core)).1)
@@ -35,7 +35,7 @@ routines_are core ps vs a v0 f0 w1 w2 ep ev nothing one taken same er h =
     let n = first_label ps f0 w1.next one taken in
     let e : emit_routines Plain (roots_in a) 0 (map place_of ps) w1.next ≡ routines_over Plain (marked_over coding (level_of (section core).valofs)) (section core) =
     rw (er, n, ep, ev) refl in (
-      h.0 ∙ ap (λ (v : List Marked). v ++ (emit_routines Plain (roots_in a) 0 (map place_of ps) w1.next).0) (ap (λ (v : Vec Part Global). parts v.items) same ∙ nothing) ∙ ap (λ (c : Code Marked). c.0) e,
+      h.0 ∙ ap (λ (v : List Marked). v ++ (emit_routines Plain (roots_in a) 0 (map place_of ps) w1.next).0) (ap (λ (v : Vec MarkedItem Global). parts v.items) same ∙ nothing) ∙ ap (λ (c : Code Marked). c.0) e,
       h.1 ∙ ap (λ (c : Code Marked). c.1) e ∙ ap (λ (c : Code Item). c.1) (section_plain coding (section core)),
     )
 
@@ -51,7 +51,7 @@ items_are core ps w is0 is1 is2 is3 ep ew h0 h1 h2 h3 =
 same_up : (n m : ℕ) → n ≡ m → n ≤ m
 same_up n m h = omega arith
 
--- the labels of a section are no fewer than those of its places, and just those of its routines
+-- a section takes at least the labels of its places, and exactly those of its routines
 pub places_up : (core : Section) (ps : List Place) (n : ℕ) → ps ≡ core.0 → n ≡ 1 + length ps → n ≤ (routines_code coding (section core)).1
 places_up core ps n ep h =
     let c = section core in

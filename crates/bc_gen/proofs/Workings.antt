@@ -1,4 +1,4 @@
--- One entry more with its workings.
+-- Appending an entry with its workings.
 use Rattle.std.proofs.Common.{List, [], ◌∷◌, ◌++◌, map, sym, subst}
 use Rattle.std.specs.List.{AllZip}
 use Rattle.std.proofs.lemmas.List.{map-append}

@@ -1,5 +1,5 @@
--- For proofs: what code needs so that each number in it has room. No offset of the frame is past 65,535, no root is too large for
--- the selector or for its own code, and the bodies of the VALOFs in it have room too.
+-- For proofs: when all numbers in the code of a command have room: no offset of the frame is over 65,535, no root is too large for
+-- the selector or for its own code, and the same holds of the bodies of the VALOFs in it.
 use Rattle.std.specs.Prelude.{ℕ, ◌≡◌, ◌+◌, ◌^◌, ◌≤◌, ◌<◌, ◌==◌, not, true, false, IfSome, List, [], ◌∷◌, length, drop}
 use Rattle.std.specs.List.{All}
 use Rattle.bc_core.specs.Tree.{Frame, Root, Value, Test, Assign}
@@ -16,31 +16,32 @@ use Rattle.bc_gen.specs.Chosen.{coding}
 use Rattle.bc_gen.specs.Surroundings.{initial_of, valofs_in}
 use Rattle.bc_gen.specs.declared.context.Around.{Around}
 
--- what is known of the body of each VALOF, by its number
+-- what is known of the body of each VALOF, given its number
 abbrev pub Bodies : Type 1
 Bodies = ℕ → Type 0
 
+-- a piece has room if it is an item, or a body that has room
 abbrev pub PieceHasRoom : Bodies → Piece → Type 0
 PieceHasRoom B (pieces.Item i) = Unit {0}
 PieceHasRoom B (pieces.Body n) = B n
 
--- The selector takes a root of at most 2^32 nodes. Where its cells are at most 65,536, its code lacks no more than labels.
+-- A root has room if it has at most 2^32 nodes, which the selector requires, and at most 65,536 cells: then only labels can run out.
 pub record RootHasRoom (B : Bodies) (r : Root) : Type 0 where
   pub nodes : root_nodes r ≤ 2 ^ 32
   pub cells : cells_of_root r ≤ 65536
   pub bodies : (target first : ℕ) → All (PieceHasRoom B) (coding.pieces r target first)
 
--- variables whose cells stand from offset k on
+-- variables whose cells begin at offset k
 abbrev pub VariablesHaveRoom : Bodies → List Variable → (k s : ℕ) → Type 0
 VariablesHaveRoom B [] k s = Unit {0}
 VariablesHaveRoom B (v ∷ vs) k s = RootHasRoom B (Assign s (initial_of v k) (Frame k)) × VariablesHaveRoom B vs (k + cells_of v) s
 
--- each declaration takes its cells first, and its initialisers stand at the level after it
+-- each declaration takes its cells first, and its initial values are at the level after them
 abbrev pub DeclarationsHaveRoom : Bodies → List (List Variable) → ℕ → Type 0
 DeclarationsHaveRoom B [] s = Unit {0}
 DeclarationsHaveRoom B (vs ∷ ds) s = let s1 = s + cells_of_all vs in (s1 ≤ 65535) × VariablesHaveRoom B vs s s1 × DeclarationsHaveRoom B ds s1
 
--- a command at level s: its roots and its blocks, as `emit` has them
+-- a command at level s: its roots and its blocks, in the same order as in `emit`
 abbrev mutual
   pub CommandHasRoom : Bodies → Command → ℕ → Type 0
   CommandHasRoom B (commands.Call e) s = RootHasRoom B (Value s e)
@@ -59,10 +60,11 @@ abbrev mutual
   CommandHasRoom B (commands.Nested b) s = BlockHasRoom B b s
   CommandHasRoom B _ s = Unit {0}
 
-  -- a block's list has no CASE and no DEFAULT
+  -- a block's list has neither CASE nor DEFAULT
   pub BlockHasRoom : Bodies → Block → ℕ → Type 0
   BlockHasRoom B (block ds is) s = DeclarationsHaveRoom B ds s × (entries_in is ≡ 0) × ItemsHaveRoom B is (s + cells_declared ds)
 
+  -- the items of a list
   pub ItemsHaveRoom : Bodies → Items → ℕ → Type 0
   ItemsHaveRoom B no_item s = Unit {0}
   ItemsHaveRoom B (command c is) s = CommandHasRoom B c s × ItemsHaveRoom B is s
@@ -70,25 +72,28 @@ abbrev mutual
   ItemsHaveRoom B (default is) s = ItemsHaveRoom B is s
   ItemsHaveRoom B (label l is) s = ItemsHaveRoom B is s
 
--- the bodies of the VALOFs from this number on, each at its level; those within a body have greater numbers
+-- the bodies of the VALOFs whose numbers begin with `first`, each at its level; a VALOF within a body has a greater number
 abbrev pub ValofHasRoom : ℕ → List Valof → Bodies
 ValofHasRoom first [] n = Unit {0}
 ValofHasRoom first (v ∷ vs) n =
     let inner = ValofHasRoom (first + 1) vs in
     elim (n == first) [ true ↦ BlockHasRoom inner v.body v.level | false ↦ inner n ]
 
+-- the bodies of the VALOFs that may occur in a context
 abbrev pub room_in : Around → Bodies
 room_in a = ValofHasRoom a.least (drop a.least (valofs_in a.valofs.now))
 
+-- the body of a routine, where s is the next free offset of the frame
 abbrev pub BodyHasRoom : Bodies → Body → ℕ → Type 0
 BodyHasRoom B (Gives e) s = RootHasRoom B (Value s e)
 BodyHasRoom B (Does b) s = BlockHasRoom B b s
 
+-- the routine of a place, if it has one
 abbrev pub RoutineHasRoom : Bodies → Place → Type 0
 RoutineHasRoom B (Code r) = let s = level_after_parameters r.parameters in (s ≤ 65535) × BodyHasRoom B r.body s
 RoutineHasRoom B _ = Unit {0}
 
--- a global has a number under 512
+-- the number of a global is below 512
 abbrev pub SettingHasRoom : Place → Type 0
 SettingHasRoom (Code r) = IfSome r.global (λ n. n < 512)
 SettingHasRoom _ = Unit {0}

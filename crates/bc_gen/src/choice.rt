@@ -1,4 +1,4 @@
-//! The choice of each root's code.
+//! The choice of each root's code. Only this file uses the selector and the writer of derivations' code.
 ghost use Rattle.std.specs.Prelude.{◌≡◌, ◌+◌, ◌^◌, ◌<◌, ◌≤◌, IfOk, IfErr};
 ghost use Rattle.std.specs.List.{AllZip};
 ghost use Rattle.bc_core.specs.View.{root as root_view};
@@ -16,14 +16,16 @@ use bc_select::{Row, select};
 use bc_word::Memory;
 use std::alloc::Global;
 
-/// A root's derivation of least words, with the rows of the root's nodes.
+/// The derivation of a root with the fewest words, and the rows of the root's nodes.
 #[derive(Drop)]
 pub(crate) struct Choice {
+    /// The derivation.
     pub(crate) derivation: Derivation,
+    /// A row for each node, as `select` returns them.
     pub(crate) rows: Vec<Row>,
 }
 
-/// A root's derivation of least words, with the rows of the root's nodes.
+/// Selects the derivation of a root with the fewest words.
 #[tactic(auto, using(crate::proofs::Choosing::derivation_is))]
 pub(crate) fn chosen(alloc: Global, root: &Root) -> Result<Choice, Memory>
     requires { root_nodes (root_view root.now) ≤ 2 ^ 32 }
@@ -37,9 +39,9 @@ pub(crate) fn chosen(alloc: Global, root: &Root) -> Result<Choice, Memory>
     })
 }
 
-/// The code of a root by this derivation, with its labels from `first` on, and the label after them.
+/// The code of a root by this derivation, with labels numbered from `first` on, and the first label after them.
 ///
-/// `NoRoom` comes only where one of these labels would be over 65,535.
+/// Returns `NoRoom` only if one of these labels would be over 65,535.
 #[tactic(auto, using(crate::proofs::Choosing::code_is, crate::proofs::Choosing::next_is, crate::proofs::Choosing::labels_lack))]
 pub(crate) fn pieces_of(
     alloc: Global,

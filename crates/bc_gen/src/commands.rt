@@ -1,4 +1,6 @@
-//! The code of commands, one function for each kind.
+//! The code of commands, with one function for each form.
+//!
+//! Most of them, and those of `roots.rt`, call one another and are proved as one cycle.
 ghost use Rattle.std.specs.Prelude.{◌≡◌, ◌+◌, ◌≤◌, IfOk, map, [], ◌∷◌};
 ghost use Rattle.bc_core.specs.Tree as tree;
 ghost use Rattle.bc_core.specs.Commands as forms;
@@ -21,7 +23,7 @@ use bc_core::{
 use bc_word::{Memory, Op, Word};
 use std::alloc::Global;
 
-/// The content of the cell at this offset of the frame.
+/// The expression for the variable at this offset of the frame.
 fn variable(alloc: Global, offset: u16) -> Result<Box<CoreExp>, Memory>
     ensures { IfOk result (λ e. exp e.value ≡ tree.Load (tree.Frame offset)) }
 {
@@ -29,7 +31,7 @@ fn variable(alloc: Global, offset: u16) -> Result<Box<CoreExp>, Memory>
     Ok(Box::new(alloc, CoreExp::Load(address))?)
 }
 
-/// Whether a FOR is past its limit: its variable at this offset is greater, or less where it counts down.
+/// The test that ends a FOR whose variable is at this offset: it is greater than its limit, or less if the step is negative.
 fn end_of_for(alloc: Global, by: Word, offset: u16) -> Result<CoreExp, Memory>
     requires { offset + 1 ≤ 65535 }
     ensures { IfOk result (λ e. exp e ≡ end_of by offset) }
@@ -43,7 +45,7 @@ fn end_of_for(alloc: Global, by: Word, offset: u16) -> Result<CoreExp, Memory>
     Ok(CoreExp::Bin(op, variable_now, variable(alloc, offset + 1)?))
 }
 
-/// The sum of a FOR's variable at this offset and its step.
+/// The sum of the step and a FOR's variable, which is at this offset.
 fn step_of_for(alloc: Global, by: Word, offset: u16) -> Result<CoreExp, Memory>
     ensures { IfOk result (λ e. exp e ≡ step_of by offset) }
 {
@@ -52,7 +54,7 @@ fn step_of_for(alloc: Global, by: Word, offset: u16) -> Result<CoreExp, Memory>
     Ok(CoreExp::Bin(Op::Add, variable_now, step))
 }
 
-/// How many cells a variable takes: its own, and those of its vector.
+/// The number of cells that a variable takes: its own and those of its vector.
 fn cells_of(variable: &Variable) -> u16
     requires { cells_of_variable (variable_view variable.now) ≤ 65535 }
     ensures { result ≡ cells_of_variable (variable_view variable.now) }
@@ -63,6 +65,7 @@ fn cells_of(variable: &Variable) -> u16
     }
 }
 
+/// The number of cells that variables take.
 fn cells_of_all(variables: &[Variable]) -> u16
     requires { cells_of_variables (map variable_view variables.now) ≤ 65535 }
     ensures { result ≡ cells_of_variables (map variable_view variables.now) }
@@ -74,7 +77,7 @@ fn cells_of_all(variables: &[Variable]) -> u16
     cells
 }
 
-/// What a variable at this offset is set to.
+/// The initial value of a variable at this offset; for a vector, the address of the cell after its own.
 fn initial(alloc: Global, variable: &Variable, offset: u16) -> Result<CoreExp, Memory>
     requires { offset + 1 ≤ 65535 }
     ensures { IfOk result (λ e. exp e ≡ initial_of (variable_view variable.now) offset) }
@@ -86,7 +89,7 @@ fn initial(alloc: Global, variable: &Variable, offset: u16) -> Result<CoreExp, M
 }
 
 impl Writer {
-    /// The code of a command, with the next free offset of the frame.
+    /// Writes the code of a command, where `level` is the next free offset of the frame.
     #[cycle(commands)]
     pub(crate) fn command(
         &mut self,
@@ -125,7 +128,7 @@ impl Writer {
         }
     }
 
-    /// `L0 X4`, the return from a routine of BE.
+    /// Writes `L0 X4`, the return from a routine declared with BE.
     pub(crate) fn return_zero(&mut self) -> Result<(), GenError>
         ensures { Puts result self.old self.new (Plain zero_item ∷ Plain (execute_item 4) ∷ []) }
     {
@@ -133,6 +136,7 @@ impl Writer {
         self.execute(4)
     }
 
+    /// Writes the code of an assignment.
     #[cycle(commands)]
     fn assign(
         &mut self,
@@ -154,7 +158,7 @@ impl Writer {
         self.root(around, root, 0)
     }
 
-    /// The cell at this offset gets a value.
+    /// Writes the assignment of a value to the cell at this offset.
     #[cycle(commands)]
     fn set(
         &mut self,
@@ -174,6 +178,7 @@ impl Writer {
         self.root(around, root, 0)
     }
 
+    /// Writes the code of IF and UNLESS.
     #[cycle(commands)]
     fn if_command(
         &mut self,
@@ -193,6 +198,7 @@ impl Writer {
         self.label(past)
     }
 
+    /// Writes the code of TEST.
     #[cycle(commands)]
     fn test_command(
         &mut self,
@@ -217,6 +223,7 @@ impl Writer {
         self.label(past)
     }
 
+    /// Writes the code of WHILE and UNTIL.
     #[cycle(commands)]
     fn while_loop(
         &mut self,
@@ -239,6 +246,7 @@ impl Writer {
         self.label(past)
     }
 
+    /// Writes the code of REPEAT.
     #[cycle(commands)]
     fn repeat(&mut self, around: &Around<'_>, level: u16, body: &Block) -> Result<(), GenError>
         requires { CommandHasRoom (room_in around.now) (forms.Repeat (block_of body.now)) level }
@@ -253,6 +261,7 @@ impl Writer {
         self.label(past)
     }
 
+    /// Writes the code of REPEATWHILE and REPEATUNTIL.
     #[cycle(commands)]
     fn repeat_while(
         &mut self,
@@ -276,6 +285,7 @@ impl Writer {
         self.label(past)
     }
 
+    /// Writes the code of FOR.
     #[cycle(commands)]
     fn for_loop(
         &mut self,
@@ -310,6 +320,7 @@ impl Writer {
         self.label(past)
     }
 
+    /// Writes the code of SWITCHON.
     #[cycle(commands)]
     fn switchon(
         &mut self,
@@ -339,7 +350,7 @@ impl Writer {
         self.label(past)
     }
 
-    /// A value and an address for each CASE, where the first CASE or DEFAULT has this label.
+    /// Writes the value and the address of each CASE, where the first CASE or DEFAULT has this label.
     fn table(&mut self, first: u16, list: &[ListItem]) -> Result<(), GenError>
         requires { first + entries_in (items_view list.now) ≤ 65535 }
         ensures { Puts result self.old self.new (table_of Plain (items_view list.now) first) }
@@ -356,6 +367,7 @@ impl Writer {
         Ok(())
     }
 
+    /// Writes the code of RESULTIS.
     #[cycle(commands)]
     fn resultis(&mut self, around: &Around<'_>, level: u16, value: &CoreExp) -> Result<(), GenError>
         requires { CommandHasRoom (room_in around.now) (forms.ResultIs (exp value.now)) level }
@@ -366,6 +378,7 @@ impl Writer {
         self.jump(around.resulted)
     }
 
+    /// Writes the code of a block.
     #[cycle(commands)]
     pub(crate) fn block(
         &mut self,
@@ -385,7 +398,7 @@ impl Writer {
         self.list(&within, inner, &block.list, 0)
     }
 
-    /// The code of declarations; the result is the next free offset after their variables.
+    /// Writes the code of declarations, and returns the next free offset after their variables.
     #[cycle(commands)]
     fn declarations(
         &mut self,
@@ -406,7 +419,7 @@ impl Writer {
         Ok(level)
     }
 
-    /// The code of variables whose cells stand from this offset on.
+    /// Writes the code of variables whose cells begin at this offset.
     #[cycle(commands)]
     fn variables(
         &mut self,
@@ -428,7 +441,7 @@ impl Writer {
         Ok(())
     }
 
-    /// The code of a list, whose first CASE or DEFAULT has this label.
+    /// Writes the code of a list whose first CASE or DEFAULT has this label.
     #[cycle(commands)]
     fn list(
         &mut self,
@@ -450,6 +463,7 @@ impl Writer {
         Ok(())
     }
 
+    /// Writes the code of an item of a list, where the next CASE or DEFAULT has this label.
     #[cycle(commands)]
     fn list_item(
         &mut self,

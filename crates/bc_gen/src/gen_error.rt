@@ -1,14 +1,16 @@
+//! The error of `generate`.
+
 use bc_word::Memory;
 use std::alloc::{AllocError, AllocFailed};
 use thiserror::Error;
 
-/// Why a section got no items.
+/// Why no code was generated for a section.
 #[derive(Clone, Copy, Debug, PartialEq, Eq, Hash, Error)]
 pub enum GenError {
     /// The section takes more than 20,000 labels.
     #[error("more than 20,000 labels")]
     TooManyLabels,
-    /// An allocation was refused.
+    /// An allocation failed.
     #[error("out of memory")]
     Memory,
 }

@@ -1,4 +1,4 @@
-//! The items of a section.
+//! The public call `generate`, and the code of a section's routines and data.
 ghost use Rattle.std.specs.Prelude.{◌≡◌, ◌++◌, ◌∷◌, ◌≤◌, ◌<◌, IfOk, IfErr, IfSome, map, length};
 ghost use Rattle.std.specs.List.{All, AllZip};
 ghost use Rattle.bc_text_items.specs.declared.item.Item.TheVariants as item;
@@ -28,18 +28,18 @@ use std::alloc::Global;
 /// The code of a section.
 #[derive(Debug, Drop)]
 pub struct Generated {
-    /// The routines, the data, and the globals that the section sets.
+    /// The items of the routines, the data, and the settings of globals.
     pub items: Segment,
-    /// The roots in the order of their code, a root before those of its VALOFs. Their segment is 0.
+    /// An entry for each root in the order of the code, a root before those in its VALOFs. Their `segment` is 0.
     pub entries: Vec<Entry>,
-    /// What was computed of each entry, for its certificate.
+    /// For each entry, data that the writer of the certificate would otherwise compute again.
     pub workings: Vec<Workings>,
 }
 
-/// The items of a section, with the code of least words for each root, and an entry for each root.
+/// Generates the items of a section, where each root has the code of the derivation with the fewest words, and an entry for each root.
 ///
-/// `TooManyLabels` comes only where the section takes more than 20,000 labels, and such a section gets no items.
-/// `Memory` comes only where an allocation was refused: each number of the code has room, by what `Core` keeps.
+/// Returns `TooManyLabels` only if the section takes more than 20,000 labels; such a section never gets items. Returns `Memory` only if
+/// an allocation failed: the invariant of `Core` ensures that all other numbers in the code fit.
 pub fn generate(alloc: Global, core: &Core) -> Result<Generated, GenError>
     ensures items { IfOk result (λ found. found.items ≡ section_items coding (section core.now)) }
     ensures entries { IfOk result (λ found. map entry_view found.entries.items ≡ section_entries coding (section core.now)) }
@@ -71,7 +71,7 @@ pub fn generate(alloc: Global, core: &Core) -> Result<Generated, GenError>
 }
 
 impl Writer {
-    /// The routines, each with the label of its place.
+    /// Writes the routines, each with the label of its place.
     fn routines(&mut self, around: &Around<'_>, places: &[Place]) -> Result<(), GenError>
         requires few { length places.now ≤ 20000 }
         requires outside { exits_of around.now ≡ body_exits 0 }
@@ -89,6 +89,7 @@ impl Writer {
         Ok(())
     }
 
+    /// Writes the code of a routine.
     fn routine(&mut self, around: &Around<'_>, routine: &Routine) -> Result<(), GenError>
         requires outside { exits_of around.now ≡ body_exits 0 }
         requires level { level_after_parameters routine.now.parameters ≤ 65535 }
@@ -110,7 +111,7 @@ impl Writer {
     }
 }
 
-/// The statics, tables and strings, each with the label of its place.
+/// Appends the statics, tables and strings, each with the label of its place.
 fn put_data(items: &mut Vec<Item>, places: &[Place]) -> Result<(), Memory>
     requires few { length places.now ≤ 20000 }
     requires room { All StringHasRoom (map place_of places.now) }
@@ -138,6 +139,7 @@ fn put_data(items: &mut Vec<Item>, places: &[Place]) -> Result<(), Memory>
     Ok(())
 }
 
+/// Appends the words of a table.
 fn put_words(items: &mut Vec<Item>, words: &[Word]) -> Result<(), Memory>
     ensures { IfOk result (λ _. items.new.items ≡ items.old.items ++ map item.Data words.now) }
 {
@@ -147,7 +149,7 @@ fn put_words(items: &mut Vec<Item>, words: &[Word]) -> Result<(), Memory>
     Ok(())
 }
 
-/// The length of a string, and its bytes.
+/// Appends the length of a string and its bytes.
 fn put_string(items: &mut Vec<Item>, bytes: &[u8]) -> Result<(), Memory>
     requires { length bytes.now ≤ 255 }
     ensures { IfOk result (λ _. items.new.items ≡ items.old.items ++ item.Byte (length bytes.now) ∷ map item.Byte bytes.now) }
@@ -159,7 +161,7 @@ fn put_string(items: &mut Vec<Item>, bytes: &[u8]) -> Result<(), Memory>
     Ok(())
 }
 
-/// The globals that routines set.
+/// Appends the settings of globals by routines.
 fn put_settings(items: &mut Vec<Item>, places: &[Place]) -> Result<(), Memory>
     requires few { length places.now ≤ 20000 }
     requires room { All SettingHasRoom (map place_of places.now) }
@@ -175,7 +177,7 @@ fn put_settings(items: &mut Vec<Item>, places: &[Place]) -> Result<(), Memory>
     Ok(())
 }
 
-/// The global that a routine sets to its label, if it sets one.
+/// Appends the setting of a global to a routine's label, if the routine sets one.
 fn put_setting(items: &mut Vec<Item>, global: Option<u16>, label: u16) -> Result<(), Memory>
     requires { IfSome global (λ n. n < 512) }
     ensures { IfOk result (λ _. items.new.items ≡ items.old.items ++ setting global label) }

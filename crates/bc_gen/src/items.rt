@@ -1,4 +1,4 @@
-//! What one call puts after the code that is there.
+//! Methods of the writer that take labels and append single items.
 ghost use Rattle.std.specs.Prelude.{◌≡◌, ◌+◌, IfOk, IfErr, [], ◌∷◌};
 ghost use Rattle.bc_text_items.specs.declared.item.Item.TheVariants as items;
 ghost use Rattle.bc_gen_defs.specs.Emit.{jump as jump_item, execute as execute_item, zero_item};
@@ -6,16 +6,16 @@ ghost use Rattle.bc_gen_defs.specs.Entries.{Plain};
 ghost use Rattle.bc_gen.specs.Writing.{Puts, RunsOut};
 
 use crate::gen_error::GenError;
-use crate::marked_items::Part;
+use crate::marked_items::MarkedItem;
 use crate::writer::Writer;
 use bc_text_items::{Base, Function, Item};
 use bc_word::Word;
 
-/// The number of the last label that a section may take.
+/// The greatest label that a section may take.
 const GREATEST_LABEL: u16 = 20_000;
 
 impl Writer {
-    /// The first of so many labels, which are taken.
+    /// Takes `count` labels and returns the first. `TooManyLabels` if the last would be over 20,000.
     pub(crate) fn take(&mut self, count: usize) -> Result<u16, GenError>
         ensures taken { IfOk result (λ first. (first ≡ self.old.next) × (self.new.next ≡ self.old.next + count)) }
         ensures out { IfErr result (λ e. RunsOut e (self.old.next + count)) }
@@ -29,7 +29,7 @@ impl Writer {
         Ok(first)
     }
 
-    /// The labels up to this one are taken.
+    /// Takes all labels below `next`. `TooManyLabels` if the last would be over 20,000.
     pub(crate) fn take_to(&mut self, next: u32) -> Result<(), GenError>
         ensures next { IfOk result (λ _. self.new.next ≡ next) }
         ensures out { IfErr result (λ e. RunsOut e next) }
@@ -42,30 +42,35 @@ impl Writer {
         Ok(())
     }
 
+    /// Appends an item.
     pub(crate) fn put(&mut self, item: Item) -> Result<(), GenError>
         ensures { Puts result self.old self.new (Plain item ∷ []) }
     {
-        Ok(self.parts.push(Part::Item(item))?)
+        Ok(self.parts.push(MarkedItem::Item(item))?)
     }
 
+    /// Appends a label.
     pub(crate) fn label(&mut self, label: u16) -> Result<(), GenError>
         ensures { Puts result self.old self.new (Plain (items.Label label) ∷ []) }
     {
         self.put(Item::Label(Word::new(label)))
     }
 
+    /// Appends a word of data.
     pub(crate) fn data(&mut self, word: Word) -> Result<(), GenError>
         ensures { Puts result self.old self.new (Plain (items.Data word) ∷ []) }
     {
         self.put(Item::Data(word))
     }
 
+    /// Appends a word of data that is the address of a label.
     pub(crate) fn data_label(&mut self, label: u16) -> Result<(), GenError>
         ensures { Puts result self.old self.new (Plain (items.DataLabel label) ∷ []) }
     {
         self.put(Item::DataLabel(Word::new(label)))
     }
 
+    /// Appends a jump to a label.
     pub(crate) fn jump(&mut self, label: u16) -> Result<(), GenError>
         ensures { Puts result self.old self.new (Plain (jump_item label) ∷ []) }
     {
@@ -77,6 +82,7 @@ impl Writer {
         })
     }
 
+    /// Appends `X` with the number of an operation of the machine.
     pub(crate) fn execute(&mut self, operation: u16) -> Result<(), GenError>
         ensures { Puts result self.old self.new (Plain (execute_item operation) ∷ []) }
     {
@@ -88,7 +94,7 @@ impl Writer {
         })
     }
 
-    /// `L0`, which makes the value 0.
+    /// Appends `L0`, which loads 0.
     pub(crate) fn zero(&mut self) -> Result<(), GenError>
         ensures { Puts result self.old self.new (Plain zero_item ∷ []) }
     {

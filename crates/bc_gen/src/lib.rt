@@ -1,4 +1,4 @@
-//! The generator: the items of a section, with the code of each expression by a derivation of least words.
+//! The generator: writes the items of a section, in which each expression has the code of a derivation with the fewest words.
 #![tactic(auto)]
 
 mod choice;

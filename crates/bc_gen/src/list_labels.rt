@@ -1,4 +1,4 @@
-//! The labels of command lists.
+//! The labels of command lists: those of the source, and those of CASE and DEFAULT.
 ghost use Rattle.std.specs.Prelude.{◌≡◌, ◌+◌, ◌++◌, ◌≤◌, IfOk, IfErr};
 ghost use Rattle.bc_core.specs.View.{items};
 ghost use Rattle.bc_gen_defs.specs.Emit.{labels_in, defaulted, cases_in, entries_in};
@@ -13,15 +13,15 @@ use bc_core::ListItem;
 /// The labels of a SWITCHON's list.
 #[derive(Clone, Copy)]
 pub(crate) struct CaseLabels {
-    /// That of the first CASE or DEFAULT; each further one has the next.
+    /// The label of the first CASE or DEFAULT. Each further one has the next label.
     pub(crate) first: u16,
-    /// That of the first DEFAULT, or else of the end.
+    /// The label of the first DEFAULT, or that of the end if there is none.
     pub(crate) default: u16,
-    /// How many CASEs there are.
+    /// The number of CASEs.
     pub(crate) count: u16,
 }
 
-/// The label of the next CASE or DEFAULT after an item, where that of the next one from the item on is this.
+/// The label of the next CASE or DEFAULT after an item. `entry` is that of the next one at or after the item.
 pub(crate) fn entry_after(item: &ListItem, entry: u16) -> u16
     requires { next_entry item.now entry ≤ 65535 }
     ensures { result ≡ next_entry item.now entry }
@@ -33,7 +33,7 @@ pub(crate) fn entry_after(item: &ListItem, entry: u16) -> u16
 }
 
 impl Writer {
-    /// A list takes a label for each of its labels; those of the lists around it stand after them.
+    /// Takes a label for each label in a list. Returns them, followed by those of the enclosing lists.
     pub(crate) fn list_labels(
         &mut self,
         list: &[ListItem],
@@ -58,7 +58,7 @@ impl Writer {
         Ok(labels)
     }
 
-    /// A SWITCHON takes a label for each CASE and DEFAULT of its list.
+    /// Takes a label for each CASE and DEFAULT in the list of a SWITCHON. `end` is the label after the SWITCHON.
     pub(crate) fn case_labels(
         &mut self,
         list: &[ListItem],

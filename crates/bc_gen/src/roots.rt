@@ -16,8 +16,8 @@ ghost use Rattle.bc_gen.specs.Writing.{RunsOut, Writes};
 use crate::choice::{Choice, chosen, pieces_of};
 use crate::context::Around;
 use crate::gen_error::GenError;
-use crate::marked_items::{Part, count_items};
-use crate::root_mark::Mark;
+use crate::marked_items::{MarkedItem, count_items};
+use crate::root_mark::RootMark;
 use crate::writer::Writer;
 use bc_cert_write::Workings;
 use bc_core::{CoreExp, Root, copy_expression};
@@ -25,7 +25,7 @@ use bc_rules::CodeFault;
 use bc_rules_defs::{Derivation, Piece};
 use bc_text_items::Item;
 
-/// The label of a VALOF, which stands right after its body.
+/// The label of a VALOF, which comes right after its body.
 fn label_ahead(pieces: &[Piece]) -> u16
     ensures { result ≡ label_ahead_of pieces.now }
 {
@@ -35,7 +35,7 @@ fn label_ahead(pieces: &[Piece]) -> u16
     }
 }
 
-/// What stands from a place on.
+/// The elements of a list from this index on.
 fn following<T>(list: &[T], at: usize) -> &[T]
     requires { at ≤ length list.now }
     ensures { result.now ≡ drop at list.now }
@@ -44,7 +44,7 @@ fn following<T>(list: &[T], at: usize) -> &[T]
 }
 
 impl Writer {
-    /// The value of an expression.
+    /// Writes the code that loads the value of an expression.
     #[cycle(commands)]
     pub(crate) fn value(
         &mut self,
@@ -59,7 +59,7 @@ impl Writer {
         self.root(around, Root::Value { level, expression }, 0)
     }
 
-    /// A jump to the target where the truth of an expression is this sense.
+    /// Writes a jump to the target that is taken if the truth of the expression is this sense.
     #[cycle(commands)]
     pub(crate) fn test(
         &mut self,
@@ -81,7 +81,7 @@ impl Writer {
         self.root(around, root, target)
     }
 
-    /// A root's code. Its mark is put before the code when that is there, since it has the numbers of items of the VALOFs' bodies.
+    /// Writes a root's code. The mark is inserted before the code afterwards, since it has the numbers of items of the VALOFs' bodies.
     #[cycle(commands)]
     pub(crate) fn root(
         &mut self,
@@ -97,7 +97,7 @@ impl Writer {
         let code = self.coded(&root, &derivation, target)?;
         let at = self.parts.len();
         let bodies = self.fill(around, &code)?;
-        let mark = Mark {
+        let mark = RootMark {
             target,
             first,
             root,
@@ -105,11 +105,11 @@ impl Writer {
             bodies,
             workings: Workings { rows, code },
         };
-        let begins = Part::Begins(Box::new(self.alloc, mark)?);
+        let begins = MarkedItem::Begins(Box::new(self.alloc, mark)?);
         Ok(self.parts.insert(at, begins)?)
     }
 
-    /// The code of a root by this derivation, whose labels are taken.
+    /// The code of a root by this derivation. Takes the derivation's labels.
     fn coded(
         &mut self,
         root: &Root,
@@ -135,7 +135,7 @@ impl Writer {
         }
     }
 
-    /// The pieces of a root with the bodies of its VALOFs filled in; the result is how many items each body has.
+    /// Writes the pieces of a root with the bodies of its VALOFs filled in. Returns the number of items of each body.
     #[cycle(commands)]
     fn fill(&mut self, around: &Around<'_>, pieces: &[Piece]) -> Result<Vec<u64>, GenError>
         requires { All (PieceHasRoom (room_in around.now)) pieces.now }
@@ -153,7 +153,7 @@ impl Writer {
         Ok(bodies)
     }
 
-    /// A piece; the count of a body comes after those that are there.
+    /// Writes a piece. If it is a body, appends the number of its items to `bodies`.
     #[cycle(commands)]
     fn piece(
         &mut self,
@@ -178,7 +178,7 @@ impl Writer {
         }
     }
 
-    /// The body of a VALOF; the result is how many items it has.
+    /// Writes the body of a VALOF, and returns the number of its items.
     #[cycle(commands)]
     fn body(&mut self, around: &Around<'_>, number: u64, label: u16) -> Result<u64, GenError>
         requires { room_in around.now number }
@@ -192,7 +192,7 @@ impl Writer {
         Ok(count_items(following(&self.parts, before)))
     }
 
-    /// The body of a VALOF, whose RESULTIS jumps to this label.
+    /// Writes the body of a VALOF whose RESULTIS jumps to this label.
     #[cycle(commands)]
     fn valof(&mut self, around: &Around<'_>, number: u64, label: u16) -> Result<(), GenError>
         requires { room_in around.now number }

@@ -1,4 +1,4 @@
--- What holds of the code of roots, of items and of code after code holds of the code of commands.
+-- A fact that holds of items and of the code of roots, and that concatenation keeps, holds of the code of all commands.
 use Rattle.std.proofs.Common.{ℕ, ◌+◌, true, false, not, List, [], ◌∷◌, ◌++◌}
 use Rattle.bc_text_items.specs.declared.item.Item.{Item}
 use Rattle.bc_core.specs.Tree.{Frame, Root, Value, Test, Assign}
@@ -11,7 +11,7 @@ use Rattle.bc_gen_defs.specs.Bodies.{body_exits, emit_body}
 use Rattle.bc_gen_defs.specs.Section.{emit_routines}
 use Rattle.bc_gen_defs.specs.Entries.{Marked, Plain}
 
--- a fact of marked code that code after code keeps
+-- a fact of marked code that concatenation keeps
 pub record Keeps (Q : List Marked → Type 0) : Type 0 where
   pub nothing : Q []
   pub item : (i : Item) → Q (Plain i ∷ [])
@@ -20,7 +20,7 @@ pub record Keeps (Q : List Marked → Type 0) : Type 0 where
 abbrev pub OfRoots : (List Marked → Type 0) → Roots Marked → Type 0
 OfRoots Q roots = (r : Root) (t f : ℕ) → Q (roots r t f).0
 
--- an item, and what stands after it
+-- an item, and what follows it
 one : (Q : List Marked → Type 0) → Keeps Q → (i : Item) (xs : List Marked) → Q xs → Q (Plain i ∷ xs)
 one Q k i xs h = k.following (Plain i ∷ []) xs (k.item i) h
 

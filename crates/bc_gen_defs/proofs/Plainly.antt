@@ -155,7 +155,7 @@ routines_plain roots j (commands.Static w ∷ ps) f = routines_plain roots (j + 
 routines_plain roots j (commands.Table ws ∷ ps) f = routines_plain roots (j + 1) ps f
 routines_plain roots j (commands.Text bytes ∷ ps) f = routines_plain roots (j + 1) ps f
 
--- a section's code with its marks is its code, but for these
+-- a section's marked code without its marks is its code
 pub section_plain : (coding : Coding) (core : Core) → strip (routines_over Plain (marked_over coding (level_of core.valofs)) core) ≡ routines_code coding core
 section_plain coding core =
     let levels = level_of core.valofs in

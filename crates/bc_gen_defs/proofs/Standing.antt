@@ -1,4 +1,4 @@
--- The entries rise, and each one's code stands at its place.
+-- The entries' items never decrease, and each entry's code is at its item.
 use Rattle.std.proofs.Common.{ℕ, ◌+◌, ◌==◌, ◌≡◌, ◌≤◌, Bool, true, false, List, [], ◌∷◌, ◌++◌, length, drop, map, refl, ap, sym, arith, subst, length-append, append_assoc}
 use Rattle.std.proofs.Math.Seq.{drop-append_seam}
 use Rattle.std.proofs.lemmas.List.{drop-append-le}
@@ -30,7 +30,7 @@ entries_rise coding core = entries_from_rise 0 (marked_code coding core)
 pub marks_add_nothing : MarksAddNothing
 marks_add_nothing coding core = ap (λ x. x.0) (section_plain coding core)
 
--- ---- Each entry's code stands at its place
+-- ---- Each entry's code is at its item
 
 begin_longer : (ps : List Piece) (counts : List ℕ) (is js : List Item) → Begin ps counts is → Begin ps counts (is ++ js)
 begin_longer [] counts is js h = tt
@@ -41,7 +41,7 @@ begin_longer (pieces.Body n ∷ ps) (count ∷ counts) is js h =
     let b : count ≤ length is = h.0 in
     (omega (arith, length-append is js, b), rw (drop-append-le count is js b) (begin_longer ps counts (drop count is) js h.1))
 
--- each mark's code stands after it
+-- the code of each mark follows it
 abbrev Right : Coding → List Marked → Type 0
 Right coding [] = Unit {0}
 Right coding (Plain i ∷ ps) = Right coding ps

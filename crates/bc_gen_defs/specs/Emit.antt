@@ -1,7 +1,7 @@
--- The code of commands, over the code of their roots: expressions, tests and assignments.
+-- The code of commands, given the code of their roots: expressions, tests and assignments.
 --
--- Code is given the next label that is free, and hands on the next one after it. It is made of items alone, or
--- of items and something between them (`Entries`); so `of` says what an item is in it.
+-- Code takes the next free label and returns the first free one after it. It is a list of any type X: of items, or of items with
+-- marks between them (`Entries`). The function `of` turns an item into an X.
 use Rattle.std.specs.Prelude.{ℕ, suc, ◌+◌, ◌==◌, true, false, not, cond, List, [], ◌∷◌, ◌++◌, nat_le}
 use Rattle.bc_word.specs.declared.operator.Op.{Op}
 use Rattle.bc_word.specs.declared.operator.Op.TheVariants as operators
@@ -15,15 +15,15 @@ use Rattle.bc_core.specs.Commands as commands
 use Rattle.bc_core.specs.Level.{cells_of, cells_of_all, cells_declared, level_in_for}
 use Rattle.bc_core.specs.Command.{step_of_for}
 
--- what stands there, and the next free label after it
+-- a piece of code, and the next free label after it
 abbrev pub Code : Type 0 → Type 0
 Code X = List X × ℕ
 
--- a root's code, by its target and its first label
+-- the code of a root, given its target and its first label
 abbrev pub Roots : Type 0 → Type 0
 Roots X = Root → (target first : ℕ) → Code X
 
--- the labels to which BREAK, LOOP, ENDCASE and RESULTIS jump, and those of the source's labels
+-- The labels to which BREAK, LOOP, ENDCASE and RESULTIS jump, and those of the source's labels.
 pub record Exits : Type 0 where
   pub broken : ℕ
   pub looped : ℕ
@@ -31,16 +31,19 @@ pub record Exits : Type 0 where
   pub result : ℕ
   pub labels : ℕ → ℕ
 
+-- `JLl`
 abbrev pub jump : ℕ → Item
 jump l = Operation functions.Jump false bases.Label l
 
+-- `Xn`
 abbrev pub execute : ℕ → Item
 execute n = Operation functions.Execute false bases.Number n
 
+-- `L0`
 abbrev pub zero_item : Item
 zero_item = Operation functions.Load false bases.Number 0
 
--- a list takes a label for each of its labels, in order
+-- the code's label for the source's label l: the labels of the list are numbered from f on, in order; `outer` has all others
 abbrev pub labelled : Items → ℕ → (ℕ → ℕ) → ℕ → ℕ
 labelled no_item f outer l = outer l
 labelled (command c is) f outer l = labelled is f outer l
@@ -48,6 +51,7 @@ labelled (case k is) f outer l = labelled is f outer l
 labelled (default is) f outer l = labelled is f outer l
 labelled (label k is) f outer l = cond (k == l) f (labelled is (f + 1) outer l)
 
+-- the number of labels of a list
 abbrev pub labels_in : Items → ℕ
 labels_in no_item = 0
 labels_in (command c is) = labels_in is
@@ -55,7 +59,7 @@ labels_in (case k is) = labels_in is
 labels_in (default is) = labels_in is
 labels_in (label k is) = labels_in is + 1
 
--- a SWITCHON takes a label for each CASE and DEFAULT, in order, the first of them f; that of the first DEFAULT
+-- The label of the first DEFAULT of a SWITCHON, which takes a label for each CASE and DEFAULT in order, from f on.
 abbrev pub defaulted : Items → ℕ → (without : ℕ) → ℕ
 defaulted no_item f without = without
 defaulted (command c is) f without = defaulted is f without
@@ -63,6 +67,7 @@ defaulted (case k is) f without = defaulted is (f + 1) without
 defaulted (default is) f without = f
 defaulted (label k is) f without = defaulted is f without
 
+-- the number of CASEs in a list
 abbrev pub cases_in : Items → ℕ
 cases_in no_item = 0
 cases_in (command c is) = cases_in is
@@ -70,6 +75,7 @@ cases_in (case k is) = suc (cases_in is)
 cases_in (default is) = cases_in is
 cases_in (label k is) = cases_in is
 
+-- the number of CASEs and DEFAULTs in a list
 abbrev pub entries_in : Items → ℕ
 entries_in no_item = 0
 entries_in (command c is) = entries_in is
@@ -77,7 +83,7 @@ entries_in (case k is) = entries_in is + 1
 entries_in (default is) = entries_in is + 1
 entries_in (label k is) = entries_in is
 
--- a value and an address for each CASE, where the first CASE or DEFAULT has label f
+-- the value and the address of each CASE, where the first CASE or DEFAULT has label f
 abbrev pub table_of : {X : Type 0} → (Item → X) → Items → (f : ℕ) → List X
 table_of of no_item f = []
 table_of of (command c is) f = table_of of is f
@@ -85,11 +91,12 @@ table_of of (case k is) f = of (Data k) ∷ of (DataLabel f) ∷ table_of of is 
 table_of of (default is) f = table_of of is (f + 1)
 table_of of (label k is) f = table_of of is f
 
--- the variable with its cell at offset k, at level s
+-- a variable whose cell is at offset k, at level s
 abbrev pub emit_variable : {X : Type 0} → Roots X → Variable → (k s f : ℕ) → Code X
 emit_variable roots (Initial e) k s f = roots (Assign s e (Frame k)) 0 f
 emit_variable roots (Vector n) k s f = roots (Assign s (Frame (k + 1)) (Frame k)) 0 f
 
+-- the variables of a declaration, whose cells begin at offset k
 abbrev pub emit_variables : {X : Type 0} → Roots X → List Variable → (k s f : ℕ) → Code X
 emit_variables roots [] k s f = ([], f)
 emit_variables roots (v ∷ vs) k s f =
@@ -97,6 +104,7 @@ emit_variables roots (v ∷ vs) k s f =
     let y = emit_variables roots vs (k + cells_of v) s x.1 in
     (x.0 ++ y.0, y.1)
 
+-- the declarations of a block, one after the other
 abbrev pub emit_declarations : {X : Type 0} → Roots X → List (List Variable) → (s f : ℕ) → Code X
 emit_declarations roots [] s f = ([], f)
 emit_declarations roots (vs ∷ ds) s f =
@@ -105,14 +113,16 @@ emit_declarations roots (vs ∷ ds) s f =
     let y = emit_declarations roots ds (s + n) x.1 in
     (x.0 ++ y.0, y.1)
 
--- a FOR's own test: its variable against its limit, the other way where it counts down
+-- the test that ends a FOR: its variable is greater than its limit, or less if it counts down
 abbrev pub end_operator : ℕ → Op
 end_operator by = cond (nat_le 32768 by) operators.Less operators.Greater
 
+-- the test of a FOR with the step `by`, whose variable is at offset s and its limit at the next offset
 abbrev pub end_of_for : ℕ → ℕ → Exp
 end_of_for by s = Bin (end_operator by) (Load (Frame s)) (Load (Frame (s + 1)))
 
--- A command, with the next free offset s. It takes its labels f, f + 1, .. as its code begins.
+-- The code of a command, where s is the next free offset of the frame and f the next free label. A command takes its own labels
+-- before its parts take theirs.
 abbrev mutual
   pub emit : {X : Type 0} → (Item → X) → Roots X → Command → (s : ℕ) → Exits → (f : ℕ) → Code X
   emit of roots (commands.Call e) s E f = roots (Value s e) 0 f
@@ -160,14 +170,14 @@ abbrev mutual
   emit of roots (commands.Goto l) s E f = (of (jump (E.labels l)) ∷ [], f)
   emit of roots (commands.Nested b) s E f = emit_block of roots b s E f
 
-  -- a block takes the labels of its list before those of its declarations
+  -- a block; its list takes its labels before its declarations do
   pub emit_block : {X : Type 0} → (Item → X) → Roots X → Block → (s : ℕ) → Exits → (f : ℕ) → Code X
   emit_block of roots (block ds is) s E f =
       let d = emit_declarations roots ds s (f + labels_in is) in
       let x = emit_items of roots is (s + cells_declared ds) (record E { labels = labelled is f E.labels }) 0 d.1 in
       (d.0 ++ x.0, x.1)
 
-  -- the items of a list, whose first CASE or DEFAULT has label first; the list of a block has none
+  -- the items of a list whose first CASE or DEFAULT has the label `first`; the list of a block has neither
   pub emit_items : {X : Type 0} → (Item → X) → Roots X → Items → (s : ℕ) → Exits → (first f : ℕ) → Code X
   emit_items of roots no_item s E first f = ([], f)
   emit_items of roots (command c is) s E first f =

@@ -1,4 +1,4 @@
--- Worked examples: the code of commands whose roots have no code, data, and sizes.
+-- Worked examples: the code of commands whose roots have no code, the items of data, and sizes.
 use Rattle.std.specs.Prelude.{◌≡◌, true, List, [], ◌∷◌, Some, refl}
 use Rattle.bc_text_items.specs.declared.item.Item.{Item}
 use Rattle.bc_text_items.specs.declared.item.Item.TheVariants.{Label, Data, DataLabel, Byte, Global}
@@ -16,22 +16,22 @@ no_code r target first = ([], first)
 abbrev only : commands.Command → Block
 only c = block [] (command c no_item)
 
--- WHILE 1 DO BREAK takes the labels 5 and 6
+-- `WHILE 1 DO BREAK` takes the labels 5 and 6
 pub while_code : emit (λ i. i) no_code (commands.While true (Num 1) (only commands.Break)) 2 (body_exits 0) 5
     ≡ (Label 5 ∷ jump 6 ∷ jump 5 ∷ Label 6 ∷ [], 7)
 while_code = refl
 
--- LOOP in a FOR goes to the label before the step
+-- LOOP in a FOR jumps to the label before the step
 pub for_code : emit (λ i. i) no_code (commands.For (Num 1) (Num 9) 1 (only commands.Loop)) 2 (body_exits 0) 5
     ≡ (Label 5 ∷ jump 7 ∷ Label 7 ∷ jump 5 ∷ Label 6 ∷ [], 8)
 for_code = refl
 
--- a SWITCHON takes a label for its end, and then one for each CASE and DEFAULT
+-- a SWITCHON takes a label for its end, then one for each CASE and DEFAULT
 pub switchon_code : emit (λ i. i) no_code (commands.SwitchOn (Num 1) (case 3 (command commands.EndCase (default (case 4 no_item))))) 2 (body_exits 0) 5
     ≡ (execute 23 ∷ Data 2 ∷ DataLabel 7 ∷ Data 3 ∷ DataLabel 6 ∷ Data 4 ∷ DataLabel 8 ∷ Label 6 ∷ jump 5 ∷ Label 7 ∷ Label 8 ∷ Label 5 ∷ [], 9)
 switchon_code = refl
 
--- `A: GOTO A`, and a label that nobody speaks of
+-- `A: GOTO A`, and a label to which nothing jumps
 pub goto_code : emit_block (λ i. i) no_code (block [] (label 30 (command (commands.Goto 30) (label 31 no_item)))) 2 (body_exits 0) 5
     ≡ (Label 5 ∷ jump 5 ∷ Label 6 ∷ [], 7)
 goto_code = refl

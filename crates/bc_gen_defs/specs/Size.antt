@@ -1,4 +1,4 @@
--- How many words a section takes: the fixed words of its commands, its data, and the words of its roots.
+-- The number of words of a section: the fixed words of its commands, its data, and the words of its roots.
 use Rattle.std.specs.Prelude.{ℕ, ◌+◌, ◌*◌, ◌/◌, ◌==◌, true, false, not, List, [], ◌∷◌, length}
 use Rattle.bc_core.specs.Tree.{Exp, Frame, Load, Neg, Not, Bin, Cond, Call, Args, no_argument, argument, Root, Value, Test, Assign}
 use Rattle.bc_core.specs.Tree as tree
@@ -58,7 +58,7 @@ abbrev mutual
   words_of_items words (default is) s = words_of_items words is s
   words_of_items words (label l is) s = words_of_items words is s
 
--- the words of the bodies of the VALOFs in an expression, by number
+-- the words of the bodies of the VALOFs in an expression, given those of each VALOF's number
 abbrev mutual
   pub words_within : (ℕ → ℕ) → Exp → ℕ
   words_within bodies (Load e) = words_within bodies e
@@ -79,11 +79,11 @@ words_within_root bodies (Value s e) = words_within bodies e
 words_within_root bodies (Test s sense e) = words_within bodies e
 words_within_root bodies (Assign s value address) = words_within bodies value + words_within bodies address
 
--- a root's own words and those of its bodies
+-- a root's own words and those of its VALOFs' bodies
 abbrev pub with_bodies : Words → (ℕ → ℕ) → Words
 with_bodies own bodies r = own r + words_within_root bodies r
 
--- the words of the bodies of the VALOFs from this number on, each with its last `L0`
+-- the words of the bodies of the VALOFs whose numbers begin with `first`, each with its final `L0`
 abbrev pub words_of_bodies : (own : Words) → (levels : ℕ → ℕ) → ℕ → List Valof → ℕ → ℕ
 words_of_bodies own levels first [] n = 0
 words_of_bodies own levels first (v ∷ vs) n =
@@ -94,7 +94,7 @@ abbrev pub words_of_body : Words → Body → ℕ → ℕ
 words_of_body words (Gives e) s = words (Value s e) + 1
 words_of_body words (Does b) s = words_of_block words b s + 2
 
--- a string's bytes, with its length, two to a word
+-- the words of a place; a string's length and bytes are packed two to a word
 abbrev pub words_of_place : Words → Place → ℕ
 words_of_place words (commands.Code r) = words_of_body words r.body (level_after_parameters r.parameters)
 words_of_place words (commands.Static w) = 1
@@ -105,6 +105,6 @@ abbrev pub words_of_places : Words → List Place → ℕ
 words_of_places words [] = 0
 words_of_places words (p ∷ ps) = words_of_place words p + words_of_places words ps
 
--- the words of a section whose roots have these words of their own
+-- The words of a section, given the words of each root without the bodies of its VALOFs.
 abbrev pub section_size : Words → Core → ℕ
 section_size own core = words_of_places (with_bodies own (words_of_bodies own (level_of core.valofs) 0 core.valofs)) core.places

@@ -1,4 +1,5 @@
-//! The code of a section, over a choice of its roots' code.
+//! The code of a section, given a choice of code for each of its roots. The crate has definitions and laws only; `bc_gen` is the
+//! generator.
 #![tactic(auto)]
 
 pub mod laws;

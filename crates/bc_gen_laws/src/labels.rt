@@ -1,3 +1,3 @@
-//! The labels of a section's items.
+//! The labels of a section's items: each is set once, and each that is used is set.
 
 pub mod laws;

@@ -1,3 +1,3 @@
-//! The roots of a section, found by walking its commands: they are those of its entries, and its size is told by them.
+//! The roots of a section, found by walking its commands: its entries belong to them, and its size is computed from them.
 
 pub mod laws;

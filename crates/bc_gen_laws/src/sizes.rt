@@ -1,3 +1,3 @@
-//! How many words the code of a section takes.
+//! The number of words of a section's code.
 
 pub mod laws;

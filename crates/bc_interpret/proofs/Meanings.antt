@@ -1,4 +1,4 @@
--- A run from its start.
+-- What the start of a run means, and what its outcome therefore is.
 use Rattle.std.proofs.Common.{◌≡◌, ℕ, suc, ◌+◌, List, [], ◌∷◌, sym, ap, subst, ◌∙◌}
 use Rattle.bc_machine_defs.specs.Streams.{Content}
 use Rattle.bc_core.specs.Commands.{Core}
@@ -44,7 +44,7 @@ meaning_is program cores map base turns before after o e b h =
     subst (λ n. IsResult (meaning_over (start_cells (standing program1)) (entered_at program1) n before turns) o after) b
     (subst (λ p. IsResult (meaning_over (start_cells (standing p)) (entered_at p) base before turns) o after) e h)
 
--- the wild access that is named, from the start
+-- the reported wild access, from the start
 pub run_names : (program : List Placed) (base turns : ℕ) (rests : List Rest) (st : State) (before : Content) (o : Outcome) → st.store ≡ start_cells (standing program) → st.turns ≡ turns
     → stack rests ≡ machine.Loads ∷ machine.Calls [] (base + 2) ∷ [] → Names program (at_of (works.Number 9) rests) (state_of st before) o → Names program (start_at base) (start_state program before turns) o
 run_names program base turns rests st before o e t r h =

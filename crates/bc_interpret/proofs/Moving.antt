@@ -1,4 +1,4 @@
--- What steps and runs of steps keep.
+-- What a step and runs of steps preserve.
 use Rattle.std.proofs.Common.{◌≡◌, ℕ, suc, ◌+◌, ◌<◌, ◌≤◌, List, [], ◌∷◌, refl, sym, ap, subst, arith, ◌∙◌}
 use Rattle.bc_machine_defs.specs.Streams.{Content}
 use Rattle.bc_machine_defs.specs.StreamCalls.{output_of}
@@ -48,7 +48,7 @@ use Rattle.bc_interpret.specs.Moving.{HasProgram, at_of, weight_of, StepIs, RanI
 no_streams : Content
 no_streams = record { inputs = []; outputs = []; input = 0; output = 0 }
 
--- what comes of a step is what was left
+-- the outcome of a step is the result of the remaining run
 through : (program : List Placed) (n : ℕ) (a : machine.At) (old : State) (streams : Content) (o : Outcome machine.At) → step program a.work a.rests (state_of old streams) ≡ o → old.turns < n → left_from program n a old streams ≡ result_of (followed o (meant (calls program n)))
 through program n a old streams o e l =
     ap (λ (x : Outcome machine.Answer). result_of x) (steps_keep program n a.work a.rests (state_of old streams) l ∙ ap (λ x. followed x (meant (calls program n))) e)
@@ -90,9 +90,9 @@ going program n a old rests1 new streams h l = through program n a old streams _
 pub was_wild : (program : List Placed) (n : ℕ) (a : machine.At) (old : State) (c : Cause) (rests1 : List Rest) (new : State) (streams : Content) → StepIs program a old (progress.Wild c) rests1 new → old.turns < n → left_from program n a old streams ≡ meanings.Wild
 was_wild program n a old c rests1 new streams h l = through program n a old streams _ (h.1 streams) l
 
--- comings to a wild access
+-- reaching a wild access
 
--- what comes after a step
+-- one that is reached after a step
 pub one_more : (program : List Placed) (from at : machine.At) (start st : outcomes.State) (c : met.Cause) → step program from.work from.rests start ≡ outcomes.Done at st → ComesTo program at st c → ComesTo program from start c
 one_more program from at start st c e h = record {
   steps = suc h.steps;
@@ -103,7 +103,7 @@ one_more program from at start st c e h = record {
   meets = h.meets;
 }
 
--- what this step meets
+-- one that this step meets
 pub at_once : (program : List Placed) (from : machine.At) (start : outcomes.State) (c : met.Cause) → step program from.work from.rests start ≡ outcomes.Wild → Meets program from.work from.rests start.cells c → ComesTo program from start c
 at_once program from start c e m = record { steps = 0; at = from; state = start; comes = refl; wild = e; meets = m }
 
@@ -168,7 +168,7 @@ pub tracks_on : (table : List Callable) (w : Work) (start old new : Run) (before
 tracks_on table w start old new before middle after moved k h program t =
     leads_from program (at_of w start.stacks.rests.items) (at_of (next_of old) old.stacks.rests.items) (state_of start.state before) (state_of old.state middle) moved new after (k program t) (h program t)
 
--- moves after one another
+-- consecutive moves
 
 comes_from : (program : List Placed) (n : ℕ) (r r1 : meanings.Result) (moved : Moved) (new : Run) (after : Content) → r ≡ r1 → Comes program n r1 moved new after → Comes program n r moved new after
 comes_from program n r r1 On new after e h = e ∙ h
@@ -187,7 +187,7 @@ turn_taken moved old new e h = subst (λ m. TookTurn m old new) e h
 same_outcome : (o o1 : outcome.Outcome) → Over o ≡ Over o1 → o ≡ o1
 same_outcome o o1 e = cc
 
--- what came of a step, by its form
+-- the outcome of a step, by its form
 pub step_is : (table : List Callable) (w : Work) (rests : List Rest) (old : State) (rests1 : List Rest) (new : State) (p q : Progress)
     → ((program : List Placed) → IsTable program table → RanIs program w rests old p rests1 new) → p ≡ q
     → (program : List Placed) → IsTable program table → RanIs program w rests old q rests1 new

@@ -1,4 +1,4 @@
--- What primitives come to.
+-- The results of primitives.
 use Rattle.std.proofs.Common.{◌≡◌, ℕ, suc, ◌+◌, ◌-◌, ◌<◌, List, [], ◌∷◌, ◌++◌, Some, None, refl, sym, ap, ◌∙◌, arith}
 use Rattle.std.specs.Prelude.{◌/◌, ◌%◌, ◌==◌, cond, Ok, Err, Option}
 use Rattle.std.proofs.lemmas.List.{append-nil, append_assoc}
@@ -139,7 +139,7 @@ was_read st f v byte before after e b a =
     ap (λ x. Done (byte_or_end x) (state_of st (after_read before))) (sym b)
     ∙ (ap (λ x. Done x (state_of st (after_read before))) (sym e) ∙ ap (λ s. Done v (state_of st s)) (sym a))
 
--- the cell of the argument is given back
+-- the cell of the argument is freed
 
 pub closed_serves : (r : Run ℕ) (a : ℕ) (old new : State) (before after : Content) (s : Served) → new.store ≡ closed 1 a old.store → new.turns ≡ old.turns → Serves r old before s old after → Serves (λ st. left 1 a (r st)) old before s new after
 closed_serves r a old new before after (forms.Number v) e t h =

@@ -1,4 +1,4 @@
--- The store as a run begins.
+-- The store at the start of a run.
 use Rattle.std.proofs.Common.{◌≡◌, ◌⊎◌, inl, inr, ⊎_elim, ℕ, zero, suc, ◌+◌, ◌-◌, ◌*◌, ◌/◌, ◌<◌, ◌≤◌, Bool, true, false, List, [], ◌∷◌, ◌++◌, length, map, Some, None, refl, sym, ap, subst, ◌∙◌, arith}
 use Rattle.std.specs.Prelude.{◌==◌, nat_le, cond, Option, slice_get, slice_index, slice_set}
 use Rattle.std.proofs.lemmas.List.{map-append, append_assoc, append-nil, get_or-set_same, length-set}
@@ -50,7 +50,7 @@ no_word (Static w) from a l = by_cond (nat_le from a) (slice_get (data_words (St
 no_word (Table ws) from a l = by_cond (nat_le from a) (slice_get ws (a - from)) None ∙ grind (arith, nat_tests)
 no_word (Text bytes) from a l = by_cond (nat_le from a) (slice_get (data_words (Text bytes)) (a - from)) None ∙ grind (arith, nat_tests)
 
--- the places from here on have the word, and there is none in front
+-- the places from here on have the word, and those before have none
 
 abbrev pub DataFrom : Placed → (label : ℕ) → List Place → ℕ → Type 0
 DataFrom s label left a =

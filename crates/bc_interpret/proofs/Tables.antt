@@ -1,4 +1,4 @@
--- Tables of routines.
+-- Building the table of routines.
 use Rattle.std.proofs.Common.{◌≡◌, ℕ, ◌+◌, Bool, true, false, List, [], ◌∷◌, ◌++◌, Some, None, length, map, refl, sym, ap, arith, ◌∙◌}
 use Rattle.std.specs.Prelude.{◌==◌, cond, Option, All}
 use Rattle.std.proofs.lemmas.List.Elements.{All-append, All-cons, All-nil}
@@ -38,7 +38,7 @@ found_more (x ∷ xs) e a =
 coded : (s : Placed) (label : ℕ) (r : Routine) (places : List Place) (a : ℕ) → callee_among s label (Code r ∷ places) a ≡ cond (s.address label == a) (Some (OfSection s r)) (callee_among s (label + 1) places a)
 coded s label r places a = by_cond (s.address label == a) (Some (OfSection s r)) (callee_among s (label + 1) places a)
 
--- one routine more, which stands at this label
+-- one more routine, with this label
 pub routine_added : (s : Placed) (label : ℕ) (r : Routine) (places : List Place) (table : List Callable) (e : Callable) → e.address ≡ s.address label → callee_of e ≡ OfSection s r
     → (a : ℕ) → or_else (found_in table a) (callee_among s label (Code r ∷ places) a) ≡ or_else (found_in (table ++ e ∷ []) a) (callee_among s (label + 1) places a)
 routine_added s label r places table e at is a =
@@ -82,7 +82,7 @@ adding_done s label left old new e h = record {
   sized = h.sized;
 }
 
--- a section's routines more
+-- the routines of one more section
 pub section_added : (s : Placed) (sections : List Placed) (old new : List Callable) → Adds s old new → (a : ℕ) → or_else (found_in old a) (callee (s ∷ sections) a) ≡ or_else (found_in new a) (callee sections a)
 section_added s sections old new h a =
     sym (or_assoc (found_in old a) (callee_among s 1 s.core.places a) (callee sections a)) ∙ ap (λ x. or_else x (callee sections a)) (sym (h.finds a))
@@ -107,7 +107,7 @@ pub none_left : {A B : Type 0} (f : A → B) (xs : List A) → length xs ≡ 0 �
 none_left f [] e = refl
 none_left f (x ∷ xs) e = absurd (omega arith)
 
--- one place more, and one section more
+-- one more place, and one more section
 pub ruleset of_a_place = (place_is_routine, place_is_static, place_is_table, place_is_text)
 
 pub ruleset of_a_section = (adding_begun, adding_more, adding_done, none_left)

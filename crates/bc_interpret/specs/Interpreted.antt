@@ -1,4 +1,4 @@
--- What a run of sections comes to, where their places stand as in an image.
+-- What the interpreter promises of a run of sections whose places are where an image has them.
 use Rattle.std.specs.Prelude.{ℕ, ◌≡◌, ◌≤◌, List, map, drop}
 use Rattle.bc_machine_defs.specs.Streams.{Content}
 use Rattle.bc_machine.specs.Rose.{Rose}
@@ -13,17 +13,18 @@ use Rattle.bc_interpret.specs.declared.run.Outcome.{Outcome}
 use Rattle.bc_interpret.specs.declared.run.Outcome.TheVariants.{Device}
 use Rattle.bc_interpret.specs.Results.{IsResult, Names}
 
--- where an image has the places of its sections, which stand after the primitives, and where its stack begins
+-- the addresses that an image gives the places of its sections, without the primitives, and where its stack begins
 abbrev pub map_of : Image → Map
 map_of image = record { places = map (λ (place : SegmentPlace). label_address place.labels) (drop 1 image.places); stack_base = image.stack_base }
 
--- the machine comes from the start of the sections' run to the wild access that the run is said to have met
+-- from the start of the sections' run, the machine reaches a step that is wild with the reported cause
 abbrev pub NamesFrom : List Core → Map → Content → (turns : ℕ) → Outcome → Type 0
 NamesFrom cores map streams turns outcome =
     let program = placed cores map.places in Names program (start_at map.stack_base) (start_state program streams turns) outcome
 
--- Over streams whose content may be known: where it is, it stays so, and the run came to what the sections mean, with the output that
--- the meaning has, and by the wild access that is named. A device fails only where the count of failures rose or stands at its greatest value.
+-- The promise. If the content of the streams is known, it stays known, the outcome and the output are those of the sections' meaning, and
+-- a wild run meets the reported cause. A device failure is reported only if the count of failures rose or is at its greatest value, and
+-- that count never falls.
 pub record Interpreted (cores : List Core) (image : Image) (turns : ℕ)
     (known tells : Type 0) (before after : Content) (failures risen : ℕ) (outcome : Outcome) : Type 0 where
   pub means : known → IsResult (meaning cores (map_of image) before turns) outcome after
@@ -32,7 +33,7 @@ pub record Interpreted (cores : List Core) (image : Image) (turns : ℕ)
   pub failed : outcome ≡ Device → Rose failures risen
   pub counted : failures ≤ risen
 
--- the same over streams that tell what is known of them, what they hold and how often they failed
+-- the same for streams, given what is known of them, what they hold and how often they failed
 abbrev pub InterpretedOn :
     {T : Type 0} → (T → Type 0) → (T → Content) → (T → ℕ) → List Core → Image → ℕ → T → T → Outcome → Type 0
 InterpretedOn {T} known content failures cores image turns streams streams_new outcome =

@@ -1,4 +1,4 @@
--- For proofs: how far a run is.
+-- For proofs: what a step, a stretch of steps, and a whole run preserve.
 use Rattle.std.specs.Prelude.{ℕ, ◌≡◌, ◌<◌, ◌≤◌, List}
 use Rattle.bc_machine_defs.specs.Streams.{Content}
 use Rattle.bc_machine.specs.Rose.{Rose}
@@ -38,39 +38,39 @@ use Rattle.bc_interpret.specs.Results.{IsResult, Names}
 abbrev pub HasProgram : List Callable → Type 0
 HasProgram table = (program : List Placed) × IsTable program table
 
--- this work, with what is left to do
+-- the machine's state: this work, with these continuations
 abbrev pub at_of : Work → List Rest → machine.At
 at_of w rests = at (given rests) w (stack rests)
 
 abbrev pub weight_of : Work → List Rest → ℕ
 weight_of w rests = let a = at_of w rests in weight a.work a.rests
 
--- what a step from here came to
+-- the outcome of a step from here
 abbrev pub StepIs : List Placed → machine.At → State → Progress → List Rest → State → Type 0
 StepIs program a old p rests1 new = Stepped program a.work a.rests old p (stack rests1) (given rests1) new
 
--- what steps that change nothing, and a last one after them, came to
+-- the outcome of steps that change nothing and a last one after them
 abbrev pub RanIs : List Placed → Work → List Rest → State → Progress → List Rest → State → Type 0
 RanIs program w rests old p rests1 new = Ran program (at_of w rests) old p (stack rests1) (given rests1) new
 
--- the result of what is left of a run from here on, by the calls of this program that nest at most n deep
+-- the result of the remaining run from here, where calls of this program may nest n deep
 abbrev pub left_from : List Placed → ℕ → machine.At → State → Content → Result
 left_from program n a st streams = result_of (meant (calls program n) a (state_of st streams))
 
 abbrev pub left_of : List Placed → ℕ → Work → List Rest → State → Content → Result
 left_of program n w rests st streams = left_from program n (at_of w rests) st streams
 
--- what is done next in a run, with what is left to do
+-- the next work of a run
 abbrev pub next_of : Run → Work
 next_of run = work_next run.stacks.next
 
--- how a primitive's work moves a run
+-- how the result of a primitive continues or ends a run
 abbrev pub MovesBy : Served → Moved → (after : Stacks) → (before : Stacks) → Type 0
 MovesBy (forms.Number v) moved after before = (moved ≡ On) × (after ≡ record before { next = progress.On (works.Number v) })
 MovesBy (forms.Wild c) moved after before = (moved ≡ Over (outs.Wild c)) × (after ≡ before)
 MovesBy forms.Device moved after before = (moved ≡ Over outs.Device) × (after ≡ before)
 
--- this result is that of what is left, or that with which the run is over
+-- this is the result of the remaining run, or the one with which the run is over
 abbrev pub Comes : List Placed → ℕ → Result → Moved → Run → Content → Type 0
 Comes program n r On run streams = r ≡ left_of program n (next_of run) run.stacks.rests.items run.state streams
 Comes program n r (Over o) run streams = IsResult r o streams
@@ -80,7 +80,7 @@ Keeps table w old before moved new after =
     (program : List Placed) → IsTable program table → (n : ℕ) → old.state.turns < n
     → Comes program n (left_of program n w old.stacks.rests.items old.state before) moved new after
 
--- a wild access to which the machine comes from what is to be done next, it comes to from here; or it comes to the one that is named
+-- a wild step that the machine reaches from the next work, it also reaches from here; if the run is over, it reaches the reported one
 abbrev pub Leads : List Placed → machine.At → outcomes.State → Moved → Run → Content → Type 0
 Leads program from start On run streams =
     (cause : Cause) → ComesTo program (at_of (next_of run) run.stacks.rests.items) (state_of run.state streams) cause → ComesTo program from start cause
@@ -100,7 +100,7 @@ abbrev pub TookTurn : Moved → Run → Run → Type 0
 TookTurn On old new = new.state.turns < old.state.turns
 TookTurn (Over o) old new = Unit {0}
 
--- what one step came to, over streams whose content may be known
+-- the outcome of one step, over streams whose content may be known
 pub record Advanced (table : List Callable) (w : Work) (old new : Run)
     (known tells : Type 0) (before after : Content) (failures risen : ℕ) (moved : Moved) : Type 0 where
   pub keeps : known → Keeps table w old before moved new after
@@ -110,7 +110,7 @@ pub record Advanced (table : List Callable) (w : Work) (old new : Run)
   pub failed : moved ≡ Over outs.Device → Rose failures risen
   pub counted : failures ≤ risen
 
--- what steps came to, up to one that took a turn
+-- the outcome of steps up to the first one that takes a turn
 pub record Stretched (table : List Callable) (w : Work) (old new : Run)
     (known tells : Type 0) (before after : Content) (failures risen : ℕ) (moved : Moved) : Type 0 where
   pub keeps : known → Keeps table w old before moved new after
@@ -120,7 +120,7 @@ pub record Stretched (table : List Callable) (w : Work) (old new : Run)
   pub failed : moved ≡ Over outs.Device → Rose failures risen
   pub counted : failures ≤ risen
 
--- what a run came to at its end
+-- the outcome of a run to its end
 pub record Completed (table : List Callable) (w : Work) (old : Run)
     (known tells : Type 0) (before after : Content) (failures risen : ℕ) (outcome : Outcome) : Type 0 where
   pub means : known → (program : List Placed) → IsTable program table → (n : ℕ) → old.state.turns < n
@@ -130,24 +130,25 @@ pub record Completed (table : List Callable) (w : Work) (old : Run)
   pub failed : outcome ≡ outs.Device → Rose failures risen
   pub counted : failures ≤ risen
 
--- the same over streams that tell what is known of them, what they hold and how often they failed
-
+-- one step, given what is known of the streams, what they hold and how often they failed
 abbrev pub AdvancedOn :
     {T : Type 0} → (T → Type 0) → (T → Content) → (T → ℕ) → List Callable → Work → (old new : Run) → T → T → Moved → Type 0
 AdvancedOn {T} known content failures table w old new streams streams_new moved =
     Advanced table w old new (known streams) (known streams_new) (content streams) (content streams_new) (failures streams) (failures streams_new) moved
 
+-- the same of the steps up to the first one that takes a turn
 abbrev pub StretchedOn :
     {T : Type 0} → (T → Type 0) → (T → Content) → (T → ℕ) → List Callable → Work → (old new : Run) → T → T → Moved → Type 0
 StretchedOn {T} known content failures table w old new streams streams_new moved =
     Stretched table w old new (known streams) (known streams_new) (content streams) (content streams_new) (failures streams) (failures streams_new) moved
 
+-- the same of a run to its end
 abbrev pub CompletedOn :
     {T : Type 0} → (T → Type 0) → (T → Content) → (T → ℕ) → List Callable → Work → Run → T → T → Outcome → Type 0
 CompletedOn {T} known content failures table w old streams streams_new outcome =
     Completed table w old (known streams) (known streams_new) (content streams) (content streams_new) (failures streams) (failures streams_new) outcome
 
--- what the run of a program came to from its start
+-- the outcome of a program's run from its start
 pub record RunOf (program : List Placed) (stack_base turns : ℕ)
     (known tells : Type 0) (before after : Content) (failures risen : ℕ) (outcome : Outcome) : Type 0 where
   pub means : known → IsResult (meaning_over (start_cells (standing program)) (entered_at program) stack_base before turns) outcome after
@@ -156,6 +157,7 @@ pub record RunOf (program : List Placed) (stack_base turns : ℕ)
   pub failed : outcome ≡ outs.Device → Rose failures risen
   pub counted : failures ≤ risen
 
+-- the same of a program's run, given what is known of the streams, what they hold and how often they failed
 abbrev pub RunOn :
     {T : Type 0} → (T → Type 0) → (T → Content) → (T → ℕ) → List Placed → ℕ → ℕ → T → T → Outcome → Type 0
 RunOn {T} known content failures program stack_base turns streams streams_new outcome =

@@ -1,4 +1,4 @@
--- What a run came to, what sections mean, and the wild access that is named.
+-- When a reported outcome agrees with the meaning, and when a reported wild cause is right.
 use Rattle.std.specs.Prelude.{◌≡◌, List}
 use Rattle.bc_machine_defs.specs.Streams.{Content}
 use Rattle.bc_machine_defs.specs.StreamCalls.{output_of}
@@ -12,12 +12,12 @@ use Rattle.bc_interpret_steps.specs.Endings.{ending}
 use Rattle.bc_interpret.specs.declared.run.Outcome.{Outcome}
 use Rattle.bc_interpret.specs.declared.run.Outcome.TheVariants as outcomes
 
--- from here on the machine comes to the wild access that a run is said to have met
+-- if a wild access is reported, the machine reaches from here a step that is wild with that cause
 abbrev pub Names : List Placed → At → State → Outcome → Type 0
 Names program from start (outcomes.Wild cause) = ComesTo program from start (cause_of cause)
 Names program from start outcome = Unit {0}
 
--- this is what a run came to that has written what these streams hold; nothing is said where a device failed
+-- the reported outcome, with the output that the streams hold, is this result; after a device failure nothing is said
 abbrev pub IsResult : Result → Outcome → Content → Type 0
 IsResult r (outcomes.Ended e) streams = r ≡ Ended (output_of streams) (ending e)
 IsResult r outcomes.Going streams = r ≡ Going (output_of streams)

@@ -1,4 +1,4 @@
--- For proofs: what primitives come to.
+-- For proofs: the results of primitives.
 use Rattle.std.specs.Prelude.{ℕ, ◌≡◌, ◌+◌, ◌-◌, ◌≤◌, List, ◌++◌, Option, Some, None, Result, Ok, Err}
 use Rattle.bc_machine_defs.specs.Streams.{Content}
 use Rattle.bc_machine.specs.Rose.{Rose}
@@ -13,35 +13,35 @@ use Rattle.bc_interpret_steps.specs.Came.{state_of}
 use Rattle.bc_interpret.specs.declared.serve.Served.{Served}
 use Rattle.bc_interpret.specs.declared.serve.Served.TheVariants as forms
 
--- what a run that changes nothing comes to, whatever the streams hold; where it meets a wild access, the cell stands so
+-- the outcome of a run that changes nothing, whatever the streams hold; a wild access is to a cell in the named state
 abbrev pub Gets : {A : Type 0} → Run A → State → Result A Cause → Type 0
 Gets r st (Ok x) = (streams : Content) → r (state_of st streams) ≡ outcomes.Done x (state_of st streams)
 Gets r st (Err c) = ((streams : Content) → r (state_of st streams) ≡ outcomes.Wild) × StandsIn (cause_of c) st.store
 
--- the same of the bytes of a name
+-- the same for the bytes of a name
 abbrev pub GetsName : Run (List ℕ) → State → Option Cause → List ℕ → Type 0
 GetsName r st None bytes = (streams : Content) → r (state_of st streams) ≡ outcomes.Done bytes (state_of st streams)
 GetsName r st (Some c) bytes = ((streams : Content) → r (state_of st streams) ≡ outcomes.Wild) × StandsIn (cause_of c) st.store
 
--- so many bytes of the string at this address are there, and the others are left
+-- the first k bytes of the string at this address have been read, and the others remain
 abbrev pub Naming : State → (address length k : ℕ) → List ℕ → Type 0
 Naming st address length k name =
     (streams : Content) → bytes_of_string length 1 address (state_of st streams)
     ≡ followed (bytes_of_string (length - k) (k + 1) address (state_of st streams)) (λ rest. outcomes.Done (name ++ rest))
 
--- what a run comes to over these streams; where it meets a wild access, the cell stood so as it began
+-- the outcome of a run over these streams; a wild access is to a cell that was in the named state at its start
 abbrev pub Serves : Run ℕ → (old : State) → (before : Content) → Served → (new : State) → (after : Content) → Type 0
 Serves r old before (forms.Number v) new after = r (state_of old before) ≡ outcomes.Done v (state_of new after)
 Serves r old before (forms.Wild c) new after = (r (state_of old before) ≡ outcomes.Wild) × StandsIn (cause_of c) old.store
 Serves r old before forms.Device new after = Unit {0}
 
--- where it came to a number, it comes to some number whatever the streams hold
+-- if it gives a number, it gives some number whatever the streams hold; so the step counts even if nothing is known of the streams
 abbrev pub Numbers : Run ℕ → (old : State) → Served → (new : State) → Type 0
 Numbers r old (forms.Number v) new = (streams : Content) → (w : ℕ) × (after : Content) × (r (state_of old streams) ≡ outcomes.Done w (state_of new after))
 Numbers r old (forms.Wild c) new = Unit {0}
 Numbers r old forms.Device new = Unit {0}
 
--- what came of the work of a primitive, over streams whose content may be known
+-- the outcome of a primitive's work, over streams whose content may be known
 pub record Works (r : Run ℕ) (old new : State)
     (known tells : Type 0) (before after : Content) (failures risen : ℕ) (served : Served) : Type 0 where
   pub exact : known → Serves r old before served new after
@@ -50,7 +50,7 @@ pub record Works (r : Run ℕ) (old new : State)
   pub failed : served ≡ forms.Device → Rose failures risen
   pub counted : failures ≤ risen
 
--- the same over streams that tell what is known of them, what they hold and how often they failed
+-- the same for streams, given what is known of them, what they hold and how often they failed
 abbrev pub WorksOn :
     {T : Type 0} → (T → Type 0) → (T → Content) → (T → ℕ) → Run ℕ → (old new : State) → T → T → Served → Type 0
 WorksOn {T} known content failures r old new streams streams_new served =
@@ -68,10 +68,11 @@ abbrev pub ServesAt :
 ServesAt known content failures argument q st streams streams_new served =
     (f : ℕ) → argument ≡ f + 2 → ServesOn known content failures q f st streams streams_new served
 
--- the work of a primitive in the frame at f, with the cell of its argument given back
+-- the work of a primitive in the frame at f, after which the cell of its argument is freed
 abbrev pub serving : Primitive → ℕ → Run ℕ
 serving q f = λ st. left 1 (f + 2) (primitive_work q f st)
 
+-- a primitive in the frame at f, after which the cell of its argument is freed
 abbrev pub ServesIn :
     {T : Type 0} → (T → Type 0) → (T → Content) → (T → ℕ) → Primitive → (f : ℕ) → (old new : State) → T → T → Served → Type 0
 ServesIn known content failures q f old new streams streams_new served =

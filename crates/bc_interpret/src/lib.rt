@@ -1,5 +1,5 @@
-//! An interpreter of resolved programs, which comes to what they mean, and takes no native stack for the depth of calls, nor for that of
-//! trees beyond a bound.
+//! An interpreter of resolved programs, proved to compute their meaning: the loop around `bc_interpret_steps`, the first store, and the
+//! primitives. It uses only bounded native stack, however deep calls and trees are.
 #![tactic(auto)]
 
 mod places;

@@ -1,4 +1,4 @@
-// Where the places of sections stand.
+//! The sections with the addresses of their places, which are taken from an image. A place is a routine, static, table or string.
 
 ghost use Rattle.std.specs.Prelude.{◌≡◌, ◌==◌, ℕ, cond, drop, map, slice_index, slice_index_or, OnOk, IfOk};
 ghost use Rattle.bc_core.specs.Map.{placed};
@@ -15,7 +15,7 @@ use std::alloc::Global;
 
 /// Gives a label an address.
 ///
-/// `Memory` comes where an allocation was refused.
+/// `Memory` if an allocation fails.
 fn put_address(addresses: &mut Vec<u16>, label: Word, address: Word) -> Result<(), Memory>
     ensures { OnOk result ((l : ℕ) → slice_index addresses.new.items l ≡ cond (l == label) address (slice_index addresses.old.items l)) }
 {
@@ -27,16 +27,16 @@ fn put_address(addresses: &mut Vec<u16>, label: Word, address: Word) -> Result<(
     Ok(())
 }
 
-/// The address of each label of a segment, by label.
+/// The addresses of the labels of a segment, indexed by label; 0 for a number that isn't a label.
 ///
-/// `Memory` comes where an allocation was refused.
+/// `Memory` if an allocation fails.
 #[tactic(auto, using(crate::proofs::Placing::labels_more, crate::proofs::Placing::no_label_left))]
 fn addresses_of(alloc: Global, place: &SegmentPlace) -> Result<Vec<u16>, Memory>
     ensures { IfOk result (λ addresses. IsAddressed place.now.labels addresses.items) }
 {
     let mut addresses = Vec::new(alloc);
     let mut left = place.labels.as_slice();
-    // the first pair with a label counts
+    // of several pairs with one label the first counts, so it is put in last
     while let Some((pair, before)) = left.split_last() {
         put_address(&mut addresses, pair.0, pair.1)?;
         left = before;
@@ -44,9 +44,9 @@ fn addresses_of(alloc: Global, place: &SegmentPlace) -> Result<Vec<u16>, Memory>
     Ok(addresses)
 }
 
-/// The same of each of these segments.
+/// The addresses of the labels of each of these segments.
 ///
-/// `Memory` comes where an allocation was refused.
+/// `Memory` if an allocation fails.
 #[tactic(auto, using(crate::proofs::Placing::addresses_more))]
 pub(crate) fn all_addresses(alloc: Global, places: &[SegmentPlace]) -> Result<Vec<Vec<u16>>, Memory>
     ensures { IfOk result (λ all. addresses_by_label all.items ≡ label_addresses places.now) }
@@ -60,7 +60,7 @@ pub(crate) fn all_addresses(alloc: Global, places: &[SegmentPlace]) -> Result<Ve
     Ok(all)
 }
 
-/// The places of the segments after the first one.
+/// All segments but the first, which has the primitives.
 pub(crate) fn after_first(places: &[SegmentPlace]) -> &[SegmentPlace]
     ensures { result.now ≡ drop 1 places.now }
 {
@@ -70,9 +70,9 @@ pub(crate) fn after_first(places: &[SegmentPlace]) -> &[SegmentPlace]
     }
 }
 
-/// The sections, each with the addresses of its labels.
+/// The sections, each with the addresses of its labels. Stops at the end of the shorter list.
 ///
-/// `Memory` comes where an allocation was refused.
+/// `Memory` if an allocation fails.
 #[tactic(auto, using(crate::proofs::Placing::core_more, crate::proofs::Placing::no_core, crate::proofs::Placing::no_place))]
 pub(crate) fn sections_of<'c>(
     alloc: Global,

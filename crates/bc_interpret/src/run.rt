@@ -1,4 +1,5 @@
-// Runs.
+//! A run: one step with a primitive's work (`advance`), steps up to the next turn (`stretch`), and steps to the end (`to_end`). There are
+//! two loops because each has its own measure: the weight decreases within a stretch, and the remaining turns from stretch to stretch.
 
 ghost use Rattle.std.specs.Prelude.{IfOk};
 ghost use Rattle.bc_interpret.specs.Moving.{HasProgram, MovesBy, next_of, AdvancedOn, StretchedOn, CompletedOn};
@@ -11,12 +12,12 @@ use bc_machine::Streams;
 use bc_word::Memory;
 use std::alloc::Global;
 
-/// What a run came to.
+/// The outcome of a run.
 #[derive(Clone, Copy, Debug, PartialEq, Eq)]
 pub enum Outcome {
     /// It ended by itself.
     Ended(Ending),
-    /// It would go on, and the turns are spent.
+    /// It would go on, but all turns have been taken.
     Going,
     /// It met a wild access.
     Wild(Cause),
@@ -24,36 +25,44 @@ pub enum Outcome {
     Device,
 }
 
-/// A run: its state, what is left to do, and memory that serves again for names.
+/// A run in progress.
 #[derive(Drop)]
 pub(crate) struct Run<'c> {
+    /// The store and the remaining turns.
     pub state: State,
+    /// The next work and the continuations.
     pub stacks: Stacks<'c>,
+    /// A buffer for the names of streams.
     pub name: Vec<u8>,
+    /// The calls that the run is in.
     pub trace: Trace<'c>,
 }
 
-/// Where a run stood at its end: its newest calls, the newest one first, ten at the most, and how many calls it was in.
+/// Where a run was at its end.
 #[derive(Debug, Drop)]
 pub struct Trail {
+    /// Its newest calls, the newest first, at most ten.
     pub standings: Vec<Standing>,
+    /// The number of calls that it was in.
     pub calls: usize,
 }
 
-/// The most calls of a trail.
+/// The greatest number of calls in a trail.
 const MOST: usize = 10;
 
-/// What a run came to, and where it stood then.
+/// The outcome of a run, and where it was then.
 #[derive(Debug, Drop)]
 pub struct Interpreted {
+    /// The outcome.
     pub outcome: Outcome,
+    /// Where the run was. No contract speaks of it.
     pub trail: Trail,
 }
 
 impl Run<'_> {
-    /// Where the run stands.
+    /// Where the run is.
     ///
-    /// `Memory` comes where an allocation was refused.
+    /// `Memory` if an allocation fails.
     pub(crate) fn trail(&self, alloc: Global) -> Result<Trail, Memory> {
         Ok(Trail {
             standings: self
@@ -67,12 +76,13 @@ impl Run<'_> {
 /// Whether a run goes on.
 #[derive(Clone, Copy)]
 enum Moved {
-    /// It does: what is to be done next stands with what is left to do.
+    /// It does: the next work is in `Stacks::next`.
     On,
+    /// It is over.
     Over(Outcome),
 }
 
-/// How a primitive's work moves a run.
+/// How the result of a primitive continues or ends a run.
 fn moved_by(served: Served, stacks: &mut Stacks<'_>) -> Moved
     ensures { MovesBy served result stacks.new stacks.old }
 {
@@ -86,9 +96,9 @@ fn moved_by(served: Served, stacks: &mut Stacks<'_>) -> Moved
     }
 }
 
-/// One step, with what a primitive does.
+/// One call of `step`, with the work of the primitive that it calls, if any.
 ///
-/// `Memory` comes where an allocation was refused.
+/// `Memory` if an allocation fails.
 #[inline(always)]
 fn advance<'c, S: Streams>(
     table: &[Callable<'c>],
@@ -120,9 +130,9 @@ fn advance<'c, S: Streams>(
     }
 }
 
-/// Steps up to one that takes a turn.
+/// Steps up to and including the first one that takes a turn.
 ///
-/// `Memory` comes where an allocation was refused.
+/// `Memory` if an allocation fails.
 #[inline(always)]
 fn stretch<'c, S: Streams>(
     table: &[Callable<'c>],
@@ -146,9 +156,9 @@ fn stretch<'c, S: Streams>(
     }
 }
 
-/// Steps to the run's end.
+/// Steps to the end of the run.
 ///
-/// `Memory` comes where an allocation was refused.
+/// `Memory` if an allocation fails.
 pub(crate) fn to_end<'c, S: Streams>(
     table: &[Callable<'c>],
     run: &mut Run<'c>,

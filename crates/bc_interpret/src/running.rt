@@ -1,4 +1,4 @@
-// Runs of sections.
+//! The public call: runs resolved sections whose places are where an image has them.
 
 ghost use Rattle.std.specs.Prelude.{◌≡◌, ◌+◌, [], map, IfOk};
 ghost use Rattle.bc_core.specs.View.{section as section_view};
@@ -21,7 +21,7 @@ use bc_machine::{Image, Streams};
 use bc_word::Memory;
 use std::alloc::Global;
 
-/// A run over this store, with nothing left to do after the address of global 1.
+/// A run over this store that is about to give the address of global 1's cell (9), with no continuations yet.
 fn run_over<'c>(alloc: Global, store: Store, turns: u64) -> Run<'c>
     ensures store { result.state.store ≡ store }
     ensures turns { result.state.turns ≡ turns }
@@ -49,16 +49,16 @@ fn run_over<'c>(alloc: Global, store: Store, turns: u64) -> Run<'c>
     }
 }
 
-/// The address of the frame in which the run begins, two cells above the stack base.
+/// The address of the frame of START, two cells above the stack base.
 fn first_frame(stack_base: u16) -> u32
     ensures { result ≡ stack_base + 2 }
 {
     u32::from(stack_base) + 2
 }
 
-/// The run of sections in so many turns, where the stack begins at this address.
+/// Runs sections for at most `turns` turns, with the stack beginning at `stack_base`.
 ///
-/// `Memory` comes where an allocation was refused.
+/// `Memory` if an allocation fails.
 fn run_sections<S: Streams>(
     alloc: Global,
     sections: &[Section<'_>],
@@ -71,7 +71,7 @@ fn run_sections<S: Streams>(
     let table = table_of(alloc, sections)?;
     let store = start_store(alloc, sections)?;
     let mut run = run_over(alloc, store, turns);
-    // the cell of global 1 is read, and what it holds is called
+    // reads the cell of global 1 (START), and calls the value found there
     put(
         Rest::Calls(true, first_frame(stack_base)),
         &mut run.stacks.rests,
@@ -82,11 +82,14 @@ fn run_sections<S: Streams>(
     Ok(Interpreted { outcome, trail })
 }
 
-/// The run of resolved sections in so many turns, where their places stand as in this image, whose first segment is that of the
-/// primitives: what it comes to.
+/// Runs resolved sections for at most `turns` turns. Their places have the addresses that they have in `image`, whose first segment must be
+/// that of the primitives.
 ///
-/// Where what the streams hold is known, this is what the sections mean, with the same output. `Device` comes only where the count of
-/// the streams' failures rose. `Memory` comes where an allocation was refused.
+/// If the content of the streams is known, the outcome and the output are what the sections mean, unless a device failed; and if the run
+/// is wild, the machine of `bc_interpret_defs` reaches a step that is wild with the reported cause. `Device` comes only if the streams'
+/// count of failures rose or is at its greatest value.
+///
+/// `Memory` if an allocation fails.
 pub fn interpret<S: Streams>(
     alloc: Global,
     cores: &[Core],

@@ -1,4 +1,4 @@
-// What primitives do.
+//! The primitives: select, read, write, find and end streams.
 
 ghost use Rattle.std.specs.Prelude.{◌≡◌, ◌+◌, ℕ, IfOk};
 ghost use Rattle.bc_machine_defs.specs.Execute.{byte_or_end};
@@ -14,18 +14,18 @@ use bc_interpret_store::Cell;
 use bc_machine::{Side, Streams};
 use bc_word::{Memory, Word};
 
-/// What comes of a primitive.
+/// The result of a primitive.
 #[derive(Clone, Copy)]
 pub(crate) enum Served {
-    /// Its value.
+    /// It returns this value.
     Number(u16),
-    /// A wild access.
+    /// It met a wild access.
     Wild(Cause),
     /// A device failed.
     Device,
 }
 
-/// The word of the cell at this address, or the wild access.
+/// Reads the cell at this address; `Err` if it is dead or unset.
 #[tactic(auto, using(crate::proofs::Serving::read_dead, crate::proofs::Serving::read_unset, crate::proofs::Serving::read_set))]
 fn read(state: &State, address: u16) -> Result<u16, Cause>
     ensures { Gets (read_cell address) state.now result }
@@ -37,7 +37,7 @@ fn read(state: &State, address: u16) -> Result<u16, Cause>
     }
 }
 
-/// Byte `k` of the string at this address, or the wild access.
+/// Byte `k` of the string at this address, of which byte 0 is the length; `Err` if its cell is dead or unset.
 #[tactic(auto, using(crate::proofs::Serving::high_byte, crate::proofs::Serving::low_byte, crate::proofs::Serving::no_byte))]
 fn byte_at(state: &State, address: u16, k: u16) -> Result<u8, Cause>
     ensures { Gets (byte_of_string address k) state.now result }
@@ -53,9 +53,9 @@ fn byte_at(state: &State, address: u16, k: u16) -> Result<u8, Cause>
     }
 }
 
-/// The bytes of the string at this address, in `name`, or the wild access.
+/// Puts the bytes of the string at this address into `name`, without its length. Returns the cause of the wild access, if there is one.
 ///
-/// `Memory` comes where an allocation was refused.
+/// `Memory` if an allocation fails.
 fn string(state: &State, address: u16, name: &mut Vec<u8>) -> Result<Option<Cause>, Memory>
     ensures { IfOk result (λ fault. GetsName (string_of address) state.now fault name.new.items) }
 {
@@ -73,7 +73,7 @@ fn string(state: &State, address: u16, name: &mut Vec<u8>) -> Result<Option<Caus
     Ok(None)
 }
 
-/// Selects the stream whose number is the argument, which stands at this address.
+/// Selects the stream whose number is in the cell at address `argument`.
 fn select<S: Streams>(side: Side, argument: u16, state: &State, streams: &mut S) -> Served
     ensures { ServesAt S.known S.content S.failures argument (primitives.Select side) state.now streams.old streams.new result }
 {
@@ -86,7 +86,7 @@ fn select<S: Streams>(side: Side, argument: u16, state: &State, streams: &mut S)
     }
 }
 
-/// The value of RDCH.
+/// The value of RDCH: the byte, or 65,535 at the end of the stream.
 fn value_of(byte: Option<u8>) -> u16
     ensures { result ≡ byte_or_end byte }
 {
@@ -96,7 +96,7 @@ fn value_of(byte: Option<u8>) -> u16
     }
 }
 
-/// Reads a byte.
+/// Reads a byte from the selected input.
 fn read_byte<S: Streams>(state: &State, streams: &mut S) -> Served
     ensures { (f : ℕ) → ServesOn S.known S.content S.failures primitives.ReadByte f state.now streams.old streams.new result }
 {
@@ -107,7 +107,7 @@ fn read_byte<S: Streams>(state: &State, streams: &mut S) -> Served
     }
 }
 
-/// Writes the byte that is the argument, which stands at this address.
+/// Writes the low byte of the word in the cell at address `argument` to the selected output.
 fn write_byte<S: Streams>(argument: u16, state: &State, streams: &mut S) -> Served
     ensures { ServesAt S.known S.content S.failures argument primitives.WriteByte state.now streams.old streams.new result }
 {
@@ -120,9 +120,9 @@ fn write_byte<S: Streams>(argument: u16, state: &State, streams: &mut S) -> Serv
     }
 }
 
-/// Finds the stream whose name is the string at the argument, which stands at this address.
+/// Finds the stream whose name is a string; the cell at address `argument` holds the string's address.
 ///
-/// `Memory` comes where an allocation was refused.
+/// `Memory` if an allocation fails.
 fn find<S: Streams>(
     side: Side,
     argument: u16,
@@ -155,9 +155,9 @@ fn end_stream<S: Streams>(side: Side, state: &State, streams: &mut S) -> Served
     }
 }
 
-/// What a primitive does with its argument in the cell at this address.
+/// Does the work of a primitive whose argument is in the cell at address `argument`.
 ///
-/// `Memory` comes where an allocation was refused.
+/// `Memory` if an allocation fails.
 fn work<S: Streams>(
     primitive: Primitive,
     argument: u16,
@@ -178,7 +178,7 @@ fn work<S: Streams>(
 
 /// The address of the argument of a primitive whose frame is at this address.
 ///
-/// `Memory` comes where no cell has it, which no call gives.
+/// `Memory` if that isn't an address, which no call causes.
 fn argument_in(frame: usize) -> Result<u16, Memory>
     ensures { IfOk result (λ a. a ≡ frame + 2) }
 {
@@ -186,9 +186,9 @@ fn argument_in(frame: usize) -> Result<u16, Memory>
     u16::try_from(address).map_err(|_| Memory)
 }
 
-/// A primitive works in the frame at this address, and gives the cell of its argument back.
+/// Does the work of a primitive in the frame at this address, and frees the cell of its argument.
 ///
-/// `Memory` comes where an allocation was refused.
+/// `Memory` if an allocation fails.
 pub(crate) fn serve<S: Streams>(
     primitive: Primitive,
     frame: usize,

@@ -1,4 +1,6 @@
-// The store as a run begins.
+//! The store at the start of a run: the globals, and the words of statics, tables and strings; all other cells are dead.
+//!
+//! `Memory` is returned if an allocation fails, or if a number is too large for its type, which no section of an accepted source causes.
 
 ghost use Rattle.std.specs.Prelude.{◌≡◌, ◌+◌, ◌*◌, ◌∷◌, length, map, None, slice_get, slice_index, IfOk, OnOk};
 ghost use Rattle.bc_core.specs.View.{place_of};
@@ -18,7 +20,7 @@ use bc_interpret_store::{Cell, Store};
 use bc_word::Memory;
 use std::alloc::Global;
 
-/// Byte `k` of a string, whose byte 0 is its length, or 0 after the last one.
+/// Byte `k` of a string; byte 0 is its length, and the bytes after the last one are 0.
 fn byte_of(bytes: &[u8], k: usize) -> usize
     ensures { result ≡ slice_index (length bytes.now ∷ bytes.now) k }
 {
@@ -31,9 +33,7 @@ fn byte_of(bytes: &[u8], k: usize) -> usize
     }
 }
 
-/// The word of these two bytes.
-///
-/// `Memory` comes where no word is so great, which none of two bytes is.
+/// The word of two bytes; `Memory` if it doesn't fit, which no two bytes cause.
 fn word_of_bytes(high: usize, low: usize) -> Result<u16, Memory>
     ensures { IfOk result (λ word. word ≡ high * 256 + low) }
 {
@@ -42,9 +42,7 @@ fn word_of_bytes(high: usize, low: usize) -> Result<u16, Memory>
     u16::try_from(word).map_err(|_| Memory)
 }
 
-/// The word at this index of a string's words.
-///
-/// `Memory` comes where no word is so great, which none is of a string of at most 255 bytes.
+/// The word at this index of a string's words. `Memory` only if the string is longer than 255 bytes.
 #[tactic(auto, using(crate::proofs::Starting::no_packed_word))]
 fn word_of_string(bytes: &[u8], index: u16) -> Result<Option<u16>, Memory>
     ensures { IfOk result (λ word. word ≡ slice_get (string_words bytes.now) index) }
@@ -58,8 +56,6 @@ fn word_of_string(bytes: &[u8], index: u16) -> Result<Option<u16>, Memory>
 }
 
 /// The word at this index of a place's words.
-///
-/// `Memory` comes where no word is so great, which none of a section is.
 fn word_of(place: &Place, index: u16) -> Result<Option<u16>, Memory>
     ensures { IfOk result (λ word. word ≡ slice_get (data_words (place_of place.now)) index) }
 {
@@ -79,9 +75,7 @@ fn word_of(place: &Place, index: u16) -> Result<Option<u16>, Memory>
     }
 }
 
-/// The word at this address of a place that stands at another.
-///
-/// `Memory` comes where no word is so great, which none of a section is.
+/// The word at this address, given a place that begins at address `from`; `None` if the place has no word there.
 fn word_at(place: &Place, from: u16, address: u16) -> Result<Option<u16>, Memory>
     ensures { IfOk result (λ word. word ≡ word_in (held_by (place_of place.now)) from address) }
 {
@@ -91,9 +85,7 @@ fn word_at(place: &Place, from: u16, address: u16) -> Result<Option<u16>, Memory
     Ok(word_of(place, address - from)?)
 }
 
-/// The word at this address of the first place of a section that has one there.
-///
-/// `Memory` comes where no word is so great, which none of a section is.
+/// The word at this address, of the first place of the section that has one there.
 fn data_in(section: &Section<'_>, address: u16) -> Result<Option<u16>, Memory>
     ensures { IfOk result (λ word. HasData (placed_of section.now) address word) }
 {
@@ -110,9 +102,7 @@ fn data_in(section: &Section<'_>, address: u16) -> Result<Option<u16>, Memory>
     Ok(None)
 }
 
-/// The word at this address of the first place that has one there.
-///
-/// `Memory` comes where no word is so great, which none of a section is.
+/// The word at this address, of the first place of the program that has one there.
 fn data_at(sections: &[Section<'_>], address: u16) -> Result<Option<u16>, Memory>
     ensures { IfOk result (λ word. word ≡ data_word (standing (program_of sections.now)) address) }
 {
@@ -127,7 +117,7 @@ fn data_at(sections: &[Section<'_>], address: u16) -> Result<Option<u16>, Memory
     Ok(None)
 }
 
-/// How many words a place has at the most.
+/// An upper bound for the number of words of a place.
 #[tactic(auto, using(crate::proofs::Starting::table_ends, crate::proofs::Starting::static_ends))]
 fn words_of(place: &Place) -> usize
     ensures { EndsBy (place_of place.now) result }
@@ -140,9 +130,7 @@ fn words_of(place: &Place) -> usize
     }
 }
 
-/// Cells of which none is live, one for each address.
-///
-/// `Memory` comes where an allocation was refused.
+/// 65,536 dead cells. A cell that is made live marks its address.
 fn no_marks(alloc: Global) -> Result<Store, Memory>
     ensures { IfOk result (λ marks. length marks ≡ 65536) }
 {
@@ -151,9 +139,7 @@ fn no_marks(alloc: Global) -> Result<Store, Memory>
     Ok(Store::new(cells))
 }
 
-/// Marks the addresses at which places of a section have words.
-///
-/// `Memory` comes where no number is so great, which no label is.
+/// Marks all addresses at which places of a section have words.
 #[tactic(auto, using(crate::proofs::Starting::marks_begin, crate::proofs::Starting::marks_more))]
 fn mark_section(section: &Section<'_>, marks: &mut Store) -> Result<(), Memory>
     ensures { OnOk result (Marks (λ a. HasData (placed_of section.now) a None) marks.old marks.new) }
@@ -169,9 +155,7 @@ fn mark_section(section: &Section<'_>, marks: &mut Store) -> Result<(), Memory>
     Ok(())
 }
 
-/// Marks the addresses at which places have words.
-///
-/// `Memory` comes where no number is so great, which no label is.
+/// Marks all addresses at which places of the program have words.
 #[tactic(auto, using(crate::proofs::Starting::marks_begin, crate::proofs::Starting::marks_after))]
 fn mark_data(sections: &[Section<'_>], marks: &mut Store) -> Result<(), Memory>
     ensures { OnOk result (Marks (λ a. data_word (standing (program_of sections.now)) a ≡ None) marks.old marks.new) }
@@ -184,9 +168,7 @@ fn mark_data(sections: &[Section<'_>], marks: &mut Store) -> Result<(), Memory>
     Ok(())
 }
 
-/// The word at this address of the first place that has one there: sought only where the address is marked, since most aren't.
-///
-/// `Memory` comes where no word is so great, which none of a section is.
+/// `data_at`, but searches only if the address is marked, since most aren't.
 fn data_where_marked(
     sections: &[Section<'_>],
     marks: &Store,
@@ -201,7 +183,7 @@ fn data_where_marked(
     }
 }
 
-/// Whether a place is a routine that sets this global.
+/// Whether a place is a routine that sets this global to its address.
 fn is_setting(place: &Place, global: u16) -> bool
     ensures { Sets (place_of place.now) global result }
 {
@@ -212,8 +194,6 @@ fn is_setting(place: &Place, global: u16) -> bool
 }
 
 /// The address of the first routine of a section that sets this global.
-///
-/// `Memory` comes where no number is so great, which no label is.
 fn setting_in(section: &Section<'_>, global: u16) -> Result<Option<u16>, Memory>
     ensures { IfOk result (λ address. HasSetting (placed_of section.now) global address) }
 {
@@ -229,7 +209,7 @@ fn setting_in(section: &Section<'_>, global: u16) -> Result<Option<u16>, Memory>
     Ok(None)
 }
 
-/// The address of the primitive that is this global.
+/// The address of the primitive to which this global is set, if there is one. The segment of the primitives begins at address 520.
 fn primitive_of(global: u16) -> Option<u16>
     ensures { result ≡ address_among primitives global }
 {
@@ -246,9 +226,7 @@ fn primitive_of(global: u16) -> Option<u16>
     }
 }
 
-/// The address of the first routine that sets this global, or else of the primitive.
-///
-/// `Memory` comes where no number is so great, which no label is.
+/// The address of the first routine of the program that sets this global, or else that of the primitive.
 fn setting_of(sections: &[Section<'_>], global: u16) -> Result<Option<u16>, Memory>
     ensures { IfOk result (λ address. address ≡ setting (standing (program_of sections.now)) global) }
 {
@@ -263,9 +241,7 @@ fn setting_of(sections: &[Section<'_>], global: u16) -> Result<Option<u16>, Memo
     Ok(primitive_of(global))
 }
 
-/// The cell at this address as the run begins.
-///
-/// `Memory` comes where no word is so great, which none of a section is.
+/// The cell at this address at the start of the run.
 fn start_cell(sections: &[Section<'_>], marks: &Store, address: u16) -> Result<Cell, Memory>
     requires { CoversData (program_of sections.now) marks.now }
     ensures { IfOk result (λ cell. cell_view cell ≡ cell_at_start (standing (program_of sections.now)) address) }
@@ -282,18 +258,14 @@ fn start_cell(sections: &[Section<'_>], marks: &Store, address: u16) -> Result<C
     }
 }
 
-/// The address that is this number.
-///
-/// `Memory` comes where no address is so great.
+/// A number as an address; `Memory` if it is above 65,535.
 fn address_of_number(number: u32) -> Result<u16, Memory>
     ensures { IfOk result (λ address. address ≡ number) }
 {
     u16::try_from(number).map_err(|_| Memory)
 }
 
-/// The cells of so many addresses from 0 on as the run of these sections begins.
-///
-/// `Memory` comes where an allocation was refused.
+/// The cells of the first `count` addresses at the start of the run of these sections.
 fn start_cells(
     alloc: Global,
     sections: &[Section<'_>],
@@ -312,9 +284,7 @@ fn start_cells(
     Ok(cells)
 }
 
-/// The store as the run of these sections begins.
-///
-/// `Memory` comes where an allocation was refused.
+/// The store at the start of the run of these sections.
 pub(crate) fn start_store(alloc: Global, sections: &[Section<'_>]) -> Result<Store, Memory>
     ensures { IfOk result (λ store. IsStart (program_of sections.now) store) }
 {

@@ -1,4 +1,4 @@
-// The table of the routines of a program.
+//! The table of a program's routines, with their addresses and frame sizes.
 
 ghost use Rattle.std.specs.Prelude.{◌≡◌, ◌+◌, OnOk, IfOk};
 ghost use Rattle.bc_interpret_steps.specs.Sections.{placed_of, program_of, IsTable};
@@ -11,7 +11,7 @@ use bc_interpret_steps::{Callable, Section};
 use bc_word::Memory;
 use std::alloc::Global;
 
-/// The address of this label.
+/// The address of a label of the section; 0 if there is none.
 pub(crate) fn address_of(section: &Section<'_>, label: usize) -> u16
     ensures { result ≡ (placed_of section.now).address label }
 {
@@ -21,18 +21,18 @@ pub(crate) fn address_of(section: &Section<'_>, label: usize) -> u16
     }
 }
 
-/// The label after this one.
+/// The number of the next label.
 ///
-/// `Memory` comes where no number is so great, which no label is.
+/// `Memory` if the sum overflows, which no label's number does.
 pub(crate) fn label_after(label: usize) -> Result<usize, Memory>
     ensures { IfOk result (λ r. r ≡ label + 1) }
 {
     label.checked_add(1).ok_or(Memory)
 }
 
-/// Puts the routine that stands at this label after those of the table, with the cells of its frame, where the place is one.
+/// Appends the place with this label to the table if it is a routine.
 ///
-/// `Memory` comes where an allocation was refused.
+/// `Memory` if an allocation fails.
 #[tactic(auto, using(crate::proofs::Tables::of_a_place))]
 fn add_routine<'c>(
     alloc: Global,
@@ -58,9 +58,9 @@ fn add_routine<'c>(
     }
 }
 
-/// Puts the routines of a section after those of the table.
+/// Appends the routines of a section to the table.
 ///
-/// `Memory` comes where an allocation was refused.
+/// `Memory` if an allocation fails.
 #[tactic(auto, using(crate::proofs::Tables::of_a_section))]
 fn add_routines<'c>(
     alloc: Global,
@@ -79,9 +79,9 @@ fn add_routines<'c>(
     Ok(())
 }
 
-/// The routines of the sections, each with the cells of its frame.
+/// The routines of all sections, each with the size of its frame.
 ///
-/// `Memory` comes where an allocation was refused.
+/// `Memory` if an allocation fails.
 #[tactic(auto, using(crate::proofs::Tables::section_added))]
 pub(crate) fn table_of<'c>(
     alloc: Global,

@@ -1,4 +1,4 @@
--- Every part of the source takes turns and never gives any back, and is the same over calls that are the same: form by form.
+-- No part of a source increases the remaining turns, and equal calls give it equal outcomes: form by form.
 use Rattle.std.proofs.Common.{◌≡◌, ℕ, zero, suc, ◌+◌, ◌≤◌, ◌==◌, ◌||◌, List, [], ◌∷◌, Bool, true, false, cond, Option, Some, None, refl, subst, arith}
 use Rattle.std.specs.Prelude.{nat_le}
 use Rattle.bc_word.specs.declared.operator.Op.{Op}
@@ -22,7 +22,7 @@ use Rattle.bc_core.specs.Map.{Placed}
 use Rattle.bc_core.specs.Meaning.{Call as Calling, routine_value, valof_value, valofs_from, context_in, body_value, passed, Callee, OfSection, OfLibrary, callee, entered, entered_of, calls}
 use Rattle.bc_interpret_defs.proofs.Spending.{free, round_cost, Alike, alike_less, alike_done, alike_ends, alike_wild, alike_then, alike_choose, alike_turn, alike_read, alike_write, alike_both, alike_opened, alike_repeated}
 
--- a jump to a label has taken a turn, which a list owes that goes on there
+-- a jump to a label has taken a turn; a list that continues at that label owes it
 abbrev pub exit_cost : Exit → ℕ
 exit_cost (Jumped l) = 1
 exit_cost _ = 0
@@ -279,7 +279,7 @@ pub alike_body : (d : ℕ) (C D : Context) → AlikeContext d C D → (b : Body)
 alike_body d C D t (Gives e) p s = (alike_sense d C D t e p s).0
 alike_body d C D t (Does b) p s = alike_then d _ _ routine_value routine_value (alike_block d C D t b p s) (λ x. alike_routine_value d x)
 
--- calls that are alike below n turns make what can be called alike below one turn more
+-- calls that agree below n turns make all callees agree below n + 1 turns
 pub alike_enter : (d : ℕ) (call call1 : Calling) → AlikeCall d call call1 → (c : Option Callee) (vs : List ℕ) (f : ℕ) → Alike free (suc d) 0 (entered call (entered_of c) vs f) (entered call1 (entered_of c) vs f)
 alike_enter d call call1 t None vs f = alike_wild free (suc d) 0
 alike_enter d call call1 t (Some (OfSection section r)) vs f =

@@ -1,4 +1,4 @@
--- A step of the machine keeps what is left of the run: commands, blocks, lists and loops.
+-- A step of the machine preserves the meaning of the remaining run: commands, blocks, lists and loops.
 use Rattle.std.proofs.Common.{◌≡◌, ℕ, ◌+◌, List, [], ◌∷◌, Bool, true, false, refl, ◌||◌, ◌∙◌, sym, subst}
 use Rattle.bc_word.specs.Words.{holds}
 use Rattle.bc_core.specs.Tree.{Exp}
@@ -23,7 +23,7 @@ use Rattle.bc_interpret_defs.proofs.Rounds.{context_alike, while_again, repeat_a
 use Rattle.bc_interpret_defs.proofs.Kept.{Kept, by_number, true_or_not, evaluate_kept, decide_kept}
 use Rattle.bc_interpret_defs.proofs.Quiet.{quiet_assign}
 
--- rounds from their first one on
+-- all rounds of a loop, from the first
 pub from_round : {A : Type 0} (call : Calling) (rs : List Rest) (f : A → Run (Round A Exit)) (x : A) (st : State) (o : Outcome Answer) → repeated f x st ≡ followed (f x st) (next_round (repeated f)) → followed (followed (followed (f x st) (next_round (repeated f))) out) (resume call rs) ≡ o → followed (followed (repeated f x st) out) (resume call rs) ≡ o
 from_round call rs f x st o h k = subst (λ z. followed (followed z out) (resume call rs) ≡ o) (sym h) k
 
@@ -45,7 +45,7 @@ for_kept call E start limit by b s rs st =
     (λ u st3. join_within 1 a (l st3) rounds out (resume call rs) (λ n. then_do (rounds n) out) closes
     (λ n st4. join_left 1 a (rounds n st4) out (resume call rs) out closes (λ x st5. refl)))))
 
--- the first command of a list, and then the rest
+-- the first command of a list, and then the remaining items
 first_by : (call : Calling) (E : Spot) (v a : Exp) (is : Items) (s : ℕ) (rs : List Rest) (st : State) (t : Bool) → (has_call v || has_call a) ≡ t
     → ((st1 : State) → meant call (record { work = Listing E is s Beginning; rests = rs }) st1 ≡ followed (list_step E is s Beginning rs st1) (meant call))
     → meant call (record { work = Listing E (command (commands.Assign v a) is) s Beginning; rests = rs }) st ≡ followed (by_number t (go (Perform E (commands.Assign v a) s) (machine.Follows E is s ∷ rs)) (then_do (assign (quiet E) v a E.frame s) (λ u. list_step E is s Beginning rs)) st) (meant call)

@@ -1,4 +1,4 @@
--- What an expression without call fails by stands in the cells that it reads.
+-- A wild access of a pure expression reads a cell that is in the named state.
 use Rattle.std.proofs.Common.{◌≡◌, ℕ, Bool, true, false, List, Option, Some, None, refl}
 use Rattle.std.specs.Prelude.{cond}
 use Rattle.bc_word.specs.declared.operator.Op.{Op}

@@ -1,4 +1,4 @@
--- The number that bounds how deep calls nest never runs out before the turns do.
+-- The fuel that bounds the nesting of calls never runs out before the turns do.
 use Rattle.std.proofs.Common.{◌≡◌, ℕ, suc, ◌<◌, List, arith}
 use Rattle.bc_core.specs.Map.{Placed}
 use Rattle.bc_core.specs.Outcome.{State}
@@ -10,6 +10,6 @@ pub fuel_never_ends : FuelNeverEnds
 fuel_never_ends program n m a vs f st l1 l2 =
     (alike_calls program (suc st.turns) n m l1 l2 a vs f).same st (omega arith)
 
--- so a call is what can be called there, over the same calls
+-- so a call is its callee, run over the same calls
 pub call_unrolled : (program : List Placed) (n a : ℕ) (vs : List ℕ) (f : ℕ) (st : State) → st.turns < n → calls program n a vs f st ≡ entered (calls program n) (entered_at program a) vs f st
 call_unrolled program n a vs f st l = fuel_never_ends program n (suc n) a vs f st l (omega arith)

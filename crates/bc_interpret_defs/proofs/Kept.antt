@@ -1,4 +1,4 @@
--- A step of the machine keeps what is left of the run: expressions, assignments, calls and VALOFs.
+-- A step of the machine preserves the meaning of the remaining run: expressions, assignments, calls and VALOFs.
 use Rattle.std.proofs.Common.{◌≡◌, ℕ, ◌+◌, ◌==◌, ◌||◌, List, [], ◌∷◌, ◌++◌, Bool, true, false, refl, sym, ap, subst, append-nil, append_assoc, ◌∙◌}
 use Rattle.std.specs.Prelude.{not}
 use Rattle.bc_word.specs.declared.operator.Op.{Op}
@@ -32,7 +32,7 @@ sides (Ended w streams) second f g h q k st e = refl
 sides (Going streams) second f g h q k st e = refl
 sides Wild second f g h q k st e = refl
 
--- what the body of a VALOF means, or what comes of the others
+-- the meaning of a VALOF: the body of the first one, or a later one
 valof_kept : (call : Calling) (address : ℕ → ℕ) (p first : ℕ) (v : commands.Valof) (vs : List commands.Valof) (n s : ℕ) (rs : List Rest) (st : State) (t : Bool) → followed (followed (valofs_from address call (first + 1) vs n p s st) number) (resume call rs) ≡ followed (to_valof address p (first + 1) vs n s rs st) (meant call) → followed (followed (by_number t (then_do (perform_block (context address call (valofs_from address call (first + 1) vs)) v.body p s) valof_value) (valofs_from address call (first + 1) vs n p s) st) number) (resume call rs) ≡ followed (by_number t (go (machine.Enter (record { address = address; first = first + 1; valofs = vs; frame = p }) v.body s) (machine.Results ∷ rs)) (to_valof address p (first + 1) vs n s rs) st) (meant call)
 valof_kept call address p first v vs n s rs st true h =
     join3 (perform_block (context address call (valofs_from address call (first + 1) vs)) v.body p s st) valof_value number (resume call rs) out (resume call (machine.Results ∷ rs)) (λ x st1. refl)
@@ -42,7 +42,7 @@ to_valof_kept : (call : Calling) (address : ℕ → ℕ) (p first : ℕ) (vs : L
 to_valof_kept call address p first [] n s rs st = refl
 to_valof_kept call address p first (v ∷ vs) n s rs st = valof_kept call address p first v vs n s rs st (n == first) (to_valof_kept call address p (first + 1) vs n s rs st)
 
--- what is computed at once
+-- what is evaluated within one step
 pub valued : (call : Calling) (E : Spot) (e : Exp) (s : ℕ) (st : State) → has_call e ≡ false → (f : ℕ → Run Answer) (k : Answer → Run Answer) (g : ℕ → Step) → ((v : ℕ) (st1 : State) → followed (f v st1) k ≡ followed (g v st1) (meant call)) → followed (followed (value (context_at call E) e E.frame s st) f) k ≡ followed (followed (value (quiet E) e E.frame s st) g) (meant call)
 valued call E e s st h f k g m =
     let v = value (quiet E) e E.frame s in
@@ -67,7 +67,7 @@ cond_kept call E c x y s rs st false h =
     (join3 (q st) (λ t. choose t vx vy) number (resume call rs) onward (meant call)
     (λ t st1. choose2 t st1 vx vy number (go (Evaluate E x s) rs) (go (Evaluate E y s) rs) (resume call rs) (meant call) refl refl))
 
--- the arguments from here on, and then the routine's value
+-- the remaining arguments, and then the routine
 argued_last : (call : Calling) (E : Spot) (vs : List ℕ) (level : ℕ) (f : Exp) (n s : ℕ) (rs : List Rest) (st : State) (t : Bool) → has_call f ≡ t → meant call (record { work = Argue E vs no_argument level f n s; rests = rs }) st ≡ followed (by_number t (go (Evaluate E f (routine_level s n)) (machine.Calls vs (E.frame + s) ∷ rs)) (then_do (value (quiet E) f E.frame (routine_level s n)) (λ v. give (Number v) (machine.Calls vs (E.frame + s) ∷ rs))) st) (meant call)
 argued_last call E vs level f n s rs st true h =
     join2 (value (context_at call E) f E.frame (routine_level s n) st) (λ r. then_do (call r (vs ++ []) (E.frame + s)) number) (resume call rs) number (resume call (machine.Calls vs (E.frame + s) ∷ rs))

@@ -1,4 +1,4 @@
--- Each step of the machine takes a turn, or lessens the weight of what is left.
+-- Each step of the machine takes a turn or decreases the weight of the remaining work.
 use Rattle.std.proofs.Common.{◌≡◌, ℕ, zero, suc, ◌+◌, ◌≤◌, ◌<◌, ◌==◌, ◌||◌, List, [], ◌∷◌, ◌++◌, Bool, true, false, Option, Some, None, refl, sym, ap, subst, arith}
 use Rattle.std.specs.Prelude.{nat_le}
 use Rattle.bc_word.specs.declared.operator.Op.{Op}
@@ -112,7 +112,7 @@ still_both first second f h k g = record { from = λ st. joined st (first st) (h
   joined st (Going streams) c = tt
   joined st Wild c = tt
 
--- what comes after such a run
+-- what follows such a run
 after_still : {A : Type 0} (r : Run A) (f : A → Step) (m : ℕ) (st : State) → Still r → ((x : A) (st1 : State) → Lessens st1.turns m (f x st1)) → Lessens st.turns m (then_do r f st)
 after_still {A = A} r f m st h k = joined (r st) (h.from st) where
   joined : (o : Outcome A) → Quiets st.turns o → Lessens st.turns m (followed o f)
@@ -151,14 +151,14 @@ to_valof_less address p first (v ∷ vs) n s rs st = found (n == first) (to_valo
   found true h = (omega arith, λ le. omega arith)
   found false h = h
 
--- the same where there was more to do
+-- the same with a larger bound
 less_more : (t m n : ℕ) (o : Outcome At) → m ≤ n → Lessens t m o → Lessens t n o
 less_more t m n (Done at st) l h = let k = h.1 in (h.0, λ le. let j = k le in omega arith)
 less_more t m n (Ended e streams) l h = tt
 less_more t m n (Going streams) l h = tt
 less_more t m n Wild l h = tt
 
--- what is computed at once
+-- what is evaluated within one step
 valued_less : (E : Spot) (e : Exp) (s m : ℕ) (f : ℕ → Step) (st : State) → has_call e ≡ false → ((v : ℕ) (st1 : State) → Lessens st1.turns m (f v st1)) → Lessens st.turns m (then_do (value (quiet E) e E.frame s) f st)
 valued_less E e s m f st h k = after_still (value (quiet E) e E.frame s) f m st (still_calm (value (quiet E) e E.frame s) (calm (quiet E) e h E.frame s).0) k
 
@@ -262,7 +262,7 @@ store_by E v a s rs st false h =
 store_less : (program : List Placed) (E : Spot) (v a : Exp) (s : ℕ) (rs : List Rest) (st : State) → Less program (Store E v a s) rs st
 store_less program E v a s rs st = store_by E v a s rs st (has_call v || has_call a) refl
 
--- the first command of a list, and then the rest
+-- the first command of a list, and then the remaining items
 first_less_by : (E : Spot) (v a : Exp) (is : Items) (s : ℕ) (rs : List Rest) (st : State) (t : Bool) → (has_call v || has_call a) ≡ t
     → ((st1 : State) → Lessens st1.turns (weight (Listing E is s Beginning) rs) (machine.list_step E is s Beginning rs st1))
     → Lessens st.turns (weight (Listing E (command (commands.Assign v a) is) s Beginning) rs) (by_test t (go (Perform E (commands.Assign v a) s) (machine.Follows E is s ∷ rs)) (then_do (assign (quiet E) v a E.frame s) (λ u. machine.list_step E is s Beginning rs)) st)
@@ -304,7 +304,7 @@ enter_less program E (block ds is) s rs st =
     less_more st.turns (weight (Declare E ds is s (s + cells_declared ds)) rs) (weight (Enter E (block ds is) s) rs) (machine.declare_step E ds is s (s + cells_declared ds) rs st) (omega arith)
     (declare_less program E ds is s (s + cells_declared ds) rs st)
 
--- the same in place of more
+-- the same for a smaller weight
 entered_less : (program : List Placed) (E : Spot) (b : Block) (s m : ℕ) (rs : List Rest) (st : State) → weight (Enter E b s) rs ≤ m → Lessens st.turns m (machine.enter E b s rs st)
 entered_less program E b s m rs st l = less_more st.turns (weight (Enter E b s) rs) m (machine.enter E b s rs st) l (enter_less program E b s rs st)
 
@@ -548,7 +548,7 @@ next_less program (machine.Follows E is s) a rs st = tt
 next_less program (machine.Listed E is s) (Left x) rs st = listed_less program E is s x rs st
 next_less program (machine.Listed E is s) a rs st = tt
 
--- but for the answer of the whole run, which has no step
+-- every state steps, except the one that holds the answer of the whole run
 pub work_less : (program : List Placed) (w : Work) (rs : List Rest) (st : State) → Moves w rs → Less program w rs st
 work_less program (Evaluate E e s) rs st m = evaluate_less program E e s rs st
 work_less program (Decide E e s) rs st m = decide_less program E e s rs st

@@ -1,4 +1,4 @@
--- A step of the machine keeps what is left of the run: what is done with an answer.
+-- A step of the machine preserves the meaning of the remaining run: popping a continuation.
 use Rattle.std.proofs.Common.{◌≡◌, ℕ, ◌+◌, ◌<◌, List, [], ◌∷◌, ◌++◌, Bool, true, false, Option, Some, None, refl, sym, ap, subst, arith, append_assoc, ◌∙◌}
 use Rattle.std.specs.Prelude.{nat_le, cond}
 use Rattle.bc_word.specs.declared.operator.Op.TheVariants.{Add}

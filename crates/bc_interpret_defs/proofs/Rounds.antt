@@ -1,4 +1,4 @@
--- The rounds of loops and lists: each that comes again has taken a turn, so that they are one round, and then the rounds again.
+-- The rounds of loops and lists. Each repeated round has taken a turn, so the rounds are one round followed by the rounds again.
 use Rattle.std.proofs.Common.{◌≡◌, ℕ, ◌+◌, ◌%◌, ◌||◌, Bool, true, false, refl, arith}
 use Rattle.bc_word.specs.Words.{holds}
 use Rattle.bc_core.specs.Tree.{Exp, Frame, Load}

@@ -1,4 +1,4 @@
--- Runs of the machine come to what the sections mean.
+-- Runs of the machine reach the meaning of the sections.
 use Rattle.std.proofs.Common.{◌≡◌, ℕ, zero, suc, ◌+◌, ◌≤◌, ◌<◌, List, [], ◌∷◌, Option, Some, None, refl, sym, ap, subst, arith, ◌∙◌, ◌⊎◌, inl, inr}
 use Rattle.std.proofs.Math.Nat.{eq-or-lt_of_le}
 use Rattle.bc_core.specs.Map.{Placed, placed}
@@ -94,7 +94,7 @@ start_means program base st = of_start (calls program (suc st.turns)) (base + 2)
 lessened : (program : List Placed) (w : Work) (rs : List Rest) (st : State) → Moves w rs → (at : At) (st1 : State) → step program w rs st ≡ Done at st1 → Lessens st.turns (weight w rs) (Done at st1)
 lessened program w rs st m at st1 e = subst (λ o. Lessens st.turns (weight w rs) o) e (steps_lessen program w rs st m)
 
--- whatever the machine comes to is what was left of the run
+-- whatever outcome the machine reaches is the meaning of the state it started from
 in_some : Option (Outcome Answer) → Outcome Answer
 in_some (Some o) = o
 in_some None = Wild
@@ -128,7 +128,7 @@ right program n (suc k) o w rs st l e =
     by_moves (Right program n (suc k) o) (λ a st1 l1 e1. sym (unsome (Done a st1) o e1))
     (λ w1 rs1 m st1 l1 e1. right_step program n k o (right program n k o) w1 rs1 m st1 l1 (step program w1 rs1 st1) refl e1) w rs st l e
 
--- and after some number of steps it comes to it: by the turns that are left, and then by the weight
+-- after some number of steps it reaches that outcome: by induction on the remaining turns, then on the weight
 abbrev HaltsBelow : List Placed → (n t m : ℕ) → Type 0
 HaltsBelow program n t m = (w : Work) (rs : List Rest) (st : State) → st.turns < n → st.turns < t → weight w rs < m → Halts program n w rs st
 

@@ -1,10 +1,10 @@
--- Turns never increase, and runs that are the same below a number of turns.
+-- Turns never increase, and runs that agree below a number of turns.
 use Rattle.std.proofs.Common.{◌≡◌, ℕ, zero, suc, ◌+◌, ◌≤◌, ◌<◌, List, Bool, true, false, refl, ap, subst, arith}
 use Rattle.bc_machine_defs.specs.Streams.{Content}
 use Rattle.bc_core.specs.Store.{Cell, Dead, Unset, Set, cell_at}
 use Rattle.bc_core.specs.Outcome.{State, Outcome, Done, Ended, Going, Wild, Ending, Run, wild, ends, followed, then_do, choose, taken, in_turn, content_of_cell, read, written, write, left, outweighed, second_side, both, Round, Again, Leave, next_round, rounds, repeated}
 
--- turns that an outcome has left, with what its value still owes, are at most t
+-- the turns that an outcome has left, plus those that its value still owes, are at most t
 abbrev pub Within : {A : Type 0} → (cost : A → ℕ) → ℕ → Outcome A → Type 0
 Within cost t (Done x st) = st.turns + cost x ≤ t
 Within cost t (Ended e streams) = Unit {0}
@@ -20,7 +20,7 @@ abbrev pub round_cost : {A B : Type 0} → (B → ℕ) → Round A B → ℕ
 round_cost cost (Again x) = 1
 round_cost cost (Leave y) = cost y
 
--- r never gains turns beyond k, and where fewer than n turns are left it is q
+-- r gains at most k turns, and equals q where fewer than n turns are left
 pub record Alike {A : Type 0} (cost : A → ℕ) (n k : ℕ) (r q : Run A) : Type 0 where
   pub same : (st : State) → st.turns < n → r st ≡ q st
   pub spends : (st : State) → Within cost (st.turns + k) (r st)
@@ -67,7 +67,7 @@ pub alike_choose : {A : Type 0} {cost : A → ℕ} {k : ℕ} (n : ℕ) (t : Bool
 alike_choose n true r1 r2 q1 q2 h g = h
 alike_choose n false r1 r2 q1 q2 h g = g
 
--- a turn pays for one more, and for one turn that is owed
+-- taking a turn raises n by one, and pays one owed turn
 pub alike_turn : {A : Type 0} (cost : A → ℕ) (n : ℕ) (r q : Run A) → Alike cost n 1 r q → Alike cost (suc n) 0 (in_turn r) (in_turn q)
 alike_turn {A = A} cost n r q h = record {
   same = λ st lt. counted st st.turns lt;
@@ -149,7 +149,7 @@ alike_repeated cost n f g x h = record {
   spends = λ st. (alike_rounds cost n (suc st.turns) f g x h).spends st;
 }
 
--- rounds that take a turn each: the number is never met before the turns run out
+-- rounds that take a turn each: the bound isn't reached before the turns run out
 pub rounds_same : {A B : Type 0} (cost : B → ℕ) (f : A → Run (Round A B)) → ((y : A) (st : State) → Within (round_cost cost) (st.turns + 0) (f y st)) → (n m : ℕ) (x : A) (st : State) → st.turns < n → st.turns < m → rounds n f x st ≡ rounds m f x st
 rounds_same cost f h zero m x st l1 l2 = absurd (omega arith)
 rounds_same cost f h (suc n) zero x st l1 l2 = absurd (omega arith)
@@ -161,7 +161,7 @@ rounds_same {A = A} {B = B} cost f h (suc n) (suc m) x st l1 l2 = onwards (λ y 
   onwards again (Going streams) w = refl
   onwards again Wild w = refl
 
--- so rounds are one round, and then the rounds again
+-- so the rounds are one round followed by the rounds again
 pub unrolled : {A B : Type 0} (cost : B → ℕ) (f : A → Run (Round A B)) → ((y : A) (st : State) → Within (round_cost cost) (st.turns + 0) (f y st)) → (x : A) (st : State) → repeated f x st ≡ followed (f x st) (next_round (repeated f))
 unrolled {A = A} {B = B} cost f h x st = onwards (f x st) (h x st) where
   onwards : (o : Outcome (Round A B)) → Within (round_cost cost) (st.turns + 0) o → followed o (next_round (rounds st.turns f)) ≡ followed o (next_round (repeated f))

@@ -1,4 +1,4 @@
--- The worth of an expression without call and VALOF is its value and its truth, and a quiet step keeps it.
+-- The worth of a pure expression is its value and its truth, and a step of the machine for such expressions preserves it.
 use Rattle.std.proofs.Common.{◌≡◌, ℕ, ◌<◌, arith, ◌+◌, ◌||◌, List, [], ◌∷◌, Bool, true, false, Option, Some, None, refl, sym, ap, subst, ◌∙◌}
 use Rattle.std.specs.Prelude.{not, cond}
 use Rattle.bc_word.specs.declared.operator.Op.{Op}

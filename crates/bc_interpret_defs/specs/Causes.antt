@@ -1,29 +1,30 @@
--- Wild accesses, and how the cells stand where one is met.
+-- The causes of a wild step, and the state of the cell that each of them names.
 use Rattle.std.specs.Prelude.{ℕ, ◌≡◌, List}
 use Rattle.bc_core.specs.Store.{Cell, cell_at}
 use Rattle.bc_core.specs.Store as cells
 
+-- why a step is wild
 pub data Cause : Type 0 where
-  -- the cell at this address is read, and is live, but nothing was ever put into it
+  -- the cell at this address is read; it is live, but was never set
   Unset : ℕ → Cause
-  -- the cell at this address is read, and isn't live
+  -- the cell at this address is read, but isn't live
   Dead : ℕ → Cause
-  -- the cell at this address is to be written, and isn't live
+  -- the cell at this address is written, but isn't live
   NoCell : ℕ → Cause
-  -- this value is called, and is the address of no routine
+  -- this value is called, but isn't the address of a routine
   NotRoutine : ℕ → Cause
-  -- a routine is called whose frame would begin at this address and pass the address 65,535
+  -- a routine is called whose frame would begin at this address and extend past address 65,535
   FrameTooLarge : ℕ → Cause
-  -- a part that no source gives, or an answer of another kind than what is left to do wants
+  -- a form that no source produces, or an answer of the wrong kind for its continuation
   Malformed : Cause
 
--- it is an access to a cell, and the cell stands so
+-- the cause is an access to a cell, and the cell is in the state that it names
 abbrev pub StandsIn : Cause → List Cell → Type 0
 StandsIn (Unset a) store = cell_at store a ≡ cells.Unset
 StandsIn (Dead a) store = cell_at store a ≡ cells.Dead
 StandsIn (NoCell a) store = cell_at store a ≡ cells.Dead
 StandsIn cause store = ⊥
 
--- whatever stands now stood then: a cell that isn't live now wasn't live, and one that is unset was unset
+-- every state that a cause can name now was there then: a cell that isn't live now wasn't live, and one that is unset was unset
 abbrev pub Stood : (then now : List Cell) → Type 0
 Stood then now = (cause : Cause) → StandsIn cause now → StandsIn cause then

@@ -1,5 +1,6 @@
--- For proofs: what an expression without call and VALOF comes to, and a machine that works it out. It reads cells and changes
--- nothing, and a zero divisor ends it only where no wild cell is read beside it. What fails says by which access: the first one.
+-- For proofs: the worth of a pure expression (one with no call and no VALOF), and a small machine that computes it. A pure
+-- expression reads cells and changes nothing. A zero divisor in a first operand ends it only if the second operand reads no wild cell.
+-- A failure names the first wild access.
 use Rattle.bc_interpret_defs.specs.Weight.{weight_of}
 use Rattle.bc_interpret_defs.specs.Causes.{Cause, Malformed}
 use Rattle.bc_interpret_defs.specs.Causes as causes
@@ -14,33 +15,37 @@ use Rattle.bc_core.specs.Value.{is_true, has_call, value, truth}
 use Rattle.bc_core.specs.Meaning.{context}
 use Rattle.bc_core.specs.Meaning.{Call as Calling}
 
+-- a result, a zero divisor, or the cause of a wild access
 pub data Worth (A : Type 0) : Type 0 where
   Is : A → Worth A
   Divides : Worth A
   Fails : Cause → Worth A
 
+-- a worth as a run that changes nothing
 abbrev pub settled : {A : Type 0} → Worth A → Run A
 settled (Is x) = Done x
 settled Divides = ends ZeroDivide
 settled (Fails c) = wild
 
+-- continues with a result; a zero divisor or a wild access stays
 abbrev pub chained : {A B : Type 0} → Worth A → (A → Worth B) → Worth B
 chained (Is x) f = f x
 chained Divides f = Divides
 chained (Fails c) f = Fails c
 
+-- the worth of an operand that is evaluated beside a zero divisor: its wild access, else the zero divisor
 abbrev pub beside : {A B : Type 0} → Worth A → Worth B
 beside (Is x) = Divides
 beside Divides = Divides
 beside (Fails c) = Fails c
 
--- a wild second side outweighs a zero divisor in the first
+-- a wild access in the second operand takes precedence over a zero divisor in the first
 abbrev pub paired : {A B C : Type 0} → Worth A → Worth B → (A → B → Worth C) → Worth C
 paired (Is x) w f = chained w (f x)
 paired Divides w f = beside w
 paired (Fails c) w f = Fails c
 
--- what is read at an address where this cell is
+-- the result of reading address a, which holds this cell
 abbrev pub found : ℕ → Cell → Worth ℕ
 found a Dead = Fails (causes.Dead a)
 found a Unset = Fails (causes.Unset a)
@@ -50,7 +55,7 @@ abbrev pub quotient : Option ℕ → Worth ℕ
 quotient None = Divides
 quotient (Some v) = Is v
 
--- what is read: the cells, the labels' addresses, and the frame
+-- all that a pure expression depends on: the cells, the addresses of labels, and the frame
 pub record Sight : Type 0 where
   pub cells : List Cell
   pub address : ℕ → ℕ
@@ -78,6 +83,7 @@ abbrev pub operator_worths : Op → Worths → Worths → Worths
 operator_worths op a b =
     let v = paired a.value b.value (combined op) in record { value = v; truth = operator_worth op a b v }
 
+-- the worth of a pure expression, as a number and as a truth
 abbrev pub worth : Sight → Exp → Worths
 worth S (Num n) = by_worth (Is n)
 worth S (Frame k) = by_worth (Is ((S.frame + k) % 65536))
@@ -93,7 +99,7 @@ worth S (Bin op a b) = operator_worths op (worth S a) (worth S b)
 worth S (Cond c x y) = by_worth (chained (worth S c).truth (λ t. cond t (worth S x).value (worth S y).value))
 worth S _ = by_worth (Fails Malformed)
 
--- the machine: what is done next, and what is left to do with an answer
+-- the machine: its answers, its current work, and its continuations
 pub data QuietAnswer : Type 0 where
   Number : ℕ → QuietAnswer
   Verdict : Bool → QuietAnswer
@@ -102,9 +108,10 @@ pub data QuietWork : Type 0 where
   Evaluate : Exp → QuietWork
   Decide : Exp → QuietWork
   Give : QuietAnswer → QuietWork
-  -- a zero divisor was met
+  -- a zero divisor has occurred
   Divided : QuietWork
 
+-- the continuations
 pub data QuietRest : Type 0 where
   Loads : QuietRest
   Negates : QuietRest
@@ -113,7 +120,7 @@ pub data QuietRest : Type 0 where
   Tests : QuietRest
   Operates : Op → Exp → QuietRest
   Operated : Op → ℕ → QuietRest
-  -- the second side beside a zero divisor in the first
+  -- the second operand is evaluated although the first had a zero divisor
   Beside : QuietRest
   Conjoins : Exp → QuietRest
   Disjoins : Exp → QuietRest
@@ -123,7 +130,7 @@ pub record QuietAt : Type 0 where
   pub work : QuietWork
   pub rests : List QuietRest
 
--- what is to be done then, or the wild access
+-- a step: the next state, or the wild access that stops the machine
 pub data QuietStep : Type 0 where
   On : QuietAt → QuietStep
   Stops : Cause → QuietStep
@@ -131,6 +138,7 @@ pub data QuietStep : Type 0 where
 abbrev pub on : QuietWork → List QuietRest → QuietStep
 on w rs = On (record { work = w; rests = rs })
 
+-- begins to evaluate an expression for its value
 abbrev pub evaluates : Sight → Exp → List QuietRest → QuietStep
 evaluates S (Num n) rs = on (Give (Number n)) rs
 evaluates S (Frame k) rs = on (Give (Number ((S.frame + k) % 65536))) rs
@@ -148,6 +156,7 @@ decides_operator And a b rs = on (Decide a) (Conjoins b ∷ rs)
 decides_operator Or a b rs = on (Decide a) (Disjoins b ∷ rs)
 decides_operator op a b rs = on (Evaluate (Bin op a b)) (Tests ∷ rs)
 
+-- begins to evaluate an expression for its truth
 abbrev pub decides : Exp → List QuietRest → QuietStep
 decides (Not e) rs = on (Decide e) (Opposes ∷ rs)
 decides (Bin op a b) rs = decides_operator op a b rs
@@ -164,6 +173,7 @@ as_number w = chained w (λ v. Is (Number v))
 abbrev pub as_verdict : Worth Bool → Worth QuietAnswer
 as_verdict w = chained w (λ t. Is (Verdict t))
 
+-- gives a number to this continuation
 abbrev pub number_taken : Sight → QuietRest → ℕ → List QuietRest → QuietStep
 number_taken S Loads v rs = gives (as_number (found v (cell_at S.cells v))) rs
 number_taken S Negates v rs = on (Give (Number (negated v))) rs
@@ -174,6 +184,7 @@ number_taken S (Operated op x) v rs = gives (as_number (combined op x v)) rs
 number_taken S Beside v rs = on Divided rs
 number_taken S _ v rs = Stops Malformed
 
+-- gives a truth to this continuation
 abbrev pub verdict_taken : QuietRest → Bool → List QuietRest → QuietStep
 verdict_taken Opposes t rs = on (Give (Verdict (not t))) rs
 verdict_taken (Conjoins b) t rs = cond t (on (Decide b) rs) (on (Give (Verdict false)) rs)
@@ -181,6 +192,7 @@ verdict_taken (Disjoins b) t rs = cond t (on (Give (Verdict true)) rs) (on (Deci
 verdict_taken (Selects x y) t rs = cond t (on (Evaluate x) rs) (on (Evaluate y) rs)
 verdict_taken _ t rs = Stops Malformed
 
+-- passes a zero divisor to this continuation
 abbrev pub divided : QuietRest → List QuietRest → QuietStep
 divided (Operates op b) rs = on (Evaluate b) (Beside ∷ rs)
 divided _ rs = on Divided rs
@@ -197,7 +209,7 @@ abbrev pub divided_given : List QuietRest → QuietStep
 divided_given [] = on Divided []
 divided_given (r ∷ rs) = divided r rs
 
--- one step; where nothing is left to do it stays
+-- one step; without continuations an answer changes nothing
 abbrev pub quiet_step : Sight → QuietWork → List QuietRest → QuietStep
 quiet_step S (Evaluate e) rs = evaluates S e rs
 quiet_step S (Decide e) rs = decides e rs
@@ -205,7 +217,7 @@ quiet_step S (Give (Number v)) rs = number_given S v rs
 quiet_step S (Give (Verdict t)) rs = verdict_given t rs
 quiet_step S Divided rs = divided_given rs
 
--- what it means
+-- the meaning of the work and of the frames, as a worth
 abbrev pub for_number : {A : Type 0} → (ℕ → Worth A) → QuietAnswer → Worth A
 for_number f (Number v) = f v
 for_number f (Verdict t) = Fails Malformed
@@ -250,7 +262,7 @@ abbrev pub quiet_after : Sight → QuietStep → Worth QuietAnswer
 quiet_after S (Stops c) = Fails c
 quiet_after S (On at) = quiet_meant S at.work at.rests
 
--- a number that each quiet step lessens
+-- a number that each step of this machine decreases
 abbrev pub quiet_weight_of : Exp → ℕ
 quiet_weight_of e = weight_of (λ n. 1) e
 
@@ -277,7 +289,7 @@ abbrev pub IsLighter : ℕ → QuietStep → Type 0
 IsLighter m (Stops c) = Unit {0}
 IsLighter m (On at) = quiet_weight at.work at.rests < m
 
--- something is left to do
+-- the machine isn't finished: something is left to do
 abbrev pub QuietMoves : QuietWork → List QuietRest → Type 0
 QuietMoves (Give a) [] = ⊥
 QuietMoves Divided [] = ⊥

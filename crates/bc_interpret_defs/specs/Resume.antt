@@ -1,4 +1,4 @@
--- For proofs: what the machine's work and what is left to do mean, in the words of the meaning.
+-- For proofs: the meaning of the machine's work and of its continuations, in terms of bc_core.
 use Rattle.std.specs.Prelude.{ℕ, ◌+◌, Bool, true, false, not, List, [], ◌∷◌, ◌++◌}
 use Rattle.bc_word.specs.Words.{value_of, negated, complemented, holds}
 use Rattle.bc_core.specs.Tree.{Exp, Frame, Load}
@@ -29,7 +29,7 @@ nothing u = Done Nothing
 abbrev pub out : Exit → Run Answer
 out x = Done (Left x)
 
--- the rounds of loops and lists
+-- one round of each loop, and of a list that jumps enter again
 abbrev pub while_round : Context → Bool → Exp → Block → (p s : ℕ) → Unit {0} → LoopRound
 while_round C sense e b p s u = then_do (truth C e p s) (λ t. choose (agrees sense t) (then_do (perform_block C b p s) (after_body back)) leave)
 
@@ -53,10 +53,11 @@ for_round C limit by b p s u =
 abbrev pub list_round : Context → Items → (p s : ℕ) → Entry → Run (Round Entry Exit)
 list_round C is p s at = then_do (perform_items C is p s at) (after_list (has_label is))
 
--- what comes after a round
+-- the remaining rounds after a round
 abbrev pub around : {A : Type 0} → (A → Run (Round A Exit)) → Run (Round A Exit) → Run Answer
 around f r = then_do (then_do r (next_round (repeated f))) out
 
+-- the meaning of the current work
 abbrev pub doing : Call → Work → Run Answer
 doing call (machine.Evaluate E e s) = then_do (value (context_at call E) e E.frame s) number
 doing call (machine.Decide E e s) = then_do (truth (context_at call E) e E.frame s) verdict
@@ -73,6 +74,7 @@ doing call (machine.Listing E is s at) = then_do (perform_items (context_at call
 doing call (machine.Round E limit by b s) = then_do (repeated (for_round (context_at call E) limit by b E.frame s) tt) out
 doing call (machine.Give a) = Done a
 
+-- the meaning of a continuation, given its answer
 abbrev pub rest : Call → Rest → Answer → Run Answer
 rest call machine.Loads a = on_number (λ v. then_do (read v) number) a
 rest call machine.Negates a = on_number (λ v. number (negated v)) a
@@ -135,6 +137,6 @@ abbrev pub resume : Call → List Rest → Answer → Run Answer
 resume call [] a = Done a
 resume call (r ∷ rs) a = then_do (rest call r a) (resume call rs)
 
--- what is left of a run
+-- the meaning of a state: its work, and then its continuations
 abbrev pub meant : Call → At → Run Answer
 meant call at = then_do (doing call at.work) (resume call at.rests)

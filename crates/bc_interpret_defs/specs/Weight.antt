@@ -1,4 +1,4 @@
--- For proofs: a number that each step of the machine lessens that takes no turn.
+-- For proofs: the weight of a state, a number that every step decreases unless it takes a turn.
 use Rattle.std.specs.Prelude.{ℕ, ◌+◌, ◌==◌, ◌<◌, ◌≤◌, true, false, List, [], ◌∷◌}
 use Rattle.bc_core.specs.Tree.{Exp, Load, Neg, Not, Bin, Cond, Call, Args, no_argument, argument}
 use Rattle.bc_core.specs.Tree as tree
@@ -9,7 +9,7 @@ use Rattle.bc_core.specs.Exit.{Exit, Jumped}
 use Rattle.bc_interpret_defs.specs.Machine.{Spot, Answer, Left, Work, Rest, At}
 use Rattle.bc_interpret_defs.specs.Machine as machine
 
--- over the weights of VALOFs, by their numbers
+-- the weight of each form; V gives the weights of VALOFs by their numbers
 abbrev mutual
   pub weight_of : (ℕ → ℕ) → Exp → ℕ
   weight_of V (Load e) = weight_of V e + 2
@@ -106,7 +106,7 @@ abbrev pub weight_of_rests : List Rest → ℕ
 weight_of_rests [] = 0
 weight_of_rests (r ∷ rs) = weight_of_rest r + weight_of_rests rs
 
--- the lists that a jump may enter: it has taken its turn before it gets there
+-- the weight of the lists that a jump may still enter, since its GOTO has already taken its turn
 abbrev pub listed_in : Rest → ℕ
 listed_in (machine.Listed E is s) = weight_of_items (valofs_at E) is + 1
 listed_in _ = 0
@@ -130,7 +130,7 @@ of_jump _ rs = 0
 abbrev pub weight : Work → List Rest → ℕ
 weight w rs = weight_of_work w + weight_of_rests rs + of_jump w rs
 
--- a step takes no turn back, and lessens the weight where it takes none
+-- a step never increases the remaining turns, and decreases the weight if it takes no turn
 abbrev pub Lessens : (turns weight : ℕ) → Outcome At → Type 0
 Lessens t m (Done at st) = (st.turns ≤ t) × (t ≤ st.turns → weight at.work at.rests < m)
 Lessens t m (Ended e streams) = Unit {0}

@@ -1,49 +1,49 @@
-//! Laws of the meaning that the interpreter rests on. Each is the contract of a function that does nothing.
+//! The laws that the interpreter depends on. Each is the contract of a function that does nothing.
 
 ghost use Rattle.bc_interpret_defs.specs.Laws.{FuelNeverEnds, WorthIsValue, QuietStepsKeep, QuietStepsLessen, StepsKeep, StepsLessen, MachineMeans, MachineIsRight, FailuresStand};
 
-/// The number that bounds how deep calls nest is never met before the turns run out: any two numbers
-/// greater than the turns that are left give the same outcome.
+/// The fuel that bounds the nesting of calls never runs out before the turns do: any two amounts greater than
+/// the remaining turns give the same outcome.
 pub fn fuel_never_ends()
     ensures { FuelNeverEnds }
 {}
 
-/// Each step of the machine keeps what is left of the run, read by the words of the meaning.
+/// Each step of the machine preserves the meaning of the current work followed by its continuations.
 pub fn steps_keep()
     ensures { StepsKeep }
 {}
 
-/// Each step of the machine takes a turn, or lessens the weight of what is left to do.
+/// Each step of the machine takes a turn or decreases the weight of the remaining work.
 pub fn steps_lessen()
     ensures { StepsLessen }
 {}
 
-/// After some number of steps the machine has come to what the sections mean.
+/// After some number of steps the machine reaches the meaning of the sections.
 pub fn machine_means()
     ensures { MachineMeans }
 {}
 
-/// Whatever the machine comes to is what the sections mean.
+/// Whatever result the machine reaches is the meaning of the sections.
 pub fn machine_is_right()
     ensures { MachineIsRight }
 {}
 
-/// What an expression without call and VALOF is worth is its value, and its truth.
+/// The worth of a pure expression (one with no call and no VALOF) is its value and its truth.
 pub fn worth_is_value()
     ensures { WorthIsValue }
 {}
 
-/// Each step of the machine for such expressions keeps what is left.
+/// Each step of the machine for pure expressions preserves the meaning of the remaining work.
 pub fn quiet_steps_keep()
     ensures { QuietStepsKeep }
 {}
 
-/// Each step of that machine lessens the weight of what is left to do.
+/// Each step of the machine for pure expressions decreases the weight of the remaining work.
 pub fn quiet_steps_lessen()
     ensures { QuietStepsLessen }
 {}
 
-/// The wild access that an expression without call and VALOF fails by is one to a cell, which stands so.
+/// If a pure expression fails with a wild access, that access reads a cell that is in the named state.
 pub fn failures_stand()
     ensures { FailuresStand }
 {}

@@ -8,7 +8,7 @@ use Rattle.bc_core.specs.Commands as commands
 use Rattle.bc_core.specs.Layout.{cells_of_block, cells_of_valofs}
 use Rattle.bc_core.specs.declared.command.Valof.{Valof}
 use Rattle.bc_interpret_defs.specs.Weight.{weight_of_block, weight_of_valof}
-use Rattle.bc_interpret_frames.specs.declared.part.Part.{Part}
+use Rattle.bc_interpret_frames.specs.declared.part.Construct.{Construct}
 use Rattle.bc_interpret_frames.specs.Parts.{greatest, weight_of_all, Expanded}
 use Rattle.bc_interpret_frames.proofs.Waits.{one_waits}
 
@@ -88,8 +88,8 @@ weight_at first (w ∷ ws) n (suc i) d e h =
     ∙ (weight_at (first + 1) ws n i d (omega arith) (omega arith)
     ∙ ap (λ k. weight_of_block (weight_of_valof (n + 1) (map valof_of (drop k (w ∷ ws)))) (valof_of (get_or ws i d)).body + 2) (sym more)))
 
--- its body waits
-pub valof_waits : (first : ℕ) (ws : List Valof) (n i s next : ℕ) (v : Valof) (old new : List Part) → n ≡ first + i → i < length ws → next ≡ n + 1
+-- expanding it to its body
+pub valof_waits : (first : ℕ) (ws : List Valof) (n i s next : ℕ) (v : Valof) (old new : List Construct) → n ≡ first + i → i < length ws → next ≡ n + 1
     → greatest new ≡ max (cells_of_block (cells_of_valofs next (map valof_of (take (length ws - (i + 1)) (drop (i + 1) ws)))) (block_of (get_or ws i v).body) s) (greatest old)
     → weight_of_all new ≡ weight_of_block (weight_of_valof next (map valof_of (take (length ws - (i + 1)) (drop (i + 1) ws)))) (block_of (get_or ws i v).body) + 1 + weight_of_all old
     → Expanded 0 (cells_of_valofs first (map valof_of ws) n s) (weight_of_valof first (map valof_of ws) n) old new

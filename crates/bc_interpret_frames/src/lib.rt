@@ -1,4 +1,4 @@
-//! How many cells the frame of a routine takes, computed without native stack for the depth of the tree.
+//! Computes how many cells the frame of a routine takes, without native recursion on its tree.
 #![tactic(auto)]
 
 mod expand;

@@ -1,4 +1,4 @@
-// The size of a routine's frame.
+//! The public call: the size of a routine's frame.
 
 ghost use Rattle.std.specs.Prelude.{◌≡◌, map, IfOk};
 ghost use Rattle.bc_core.specs.View.{valof_of, routine_of, body_of};
@@ -6,14 +6,14 @@ ghost use Rattle.bc_core.specs.Layout.{frame_size as size_of_frame, cells_of_bod
 ghost use Rattle.bc_interpret_frames.specs.Parts.{bodies, cells_of, greatest};
 
 use crate::expand::expand;
-use crate::part::{Part, Within, above};
+use crate::part::{Construct, Within, above};
 use bc_core::{Body, Routine, Valof};
 use bc_word::Memory;
 use std::alloc::Global;
 
-/// The most cells that one of these parts, or a part of them, takes.
+/// The greatest extent of the frame that one of the waiting parts or their sub-parts needs, in cells.
 #[tactic(auto, using(crate::proofs::Waits::greatest_more, crate::proofs::Waits::weight_more))]
-fn most<'c>(waiting: &mut Vec<Part<'c>>) -> Result<usize, Memory>
+fn most<'c>(waiting: &mut Vec<Construct<'c>>) -> Result<usize, Memory>
     ensures { IfOk result (λ most. most ≡ greatest waiting.old.items) }
 {
     let mut most = 0;
@@ -26,20 +26,20 @@ fn most<'c>(waiting: &mut Vec<Part<'c>>) -> Result<usize, Memory>
     Ok(most)
 }
 
-/// The whole body of a routine.
-fn whole<'c>(within: Within<'c>, body: &'c Body, level: usize) -> Part<'c>
+/// The body of a routine as a part.
+fn whole<'c>(within: Within<'c>, body: &'c Body, level: usize) -> Construct<'c>
     ensures { cells_of result ≡ cells_of_body (bodies within.entry) (body_of body.now) level }
 {
     match body {
-        Body::Value(e) => Part::Expression(within, e, level),
-        Body::Commands(block) => Part::Block(within, block, level),
+        Body::Value(e) => Construct::Expression(within, e, level),
+        Body::Commands(block) => Construct::Block(within, block, level),
     }
 }
 
-/// How many cells the frame of a routine takes in a section with these VALOFs: its links, its parameters, its variables, and what its
-/// expressions hold. No native stack is taken for the depth of the tree.
+/// The number of cells in the frame of a routine, in a section with these VALOFs: its links, its parameters, its variables and its
+/// temporary values. Uses no native stack for the depth of the tree.
 ///
-/// `Memory` comes where an allocation was refused.
+/// `Memory` if an allocation fails.
 pub fn frame_size(alloc: Global, valofs: &[Valof], routine: &Routine) -> Result<usize, Memory>
     ensures { IfOk result (λ size. size ≡ size_of_frame (map valof_of valofs.now) (routine_of routine.now)) }
 {

@@ -1,4 +1,4 @@
--- Each step keeps what is left, and lessens it.
+-- Each step preserves the meaning of the remaining work and decreases its weight.
 use Rattle.std.proofs.Common.{◌≡◌, ℕ, List, ◌∷◌, refl, sym, ap, subst, ◌∙◌, Bool}
 use Rattle.bc_interpret_defs.specs.Quiet.{QuietWork, QuietRest, quiet_step, quiet_after, quiet_weight, IsLighter, QuietMoves, as_number, as_verdict}
 use Rattle.bc_interpret_defs.specs.Causes.{Cause, Malformed}
@@ -8,7 +8,7 @@ use Rattle.bc_interpret_pure.specs.declared.forms.Step.{Step}
 use Rattle.bc_interpret_pure.specs.declared.forms.Step.TheVariants as steps
 use Rattle.bc_interpret_pure.specs.Views.{Came, Kept}
 
--- what came of a step keeps what is left
+-- the outcome of a step preserves the meaning
 pub kept : (S : quiet.Sight) (w : QuietWork) (rs : List QuietRest) (p : Step) (rs1 : List QuietRest) → QuietMoves w rs → Came p (quiet_step S w rs) rs1 → Kept p S w rs rs1
 kept S w rs (steps.On next) rs1 m h =
     (sym (quiet_steps_keep S w rs ∙ ap (quiet_after S) h), subst (IsLighter (quiet_weight w rs)) h (quiet_steps_lessen S w rs m))
@@ -21,7 +21,7 @@ kept S w rs (steps.Fails c) rs1 m h = quiet_steps_keep S w rs ∙ ap (quiet_afte
 pub kept_after : (S : quiet.Sight) (w : QuietWork) (rs : List QuietRest) (r : QuietRest) (rs0 : List QuietRest) (p : Step) (rs1 : List QuietRest) → rs ≡ r ∷ rs0 → QuietMoves w (r ∷ rs0) → Came p (quiet_step S w (r ∷ rs0)) rs1 → Kept p S w rs rs1
 kept_after S w rs r rs0 p rs1 e m h = subst (λ q. Kept p S w q rs1) (sym e) (kept S w (r ∷ rs0) p rs1 m h)
 
--- what is worth a number is that number
+-- a machine that ends with a number has found the value
 pub number_is : (w : quiet.Worth ℕ) (v : ℕ) → as_number w ≡ quiet.Is (quiet.Number v) → quiet.Is v ≡ w
 number_is (quiet.Is x) v e = cc
 number_is quiet.Divides v e = cc
@@ -43,7 +43,7 @@ no_verdict (quiet.Is x) t e = cc
 no_verdict quiet.Divides t e = cc
 no_verdict (quiet.Fails d) t e = cc
 
--- what has a truth has that truth
+-- a machine that ends with a truth has found the truth
 pub truth_is : (w : quiet.Worth Bool) (t : Bool) → as_verdict w ≡ quiet.Is (quiet.Verdict t) → quiet.Is t ≡ w
 truth_is (quiet.Is x) t e = cc
 truth_is quiet.Divides t e = cc

@@ -1,4 +1,4 @@
--- What is computed along the tree.
+-- The fast path, which recurs on the tree.
 use Rattle.std.proofs.Common.{◌≡◌, ◌||◌, ℕ, Bool, true, false, Some, refl, ap, ◌∙◌}
 use Rattle.bc_word.specs.declared.operator.Op.{Op}
 use Rattle.bc_word.specs.Words.{value_of}

@@ -1,4 +1,4 @@
--- The list of what is left to do, as the program keeps it.
+-- The continuations as the code keeps them: the innermost last.
 use Rattle.std.proofs.Common.{◌≡◌, List, [], ◌∷◌, ◌++◌, refl}
 use Rattle.bc_interpret_defs.specs.Quiet.{QuietRest}
 use Rattle.bc_interpret_pure.specs.declared.forms.Rest.{Rest}

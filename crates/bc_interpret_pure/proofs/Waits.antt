@@ -1,4 +1,4 @@
--- Expressions that wait to be looked at: the last one is taken, and its parts are put in its place.
+-- The expressions that are still to be visited: the last one is popped, and its parts are pushed.
 use Rattle.std.proofs.Common.{◌≡◌, ◌+◌, ◌||◌, Bool, true, false, List, [], ◌∷◌, ◌++◌, Bor, refl, ap, ◌∙◌, arith}
 use Rattle.bc_core.specs.declared.expression.CoreExp.{CoreExp}
 use Rattle.bc_core.specs.Value.{has_call}

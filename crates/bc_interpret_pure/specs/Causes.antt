@@ -1,9 +1,9 @@
--- The wild accesses of the definitions, as the interpreter names them.
+-- The causes of a wild step that the code reports, as causes of the definitions.
 use Rattle.bc_interpret_pure.specs.declared.context.Cause.{Cause}
 use Rattle.bc_interpret_pure.specs.declared.context.Cause.TheVariants as cause_forms
 use Rattle.bc_interpret_defs.specs.Causes as causes
 
--- the wild access that is told
+-- the cause of the definitions that the code's cause reports
 abbrev pub cause_of : Cause → causes.Cause
 cause_of (cause_forms.Unset a) = causes.Unset a
 cause_of (cause_forms.Dead a) = causes.Dead a

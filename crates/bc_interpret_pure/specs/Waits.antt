@@ -1,4 +1,4 @@
--- For proofs: expressions that wait to be looked at.
+-- For proofs: the expressions that are still to be visited.
 use Rattle.std.specs.Prelude.{ℕ, ◌+◌, ◌||◌, Bool, false, List, [], ◌∷◌}
 use Rattle.std.specs.Borrow.{Bor}
 use Rattle.bc_core.specs.declared.expression.CoreExp.{CoreExp}

@@ -1,4 +1,4 @@
-// What is done with a number, with a truth, and where a zero divisor was met.
+//! Popping a continuation: what it does with a number, with a truth, and after a zero divisor.
 
 ghost use Rattle.std.specs.Prelude.{List, IfOk};
 ghost use Rattle.bc_interpret_defs.specs.Quiet.{QuietRest, Loads, number_taken as takes_number, verdict_taken as takes_verdict, divided as divides};
@@ -9,7 +9,7 @@ use crate::forms::{Rest, Step, Work, put};
 use bc_interpret_store::Cell;
 use bc_word::{Memory, Word, apply};
 
-/// The word of the cell at this address.
+/// Reads the cell at this address; fails if it is dead or unset.
 #[inline(always)]
 #[tactic(auto, using(crate::proofs::Steps::loaded_dead, crate::proofs::Steps::loaded_unset, crate::proofs::Steps::loaded_set))]
 fn load<'c>(sight: &Sight<'_>, address: u16) -> Step<'c>
@@ -22,7 +22,9 @@ fn load<'c>(sight: &Sight<'_>, address: u16) -> Step<'c>
     }
 }
 
-/// What is done with a number.
+/// Gives a number to this continuation, which was popped off `rests`. A continuation that takes a truth fails as `Malformed`.
+///
+/// `Memory` if an allocation fails.
 #[tactic(auto, using(crate::proofs::Steps::operated, crate::proofs::Steps::not_operated))]
 pub(crate) fn number_taken<'c>(
     sight: &Sight<'_>,
@@ -52,7 +54,7 @@ pub(crate) fn number_taken<'c>(
     }
 }
 
-/// What is done with a truth.
+/// Gives a truth to this continuation. A continuation that takes a number fails as `Malformed`.
 pub(crate) fn verdict_taken<'c>(rest: &Rest<'c>, t: bool) -> Step<'c>
     ensures { (rs : List QuietRest) → Came result (takes_verdict (rest_of rest.now) t rs) rs }
 {
@@ -79,7 +81,10 @@ pub(crate) fn verdict_taken<'c>(rest: &Rest<'c>, t: bool) -> Step<'c>
     }
 }
 
-/// What is done where a zero divisor was met: the second operand is looked at, and all else is left.
+/// Passes a zero divisor to this continuation. If it holds a second operand, that is still evaluated, since a wild access in it takes
+/// precedence; every other continuation is dropped.
+///
+/// `Memory` if an allocation fails.
 pub(crate) fn divided<'c>(rest: &Rest<'c>, rests: &mut Vec<Rest<'c>>) -> Result<Step<'c>, Memory>
     ensures { IfOk result (λ step. Came step (divides (rest_of rest.now) (stack rests.old.items)) (stack rests.new.items)) }
 {

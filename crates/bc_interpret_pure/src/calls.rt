@@ -1,4 +1,4 @@
-// Whether a call or a VALOF stands in an expression.
+//! Whether an expression contains a call or a VALOF, decided without recursion.
 
 ghost use Rattle.std.specs.Prelude.{◌≡◌, IfOk};
 ghost use Rattle.bc_core.specs.Value.{has_call as has_call_in};
@@ -7,10 +7,10 @@ ghost use Rattle.bc_core.specs.View.{exp};
 use bc_core::CoreExp;
 use bc_word::Memory;
 
-/// Whether a call or a VALOF stands in an expression. What stood in `waiting` is lost; it is taken so that its memory serves again. No
-/// native stack is taken for the depth of the tree.
+/// Whether an expression contains a call or a VALOF. The former contents of `waiting` are lost; it is passed in so that its memory is
+/// reused. Uses no native stack for the depth of the tree.
 ///
-/// `Memory` comes where an allocation was refused.
+/// `Memory` if an allocation fails.
 #[tactic(auto, using(crate::proofs::Waits::any_more, crate::proofs::Waits::weight_more))]
 pub(crate) fn has_call<'c>(e: &'c CoreExp, waiting: &mut Vec<&'c CoreExp>) -> Result<bool, Memory>
     ensures { IfOk result (λ t. t ≡ has_call_in (exp e.now)) }

@@ -1,4 +1,4 @@
-// One step into an expression.
+//! One step into an expression: pushes the continuation for its other parts, and goes on with its first part.
 
 ghost use Rattle.std.specs.Prelude.{IfOk};
 ghost use Rattle.bc_core.specs.View.{exp};
@@ -10,7 +10,9 @@ use crate::forms::{Rest, Step, Work, put};
 use bc_core::CoreExp;
 use bc_word::{Memory, Op};
 
-/// One step into an expression whose value is wanted.
+/// Begins to evaluate an expression for its value. A call or VALOF fails as `Malformed`.
+///
+/// `Memory` if an allocation fails.
 pub(crate) fn evaluate<'c>(
     sight: &Sight<'_>,
     e: &'c CoreExp,
@@ -53,7 +55,9 @@ pub(crate) fn evaluate<'c>(
     }
 }
 
-/// One step into an expression whose truth is wanted.
+/// Begins to evaluate an expression for its truth.
+///
+/// `Memory` if an allocation fails.
 pub(crate) fn decide<'c>(e: &'c CoreExp, rests: &mut Vec<Rest<'c>>) -> Result<Step<'c>, Memory>
     ensures { IfOk result (λ step. Came step (decides (exp e.now) (stack rests.old.items)) (stack rests.new.items)) }
 {

@@ -1,8 +1,8 @@
-// The number or the truth of an expression without call and VALOF, computed along the tree, or that one stands in it. Of one that is deeper
-// than a bound, or that is worth none, nothing may be told.
-//
-// What is met most, numbers and variables of the frame, is told with no call; and what only chooses among forms ends in calls alone, so that
-// it saves no registers.
+//! The fast path: evaluates a pure expression by recursion on its tree, or finds that it isn't pure. It gives up (`Unknown`) if the
+//! expression is deeper than a bound or has no value.
+//!
+//! The most frequent forms, numbers and variables of the frame, are evaluated without a native call. A function that only dispatches
+//! on the form ends in tail calls, so it saves no registers. That is why each form has its own function, marked `inline(never)`.
 
 ghost use Rattle.std.specs.Prelude.{◌≡◌, ◌||◌, false, IfSome, IsTrue};
 ghost use Rattle.bc_core.specs.Tree.{Load, Neg, Not, Bin, Cond};
@@ -16,22 +16,21 @@ use bc_core::CoreExp;
 use bc_interpret_store::Cell;
 use bc_word::{Op, Word, apply};
 
-/// How deep an expression may be.
+/// The greatest depth of an expression that is evaluated by recursion.
 const DEPTH: usize = 16;
 
-/// What is told of an expression.
+/// What the fast path finds out about an expression.
 #[derive(Clone, Copy, Debug)]
 pub enum Quick {
-    /// No call and no VALOF stands in it, and it is worth this number; or, where its truth was asked for, that is the truth of this number.
+    /// The expression is pure and has this value. Where its truth was requested: its truth is that of this number, false for 0.
     Is(u16),
-    /// Nothing.
+    /// Nothing is known: use `worth_of` or `truth_of` instead.
     Unknown,
-    /// A call or a VALOF stands in it.
+    /// The expression contains a call or a VALOF.
     Calls,
 }
 
-/// What is told of an expression's value over these cells, in a frame of a section, along its tree down to a bound: it takes no memory, and may
-/// tell nothing.
+/// The value of an expression, as far as the fast path finds it out. Allocates nothing.
 #[inline(always)]
 pub fn value_at_once(sight: &Sight<'_>, e: &CoreExp) -> Quick
     ensures { IsQuickValue (sight_of sight.now) (exp e.now) result }
@@ -39,8 +38,7 @@ pub fn value_at_once(sight: &Sight<'_>, e: &CoreExp) -> Quick
     quick_value(sight, e, DEPTH)
 }
 
-/// What is told of an expression's truth over these cells, in a frame of a section, along its tree down to a bound: it takes no memory, and may
-/// tell nothing.
+/// The truth of an expression, as far as the fast path finds it out. Allocates nothing.
 #[inline(always)]
 pub fn truth_at_once(sight: &Sight<'_>, e: &CoreExp) -> Quick
     ensures { IsQuickTruth (sight_of sight.now) (exp e.now) result }
@@ -48,7 +46,7 @@ pub fn truth_at_once(sight: &Sight<'_>, e: &CoreExp) -> Quick
     quick_truth(sight, e, DEPTH)
 }
 
-/// Whether an expression is a number or an address.
+/// Whether an expression is a number or the address of a cell or label.
 #[inline(always)]
 fn is_plain(e: &CoreExp) -> bool
     ensures { IsTrue result → has_call (exp e.now) ≡ false }
@@ -65,7 +63,7 @@ fn is_plain(e: &CoreExp) -> bool
     }
 }
 
-/// Whether a call or a VALOF stands in an expression. Nothing is told where it is deeper than this.
+/// Whether an expression contains a call or a VALOF; `None` if it is deeper than `depth`.
 #[inline(always)]
 #[cycle(calls)]
 fn quick_calls(e: &CoreExp, depth: usize) -> Option<bool>
@@ -87,7 +85,7 @@ fn quick_calls(e: &CoreExp, depth: usize) -> Option<bool>
     }
 }
 
-/// The same of its parts.
+/// `quick_calls` of an expression whose parts must be visited.
 #[inline(never)]
 #[cycle(calls)]
 #[tactic(auto, using(crate::proofs::OnTrees::neither, crate::proofs::OnTrees::first, crate::proofs::OnTrees::second))]
@@ -110,7 +108,7 @@ fn calls_below(e: &CoreExp, depth: usize) -> Option<bool>
     }
 }
 
-/// Whether a call or a VALOF stands in one of two expressions. Nothing is told where one is deeper than this.
+/// Whether one of two expressions contains a call or a VALOF; `None` if one is deeper than `depth`.
 #[inline(always)]
 #[cycle(calls)]
 #[tactic(auto, using(crate::proofs::OnTrees::neither, crate::proofs::OnTrees::first, crate::proofs::OnTrees::second))]
@@ -123,7 +121,7 @@ fn either_calls(this: &CoreExp, that: &CoreExp, depth: usize) -> Option<bool>
     }
 }
 
-/// The word of the cell at this address, if there is one.
+/// The word of the cell at this address; `Unknown` if the cell is dead or unset.
 #[inline(always)]
 fn word_at(sight: &Sight<'_>, address: u16) -> Quick
     ensures { IsWordAt (sight_of sight.now) address result }
@@ -134,7 +132,7 @@ fn word_at(sight: &Sight<'_>, address: u16) -> Quick
     }
 }
 
-/// The number that an operator makes of two, if it makes one.
+/// The result of an operator on two numbers; `Unknown` if the divisor is zero.
 #[inline(always)]
 fn made_of(op: Op, x: u16, y: u16) -> Quick
     ensures { IsMadeOf op x y result }
@@ -145,7 +143,7 @@ fn made_of(op: Op, x: u16, y: u16) -> Quick
     }
 }
 
-/// The number that a variable of the frame has, if the address is that of one.
+/// The value of a variable of the frame, given its address; `Unknown` for any other form of address.
 #[inline(always)]
 fn variable(sight: &Sight<'_>, address: &CoreExp) -> Quick
     ensures { IsQuickLeaf (sight_of sight.now) (Load (exp address.now)) result }
@@ -165,7 +163,7 @@ fn variable(sight: &Sight<'_>, address: &CoreExp) -> Quick
     }
 }
 
-/// The number that a global has, if the address is that of one.
+/// The value of a global, given its address; `Unknown` for any other form of address.
 #[inline(always)]
 fn global(sight: &Sight<'_>, address: &CoreExp) -> Quick
     ensures { IsQuickLeaf (sight_of sight.now) (Load (exp address.now)) result }
@@ -185,7 +183,7 @@ fn global(sight: &Sight<'_>, address: &CoreExp) -> Quick
     }
 }
 
-/// The number that a number, an address in the frame or a variable of the frame is worth. Of nothing else anything is told.
+/// The value of a number, of an address in the frame, or of a variable of the frame; `Unknown` for any other form.
 #[inline(always)]
 fn leaf(sight: &Sight<'_>, e: &CoreExp) -> Quick
     ensures { IsQuickLeaf (sight_of sight.now) (exp e.now) result }
@@ -205,7 +203,7 @@ fn leaf(sight: &Sight<'_>, e: &CoreExp) -> Quick
     }
 }
 
-/// The number that an expression without call and VALOF is worth, or that one stands in it. Nothing may be told where it is deeper than this.
+/// The value of a pure expression, or `Calls`. May be `Unknown`, and is if the expression is deeper than `depth`.
 #[inline(always)]
 #[cycle(quick)]
 fn quick_value(sight: &Sight<'_>, e: &CoreExp, depth: usize) -> Quick
@@ -229,7 +227,7 @@ fn quick_value(sight: &Sight<'_>, e: &CoreExp, depth: usize) -> Quick
     }
 }
 
-/// The same of any form.
+/// `quick_value` of an expression of any form.
 #[inline(never)]
 #[cycle(quick)]
 fn walked(sight: &Sight<'_>, e: &CoreExp, depth: usize) -> Quick
@@ -255,7 +253,7 @@ fn walked(sight: &Sight<'_>, e: &CoreExp, depth: usize) -> Quick
     }
 }
 
-/// The same of the content of a cell.
+/// `quick_value` of the content of the cell at address `part`.
 #[inline(never)]
 #[cycle(quick)]
 #[tactic(auto, using(crate::proofs::OnTrees::worked_out))]
@@ -271,7 +269,7 @@ fn loaded(sight: &Sight<'_>, part: &CoreExp, depth: usize) -> Quick
     }
 }
 
-/// The same of a negation.
+/// `quick_value` of the negation of `part`.
 #[inline(never)]
 #[cycle(quick)]
 #[tactic(auto, using(crate::proofs::OnTrees::worked_out))]
@@ -287,7 +285,7 @@ fn negated(sight: &Sight<'_>, part: &CoreExp, depth: usize) -> Quick
     }
 }
 
-/// The same of a NOT.
+/// `quick_value` of the complement of `part`.
 #[inline(never)]
 #[cycle(quick)]
 #[tactic(auto, using(crate::proofs::OnTrees::worked_out))]
@@ -303,7 +301,7 @@ fn complemented(sight: &Sight<'_>, part: &CoreExp, depth: usize) -> Quick
     }
 }
 
-/// The same of an operator between two expressions.
+/// `quick_value` of an operator with two operands.
 #[inline(never)]
 #[cycle(quick)]
 #[tactic(auto, using(crate::proofs::OnTrees::neither, crate::proofs::OnTrees::both_worked_out, crate::proofs::OnTrees::following))]
@@ -319,7 +317,7 @@ fn operated(sight: &Sight<'_>, op: Op, left: &CoreExp, right: &CoreExp, depth: u
     }
 }
 
-/// What an operator makes of a number and an expression.
+/// The result of an operator on a number and an expression.
 #[inline(never)]
 #[cycle(quick)]
 fn second(sight: &Sight<'_>, op: Op, x: u16, right: &CoreExp, depth: usize) -> Quick
@@ -334,7 +332,7 @@ fn second(sight: &Sight<'_>, op: Op, x: u16, right: &CoreExp, depth: usize) -> Q
     }
 }
 
-/// What an operator makes of two expressions.
+/// The result of an operator on two expressions.
 #[inline(never)]
 #[cycle(quick)]
 #[tactic(auto, using(crate::proofs::OnTrees::neither, crate::proofs::OnTrees::first, crate::proofs::OnTrees::second, crate::proofs::OnTrees::both_worked_out))]
@@ -353,7 +351,7 @@ fn both(sight: &Sight<'_>, op: Op, left: &CoreExp, right: &CoreExp, depth: usize
     }
 }
 
-/// The same of a choice. Whether a call stands in one of the two is asked first, since then the condition needs no value here.
+/// `quick_value` of a conditional. Checks both branches for calls first: if one has a call, the condition needn't be evaluated here.
 #[inline(never)]
 #[cycle(quick)]
 #[tactic(auto, using(crate::proofs::OnTrees::neither, crate::proofs::OnTrees::first, crate::proofs::OnTrees::second, crate::proofs::OnTrees::worked_out))]
@@ -381,7 +379,7 @@ fn selected(
     }
 }
 
-/// A number with the truth of an expression without call and VALOF, or that one stands in it. Nothing may be told where it is deeper than this.
+/// A number with the truth of a pure expression, or `Calls`. May be `Unknown`, and is if the expression is deeper than `depth`.
 #[cycle(quick)]
 fn quick_truth(sight: &Sight<'_>, e: &CoreExp, depth: usize) -> Quick
     ensures { IsQuickTruth (sight_of sight.now) (exp e.now) result }
@@ -403,7 +401,7 @@ fn quick_truth(sight: &Sight<'_>, e: &CoreExp, depth: usize) -> Quick
     }
 }
 
-/// The same of a NOT.
+/// `quick_truth` of a NOT.
 #[inline(never)]
 #[cycle(quick)]
 #[tactic(auto, using(crate::proofs::OnTrees::worked_out))]
@@ -419,7 +417,7 @@ fn opposed(sight: &Sight<'_>, part: &CoreExp, depth: usize) -> Quick
     }
 }
 
-/// The same of an `&`, whose second side is looked at only where the first is true.
+/// `quick_truth` of `&`. Evaluates the second operand only if the first is true; else only checks it for calls.
 #[inline(never)]
 #[cycle(quick)]
 #[tactic(auto, using(crate::proofs::OnTrees::neither, crate::proofs::OnTrees::first, crate::proofs::OnTrees::second, crate::proofs::OnTrees::worked_out))]
@@ -440,7 +438,7 @@ fn conjoined(sight: &Sight<'_>, left: &CoreExp, right: &CoreExp, depth: usize) -
     }
 }
 
-/// The same of a bar, whose second side is looked at only where the first is false.
+/// `quick_truth` of `|`. Evaluates the second operand only if the first is false; else only checks it for calls.
 #[inline(never)]
 #[cycle(quick)]
 #[tactic(auto, using(crate::proofs::OnTrees::neither, crate::proofs::OnTrees::first, crate::proofs::OnTrees::second, crate::proofs::OnTrees::worked_out))]

@@ -1,4 +1,6 @@
-// What is computed next, and what is left to do with what comes of it.
+//! The machine's current work, its steps, and its rests. A rest is what is usually called a continuation frame: what is left to do
+//! with an answer. Comments call it a continuation, since a frame here is that of a routine. The continuations are in a vector, with
+//! the innermost last.
 
 ghost use Rattle.std.specs.Prelude.{◌≡◌, ◌∷◌, OnOk};
 ghost use Rattle.bc_interpret_pure.specs.Views.{rest_of, stack, Popped};
@@ -7,50 +9,64 @@ use crate::context::Cause;
 use bc_core::CoreExp;
 use bc_word::{Memory, Op};
 
-/// What is computed next, or what was computed.
+/// The current work: an expression to evaluate, or an answer to give to the innermost continuation.
 #[derive(Clone, Copy)]
 pub(crate) enum Work<'c> {
+    /// Evaluates an expression for its value.
     Evaluate(&'c CoreExp),
+    /// Evaluates an expression for its truth.
     Decide(&'c CoreExp),
     Number(u16),
     Verdict(bool),
-    /// A zero divisor was met.
+    /// A zero divisor has occurred.
     Divided,
 }
 
-/// What is left to do with a number or a truth.
+/// A continuation: what is left to do with a number or a truth.
 #[derive(Clone, Copy)]
 pub enum Rest<'c> {
+    /// Reads the cell at the address that is the answer.
     Loads,
+    /// Negates the number.
     Negates,
+    /// Complements the number.
     Complements,
+    /// Turns the number into a truth.
     Tests,
-    /// The second operand is computed; then it is the second operand of this one.
+    /// The number is the first operand; evaluates the second one, this expression, next.
     Operates(Op, &'c CoreExp),
+    /// The number is the second operand; the first one is stored here. Applies the operator.
     Operated(Op, u16),
-    /// The second side beside a zero divisor in the first.
+    /// The number is the second operand, and the first one had a zero divisor. Continues with the zero divisor.
     Beside,
+    /// Negates the truth.
     Opposes,
+    /// The truth is the first operand of `&`; evaluates the second one if it is true.
     Conjoins(&'c CoreExp),
+    /// The truth is the first operand of `|`; evaluates the second one if it is false.
     Disjoins(&'c CoreExp),
+    /// The truth is a condition; evaluates the first expression if it is true, else the second.
     Selects(&'c CoreExp, &'c CoreExp),
 }
 
-/// What comes of a step.
+/// The outcome of a step.
 #[derive(Clone, Copy)]
 pub(crate) enum Step<'c> {
+    /// The machine continues with this work.
     On(Work<'c>),
-    /// The whole is this number, this truth, or a zero divisor.
+    /// The machine has finished: the whole expression has this number.
     Number(u16),
+    /// The machine has finished: the whole expression has this truth.
     Verdict(bool),
+    /// The machine has finished with a zero divisor.
     Divides,
-    /// A wild cell was read.
+    /// The machine has met a wild access.
     Fails(Cause),
 }
 
-/// Puts what is left to do before the rest.
+/// Pushes a continuation.
 ///
-/// `Memory` comes where an allocation was refused.
+/// `Memory` if an allocation fails.
 #[inline(always)]
 #[tactic(auto, using(crate::proofs::Stacks::stacked))]
 pub(crate) fn put<'c>(rest: Rest<'c>, rests: &mut Vec<Rest<'c>>) -> Result<(), Memory>
@@ -60,7 +76,7 @@ pub(crate) fn put<'c>(rest: Rest<'c>, rests: &mut Vec<Rest<'c>>) -> Result<(), M
     Ok(())
 }
 
-/// Takes what is to be done first of what is left.
+/// Pops the innermost continuation; `None` if there is none.
 #[inline(always)]
 #[tactic(auto, using(crate::proofs::Stacks::stacked))]
 pub(crate) fn take<'c>(rests: &mut Vec<Rest<'c>>) -> Option<Rest<'c>>

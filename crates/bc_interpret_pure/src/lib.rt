@@ -1,5 +1,7 @@
-//! What an expression without call and VALOF is worth, computed along the tree down to a depth of 16, and below that with a list of what is
-//! left; and whether a call or a VALOF stands in an expression.
+//! Evaluates pure expressions, and decides whether an expression is pure. An expression is pure if it contains no call and no VALOF.
+//!
+//! Expressions up to 16 levels deep are evaluated by recursion (`fast_path.rt`). Deeper ones are evaluated by the small-step machine of
+//! `bc_interpret_defs` (`value.rt`), which keeps its continuations in a list, so that they use no native stack.
 #![tactic(auto)]
 
 mod apply;

@@ -1,4 +1,4 @@
-// What an expression is worth, or that a call stands in it.
+//! The worth of an expression, or the answer that it isn't pure: first by the fast path, then by the machine.
 
 ghost use Rattle.std.specs.Prelude.{IfOk};
 ghost use Rattle.bc_core.specs.View.{exp};
@@ -12,17 +12,19 @@ use crate::value::{Truth, Worth, decided, value_of};
 use bc_core::CoreExp;
 use bc_word::Memory;
 
-/// Memory that serves again: for parts of an expression that are left, and for those that wait to be looked at.
+/// Buffers that successive evaluations reuse, so that nothing is allocated once they have grown.
 #[derive(Drop)]
 pub struct Room<'c> {
+    /// The continuations of the machine.
     pub rests: Vec<Rest<'c>>,
+    /// The expressions that `has_call` has still to visit.
     pub waiting: Vec<&'c CoreExp>,
 }
 
-/// What an expression is worth over these cells, in a frame of a section, or none where a call or a VALOF stands in it. What stood in
-/// the room is lost. No native stack is taken for the depth of the tree beyond a bound.
+/// The worth of an expression, or `None` if it contains a call or a VALOF. The former contents of `room` are lost. Uses only bounded
+/// native stack, however deep the tree is.
 ///
-/// `Memory` comes where an allocation was refused.
+/// `Memory` if an allocation fails.
 #[inline(always)]
 pub fn worth_of<'c>(
     sight: &Sight<'_>,
@@ -38,7 +40,7 @@ pub fn worth_of<'c>(
     }
 }
 
-/// The same by the lists.
+/// `worth_of` without the fast path.
 fn slow_worth<'c>(
     sight: &Sight<'_>,
     e: &'c CoreExp,
@@ -53,10 +55,10 @@ fn slow_worth<'c>(
     Ok(Some(worth))
 }
 
-/// The truth of an expression over these cells, in a frame of a section, or none where a call or a VALOF stands in it. What stood in
-/// the room is lost. No native stack is taken for the depth of the tree beyond a bound.
+/// The truth of an expression, or `None` if it contains a call or a VALOF. The former contents of `room` are lost. Uses only bounded
+/// native stack, however deep the tree is.
 ///
-/// `Memory` comes where an allocation was refused.
+/// `Memory` if an allocation fails.
 #[inline(always)]
 pub fn truth_of<'c>(
     sight: &Sight<'_>,
@@ -72,7 +74,7 @@ pub fn truth_of<'c>(
     }
 }
 
-/// The same by the lists.
+/// `truth_of` without the fast path.
 fn slow_truth<'c>(
     sight: &Sight<'_>,
     e: &'c CoreExp,

@@ -1,4 +1,4 @@
-// What an expression without call and VALOF is worth.
+//! The machine for pure expressions: evaluates one step after another, with its continuations in a list.
 
 ghost use Rattle.std.specs.Prelude.{◌≡◌, IfOk};
 ghost use Rattle.bc_core.specs.View.{exp};
@@ -12,10 +12,10 @@ use crate::forms::{Rest, Step, Work, take};
 use bc_core::CoreExp;
 use bc_word::Memory;
 
-/// What an expression is worth.
+/// The result of a pure expression, as a number.
 #[derive(Clone, Copy, Debug)]
 pub enum Worth {
-    /// This number.
+    /// The expression has this value.
     Is(u16),
     /// A zero divisor ends it, and no wild cell is read.
     Divides,
@@ -23,10 +23,10 @@ pub enum Worth {
     Fails(Cause),
 }
 
-/// The truth that an expression has.
+/// The result of a pure expression, as a truth.
 #[derive(Clone, Copy, Debug)]
 pub enum Truth {
-    /// This one.
+    /// The expression has this truth.
     Is(bool),
     /// A zero divisor ends it, and no wild cell is read.
     Divides,
@@ -34,7 +34,9 @@ pub enum Truth {
     Fails(Cause),
 }
 
-/// One step.
+/// One step of the machine.
+///
+/// `Memory` if an allocation fails.
 fn step<'c>(sight: &Sight<'_>, now: Work<'c>, rests: &mut Vec<Rest<'c>>) -> Result<Step<'c>, Memory>
     ensures { IfOk result (λ step. Kept step (sight_of sight.now) (work_of now.entry) (stack rests.old.items) (stack rests.new.items)) }
 {
@@ -56,10 +58,10 @@ fn step<'c>(sight: &Sight<'_>, now: Work<'c>, rests: &mut Vec<Rest<'c>>) -> Resu
     }
 }
 
-/// What an expression without call and VALOF is worth over these cells, in a frame of a section. What stood in `rests` is lost; it is
-/// taken so that its memory serves again. No native stack is taken for the depth of the tree.
+/// The worth of a pure expression; a call or VALOF that is reached fails as `Malformed`. The former contents of `rests` are lost; it is
+/// passed in so that its memory is reused. Uses no native stack for the depth of the tree.
 ///
-/// `Memory` comes where an allocation was refused.
+/// `Memory` if an allocation fails.
 #[tactic(auto, using(crate::proofs::Kept::number_is, crate::proofs::Kept::divides_is, crate::proofs::Kept::fails_is, crate::proofs::Kept::no_verdict))]
 pub(crate) fn value_of<'c>(
     sight: &Sight<'_>,
@@ -81,10 +83,10 @@ pub(crate) fn value_of<'c>(
     }
 }
 
-/// The truth of an expression without call and VALOF over these cells, in a frame of a section. What stood in `rests` is lost; it is
-/// taken so that its memory serves again. No native stack is taken for the depth of the tree.
+/// The truth of a pure expression; a call or VALOF that is reached fails as `Malformed`. The former contents of `rests` are lost; it is
+/// passed in so that its memory is reused. Uses no native stack for the depth of the tree.
 ///
-/// `Memory` comes where an allocation was refused.
+/// `Memory` if an allocation fails.
 #[tactic(auto, using(crate::proofs::Kept::truth_is, crate::proofs::Kept::not_divided, crate::proofs::Kept::not_failed, crate::proofs::Kept::no_number))]
 pub(crate) fn decided<'c>(
     sight: &Sight<'_>,

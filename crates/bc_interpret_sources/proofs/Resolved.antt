@@ -1,4 +1,4 @@
--- The translations of mains, and what they mean.
+-- The mains as resolved sections, and what these mean.
 use Rattle.std.proofs.Common.{◌≡◌, ◌∙◌, ℕ, ◌+◌, ◌<◌, ◌≤◌, List, [], ◌∷◌, ◌++◌, map, length, drop, get_or, add-one, drop-cons, refl, sym, ap, subst}
 use Rattle.std.specs.Prelude.{None, Result, Ok}
 use Rattle.std.proofs.lemmas.List.{map-append, append_assoc, append-nil, drop_all}
@@ -37,7 +37,7 @@ pub resolved_from : (files : List File) (main : ℕ) (tokens : List Lexeme) (sec
 resolved_from files main tokens section core only read is other o =
     is ∙ ap core_of (same_section section other (parsed o.tokens) (ap parsed (sym (only o.tokens o.is_section.lexed)) ∙ read) o.is_section.read)
 
--- the mains that are left begin with the next one
+-- the remaining mains begin with the next one
 pub next_main : (mains : List ℕ) (n : ℕ) → n < length mains → drop n mains ≡ get_or mains n 0 ∷ drop (n + 1) mains
 next_main mains n h = drop-cons mains n 0 h ∙ ap (λ j. get_or mains n 0 ∷ drop j mains) (sym (add-one n))
 
@@ -72,12 +72,12 @@ means law sections cores image before after turns o e h =
     result_from (meant sections image before turns) (meaning cores (addresses image) before turns) o after
     (law sections (addresses image) before turns ∙ ap (λ cs. meaning cs (addresses image) before turns) e) h
 
--- the wild access that is met over the translations is met over what the sections are translated to
+-- a wild access in the run of the translations is one in the run of what the sections are translated to
 pub names : (cores translated : List Core) (image : Image) (before : Content) (turns : ℕ) (o : Outcome) → translated ≡ cores
     → NamesFrom cores (addresses image) before turns o → NamesFrom translated (addresses image) before turns o
 names cores translated image before turns o e h = subst (λ cs. NamesFrom cs (addresses image) before turns o) (sym e) h
 
--- and the image comes to the same
+-- the image's run agrees
 pub runs_to : (sections : List Declarations) (image : Image) (before after : Content) (turns : ℕ) (o : Outcome) → RunsAsMeant sections image → HoldBytes before.inputs
     → IsResult (meant sections image before turns) o after → RunsTo image turns before o after
 runs_to sections image before after turns (outs.Ended e) r bytes h = subst (λ x. Same x turns (started image before)) h (r.same before bytes turns)

@@ -1,4 +1,4 @@
--- For proofs: mains and their translations.
+-- For proofs: the mains as resolved sections.
 use Rattle.std.specs.Prelude.{ℕ, ◌≡◌, List, ◌++◌, map}
 use Rattle.bc_lex.specs.Files.{File}
 use Rattle.bc_parse_tree.specs.Tree.{Declarations}
@@ -14,7 +14,7 @@ AreTranslated files mains cores = (sections : List Declarations) → AreAccepted
 abbrev pub IsResolved : List File → ℕ → Core → Type 0
 IsResolved files main core = (section : Declarations) → IsAccepted files main section → core ≡ core_of section
 
--- these are the translations of the first mains, and those are left
+-- these are the translations of the first mains, and the other mains remain
 abbrev pub AreResolved : List File → (mains left : List ℕ) → List Core → Type 0
 AreResolved files mains left cores =
     (sections : List Declarations) → AreAccepted files mains sections

@@ -1,9 +1,8 @@
-//! Running sources by their meaning, as it is defined, and not by their code: with the same output and ending, and with the first wild
-//! access named.
+//! Runs sources by their defined meaning instead of their code. The output and the ending are the same, and a wild access is reported.
 #![tactic(auto)]
 
 mod sources;
 
 pub use bc_build::{Image, Source};
 pub use bc_interpret::{Cause, Ending, Interpreted, Outcome, Standing, Trail};
-pub use sources::{Program, interpret};
+pub use sources::{BuiltProgram, interpret};

@@ -1,3 +1,5 @@
+//! The public call `interpret`: resolves the mains of a program that was built, and runs them by their meaning.
+
 ghost use Rattle.std.specs.Prelude.{◌≡◌, ◌≤◌, ◌<◌, length, map, All, IfOk, List};
 ghost use Rattle.bc_machine.specs.Rose.{Rose};
 ghost use Rattle.bc_lex.specs.Files.{files_of};
@@ -20,25 +22,32 @@ use bc_scope::resolve;
 use bc_word::Memory;
 use std::alloc::Global;
 
-/// A program that was built: its sources, the indexes of those that are its mains, and its image.
+/// A program that was built.
 #[derive(Clone, Copy)]
-pub struct Program<'p> {
+pub struct BuiltProgram<'p> {
+    /// Its sources.
     pub sources: &'p [Source<'p>],
+    /// Its mains, as indexes of the sources.
     pub mains: &'p [usize],
+    /// Its image, from which the addresses of routines and data are taken.
     pub image: &'p Image,
 }
 
-impl<'p> Program<'p> {
-    /// The program that was built from these mains, which are indexes of the sources.
+impl<'p> BuiltProgram<'p> {
+    /// The program that `bc_build::build` built from these mains, which are indexes of the sources.
     #[tactic(auto, using(crate::proofs::Resolved::built_is_image))]
-    pub fn built(sources: &'p [Source<'p>], mains: &'p [usize], built: &'p Built) -> Program<'p>
+    pub fn built(
+        sources: &'p [Source<'p>],
+        mains: &'p [usize],
+        built: &'p Built,
+    ) -> BuiltProgram<'p>
         requires built { IsBuilt (files_of sources.now) mains.now built.now }
         requires runs { (sections : List Declarations) → AreAccepted (files_of sources.now) mains.now sections → RunsAsMeant sections built.now.image }
         ensures sources { result.sources.now ≡ sources.now }
         ensures mains { result.mains.now ≡ mains.now }
         ensures image { IsImageOf (files_of result.sources.now) result.mains.now result.image.now }
     {
-        Program {
+        BuiltProgram {
             sources,
             mains,
             image: &built.image,
@@ -46,9 +55,9 @@ impl<'p> Program<'p> {
     }
 }
 
-/// The section of a main, with its names resolved.
+/// Lexes, parses and resolves a main again.
 ///
-/// `Memory` comes where it has no section without fault, which a main that was built has, or where an allocation was refused.
+/// `Memory` if an allocation fails, or if the main has a fault, which a main that was built hasn't.
 fn resolved(alloc: Global, sources: &[Source<'_>], main: usize) -> Result<Core, Memory>
     requires { main < length sources.now }
     ensures { IfOk result (λ core. IsResolved (files_of sources.now) main (section_view core)) }
@@ -67,9 +76,9 @@ fn resolved(alloc: Global, sources: &[Source<'_>], main: usize) -> Result<Core, 
     }
 }
 
-/// The sections of these mains, with their names resolved.
+/// Lexes, parses and resolves all these mains.
 ///
-/// `Memory` comes as with one main.
+/// `Memory` as for one main.
 fn all_resolved(alloc: Global, sources: &[Source<'_>], mains: &[usize]) -> Result<Vec<Core>, Memory>
     requires { All (λ main. main < length sources.now) mains.now }
     ensures { IfOk result (λ cores. AreTranslated (files_of sources.now) mains.now (map section_view cores.items)) }
@@ -82,25 +91,27 @@ fn all_resolved(alloc: Global, sources: &[Source<'_>], mains: &[usize]) -> Resul
     Ok(cores)
 }
 
-/// Runs the program by what its sources mean, in so many turns: what the run comes to.
+/// Runs the program by the meaning of its sources, for at most `turns` turns, and returns the outcome and where the run was then.
 ///
-/// `Device` comes only where the count of the streams' failures rose. `Memory` comes where an allocation was refused.
+/// The outcome `Device` comes only if the streams' count of failures rose or is at its greatest value.
+///
+/// `Memory` if an allocation fails.
 pub fn interpret<S: Streams>(
     alloc: Global,
-    program: &Program<'_>,
+    program: &BuiltProgram<'_>,
     streams: &mut S,
     turns: u64,
 ) -> Result<Interpreted, Memory>
     requires mains { All (λ main. main < length program.now.sources.now) program.now.mains.now }
     requires built { IsImageOf (files_of program.now.sources.now) program.now.mains.now program.now.image.now }
 
-    // Where the content of the streams is known: the run came to what the sections mean, with the same output, or a device failed.
+    // If the content of the streams is known, the outcome and the output are what the sections mean, or a device failed.
     ensures means { IfOk result (λ i. MeansOn S.known S.content program.now turns streams.old streams.new i.outcome) }
 
-    // Where the run is wild, its step that is wild meets the access that is named: the cells or the program stand so there.
+    // If the content is known and the run is wild, the machine reaches a step that is wild with the reported cause.
     ensures names { IfOk result (λ i. NamesOn S.known S.content program.now turns streams.old i.outcome) }
 
-    // The image's run comes to the same ending with the same output, or is as far; nothing is said of a wild run.
+    // If the content is known, the image's run has the same ending and output, or goes on as well; nothing is said of a wild run.
     ensures runs { IfOk result (λ i. RunsOn S.known S.content program.now turns streams.old streams.new i.outcome) }
     ensures known { IfOk result (λ i. S.known streams.old → S.known streams.new) }
     ensures failed { IfOk result (λ i. i.outcome ≡ outcomes.Device → Rose (S.failures streams.old) (S.failures streams.new)) }

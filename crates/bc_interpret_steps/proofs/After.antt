@@ -1,4 +1,4 @@
--- What is left to do after what comes next.
+-- Pushing a continuation and setting what comes next.
 use Rattle.std.proofs.Common.{List, sym, subst}
 use Rattle.bc_interpret_defs.specs.Machine as machine
 use Rattle.bc_interpret_steps.specs.declared.state.State.{State}

@@ -1,4 +1,4 @@
--- Arguments that are computed at once.
+-- Pure arguments, which are evaluated within one step.
 use Rattle.std.proofs.Common.{◌≡◌, ◌+◌, ℕ, true, false, List, [], ◌∷◌, ◌++◌, length, Option, Some, refl, sym, ap, subst, ◌∙◌, arith}
 use Rattle.bc_machine_defs.specs.Streams.{Content}
 use Rattle.bc_core.specs.Tree.{Exp, Call, Args, no_argument, argument}
@@ -76,7 +76,7 @@ pub last_calls : (st : State) (E : machine.Spot) (vs : List ℕ) (level : ℕ) (
 last_calls st E vs level f n s p rs rs1 ws calls h =
     came_true (has_call f) (last_waits E vs f n s rs) (then_do (value (quiet E) f E.frame (routine_level s n)) (called E vs s rs)) st p rs1 ws st calls h
 
--- what comes of an argument, or of the routine after the last one, comes of all arguments
+-- the outcome of an argument, or of the routine after the last one, is the outcome of all arguments
 pub argued_over : (a now : Arguments) (first : CoreExp) (following : List CoreExp) (before cur after : List Rest) (st : State) (g : Given) (p : Progress) → IsGivenOne now first following cur st g p after → g ≡ forms.Over → now.left.now ≡ first ∷ following
     → ((streams : Content) → Argued a before (stack before) (state_of st streams) ≡ Argued now cur (stack cur) (state_of st streams)) → Goes (Argued a before) before st p after st
 argued_over a now first following before cur after st g p h is split kept =
@@ -98,7 +98,7 @@ argued_last a now before cur after st p h none kept =
     let rest : Args → machine.Step = λ es. argue E vs es now.level (exp now.routine.now) now.count now.s (stack cur) in
     same_came (Argued a before (stack before)) (rest no_argument) st p (stack after) (given after) st (λ streams. kept streams ∙ ap (λ xs. rest (args xs) (state_of st streams)) (no_more now.left.now none)) h
 
--- into the arguments of a call
+-- beginning the arguments of a call
 pub call_begun : (E : machine.Spot) (es : List CoreExp) (f : Exp) (s level n : ℕ) (rs : List machine.Rest) (st : State) (p : Progress) (rs1 : List machine.Rest) (vs : List ℕ) → level ≡ s + 2 → n ≡ length es
     → Came (argue E [] (args es) level f n s rs) st p rs1 vs st → Came (evaluate_parts E (Call (args es) f) s rs) st p rs1 vs st
 call_begun E es f s level n rs st p rs1 vs is_level is_count h =

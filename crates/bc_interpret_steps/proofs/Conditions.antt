@@ -1,4 +1,4 @@
--- Further into an expression than one step leads.
+-- Evaluating an expression further than one step leads.
 use Rattle.std.proofs.Common.{◌≡◌, inl, inr, ℕ, ◌+◌, Bool, true, false, ◌||◌, cond, List, [], ◌∷◌, ◌++◌, refl, Option, Some, sym, ap, subst, ◌∙◌}
 use Rattle.bc_machine_defs.specs.Streams.{Content}
 use Rattle.bc_core.specs.Map.{Placed}
@@ -41,7 +41,7 @@ pub came_exactly : (program : List Placed) (old : State) (E : machine.Spot) (e :
 came_exactly program old E e s rs p rs1 vs h =
     ran program (machine.Evaluate E e s) rs old p rs1 vs old (stepped program (machine.Evaluate E e s) rs old p rs1 vs old tt h)
 
--- a condition that is decided at once
+-- a pure condition
 abbrev chosen : machine.Spot → (x y : Exp) → ℕ → List machine.Rest → Bool → machine.Step
 chosen E x y s rs t = choose t (machine.go (machine.Evaluate E x s) rs) (machine.go (machine.Evaluate E y s) rs)
 

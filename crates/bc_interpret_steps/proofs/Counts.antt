@@ -1,4 +1,4 @@
--- The arguments of a call, and lists that are taken apart.
+-- The number of a call's arguments, and lists that are taken apart.
 use Rattle.std.proofs.Common.{◌≡◌, ◌-◌, ◌≤◌, ◌∙◌, List, [], ◌∷◌, length, get_or, take, drop, refl, sym, ap, arith}
 use Rattle.std.proofs.lemmas.List.{take_rest}
 use Rattle.bc_core.specs.declared.expression.CoreExp.{CoreExp}

@@ -1,4 +1,4 @@
--- A call that is gone into at once.
+-- A call whose routine is entered within the same step.
 use Rattle.std.proofs.Common.{◌≡◌, ◌+◌, ℕ, Vec, List, [], ◌∷◌, ◌++◌, reverse, Option, Some, refl, sym, ap, subst, ◌∙◌, append_assoc}
 use Rattle.std.proofs.lemmas.List.{append-nil, reverse-append}
 use Rattle.std.specs.declared.alloc.Global.{Global}
@@ -79,7 +79,7 @@ called_ran program old E es f s frame v vs rs p rs1 vs1 new is at h =
       comes = landed program v vs (E.frame + s) following rs old p rs1 vs1 new refl (subst (λ a. Lands (machine.arrive (callee program v) vs a rs) (callee program v) v vs a old p rs1 vs1 new) at h);
     }
 
--- the same where the values were computed in the interpreter's list
+-- the same with the values in the interpreter's vector
 pub landed_at : (program : List Placed) (old : State) (E : machine.Spot) (es : Args) (f : Exp) (s frame v : ℕ) (us : List ℕ) (before middle : Vec Rest Global) (found : Option ℕ) (p : Progress) (rs1 : List machine.Rest) (vs1 : List ℕ) (new : State)
     → IsWorkedOut (sight old E) es f found (reverse us) → found ≡ Some v → middle ≡ before → frame ≡ E.frame + s → Lands (machine.arrive (callee program v) (reverse us) frame (stack middle.items)) (callee program v) v (reverse us) frame old p rs1 vs1 new
     → Ran program (evaluating E (Call es f) s (stack before.items)) old p rs1 vs1 new

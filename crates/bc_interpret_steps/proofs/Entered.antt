@@ -43,7 +43,7 @@ never_met all left (entries.AtCase v) e h = λ E s rs. h E s rs ∙ (ap (λ xs. 
 never_met all left entries.AtDefault e h = λ E s rs. h E s rs ∙ (ap (λ xs. list_step E (items xs) s (entry_of entries.AtDefault) rs) e ∙ ap (λ xs. list_step E (items xs) s (entry_of entries.Beginning) rs) (sym e))
 never_met all left (entries.AtLabel l) e h = λ E s rs. h E s rs ∙ (ap (λ xs. list_step E (items xs) s (entry_of (entries.AtLabel l)) rs) e ∙ ap (λ xs. list_step E (items xs) s (entry_of entries.Beginning) rs) (sym e))
 
--- from its beginning, or from the place on
+-- at its beginning, or at the place
 pub from_beginning : (all : List ListItem) (at : Entry) → at ≡ entries.Beginning → IsEntered all all at
 from_beginning all at e E s rs = ap (λ x. list_step E (items all) s (entry_of x) rs) e
 

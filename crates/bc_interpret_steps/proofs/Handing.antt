@@ -1,4 +1,4 @@
--- An answer that is handed on.
+-- Giving an answer to the innermost continuation.
 use Rattle.std.proofs.Common.{◌≡◌, ℕ, List, ◌∷◌, refl, sym, subst}
 use Rattle.bc_core.specs.Map.{Placed}
 use Rattle.bc_interpret_defs.specs.Machine as machine
@@ -39,7 +39,7 @@ stepped_loosely program w rs old (progress.Wild (causes.NotRoutine v)) rs1 vs1 n
 stepped_loosely program w rs old (progress.Wild (causes.FrameTooLarge f)) rs1 vs1 new m h = absurd h.1
 stepped_loosely program w rs old (progress.Wild causes.Malformed) rs1 vs1 new m h = malformed program w rs old rs1 vs1 new m h
 
--- an answer that is handed on, to what is left to do first
+-- an answer that is given to the innermost continuation
 pub handed : (program : List Placed) (a : machine.Answer) (rs : List machine.Rest) (r : machine.Rest) (rs0 : List machine.Rest) (old : State) (p : Progress) (rs1 : List machine.Rest) (vs1 : List ℕ) (new : State) → rs ≡ r ∷ rs0 → Came (next program r a rs0) old p rs1 vs1 new → Stepped program (machine.Give a) rs old p rs1 vs1 new
 handed program a rs r rs0 old p rs1 vs1 new e h =
     subst (λ q. Stepped program (machine.Give a) q old p rs1 vs1 new) (sym e) (stepped program (machine.Give a) (r ∷ rs0) old p rs1 vs1 new tt h)

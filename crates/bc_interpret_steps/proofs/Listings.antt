@@ -1,4 +1,4 @@
--- Along a list.
+-- A step along a list.
 use Rattle.std.proofs.Common.{◌≡◌, ℕ, true, Option, Some, None, List, ◌∷◌, sym, ap, subst, ◌∙◌}
 use Rattle.std.specs.Borrow.{Bor}
 use Rattle.bc_machine_defs.specs.Streams.{Content}
@@ -29,11 +29,11 @@ use Rattle.bc_interpret_steps.specs.ListItems.{IsAlong}
 use Rattle.bc_interpret_steps.specs.Assigns.{IsNext, IsDone}
 use Rattle.bc_interpret_steps.proofs.Quiet.{loosen, same_came, moved_came}
 
--- what came of the first command
+-- the outcome of the first command
 pub told_done : (E : machine.Spot) (c : commands.Command) (old : State) (found : Option Assigned) (came : Assigned) (new : State) → IsDone E c old found new → found ≡ Some came → IsDone E c old (Some came) new
 told_done E c old found came new h is = let P : Option Assigned → Type 0 = λ o. IsDone E c old o new in subst P is h
 
--- what comes of the first item
+-- the outcome of the first item
 pub passed : (E : machine.Spot) (s : ℕ) (following : List ListItem) (first : ListItem) (at next : Entry) → IsNext (nexts.Passes next) first at
     → (rs : List machine.Rest) (st : outcomes.State) → list_step E (items_before first (items following)) s (entry_of at) rs st ≡ list_step E (items following) s (entry_of next) rs st
 passed E s following first at next h rs st = ap (λ r. r st) (h E (items following) s rs)
@@ -60,7 +60,7 @@ performed E s following first at c old new h d rs st =
 
 pub ruleset along_a_list = (passed, assigned, divided, failed, performed)
 
--- what comes of an item comes of the whole list
+-- the outcome of an item is the outcome of the whole list
 pub listed_on : (E : machine.Spot) (s : ℕ) (left following : List ListItem) (first : ListItem) (at next : Entry) (before after : List Rest) (old new : State) (along : Along) (p : Progress) → IsAlong E first following s at before old along p after new → along ≡ alongs.On next → left ≡ first ∷ following
     → (after ≡ before) × ((rs : List machine.Rest) (streams : Content) → list_step E (items left) s (entry_of at) rs (state_of old streams) ≡ list_step E (items following) s (entry_of next) rs (state_of new streams)) × Stood old.store new.store
 listed_on E s left following first at next before after old new along p h is split =

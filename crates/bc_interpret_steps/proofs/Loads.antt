@@ -1,4 +1,4 @@
--- What is done with a number, case by case.
+-- Giving a number to a continuation, case by case.
 use Rattle.std.proofs.Common.{◌≡◌, ℕ, List, Some, None, sym, ap}
 use Rattle.bc_word.specs.declared.operator.Op.{Op}
 use Rattle.bc_word.specs.Words.{value_of}

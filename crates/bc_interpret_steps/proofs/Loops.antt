@@ -48,7 +48,7 @@ stepped_dead program E limit by b s rs st e = ap (λ c. followed (content_of_cel
 pub stepped_unset : (program : List Placed) (E : Spot) (limit by : ℕ) (b : Block) (s : ℕ) (rs : List Rest) (st : outcomes.State) → Unset ≡ cell_at st.cells (cell_of E s) → next program (ForBody E limit by b s) (Left Past) rs st ≡ Wild
 stepped_unset program E limit by b s rs st e = ap (λ c. followed (content_of_cell c st) (added E limit by b s rs)) (sym e)
 
--- where control goes on after the body, it goes on as past it
+-- where the loop goes on, it does so as if control had gone past the body
 pub for_after : (program : List Placed) (E : Spot) (limit by : ℕ) (b : Block) (s : ℕ) (x : Exit) (rs : List Rest) → ((again : Step) (rs : List Rest) → following again x rs ≡ again)
     → next program (ForBody E limit by b s) (Left Past) rs ≡ next program (ForBody E limit by b s) (Left x) rs
 for_after program E limit by b s x rs h = sym (h (next program (ForBody E limit by b s) (Left Past) rs) rs)

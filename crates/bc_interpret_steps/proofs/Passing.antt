@@ -1,4 +1,4 @@
--- Steps that change nothing, one after another.
+-- Chains of steps that change no cell and take no turn.
 use Rattle.std.proofs.Common.{◌≡◌, ◌⊎◌, inl, inr, ℕ, ◌+◌, ◌-◌, ◌<◌, true, List, [], ◌∷◌, ◌++◌, length, slice_get, Option, Some, None, MatchOption, option_to_list, refl, sym, ap, subst, arith, ◌∙◌, Vec, Result, OnOk}
 use Rattle.std.specs.declared.alloc.Global.{Global}
 use Rattle.std.proofs.lemmas.Grind.{common_steps}
@@ -54,7 +54,7 @@ last_is all below top r split e =
     let here : slice_get all (length all - 1) ≡ Some top = ap (λ n. slice_get all n) size ∙ (ap (λ xs. slice_get xs (length below)) split ∙ there) in
     cc
 
--- what hands an exit on
+-- the continuations that pass an exit on
 
 pub none_follows : (E : machine.Spot) (s : ℕ) (x : exits.Exit) (rs : List machine.Rest) → PassesOn x (machine.Follows E no_item s ∷ rs) x rs
 none_follows E s exits.Past rs program old =
@@ -123,7 +123,7 @@ passes_more x y z rs rs1 rs2 h k program old =
     let k0 = k program old in
     (k0.0 ++ h0.0, append program old (leaving x rs) (leaving y rs1) (leaving z rs2) h0.0 k0.0 h0.1 k0.1)
 
--- what is left to do first is passed
+-- the innermost continuation is popped
 pub passed_top : (x : exits.Exit) (all : List Rest) (r : ExitRest) (found : Option Exit) → slice_get all (length all - 1) ≡ Some (rests.Exit r) → IsHandedOn x r found → IsPassed x all found
 passed_top x all r None e h = tt
 passed_top x all r (Some y) e h = (
@@ -151,7 +151,7 @@ pub popped_less : (x : exits.Exit) (all : List Rest) (gone : Option Rest) (y : E
 popped_less x all None y n m k l h = let some = h.0 in let none = k.0 in absurd (omega (arith, some, none, l))
 popped_less x all (Some r) y n m k l h = omega (arith, k)
 
--- an operator gets its first operand, and the second one comes next
+-- an operator receives its first operand, and the second one is begun
 abbrev pub giving : ℕ → List machine.Rest → machine.At
 giving v rs = record { work = machine.Give (machine.Number v); rests = rs }
 
@@ -188,7 +188,7 @@ pub ran_once : {A E : Type 0} (table : List Callable) (w : machine.Work) (before
 ran_once table w before old result p after new h program t =
     on_ok_weaker result (λ k. ran program w (stack before.items) old p (stack after.items) (given after.items) new k) (h program t)
 
--- what stands next is done
+-- there is work, and it is done
 pub ran_next : {A E : Type 0} (table : List Callable) (q : Progress) (w : Work) (before : Vec Rest Global) (old : State) (result : Result A E) (p : Progress) (after : Vec Rest Global) (new : State) → q ≡ progress.On w → RunsOver table (work_of (given before.items) w) before old result p after new → RunsOver table (work_of (given before.items) (work_next q)) before old result p after new
 ran_next table q w before old result p after new is h = subst (λ x. RunsOver table (work_of (given before.items) (work_next x)) before old result p after new) (sym is) h
 
@@ -204,7 +204,7 @@ proceeds_loosely table q w before old result p after new is m h =
     ran_next table q w before old result p after new is (ran_once table (work_of (given before.items) w) before old result p after new
     (λ program t. on_ok_weaker result (λ k. stepped_loosely program (work_of (given before.items) w) (stack before.items) old p (stack after.items) (given after.items) new m k) (h program)))
 
--- nothing stands next
+-- there is no work
 pub nothing_next : (p : Progress)
     → ((q : Primitive) × (f : ℕ) × (p ≡ progress.Serve q f)) ⊎ ((p ≡ progress.Answered) ⊎ (((e : Ending) × (p ≡ progress.Ended e)) ⊎ ((p ≡ progress.Going) ⊎ ((c : Cause) × (p ≡ progress.Wild c)))))
     → work_next p ≡ works.Nothing

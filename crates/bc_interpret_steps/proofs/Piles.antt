@@ -1,4 +1,4 @@
--- The list of what is left to do, as the interpreter keeps it.
+-- The continuations as the interpreter keeps them, with the arguments among them.
 use Rattle.std.proofs.Common.{◌≡◌, ℕ, Bool, List, [], ◌∷◌, ◌++◌, Some, refl, sym, ap, ◌∙◌}
 use Rattle.bc_interpret_defs.specs.Machine as machine
 use Rattle.bc_interpret_steps.specs.declared.continuations.Rest.{Rest}
@@ -19,7 +19,7 @@ stack_more xs x = stack_on_more [] [] xs x
 pub given_more : (xs : List Rest) (x : Rest) → given (xs ++ x ∷ []) ≡ then_given (given xs) x
 given_more xs x = given_on_more [] xs x
 
--- what is taken is no argument, and what is left stands below it
+-- the popped continuation is no argument, and the remaining continuations are below it
 pub taken : (before old new : List Rest) (r : Rest) → stack old ≡ stack before → old ≡ new ++ r ∷ [] → ((v : ℕ) (first : Bool) → r ≡ rests.Given v first → ⊥) → Taken (Some r) before new
 taken before old new (rests.Number r) h e n = sym h ∙ (ap stack e ∙ stack_more new (rests.Number r))
 taken before old new (rests.Value r) h e n = sym h ∙ (ap stack e ∙ stack_more new (rests.Value r))

@@ -1,4 +1,4 @@
--- What is computed at once.
+-- Pure expressions, which are evaluated within one step.
 use Rattle.std.proofs.Common.{◌≡◌, ℕ, Bool, true, false, List, Option, Some, sym, ap, subst, ◌∷◌, ◌∙◌}
 use Rattle.bc_machine_defs.specs.Streams.{Content}
 use Rattle.bc_core.specs.Tree.{Exp, Cond}
@@ -29,7 +29,7 @@ use Rattle.bc_interpret_steps.specs.Code.{stack, given}
 use Rattle.bc_interpret_steps.specs.declared.forms.Ending.TheVariants as endings
 use Rattle.bc_interpret_steps.specs.Came.{state_of, Came, CameOrMalformed, Goes, GoesOrMalformed, progress_of, progress_of_truth, sight}
 
--- what comes of a step comes of one that is the same
+-- equal steps have the same outcome
 pub same_came : (r q : machine.Step) (old : State) (p : Progress) (rs : List machine.Rest) (vs : List ℕ) (new : State) → ((streams : Content) → r (state_of old streams) ≡ q (state_of old streams)) → Came q old p rs vs new → Came r old p rs vs new
 same_came r q old (progress.On x) rs vs new e h = λ streams. e streams ∙ h streams
 same_came r q old (progress.Serve x f) rs vs new e h = h
@@ -47,7 +47,7 @@ moved_came r q old old1 (progress.Ended x) rs vs new stood e h = λ streams. e s
 moved_came r q old old1 progress.Going rs vs new stood e h = λ streams. e streams ∙ h streams
 moved_came r q old old1 (progress.Wild c) rs vs new stood e h = (λ streams. e streams ∙ h.0 streams, stood (cause_of c) h.1)
 
--- what is wild as the cells stand, or whatever they hold
+-- a step that is wild with these cells, or whatever the cells hold
 pub loosen : (r : machine.Step) (old : State) (p : Progress) (rs : List machine.Rest) (vs : List ℕ) (new : State) → Came r old p rs vs new → CameOrMalformed r old p rs vs new
 loosen r old (progress.On x) rs vs new h = h
 loosen r old (progress.Serve x f) rs vs new h = h
@@ -91,7 +91,7 @@ quiet_truth st E e s streams plain w is =
     (worth_is_value E.address (λ r vs f. outcomes.wild) (λ n p s. outcomes.wild) e plain E.frame s (state_of st streams)).1
     ∙ ap (λ x. settled x (state_of st streams)) (sym is)
 
--- what fails is a read of a cell that stands so
+-- a failure is a read of a cell that is in the named state
 pub value_stands : (st : State) (E : machine.Spot) (e : Exp) (w : Worth) → has_call e ≡ false → seen w ≡ (worth (sight st E) e).value → FailsBy (λ c. StandsIn c st.store) (seen w)
 value_stands st E e w plain is = subst (λ x. FailsBy (λ c. StandsIn c st.store) x) (sym is) (failures_stand (sight st E) e plain).0
 
@@ -116,7 +116,7 @@ truth_divides st E e s f rs vs new plain is = λ streams. ap (λ o. followed o f
 pub truth_fails : (st : State) (E : machine.Spot) (e : Exp) (s : ℕ) (c : Cause) (f : Bool → machine.Step) (rs : List machine.Rest) (vs : List ℕ) (new : State) → has_call e ≡ false → quiet_forms.Fails (cause_of c) ≡ (worth (sight st E) e).truth → Came (then_do (truth (quiet E) e E.frame s) f) st (progress.Wild c) rs vs new
 truth_fails st E e s c f rs vs new plain is = (λ streams. ap (λ o. followed o f) (quiet_truth st E e s streams plain (truths.Fails c) is), truth_stands st E e (truths.Fails c) plain is)
 
--- an expression in which no call stands
+-- a pure expression
 pub valued : (st : State) (E : machine.Spot) (e : Exp) (s : ℕ) (rs : List machine.Rest) (vs : List ℕ) (w : Worth) → has_call e ≡ false → seen w ≡ (worth (sight st E) e).value → CameOrMalformed (evaluate E e s rs) st (progress_of w) rs vs st
 valued st E e s rs vs w plain is =
     loosen (evaluate E e s rs) st (progress_of w) rs vs st
@@ -164,7 +164,7 @@ tested_fails E e s c f r rs old rs1 vs new plain is =
 pub tested_calls : (E : machine.Spot) (e : Exp) (s : ℕ) (f : Bool → machine.Step) (r : machine.Rest) (rs : List machine.Rest) (old : State) (p : Progress) (rs1 : List machine.Rest) (vs : List ℕ) (new : State) → has_call e ≡ true → Came (machine.go (machine.Decide E e s) (r ∷ rs)) old p rs1 vs new → Came (tested E e s f r rs) old p rs1 vs new
 tested_calls E e s f r rs old p rs1 vs new e1 h = came_true (has_call e) (machine.go (machine.Decide E e s) (r ∷ rs)) (then_do (truth (quiet E) e E.frame s) f) old p rs1 vs new e1 h
 
--- a conditional expression in which a call stands
+-- a conditional expression that contains a call
 abbrev chosen : machine.Spot → (x y : Exp) → ℕ → List machine.Rest → Bool → machine.Step
 chosen E x y s rs t = choose t (machine.go (machine.Evaluate E x s) rs) (machine.go (machine.Evaluate E y s) rs)
 

@@ -1,4 +1,4 @@
--- After a test that is computed at once.
+-- Pure tests of IF and WHILE, which are decided within one step.
 use Rattle.std.proofs.Common.{◌≡◌, ℕ, Bool, true, List, ◌∷◌, Option, Some, sym, ap}
 use Rattle.bc_core.specs.Tree.{Exp}
 use Rattle.bc_core.specs.Commands.{Block}
@@ -26,7 +26,7 @@ if_next E sense b s rs t = choose (agrees sense t) (enter E b s rs) (give (machi
 abbrev while_next : machine.Spot → Bool → Exp → Block → ℕ → List machine.Rest → Bool → machine.Step
 while_next E sense e b s rs t = choose (agrees sense t) (enter E b s (machine.WhileBody E sense e b s ∷ rs)) (give (machine.Left Past) rs)
 
--- what comes of an IF
+-- the outcome of an IF
 pub if_told : (E : machine.Spot) (sense : Bool) (e : Exp) (b : Block) (s : ℕ) (rs : List machine.Rest) (old : State) (found : Option Truth) (t holds : Bool) (p : Progress) (rs1 : List machine.Rest) (vs : List ℕ) (new : State) → IsTruth (sight old E) e found → found ≡ Some (truths.Is t) → holds ≡ agrees sense t
     → Came (choose holds (enter E b s rs) (give (machine.Left Past) rs)) old p rs1 vs new → Came (perform_step E (commands.If sense e b) s rs) old p rs1 vs new
 if_told E sense e b s rs old found t holds p rs1 vs new h is a g =
@@ -47,7 +47,7 @@ if_fails E sense e b s rs st found c rs1 vs h is =
 pub if_calls : (E : machine.Spot) (sense : Bool) (e : Exp) (b : Block) (s : ℕ) (rs : List machine.Rest) (st : State) (p : Progress) (rs1 : List machine.Rest) (vs : List ℕ) → has_call e ≡ true → Came (machine.go (machine.Decide E e s) (machine.Ifs E sense b s ∷ rs)) st p rs1 vs st → Came (perform_step E (commands.If sense e b) s rs) st p rs1 vs st
 if_calls E sense e b s rs st p rs1 vs calls h = tested_calls E e s (if_next E sense b s rs) (machine.Ifs E sense b s) rs st p rs1 vs st calls h
 
--- what comes of a WHILE
+-- the outcome of a WHILE
 abbrev pub loops : machine.Spot → Bool → Exp → Block → ℕ → List machine.Rest → machine.Step
 loops E sense e b s rs = enter E b s (machine.WhileBody E sense e b s ∷ rs)
 

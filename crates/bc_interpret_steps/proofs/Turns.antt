@@ -1,4 +1,4 @@
--- Turns that are taken.
+-- Taking a turn.
 use Rattle.std.proofs.Common.{◌≡◌, ◌+◌, ℕ, suc, true, false, refl, ap, arith}
 use Rattle.bc_core.specs.Outcome.{taken}
 use Rattle.bc_interpret_steps.specs.declared.state.State.{State}

@@ -60,7 +60,7 @@ valof_at address p first (w ∷ ws) n (suc i) s rs d e h =
     ∙ (valof_at address p (first + 1) ws n i s rs d (omega arith) (omega arith)
     ∙ ap (λ k. within address p (n + 1) (map valof_of (drop k (w ∷ ws))) (valof_of (get_or ws i d)) s rs) (sym more)))
 
--- the same among all VALOFs of a section, of which those from the first one on stand within
+-- the same among all VALOFs of a section, where those from the first one on are inside this part
 pub none_before : (address : ℕ → ℕ) (p first : ℕ) (ws : List Valof) (n s : ℕ) (rs : List Rest) → n < first → to_valof address p first (map valof_of (drop first ws)) n s rs ≡ wild
 none_before address p first ws n s rs h = valof_before address p first (drop first ws) n s rs h
 

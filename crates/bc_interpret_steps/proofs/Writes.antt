@@ -1,4 +1,4 @@
--- Cells that are written.
+-- Writing a cell.
 use Rattle.std.proofs.Common.{◌≡◌, ◌≢◌, ℕ, zero, suc, List, [], ◌∷◌, Some, None, sym, ap, subst, refl, ◌∙◌}
 use Rattle.std.specs.Prelude.{slice_set}
 use Rattle.bc_core.specs.Store.{Cell, Dead, Unset, Set, cell_at}

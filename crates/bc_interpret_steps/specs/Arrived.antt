@@ -1,4 +1,4 @@
--- For proofs: what a call comes to.
+-- For proofs: the outcome of a call, and of evaluating its arguments.
 use Rattle.std.specs.Prelude.{ℕ, ◌≡◌, ◌+◌, Bool, false, List, [], ◌∷◌, ◌++◌, reverse, Option, Some, None, Result, OnOk}
 use Rattle.bc_core.specs.Map.{Placed}
 use Rattle.bc_core.specs.Meaning.{Callee, OfLibrary, callee, passed}
@@ -30,14 +30,15 @@ use Rattle.bc_interpret_steps.specs.Code.{spot_of, given_for, stack, given}
 use Rattle.bc_interpret_steps.specs.Came.{state_of, primitive_of, Came, Goes}
 use Rattle.bc_interpret_steps.specs.Sections.{IsTable}
 
--- the arguments from here on, after those that are given
+-- the machine's step into the remaining arguments, after those that are given
 abbrev pub Argued : Arguments → (before : List Rest) → List machine.Rest → machine.Step
 Argued a before rs = machine.argue (spot_of a.spot) (given_for a.fresh (given before)) (args a.left.now) a.level (exp a.routine.now) a.count a.s rs
 
+-- the machine's step into the routine's value, once all arguments are given
 abbrev pub ArguedLast : Arguments → (before : List Rest) → List machine.Rest → machine.Step
 ArguedLast a before rs = machine.argue (spot_of a.spot) (given_for a.fresh (given before)) no_argument a.level (exp a.routine.now) a.count a.s rs
 
--- the first argument is given, and these are left; or this came of the step
+-- the first argument is given and these remain; or the step is over with this outcome
 abbrev pub IsGivenOne : Arguments → CoreExp → List CoreExp → (before : List Rest) → State → Given → Progress → (after : List Rest) → Type 0
 IsGivenOne a first following before st (forms.One next) p after =
     (next.left.now ≡ following)
@@ -49,8 +50,8 @@ IsGivenOne a first following before st forms.Over p after =
     Goes (machine.argue (spot_of a.spot) (given_for a.fresh (given before)) (argument (exp first) (args following)) a.level (exp a.routine.now) a.count a.s)
     before st p after st
 
--- A primitive is called: its turn is taken, it has its argument, and its work stands before what is left, with its argument's cell
--- given back after it.
+-- A primitive is called: its turn has been taken and its argument passed. The machine goes on with its work, then frees the cell of its
+-- argument, then goes on with the continuations.
 pub record IsServed (r : machine.Step) (called : Option Callee) (arguments : List ℕ) (f : ℕ) (q : primitives.Primitive) (g : ℕ)
     (old : State) (rs : List machine.Rest) (new : State) : Type 0 where
   pub comes : (streams : Content)
@@ -59,7 +60,7 @@ pub record IsServed (r : machine.Step) (called : Option Callee) (arguments : Lis
   pub is_primitive : called ≡ Some (OfLibrary q)
   pub has_argument : new.store ≡ passed 1 (f + 2) arguments old.store
 
--- what comes of a step that calls this, at the address that is a value, with these arguments in the frame at f
+-- the outcome of a step that calls the value, which is the address of this callee, with these arguments in the frame at f
 abbrev pub Lands :
     machine.Step → Option Callee → (value : ℕ) → (arguments : List ℕ) → (f : ℕ)
     → (old : State) → Progress → List machine.Rest → List ℕ → (new : State) → Type 0
@@ -68,7 +69,7 @@ Lands r called value arguments f old (progress.Wild c) rs vs new =
     ((streams : Content) → r (state_of old streams) ≡ outcomes.Wild) × Refused called value f (cause_of c)
 Lands r called value arguments f old p rs vs new = Came r old p rs vs new
 
--- this is called, with the arguments that were gathered
+-- the outcome of calling this callee with the gathered arguments
 abbrev pub Enters :
     {A E : Type 0} → Option Callee → (value frame : ℕ) → (before : Stacks) → (old : State) → Result A E → (after : Stacks) → (new : State) → Type 0
 Enters called value f before old result after new =
@@ -76,7 +77,7 @@ Enters called value f before old result after new =
     OnOk result (Lands (arrive called vs f (stack before.rests.items)) called value vs f old after.next (stack after.rests.items)
     (given after.rests.items) new)
 
--- a value is called, with the arguments that are given, or with none where the call is fresh
+-- the outcome of calling a value with the given arguments, or with none if the call is fresh
 abbrev pub Arrives :
     {A E : Type 0}
     → List Callable → (value : ℕ) → (fresh : Bool) → (frame : ℕ)
@@ -87,25 +88,25 @@ Arrives table value fresh f before old result after new =
     OnOk result (Lands (arrive (callee program value) vs f (stack before.rests.items)) (callee program value) value vs f old after.next
     (stack after.rests.items) (given after.rests.items) new)
 
--- the same of the value, with the arguments that were gathered
+-- the same with the arguments that were gathered
 abbrev pub LandsAt :
     {A E : Type 0} → List Callable → (value frame : ℕ) → (before : Stacks) → (old : State) → Result A E → (after : Stacks) → (new : State) → Type 0
 LandsAt table value f before old result after new =
     (program : List Placed) → IsTable program table → Enters (callee program value) value f before old result after new
 
--- no call stands in these arguments, and these are their values
+-- these arguments contain no call, and these are their values
 abbrev pub AreWorth : quiet.Sight → Args → List ℕ → Type 0
 AreWorth S no_argument [] = Unit {0}
 AreWorth S no_argument (v ∷ vs) = ⊥
 AreWorth S (argument e es) [] = ⊥
 AreWorth S (argument e es) (v ∷ vs) = (has_call e ≡ false) × (quiet.Is v ≡ (worth S e).value) × AreWorth S es vs
 
--- the routine's value, and those of the arguments, where they were found
+-- the values of the routine and of the arguments, if they were found
 abbrev pub IsWorkedOut : quiet.Sight → Args → Exp → Option ℕ → List ℕ → Type 0
 IsWorkedOut S es f None vs = Unit {0}
 IsWorkedOut S es f (Some v) vs = AreWorth S es vs × (has_call f ≡ false) × (quiet.Is v ≡ (worth S f).value)
 
--- For proofs: the values of the last arguments are here, and the others are left.
+-- the values of the last arguments have been found, and the others remain
 pub record WorkedOut (S : quiet.Sight) (all left : List CoreExp) (vs : List ℕ) : Type 0 where
   pub done : List CoreExp
   pub split : all ≡ left ++ done

@@ -1,4 +1,4 @@
--- For proofs: assignments that are done at once, and what comes next in a list.
+-- For proofs: pure assignments, and what comes next in a list.
 use Rattle.std.specs.Prelude.{ℕ, ◌≡◌, ◌||◌, ◌∷◌, true, false, List, Option, Some, None}
 use Rattle.bc_machine_defs.specs.Streams.{Content}
 use Rattle.bc_core.specs.Tree.{Exp}
@@ -24,33 +24,33 @@ use Rattle.bc_interpret_steps.specs.declared.lists.Next.TheVariants as nexts
 use Rattle.bc_interpret_steps.specs.Code.{entry_of}
 use Rattle.bc_interpret_steps.specs.Came.{state_of}
 
--- what came of an assignment
+-- the outcome of an assignment
 abbrev pub outcome_of : Assigned → State → Content → Outcome (Unit {0})
 outcome_of forms.Done new streams = Done tt (state_of new streams)
 outcome_of forms.Divides new streams = Ended ZeroDivide streams
 outcome_of (forms.Fails c) new streams = Wild
 
--- what was unset or not live then was so before; and the wild access that is named is one to a cell that stood so
+-- a cell that is unset or not live afterwards was so before; a wild access is to a cell that was in the named state
 abbrev pub Tells : Assigned → (old new : State) → Type 0
 Tells forms.Done old new = Stood old.store new.store
 Tells forms.Divides old new = Unit {0}
 Tells (forms.Fails c) old new = StandsIn (cause_of c) old.store
 
--- one whose sides are worth these
+-- an assignment whose sides have these worths
 abbrev pub BothWorth : quiet_forms.Worth ℕ → quiet_forms.Worth ℕ → (old : State) → Assigned → (new : State) → Type 0
 BothWorth w x old done new =
     ((streams : Content) → second_side false (settled w (state_of old streams)) (settled x) (λ word address. write address word) (state_of old streams) ≡
     outcome_of done new streams)
     × (FailsBy (λ c. StandsIn c old.store) w → FailsBy (λ c. StandsIn c old.store) x → Tells done old new)
 
--- it was done, or a call stands in it
+-- it was performed, or it contains a call
 abbrev pub IsAssigned : machine.Spot → (value address : Exp) → (old : State) → Option Assigned → (new : State) → Type 0
 IsAssigned E v a old None new = ((has_call v || has_call a) ≡ true) × (new ≡ old)
 IsAssigned E v a old (Some done) new =
     ((has_call v || has_call a) ≡ false) × ((s : ℕ) (streams : Content) → assign (quiet E) v a E.frame s (state_of old streams) ≡ outcome_of done new streams)
     × Tells done old new
 
--- the first command of a list was done, or is performed
+-- the first command of a list was performed as a pure assignment, or is performed next
 abbrev pub IsDone : machine.Spot → Command → (old : State) → Option Assigned → (new : State) → Type 0
 IsDone E c old None new =
     ((is : Items) (s : ℕ) (rs : List machine.Rest) (onward : machine.Step) → first_command E c is s rs onward ≡ machine.go (machine.Perform E c s)
@@ -60,11 +60,11 @@ IsDone E c old (Some done) new =
     → first_command E c is s rs onward (state_of old streams) ≡ followed (outcome_of done new streams) (λ u. onward))
     × Tells done old new
 
--- what comes next in a list whose first item this is, and which is entered so
+-- what comes next in a list that begins with this item and is entered at `at`
 abbrev pub IsNext : Next → ListItem → Entry → Type 0
 IsNext (nexts.Passes next) i at =
-    (E : machine.Spot) (following : Items) (s : ℕ) (rs : List machine.Rest) → list_step E (items_before i following) s (entry_of at) rs ≡ list_step E following s
-    (entry_of next) rs
+    (E : machine.Spot) (following : Items) (s : ℕ) (rs : List machine.Rest)
+    → list_step E (items_before i following) s (entry_of at) rs ≡ list_step E following s (entry_of next) rs
 IsNext (nexts.Does c) i at =
     (E : machine.Spot) (following : Items) (s : ℕ) (rs : List machine.Rest)
     → list_step E (items_before i following) s (entry_of at) rs ≡ first_command E (command_view c.now) following s rs (list_step E following s Beginning rs)

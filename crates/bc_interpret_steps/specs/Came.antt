@@ -1,4 +1,4 @@
--- For proofs: what came of a step, as the interpreter has it.
+-- For proofs: that the outcome which the code reports is the outcome of the machine's step.
 use Rattle.std.specs.Prelude.{ℕ, ◌≡◌, ◌+◌, ◌<◌, Bool, true, false, List, Option, Some, None}
 use Rattle.bc_machine_defs.specs.Streams.{Content}
 use Rattle.bc_interpret_defs.specs.Causes.{StandsIn, Stood}
@@ -32,9 +32,11 @@ use Rattle.bc_interpret_defs.specs.Machine.{give, following, frame_taken}
 use Rattle.bc_interpret_steps.specs.declared.continuations.Rest.{Rest}
 use Rattle.bc_interpret_steps.specs.Code.{work_of, exit_of, stacked, then_given, stack, given}
 
+-- the state of the code, over these streams, as the definitions have it
 abbrev pub state_of : State → Content → outcomes.State
 state_of st streams = record { cells = st.store; streams = streams; turns = st.turns }
 
+-- a primitive, as the definitions have it
 abbrev pub primitive_of : Primitive → primitives.Primitive
 primitive_of (primitive_forms.Select side) = primitives.Select side
 primitive_of primitive_forms.ReadByte = primitives.ReadByte
@@ -45,8 +47,8 @@ primitive_of (primitive_forms.EndStream side) = primitives.EndStream side
 abbrev pub at : List ℕ → Work → List machine.Rest → machine.At
 at vs w rs = record { work = work_of vs w; rests = rs }
 
--- Whatever the streams hold: this came of a step that calls nothing, with what is left to do, the arguments that are given and the state
--- then. Where a wild access was met, it is one to a cell that stood so as the step began.
+-- Whatever the streams hold: the code reports the outcome of a step that calls nothing, with the continuations, the given arguments and
+-- the state after it. If the step is wild, the cause names a cell that was in that state when the step began.
 abbrev pub Came : machine.Step → (old : State) → Progress → List machine.Rest → List ℕ → (new : State) → Type 0
 Came r old (progress.On w) rs vs new = (streams : Content) → r (state_of old streams) ≡ outcomes.Done (at vs w rs) (state_of new streams)
 Came r old (progress.Serve q f) rs vs new = ⊥
@@ -55,24 +57,24 @@ Came r old (progress.Ended e) rs vs new = (streams : Content) → r (state_of ol
 Came r old progress.Going rs vs new = (streams : Content) → r (state_of old streams) ≡ outcomes.Going streams
 Came r old (progress.Wild c) rs vs new = ((streams : Content) → r (state_of old streams) ≡ outcomes.Wild) × StandsIn (cause_of c) old.store
 
--- the same; or it is wild whatever the cells hold
+-- the same; a step that is reported as malformed is wild whatever the cells hold
 abbrev pub CameOrMalformed : machine.Step → (old : State) → Progress → List machine.Rest → List ℕ → (new : State) → Type 0
 CameOrMalformed r old (progress.Wild causes.Malformed) rs vs new = (st : outcomes.State) → r st ≡ outcomes.Wild
 CameOrMalformed r old p rs vs new = Came r old p rs vs new
 
--- the same where what is left to do stands in the interpreter's list
+-- the same with the continuations as the interpreter keeps them
 abbrev pub Goes : (List machine.Rest → machine.Step) → (before : List Rest) → (old : State) → Progress → (after : List Rest) → (new : State) → Type 0
 Goes f before old p after new = Came (f (stack before)) old p (stack after) (given after) new
 
 abbrev pub GoesOrMalformed : (List machine.Rest → machine.Step) → (before : List Rest) → (old : State) → Progress → (after : List Rest) → (new : State) → Type 0
 GoesOrMalformed f before old p after new = CameOrMalformed (f (stack before)) old p (stack after) (given after) new
 
--- this comes next, and that is left to do after it
+-- what comes next is `next`, and the continuation r takes its answer
 abbrev pub StandsAfter : Rest → Progress → (before : List Rest) → Progress → (after : List Rest) → Type 0
 StandsAfter r next before p after =
     (stack after ≡ stacked (stack before) (given before) r) × (given after ≡ then_given (given before) r) × (p ≡ next)
 
--- a turn was taken, or none is left
+-- a turn was taken, or none remains
 abbrev pub Turned : Bool → State → State → Type 0
 Turned true old new = (r : machine.Step) (streams : Content) → in_turn r (state_of old streams) ≡ r (state_of new streams)
 Turned false old new = ((r : machine.Step) (streams : Content) → in_turn r (state_of old streams) ≡ outcomes.Going streams) × (new ≡ old)
@@ -82,32 +84,32 @@ abbrev pub Wrote : State → (address word : ℕ) → Option Cause → State →
 Wrote old a w None new = ((streams : Content) → write a w (state_of old streams) ≡ outcomes.Done tt (state_of new streams)) × Stood old.store new.store
 Wrote old a w (Some c) new = ((streams : Content) → write a w (state_of old streams) ≡ outcomes.Wild) × StandsIn (cause_of c) old.store
 
--- what comes of an expression that is worth this
+-- the outcome of a step that evaluates an expression with this worth
 abbrev pub progress_of : Worth → Progress
 progress_of (worths.Is v) = progress.On (works.Number v)
 progress_of worths.Divides = progress.Ended endings.ZeroDivide
 progress_of (worths.Fails c) = progress.Wild c
 
--- what comes of a test that has this truth
+-- the outcome of a step that decides an expression with this truth
 abbrev pub progress_of_truth : Truth → Progress
 progress_of_truth (truths.Is t) = progress.On (works.Verdict t)
 progress_of_truth truths.Divides = progress.Ended endings.ZeroDivide
 progress_of_truth (truths.Fails c) = progress.Wild c
 
--- what is read there
+-- what a pure expression depends on there
 abbrev pub sight : State → machine.Spot → quiet.Sight
 sight st E = record { cells = st.store; address = E.address; frame = E.frame }
 
--- what comes after a loop's body that control leaves so
+-- what follows a loop's body that control leaves with this exit
 abbrev pub IsAfter : Option Exit → exits.Exit → Type 0
 IsAfter None x = (again : machine.Step) (rs : List machine.Rest) → following again x rs ≡ again
 IsAfter (Some y) x = (again : machine.Step) (rs : List machine.Rest) → following again x rs ≡ give (machine.Left (exit_of y)) rs
 
--- how control leaves a SWITCHON whose list it leaves so
+-- how control leaves a SWITCHON, given how it leaves its list
 abbrev pub IsAfterCases : (out within : exits.Exit) → Type 0
 IsAfterCases out within = (st : outcomes.State) → lists.after_cases within st ≡ outcomes.Done out st
 
--- whether a call goes on in a frame at f
+-- whether a call can go on in a frame at f
 abbrev pub Framed : Fit → (f size : ℕ) → State → State → Type 0
 Framed fits.Fits f size old new =
     ((r : machine.Step) (streams : Content) → frame_taken f size r (state_of old streams) ≡ r (state_of new streams)) × (new.store ≡ old.store)
@@ -119,5 +121,6 @@ abbrev pub primitive_if : Option Primitive → Option primitives.Primitive
 primitive_if None = None
 primitive_if (Some q) = Some (primitive_of q)
 
+-- the primitive that is found for this address, if there is one
 abbrev pub IsPrimitive : Option Primitive → ℕ → Type 0
 IsPrimitive found a = primitive_if found ≡ primitives.primitive_among primitives.primitives a

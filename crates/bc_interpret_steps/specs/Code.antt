@@ -1,4 +1,5 @@
--- What the interpreter's values mean.
+-- The views of the interpreter's types: its work and continuations as those of the machine. A rest is a continuation (usually called a
+-- continuation frame).
 use Rattle.std.specs.Prelude.{◌≡◌, ℕ, Bool, true, false, List, [], ◌∷◌, ◌++◌, map, drop, reverse, slice_index_or, Option, Some, None}
 use Rattle.bc_core.specs.View.{exp, args, items, variable, declarations, command, block_of, valof_of}
 use Rattle.bc_core.specs.Commands as commands
@@ -25,6 +26,7 @@ use Rattle.bc_interpret_steps.specs.declared.continuations.ExitRest.TheVariants 
 use Rattle.bc_interpret_steps.specs.declared.continuations.Rest.{Rest}
 use Rattle.bc_interpret_steps.specs.declared.continuations.Rest.TheVariants as rests
 
+-- where a part is evaluated, as the definitions have it
 abbrev pub spot_of : Spot → machine.Spot
 spot_of E =
     record {
@@ -35,6 +37,7 @@ spot_of E =
           E.frame;
     }
 
+-- an exit, as the definitions have it
 abbrev pub exit_of : Exit → exits.Exit
 exit_of exit_forms.Past = exits.Past
 exit_of exit_forms.Broke = exits.Broke
@@ -44,18 +47,19 @@ exit_of exit_forms.Returned = exits.Returned
 exit_of (exit_forms.Resulted v) = exits.Resulted v
 exit_of (exit_forms.Jumped l) = exits.Jumped l
 
+-- where a list is entered, as the definitions have it
 abbrev pub entry_of : Entry → lists.Entry
 entry_of entries.Beginning = lists.Beginning
 entry_of (entries.AtCase v) = lists.AtCase v
 entry_of entries.AtDefault = lists.AtDefault
 entry_of (entries.AtLabel l) = lists.AtLabel l
 
--- the arguments that are given: none yet, or these
+-- the arguments already given: none if the call is fresh, else these
 abbrev pub given_for : (fresh : Bool) → List ℕ → List ℕ
 given_for true vs = []
 given_for false vs = vs
 
--- with the arguments that are given where it stands
+-- the work as the machine's, with the arguments already given
 abbrev pub work_of : List ℕ → Work → machine.Work
 work_of vs (works.Evaluate E e s) = machine.Evaluate (spot_of E) (exp e.now) s
 work_of vs (works.Decide E e s) = machine.Decide (spot_of E) (exp e.now) s
@@ -75,6 +79,7 @@ work_of vs (works.Verdict t) = machine.Give (machine.Verdict t)
 work_of vs works.Nothing = machine.Give machine.Nothing
 work_of vs (works.Left x) = machine.Give (machine.Left (exit_of x))
 
+-- the continuations, kind by kind, as the definitions have them; vs are the arguments already given
 abbrev pub number_rest : List ℕ → NumberRest → machine.Rest
 number_rest vs number_rests.Loads = machine.Loads
 number_rest vs number_rests.Negates = machine.Negates
@@ -120,7 +125,7 @@ exit_rest exit_rests.Cases = machine.Cases
 exit_rest (exit_rests.Follows E is s) = machine.Follows (spot_of E) (items is.now) s
 exit_rest (exit_rests.Listed E is s) = machine.Listed (spot_of E) (items is.now) s
 
--- what is left to do with one more in front, where these arguments are given
+-- the continuations with one more pushed, after these given arguments
 abbrev pub stacked : List machine.Rest → List ℕ → Rest → List machine.Rest
 stacked rs vs (rests.Number r) = number_rest vs r ∷ rs
 stacked rs vs (rests.Value r) = value_rest r ∷ rs
@@ -131,7 +136,7 @@ stacked rs vs (rests.Exit r) = exit_rest r ∷ rs
 stacked rs vs (rests.Closes n a) = machine.Closes n a ∷ rs
 stacked rs vs (rests.Given v first) = rs
 
--- the arguments that are given then
+-- the given arguments after that
 abbrev pub then_given : List ℕ → Rest → List ℕ
 then_given vs (rests.Number r) = []
 then_given vs (rests.Value r) = []
@@ -142,7 +147,7 @@ then_given vs (rests.Exit r) = []
 then_given vs (rests.Closes n a) = []
 then_given vs (rests.Given v first) = given_for first vs ++ v ∷ []
 
--- the last one put is the first one to be done
+-- the continuations as a list, put on rs: the last one pushed comes first
 abbrev pub stack_on : List machine.Rest → List ℕ → List Rest → List machine.Rest
 stack_on rs vs [] = rs
 stack_on rs vs (x ∷ xs) = stack_on (stacked rs vs x) (then_given vs x) xs
@@ -151,33 +156,35 @@ abbrev pub given_on : List ℕ → List Rest → List ℕ
 given_on vs [] = vs
 given_on vs (x ∷ xs) = given_on (then_given vs x) xs
 
+-- the continuations as a list
 abbrev pub stack : List Rest → List machine.Rest
 stack xs = stack_on [] [] xs
 
+-- the arguments that are given on top of the stack of continuations
 abbrev pub given : List Rest → List ℕ
 given xs = given_on [] xs
 
--- what was taken of what is left to do, which is no argument
+-- the continuation that was popped, which is no argument
 abbrev pub Taken : Option Rest → (old new : List Rest) → Type 0
 Taken None old new = stack old ≡ []
 Taken (Some (rests.Given v first)) old new = ⊥
 Taken (Some r) old new = stack old ≡ stacked (stack new) (given new) r
 
--- the argument that this is, and whether it is the first one; or it is none, and ends those that are given
+-- the argument that this entry is, and whether it is the first one; or the entry is a continuation, and ends the given arguments
 abbrev pub IsGiven : Option (ℕ × Bool) → Rest → Type 0
 IsGiven None r = (vs : List ℕ) → then_given vs r ≡ []
 IsGiven (Some g) r = r ≡ rests.Given g.0 g.1
 
--- the arguments that were given are here, the last one first, and the rest is left
+-- the given arguments were gathered, the last one first, and the continuations are unchanged
 abbrev pub Gathered : (fresh : Bool) → (old new : List Rest) → (arguments : List ℕ) → Type 0
 Gathered fresh old new arguments = (stack new ≡ stack old) × (reverse arguments ≡ given_for fresh (given old))
 
--- For proofs: of the arguments that are wanted the last ones are here already, and the others are still given, or there are none.
+-- the last of the wanted arguments have been gathered; the others are still among the continuations, or there are no others
 abbrev pub Gathering : (more : Bool) → (wanted : List ℕ) → (left : List Rest) → (arguments : List ℕ) → Type 0
 Gathering true wanted left arguments = wanted ≡ given left ++ reverse arguments
 Gathering false wanted left arguments = wanted ≡ reverse arguments
 
--- the argument that is given last was taken, if one was given; and there may be more
+-- the last given argument was popped, if there was one; there may be more
 abbrev pub TakesGiven : (more : Bool) → (old new : List Rest) → (before after : List ℕ) → Type 0
 TakesGiven more old new before after =
     (stack new ≡ stack old) × ((wanted : List ℕ) → Gathering true wanted old before → Gathering more wanted new after)

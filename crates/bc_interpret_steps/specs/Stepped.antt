@@ -1,4 +1,4 @@
--- For proofs: what a step came to, with the end of the whole run.
+-- For proofs: the outcome of a step, including the end of the whole run, and the forms in which contracts state it.
 use Rattle.std.specs.Prelude.{ℕ, ◌≡◌, List, [], Vec, Result, OnOk, IfOk}
 use Rattle.std.specs.declared.alloc.Global.{Global}
 use Rattle.bc_core.specs.Map.{Placed}
@@ -21,7 +21,7 @@ use Rattle.bc_interpret_steps.specs.Came.{state_of, primitive_of, Came, CameOrMa
 use Rattle.bc_interpret_steps.specs.Arrived.{IsServed}
 use Rattle.bc_interpret_steps.specs.Sections.{IsTable}
 
--- a value is called, which is a primitive's address
+-- the step calls a primitive
 pub record Serves (program : List Placed) (w : machine.Work) (rs : List machine.Rest) (q : primitives.Primitive) (g : ℕ)
     (old : State) (rs1 : List machine.Rest) (new : State) : Type 0 where
   pub value : ℕ
@@ -30,7 +30,7 @@ pub record Serves (program : List Placed) (w : machine.Work) (rs : List machine.
   pub calls : IsCall w rs value arguments frame
   pub served : IsServed (step program w rs) (callee program value) arguments frame q g old rs1 new
 
--- this came of a step; or the answer of the whole run stands there
+-- the code reports the outcome of the step; or the machine holds the answer of the whole run
 abbrev pub Stepped :
     List Placed → machine.Work → (rs : List machine.Rest) → (old : State) → Progress → List machine.Rest → List ℕ → (new : State) → Type 0
 Stepped program w rs old progress.Answered rs1 vs1 new = ((a : machine.Answer) × (w ≡ machine.Give a)) × (rs ≡ []) × (new ≡ old)
@@ -39,42 +39,46 @@ Stepped program w rs old (progress.Wild c) rs1 vs1 new =
     Moves w rs × ((streams : Content) → step program w rs (state_of old streams) ≡ outcomes.Wild) × Meets program w rs old.store (cause_of c)
 Stepped program w rs old p rs1 vs1 new = Moves w rs × Came (step program w rs) old p rs1 vs1 new
 
--- The same of what a call leaves to come next, if memory sufficed. For proofs: what came of a step that is given what is left to do,
+-- unless memory ran out: the outcome of a step that is a function of the continuations
 abbrev pub Proceeds :
     {A E : Type 0}
     → (List machine.Rest → machine.Step) → (before : Vec Rest Global) → (old : State) → Result A E → Progress → (after : Vec Rest Global) → (new : State)
     → Type 0
 Proceeds f before old result p after new = OnOk result (Goes f before.items old p after.items new)
 
+-- the same, where the step may be malformed
 abbrev pub ProceedsOrMalformed :
     {A E : Type 0}
     → (List machine.Rest → machine.Step) → (before : Vec Rest Global) → (old : State) → Result A E → Progress → (after : Vec Rest Global) → (new : State)
     → Type 0
 ProceedsOrMalformed f before old result p after new = OnOk result (GoesOrMalformed f before.items old p after.items new)
 
--- an answer that is taken by what is left to do first,
+-- the outcome of giving an answer to a popped continuation
 abbrev pub Takes :
     {A E : Type 0}
     → machine.Rest → machine.Answer → (before : Vec Rest Global) → (old : State) → Result A E → Progress → (after : Vec Rest Global) → (new : State) → Type 0
 Takes r a before old result p after new = (program : List Placed) → OnOk result (Goes (next program r a) before.items old p after.items new)
 
+-- the same, where the step may be malformed
 abbrev pub TakesOrMalformed :
     {A E : Type 0}
     → machine.Rest → machine.Answer → (before : Vec Rest Global) → (old : State) → Result A E → Progress → (after : Vec Rest Global) → (new : State) → Type 0
 TakesOrMalformed r a before old result p after new =
     (program : List Placed) → OnOk result (GoesOrMalformed (next program r a) before.items old p after.items new)
 
--- which leaves what is after it alone,
+-- the same where the continuation doesn't change the continuations after it
 abbrev pub Gives : machine.Rest → machine.Answer → (old : State) → Progress → (new : State) → Type 0
 Gives r a old p new = (program : List Placed) (rs : List machine.Rest) (vs : List ℕ) → Came (next program r a rs) old p rs vs new
 
+-- the same, where the step may be malformed
 abbrev pub GivesOrMalformed : machine.Rest → machine.Answer → (old : State) → Progress → (new : State) → Type 0
 GivesOrMalformed r a old p new = (program : List Placed) (rs : List machine.Rest) (vs : List ℕ) → CameOrMalformed (next program r a rs) old p rs vs new
 
+-- the same as a result, unless memory ran out
 abbrev pub GivesIfOk : {E : Type 0} → machine.Rest → machine.Answer → (old : State) → Result Progress E → (new : State) → Type 0
 GivesIfOk r a old result new = (program : List Placed) (rs : List machine.Rest) (vs : List ℕ) → IfOk result (λ p. Came (next program r a rs) old p rs vs new)
 
--- and a step of a program with such a table
+-- the outcome of one step of any program that has this table
 abbrev pub StepsOver :
     {A E : Type 0}
     → List Callable → machine.Work → (before : Vec Rest Global) → (old : State) → Result A E → Progress → (after : Vec Rest Global) → (new : State) → Type 0

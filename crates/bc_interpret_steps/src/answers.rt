@@ -1,4 +1,5 @@
-// What is done with an answer: it is handed to what is left to do first.
+//! Giving an answer to the innermost continuation. An answer of the wrong kind is wild (`Malformed`). Each call returns `Memory`
+//! if an allocation fails.
 
 ghost use Rattle.bc_interpret_defs.specs.Machine as machine;
 ghost use Rattle.bc_interpret_steps.specs.Code.{exit_of};
@@ -16,7 +17,7 @@ use crate::state::{Stacks, State};
 use bc_interpret_pure::Cause;
 use bc_word::Memory;
 
-/// A number is handed on.
+/// Gives a number to the innermost continuation.
 pub(crate) fn give_number<'c>(
     table: &[Callable<'c>],
     v: u16,
@@ -45,7 +46,7 @@ pub(crate) fn give_number<'c>(
     }
 }
 
-/// A truth is handed on.
+/// Gives a truth to the innermost continuation.
 pub(crate) fn give_verdict<'c>(
     table: &[Callable<'c>],
     t: bool,
@@ -79,7 +80,7 @@ pub(crate) fn give_verdict<'c>(
     }
 }
 
-/// What is left after a store or an initialiser goes on.
+/// Gives the answer of an assignment or an initialiser to the innermost continuation.
 pub(crate) fn give_nothing<'c>(
     table: &[Callable<'c>],
     stacks: &mut Stacks<'c>,
@@ -112,7 +113,7 @@ pub(crate) fn give_nothing<'c>(
     }
 }
 
-/// Control has left a command. What does nothing after it is passed at once.
+/// Gives an exit to the innermost continuation, after popping the continuations that only pass it on.
 #[inline(always)]
 pub(crate) fn give_exit<'c>(
     table: &[Callable<'c>],
@@ -126,7 +127,7 @@ pub(crate) fn give_exit<'c>(
     hand_exit(table, out, stacks, state)
 }
 
-/// Control has left a command, and what is left to do first takes that.
+/// Gives an exit to the innermost continuation.
 #[inline(always)]
 fn hand_exit<'c>(
     table: &[Callable<'c>],

@@ -1,4 +1,4 @@
-// The arguments of calls.
+//! The arguments of calls: evaluating them, and gathering their values when the routine is called.
 
 ghost use Rattle.std.specs.Prelude.{◌≡◌, ◌∷◌, ◌+◌, ◌<◌, cond, reverse, vec_len, IsTrue, OnOk, IfOk};
 ghost use Rattle.bc_core.specs.View.{exp, args};
@@ -16,7 +16,9 @@ use bc_core::CoreExp;
 use bc_interpret_pure::{Room, Worth};
 use bc_word::Memory;
 
-/// One step into the arguments that are left, and then into the routine's value. Those with no call in them are computed at once.
+/// One step into the remaining arguments, and then into the routine's value. Pure ones are evaluated within this step.
+///
+/// `Memory` if an allocation fails.
 pub(crate) fn argue<'c>(
     arguments: Arguments<'c>,
     stacks: &mut Stacks<'c>,
@@ -35,16 +37,16 @@ pub(crate) fn argue<'c>(
     Ok(argue_routine(now, stacks, state)?)
 }
 
-/// What comes of an argument.
+/// The outcome of an argument.
 #[derive(Clone, Copy)]
 enum Given<'c> {
-    /// It is given, and these are left.
+    /// Its value is given, and these remain.
     One(Arguments<'c>),
-    /// The step is over.
+    /// The step is over; its outcome is in `Stacks::next`.
     Over,
 }
 
-/// The first argument of those that are left, with the others.
+/// Evaluates the first remaining argument.
 #[inline(always)]
 #[tactic(auto, using(crate::proofs::Argues::of_an_argument))]
 fn give_argument<'c>(
@@ -85,7 +87,8 @@ fn give_argument<'c>(
     }
 }
 
-/// Puts what is left to do after the first argument.
+/// Pushes the continuation that takes the value of the first remaining argument. This is done even if the argument fails:
+/// `bc_interpret_trace` finds the place by it.
 fn put_argues<'c>(
     arguments: Arguments<'c>,
     following: &'c [CoreExp],
@@ -105,7 +108,7 @@ fn put_argues<'c>(
     Ok(())
 }
 
-/// One step into the routine's value, where all arguments are given.
+/// One step into the routine's value, once all arguments are given.
 #[inline(always)]
 #[tactic(auto, using(crate::proofs::Argues::last_valued, crate::proofs::Argues::last_calls))]
 fn argue_routine<'c>(
@@ -130,7 +133,7 @@ fn argue_routine<'c>(
     }
 }
 
-/// The argument that this is, and whether it is the first one of its call.
+/// The value of an argument, and whether it is the first one of its call; `None` for a continuation.
 fn given_by(rest: &Rest<'_>) -> Option<(u16, bool)>
     ensures { IsGiven result rest.now }
 {
@@ -146,7 +149,7 @@ fn given_by(rest: &Rest<'_>) -> Option<(u16, bool)>
     }
 }
 
-/// Takes the argument that is given last, if one is, and answers whether one is given before it.
+/// Pops the last argument onto `arguments`, if one is there. Returns whether the call has one before it.
 #[inline(always)]
 #[tactic(auto, using(crate::proofs::Gathers::none_there))]
 fn take_given<'c>(rests: &mut Vec<Rest<'c>>, arguments: &mut Vec<u16>) -> Result<bool, Memory>
@@ -168,7 +171,7 @@ fn take_given<'c>(rests: &mut Vec<Rest<'c>>, arguments: &mut Vec<u16>) -> Result
     }
 }
 
-/// Takes the arguments that are given from what is left to do: the last one first. There are none where the call is `fresh`.
+/// Pops the arguments of a call off the continuations, the last one first. There are none if the call is `fresh`.
 fn gather<'c>(
     fresh: bool,
     rests: &mut Vec<Rest<'c>>,
@@ -184,7 +187,7 @@ fn gather<'c>(
     Ok(())
 }
 
-/// The values of these arguments, the last one first, and whether all have one: none has where a call stands in it.
+/// Evaluates pure arguments into `values`, the last one first. Returns whether all of them are pure and have a value.
 #[inline(always)]
 #[tactic(auto, using(crate::proofs::Direct::none_done, crate::proofs::Direct::one_done, crate::proofs::Direct::all_done))]
 fn values_of<'c>(
@@ -210,10 +213,10 @@ fn values_of<'c>(
 }
 
 impl<'c> Stacks<'c> {
-    /// The routine's value, where it and all arguments have one: then the arguments are here, the last one first. Where a call stands in one of
-    /// them, or one has no value, there is none.
+    /// The routine's value, if it and all arguments are pure and have a value; then `self.arguments` holds the values of the arguments,
+    /// the last one first. Otherwise `None`.
     ///
-    /// `Memory` comes where an allocation was refused.
+    /// `Memory` if an allocation fails.
     #[inline(always)]
     pub(crate) fn worked_out(
         &mut self,
@@ -237,16 +240,17 @@ impl<'c> Stacks<'c> {
         }
     }
 
-    /// Takes the arguments that are given from what is left to do, the last one first. There are none where the call is `fresh`.
+    /// Pops the arguments of a call off the continuations into `self.arguments`, the last one first. There are none if the call is
+    /// `fresh`.
     ///
-    /// `Memory` comes where an allocation was refused.
+    /// `Memory` if an allocation fails.
     pub(crate) fn gather(&mut self, fresh: bool) -> Result<(), Memory>
         ensures { OnOk result (Gathered fresh self.old.rests.items self.new.rests.items self.new.arguments.items) }
     {
         gather(fresh, &mut self.rests, &mut self.arguments)
     }
 
-    /// Takes what is to be done first of what is left. Arguments that no call has taken are dropped.
+    /// Pops the innermost continuation; `None` if there is none. Arguments that no call has taken are dropped.
     pub(crate) fn take(&mut self) -> Option<Rest<'c>>
         ensures { Taken result self.old.rests.items self.new.rests.items }
     {

@@ -1,4 +1,4 @@
-// Assignments without call.
+//! Pure assignments: both sides contain no call and no VALOF. They are performed within one step.
 
 ghost use Rattle.std.specs.Prelude.{ℕ, IfOk};
 ghost use Rattle.bc_core.specs.View.{exp, command as command_view};
@@ -13,15 +13,18 @@ use bc_core::{Command, CoreExp};
 use bc_interpret_pure::{Cause, Room, Worth};
 use bc_word::Memory;
 
-/// What came of an assignment without call.
+/// The outcome of a pure assignment.
 #[derive(Clone, Copy)]
 pub(crate) enum Assigned {
+    /// The word was written.
     Done,
+    /// A zero divisor ended it, and no wild access was met.
     Divides,
+    /// It met a wild access.
     Fails(Cause),
 }
 
-/// What comes of an assignment of a value that is worth this to an address that is worth that.
+/// Assigns, given the worths of the value and of the address.
 #[inline(always)]
 fn both_assigned(word: Worth, place: Worth, state: &mut State) -> Assigned
     ensures { BothWorth (seen word) (seen place) state.old result state.new }
@@ -43,9 +46,10 @@ fn both_assigned(word: Worth, place: Worth, state: &mut State) -> Assigned
     }
 }
 
-/// An assignment, which is done if no call stands in it: a wild access in its second side outweighs a zero divisor in the first.
+/// Performs an assignment if it is pure, else returns `None` and changes nothing. A wild access in the address takes precedence over a
+/// zero divisor in the value.
 ///
-/// `Memory` comes where an allocation was refused.
+/// `Memory` if an allocation fails.
 #[inline(always)]
 #[tactic(auto, using(crate::proofs::Assigns::at_once))]
 pub(crate) fn assign_at_once<'c>(
@@ -66,9 +70,9 @@ pub(crate) fn assign_at_once<'c>(
     }
 }
 
-/// A command of a list, which is done if it is an assignment in which no call stands.
+/// Performs a command if it is a pure assignment, else returns `None` and changes nothing.
 ///
-/// `Memory` comes where an allocation was refused.
+/// `Memory` if an allocation fails.
 #[inline(always)]
 #[tactic(auto, using(crate::proofs::Assigns::first_done, crate::proofs::Assigns::first_left))]
 pub(crate) fn command_at_once<'c>(

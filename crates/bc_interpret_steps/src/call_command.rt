@@ -1,4 +1,4 @@
-// A command, and the routine that it calls.
+//! Performing a command; if it is a call, the routine is entered in the same step where that is possible.
 
 ghost use Rattle.bc_core.specs.Commands as commands;
 ghost use Rattle.bc_core.specs.View.{exp, command as command_view};
@@ -15,7 +15,7 @@ use crate::state::{Stacks, State};
 use bc_core::{Command, CoreExp};
 use bc_word::Memory;
 
-/// A command that is a call: it is gone into at once where it can be.
+/// Performs a command that is a call. Enters the routine at once if the arguments are pure.
 #[inline(never)]
 fn perform_call<'c>(
     table: &[Callable<'c>],
@@ -32,7 +32,9 @@ fn perform_call<'c>(
     go_over(table, spot, call, s, stacks, state)
 }
 
-/// One step into a command, and into the routine that it calls.
+/// Performs a command, and enters the routine that it calls.
+///
+/// `Memory` if an allocation fails.
 pub(crate) fn carry_out<'c>(
     table: &[Callable<'c>],
     spot: Spot<'c>,

@@ -1,4 +1,4 @@
-// Into a routine or a primitive.
+//! Calls: entering a routine or a primitive.
 
 ghost use Rattle.std.specs.Prelude.{ℕ, Some, IfOk};
 ghost use Rattle.bc_core.specs.Meaning.{OfLibrary};
@@ -20,18 +20,18 @@ use bc_interpret_pure::Cause;
 use bc_machine_defs::Side;
 use bc_word::Memory;
 
-/// Whether a call goes on.
+/// Whether a call can go on.
 #[derive(Clone, Copy)]
 pub(crate) enum Fit {
-    /// It does, and its turn is taken.
+    /// It can, and its turn has been taken.
     Fits,
-    /// Its frame would pass the address 65,535.
+    /// Its frame would extend past address 65,535.
     TooLarge,
-    /// No turn is left.
+    /// No turn remains.
     NoTurn,
 }
 
-/// Takes the turn of a call with a frame of this size, if the frame fits.
+/// Takes the turn of a call whose frame is at this address and has this size in cells, if the frame fits.
 #[tactic(auto, using(crate::proofs::Frames::too_large, crate::proofs::Frames::no_turn, crate::proofs::Frames::fits))]
 fn take_room(frame: u32, size: usize, state: &mut State) -> Result<Fit, Memory>
     ensures { IfOk result (λ found. Framed found frame size state.old state.new) }
@@ -45,7 +45,7 @@ fn take_room(frame: u32, size: usize, state: &mut State) -> Result<Fit, Memory>
     Ok(Fit::Fits)
 }
 
-/// The primitive whose code stands at this address.
+/// The primitive whose code is at this address. The primitives are the first segment of every image, which begins at address 520.
 fn primitive_at(address: u16) -> Option<Primitive>
     ensures { IsPrimitive result address }
 {
@@ -62,7 +62,7 @@ fn primitive_at(address: u16) -> Option<Primitive>
     }
 }
 
-/// Into a primitive, in the frame at this address.
+/// Calls a primitive, in the frame at this address: passes its argument and leaves the rest to the caller of `step`.
 #[tactic(auto, using(crate::proofs::Frames::served))]
 fn enter_primitive<'c>(
     primitive: Primitive,
@@ -91,7 +91,7 @@ fn enter_primitive<'c>(
     }
 }
 
-/// Into a routine, in the frame at this address.
+/// Calls a routine, in the frame at this address: passes its arguments and begins its body.
 fn enter_routine<'c>(
     entry: Callable<'c>,
     frame: u32,
@@ -137,7 +137,9 @@ fn enter_routine<'c>(
     }
 }
 
-/// A value is called, in the frame at this address, with the arguments that are given, or with none where the call is `fresh`.
+/// Calls a value, in the frame at this address, with the arguments that were pushed; with none if the call is `fresh`.
+///
+/// `Memory` if an allocation fails.
 pub(crate) fn arrive<'c>(
     table: &[Callable<'c>],
     routine: u16,
@@ -152,7 +154,7 @@ pub(crate) fn arrive<'c>(
     land(table, routine, frame, stacks, state)
 }
 
-/// A value is called, in the frame at this address, with these arguments, the last one first.
+/// Calls a value, in the frame at this address, with the arguments in `stacks.arguments`, which are in reverse order.
 #[inline(always)]
 fn land<'c>(
     table: &[Callable<'c>],
@@ -180,7 +182,9 @@ fn land<'c>(
     }
 }
 
-/// One step into a call, and into the routine where no call stands in the arguments and in the routine's value.
+/// Begins a call. Enters the routine within this step if the arguments and the routine's value are pure and have values.
+///
+/// `Memory` if an allocation fails.
 pub(crate) fn call_now<'c>(
     table: &[Callable<'c>],
     spot: Spot<'c>,

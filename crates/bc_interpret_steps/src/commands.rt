@@ -1,4 +1,4 @@
-// One step into a command or a block.
+//! One step into a command or a block. Each call returns `Memory` if an allocation fails.
 
 ghost use Rattle.std.specs.Prelude.{ℕ, List, ◌≡◌, ◌∷◌, map, IfOk};
 ghost use Rattle.bc_word.specs.Words.{holds};
@@ -28,7 +28,7 @@ use bc_interpret_pure::{Cause, Truth, cell_of};
 use bc_interpret_store::Cell;
 use bc_word::Memory;
 
-/// One step into an assignment, which is passed after it.
+/// Begins an assignment, and pushes the continuation that leaves it.
 #[inline(always)]
 fn assign<'c>(
     spot: Spot<'c>,
@@ -45,7 +45,7 @@ fn assign<'c>(
     Ok(())
 }
 
-/// A jump to this label, which takes a turn.
+/// A GOTO to this label, which takes a turn.
 #[inline(always)]
 fn jump<'c>(label: u16, state: &mut State) -> Progress<'c>
     ensures { (E : machine.Spot) (s : ℕ) (rs : List machine.Rest) (vs : List ℕ) → Came (machine.perform_step E (commands.Goto label) s rs) state.old result rs
@@ -57,7 +57,7 @@ fn jump<'c>(label: u16, state: &mut State) -> Progress<'c>
     Progress::On(Work::Left(Exit::Jumped(label)))
 }
 
-/// One step into a command.
+/// Begins a command.
 #[tactic(auto, using(bc_core::proofs::Rows::nested_view))]
 pub(crate) fn perform<'c>(
     spot: Spot<'c>,
@@ -120,7 +120,7 @@ pub(crate) fn perform<'c>(
     }
 }
 
-/// One step into a FOR with this start, this limit and this step.
+/// Begins a FOR: makes the cell of its variable live, and evaluates its start next. `bounds` has the start and the limit; `by` is the step.
 fn for_loop<'c>(
     spot: Spot<'c>,
     bounds: (&'c CoreExp, &'c CoreExp),
@@ -149,7 +149,7 @@ fn for_loop<'c>(
     Ok(())
 }
 
-/// One step into an expression before this.
+/// Pushes a continuation, and begins the expression whose value it takes.
 fn after_value<'c>(
     rest: ValueRest<'c>,
     spot: Spot<'c>,
@@ -166,7 +166,7 @@ fn after_value<'c>(
     evaluate(spot, e, s, stacks, state)
 }
 
-/// One step into a TEST.
+/// Begins a TEST with its condition.
 fn test_which<'c>(
     spot: Spot<'c>,
     test: &'c CoreExp,
@@ -187,7 +187,7 @@ fn test_which<'c>(
     decide(spot, test, s, stacks, state)
 }
 
-/// Into the body of an IF or UNLESS whose condition holds, or past it.
+/// Enters the body of an IF or UNLESS if its condition holds, else leaves it.
 #[inline(always)]
 #[tactic(auto, using(crate::proofs::Quiet::came_this, crate::proofs::Quiet::came_that))]
 pub(crate) fn enter_if<'c>(
@@ -208,7 +208,7 @@ pub(crate) fn enter_if<'c>(
     Ok(())
 }
 
-/// Into one of two blocks: the first where this is true.
+/// Enters the first block if `t` is true, else the second.
 #[inline(always)]
 #[tactic(auto, using(crate::proofs::Quiet::came_this, crate::proofs::Quiet::came_that))]
 pub(crate) fn enter_either<'c>(
@@ -230,7 +230,7 @@ pub(crate) fn enter_either<'c>(
     Ok(enter(spot, that, s, stacks, state)?)
 }
 
-/// Into the body of a WHILE or UNTIL, after which the loop goes on.
+/// Enters the body of a WHILE or UNTIL, and pushes the continuation that goes on with the loop.
 #[inline(always)]
 fn while_body<'c>(
     spot: Spot<'c>,
@@ -250,7 +250,7 @@ fn while_body<'c>(
     enter(spot, body, s, stacks, state)
 }
 
-/// Into the body of a WHILE or UNTIL whose condition holds, or past the loop.
+/// Enters the body of a WHILE or UNTIL if its condition holds, else leaves the loop.
 #[inline(always)]
 #[tactic(auto, using(crate::proofs::Quiet::came_this, crate::proofs::Quiet::came_that))]
 pub(crate) fn enter_while<'c>(
@@ -273,7 +273,8 @@ pub(crate) fn enter_while<'c>(
     Ok(())
 }
 
-/// One step into an IF or UNLESS.
+/// Begins an IF or UNLESS; a pure condition is decided within this step. If that fails, the continuation of the condition is pushed all the
+/// same: `bc_interpret_trace` finds the place by it.
 #[inline(always)]
 #[tactic(auto, using(crate::proofs::Tests::if_calls))]
 fn if_so<'c>(
@@ -312,7 +313,8 @@ fn if_so<'c>(
     }
 }
 
-/// One step into a WHILE or UNTIL.
+/// Begins a round of a WHILE or UNTIL; a pure condition is decided within this step. If that fails, the continuation of the condition is
+/// pushed all the same: `bc_interpret_trace` finds the place by it.
 #[inline(always)]
 #[tactic(auto, using(crate::proofs::Tests::while_calls))]
 pub(crate) fn while_loop<'c>(
@@ -351,7 +353,7 @@ pub(crate) fn while_loop<'c>(
     }
 }
 
-/// One step into a REPEAT.
+/// Begins a round of a REPEAT.
 pub(crate) fn repeat<'c>(
     spot: Spot<'c>,
     body: &'c Block,
@@ -370,7 +372,7 @@ pub(crate) fn repeat<'c>(
     Ok(())
 }
 
-/// One step into a REPEATWHILE or REPEATUNTIL.
+/// Begins a round of a REPEATWHILE or REPEATUNTIL.
 pub(crate) fn repeat_while<'c>(
     spot: Spot<'c>,
     body: &'c Block,
@@ -389,7 +391,7 @@ pub(crate) fn repeat_while<'c>(
     Ok(())
 }
 
-/// One step into an assignment. With no call in it, it is done at once.
+/// Performs an assignment within this step if it is pure, else evaluates its value next.
 pub(crate) fn store<'c>(
     spot: Spot<'c>,
     value: &'c CoreExp,
@@ -426,7 +428,7 @@ pub(crate) fn store<'c>(
     }
 }
 
-/// How many cells a variable takes: its own, and those of its vector.
+/// The cells of one variable: its own, and those of its vector.
 fn cells_of_one(declared: &Variable) -> u32
     ensures { result ≡ cells_of_variable (variable declared.now) }
 {
@@ -436,7 +438,7 @@ fn cells_of_one(declared: &Variable) -> u32
     }
 }
 
-/// How many cells variables take.
+/// The cells of all these variables.
 pub(crate) fn cells_of_all(variables: &[Variable]) -> Result<u32, Memory>
     ensures { IfOk result (λ cells. cells ≡ cells_of_variables (map variable variables.now)) }
 {
@@ -449,7 +451,7 @@ pub(crate) fn cells_of_all(variables: &[Variable]) -> Result<u32, Memory>
     Ok(cells)
 }
 
-/// How many cells declarations take.
+/// The cells of all these declarations.
 fn cells_declared(declarations: &[Declaration]) -> Result<u32, Memory>
     ensures { IfOk result (λ cells. cells ≡ cells_of_declarations (declarations_view declarations.now)) }
 {
@@ -462,7 +464,7 @@ fn cells_declared(declarations: &[Declaration]) -> Result<u32, Memory>
     Ok(cells)
 }
 
-/// One step into a block.
+/// Begins a block.
 #[inline(always)]
 pub(crate) fn enter<'c>(
     spot: Spot<'c>,
@@ -485,7 +487,7 @@ pub(crate) fn enter<'c>(
     )?)
 }
 
-/// One step into the declarations of a block, from here on and at the first of these levels, and then into its list at the second.
+/// Begins the remaining declarations of a block, at the first level, or its list, at the second level, if no declaration remains.
 pub(crate) fn declare<'c>(
     spot: Spot<'c>,
     declarations: &'c [Declaration],
@@ -522,7 +524,7 @@ pub(crate) fn declare<'c>(
     }
 }
 
-/// One step into the initialisers of variables, the first of which stands at the offset `k`.
+/// Initialises the remaining variables. The first of them is at offset `k` of the frame; `s` is the level after all of them.
 pub(crate) fn initialise<'c>(
     spot: Spot<'c>,
     variables: &'c [Variable],
@@ -568,7 +570,7 @@ pub(crate) fn initialise<'c>(
     }
 }
 
-/// Whether a FOR with this step is past its limit.
+/// Whether a FOR with this step ends: its variable is above the limit, or below it if the step is negative.
 #[inline(always)]
 fn is_past(by: u16, value: u16, limit: u16) -> bool
     ensures { result ≡ holds (end_relation by) value limit }
@@ -580,7 +582,7 @@ fn is_past(by: u16, value: u16, limit: u16) -> bool
     }
 }
 
-/// One step into a FOR whose limit is held, from its test on.
+/// Begins a round of a FOR whose limit is known: tests its variable, and enters its body or leaves it.
 #[tactic(auto, using(crate::proofs::Loops::round_dead, crate::proofs::Loops::round_unset, crate::proofs::Loops::round_past, crate::proofs::Loops::round_goes))]
 pub(crate) fn round<'c>(
     spot: Spot<'c>,
@@ -614,7 +616,7 @@ pub(crate) fn round<'c>(
     }
 }
 
-/// Into the body of a FOR with this limit and this step, after which the loop goes on.
+/// Enters the body of a FOR, and pushes the continuation that goes on with the loop. `bounds` has the limit and the step.
 #[inline(always)]
 fn for_body<'c>(
     spot: Spot<'c>,

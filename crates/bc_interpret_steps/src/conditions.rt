@@ -1,4 +1,4 @@
-// What is done with a truth.
+//! Giving a truth to a continuation.
 
 ghost use Rattle.std.specs.Prelude.{◌≡◌};
 ghost use Rattle.bc_core.specs.Loop.{agrees as agrees_with};
@@ -15,7 +15,7 @@ use crate::state::{Stacks, State, turn};
 use bc_core::{Block, Condition, CoreExp};
 use bc_word::Memory;
 
-/// Whether a condition of this sense holds.
+/// Whether a condition holds: its test must have this truth if `sense` is true, and the opposite truth if not.
 #[inline(always)]
 pub(crate) fn agrees(sense: bool, truth: bool) -> bool
     ensures { result ≡ agrees_with sense truth }
@@ -23,7 +23,7 @@ pub(crate) fn agrees(sense: bool, truth: bool) -> bool
     if sense { truth } else { !truth }
 }
 
-/// A conjunction has the truth of its first side: it has that of the second one where that holds.
+/// Gives `&` the truth of its first operand: decides the second one if it is true, else the conjunction is false.
 #[inline(always)]
 fn conjoins<'c>(
     t: bool,
@@ -44,7 +44,7 @@ fn conjoins<'c>(
     Ok(())
 }
 
-/// A disjunction has the truth of its first side: it has that of the second one where that doesn't hold.
+/// Gives `|` the truth of its first operand: decides the second one if it is false, else the disjunction is true.
 #[inline(always)]
 fn disjoins<'c>(
     t: bool,
@@ -65,7 +65,7 @@ fn disjoins<'c>(
     Ok(())
 }
 
-/// A conditional expression has the truth of its condition, and a branch comes next.
+/// Gives a conditional expression the truth of its condition: evaluates one of its branches next.
 #[inline(always)]
 pub(crate) fn branch_next<'c>(
     t: bool,
@@ -84,7 +84,7 @@ pub(crate) fn branch_next<'c>(
     }
 }
 
-/// A REPEATWHILE or REPEATUNTIL has the truth of its condition: it goes on, which takes a turn, or is over.
+/// Gives a REPEATWHILE or REPEATUNTIL the truth of its test: repeats it, which takes a turn, or leaves it.
 #[inline(always)]
 fn repeats<'c>(
     t: bool,
@@ -106,7 +106,9 @@ fn repeats<'c>(
     Progress::On(Work::RepeatWhile(spot, body, condition, s))
 }
 
-/// What is done with a truth.
+/// Gives a truth to this continuation, which was popped.
+///
+/// `Memory` if an allocation fails.
 pub(crate) fn truth_taken<'c>(
     rest: &TruthRest<'c>,
     t: bool,

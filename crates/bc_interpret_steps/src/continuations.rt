@@ -1,4 +1,7 @@
-// What is left to do with answers: the last one put is the first one to be done.
+//! The rests. A rest is what is usually called a continuation frame: what is left to do with an answer. Comments call it a continuation,
+//! since a frame here is that of a routine. The continuations are in a vector, with the innermost last.
+//!
+//! Each kind of answer has its own enum. A field of type `u32` that isn't explained is the level: the first free offset of the frame.
 
 ghost use Rattle.std.specs.Prelude.{◌≡◌, ◌+◌, OnOk, IfOk};
 ghost use Rattle.bc_interpret_steps.specs.Code.{stack, given, stacked, then_given, Taken};
@@ -7,89 +10,125 @@ use crate::forms::{Arguments, Spot};
 use bc_core::{Block, Condition, CoreExp, Declaration, ListItem, Variable};
 use bc_word::{Memory, Op};
 
-/// What is done with a number within an expression.
+/// A continuation inside an expression, which takes a number.
 #[derive(Clone, Copy)]
 pub enum NumberRest<'c> {
+    /// Reads the cell at the address that is the number.
     Loads,
+    /// Negates the number.
     Negates,
+    /// Complements the number.
     Complements,
+    /// Turns the number into a truth.
     Tests,
-    /// The second operand is computed; then it is the second operand of this one.
+    /// The number is an operator's first operand; evaluates the second one, this expression, next.
     Operates(Spot<'c>, Op, &'c CoreExp, u32),
+    /// The number is an operator's second operand; the first one is stored here. Applies the operator.
     Operated(Op, u16),
+    /// The number is an argument of a call; goes on with the remaining arguments.
     Argues(Arguments<'c>),
 }
 
-/// What is done with the number that an expression comes to in a command.
+/// A continuation of a command or declaration, which takes the number of its expression.
 #[derive(Clone, Copy)]
 pub enum ValueRest<'c> {
+    /// The number is to be assigned; evaluates the address, this expression, next.
     Stores(Spot<'c>, &'c CoreExp, u32),
+    /// The number is the address of an assignment; writes this word there.
     Stored(u16),
+    /// Writes the number to the cell at this address.
     StoresAt(u16),
+    /// Drops the number: the command was a call.
     Drops,
+    /// The number is the limit of a FOR with this step and body; begins its first round.
     Fors(Spot<'c>, u16, &'c Block, u32),
+    /// Enters the list of a SWITCHON at the case with this number.
     Switches(Spot<'c>, &'c [ListItem], u32),
+    /// Leaves a VALOF with the number as its value.
     Leaves,
 }
 
-/// What is done with a truth.
+/// A continuation that takes a truth.
 #[derive(Clone, Copy)]
 pub enum TruthRest<'c> {
+    /// Negates the truth.
     Opposes,
+    /// The truth is the first operand of `&`; decides the second one if it is true.
     Conjoins(Spot<'c>, &'c CoreExp, u32),
+    /// The truth is the first operand of `|`; decides the second one if it is false.
     Disjoins(Spot<'c>, &'c CoreExp, u32),
+    /// Evaluates the first expression if the truth is true, else the second.
     Selects(Spot<'c>, &'c CoreExp, &'c CoreExp, u32),
+    /// Enters the body of an IF or UNLESS if the truth is this one.
     Ifs(Spot<'c>, bool, &'c Block, u32),
+    /// Enters the first block of a TEST if the truth is true, else the second.
     Chooses(Spot<'c>, &'c Block, &'c Block, u32),
+    /// Enters the body of a WHILE or UNTIL if its condition holds.
     Whiles(Spot<'c>, &'c Condition, &'c Block, u32),
+    /// Repeats the body of a REPEATWHILE or REPEATUNTIL if its condition holds.
     RepeatWhiles(Spot<'c>, &'c Block, &'c Condition, u32),
 }
 
-/// What is done after a store or an initialiser.
+/// A continuation that follows an assignment or an initialiser.
 #[derive(Clone, Copy)]
 pub enum NothingRest<'c> {
+    /// Leaves the assignment.
     Passes,
+    /// The variable of a FOR is set; evaluates its limit, this expression, next. The number is the step.
     Limits(Spot<'c>, &'c CoreExp, u16, &'c Block, u32),
+    /// Goes on with the remaining declarations, at the first level, and then with the list, at the second level.
     Declares(Spot<'c>, &'c [Declaration], &'c [ListItem], u32, u32),
+    /// Goes on with the remaining variables; the first is at this offset of the frame.
     Initialises(Spot<'c>, &'c [Variable], u32, u32),
 }
 
-/// What is done where control leaves a command.
+/// A continuation that takes an exit: how control leaves a command.
 #[derive(Clone, Copy)]
 pub enum ExitRest<'c> {
+    /// Returns from a routine whose body is a command.
     Returns,
+    /// Returns the value of a VALOF.
     Results,
+    /// Goes on with a WHILE or UNTIL after its body.
     WhileBody(Spot<'c>, &'c Condition, &'c Block, u32),
+    /// Goes on with a REPEAT after its body.
     RepeatBody(Spot<'c>, &'c Block, u32),
+    /// Decides the condition of a REPEATWHILE or REPEATUNTIL after its body.
     RepeatWhileBody(Spot<'c>, &'c Block, &'c Condition, u32),
-    /// The limit, and the step.
+    /// Steps the variable of a FOR after its body: the limit, the step and the body.
     ForBody(Spot<'c>, u16, u16, &'c Block, u32),
+    /// Leaves a SWITCHON.
     Cases,
-    /// The items after a command.
+    /// Goes on with the items after a command.
     Follows(Spot<'c>, &'c [ListItem], u32),
-    /// A whole list, which a jump may enter again.
+    /// A whole list, which a jump to one of its labels enters again.
     Listed(Spot<'c>, &'c [ListItem], u32),
 }
 
-/// What is left to do with an answer.
+/// A continuation: what is left to do with an answer.
 #[derive(Clone, Copy)]
 pub enum Rest<'c> {
+    /// Takes a number inside an expression.
     Number(NumberRest<'c>),
+    /// Takes the number of an expression in a command.
     Value(ValueRest<'c>),
-    /// Whether the call has no argument, and the address of its frame.
+    /// Takes the routine's address, and calls it: whether the call has no argument, and the address of its frame.
     Calls(bool, u32),
+    /// Takes a truth.
     Truth(TruthRest<'c>),
+    /// Follows an assignment or an initialiser.
     Nothing(NothingRest<'c>),
+    /// Takes an exit.
     Exit(ExitRest<'c>),
-    /// So many cells from this address on are given back.
+    /// Frees this many cells from this address on, and passes the answer on.
     Closes(u32, u32),
-    /// An argument of the call whose rest comes next, and whether it is the first one.
+    /// Not a continuation, but an evaluated argument of the call whose continuation is pushed after it, and whether it is the first one.
     Given(u16, bool),
 }
 
-/// Puts what is left to do before the rest.
+/// Pushes a continuation.
 ///
-/// `Memory` comes where an allocation was refused.
+/// `Memory` if an allocation fails.
 #[inline(always)]
 #[tactic(auto, using(crate::proofs::Piles::stack_more, crate::proofs::Piles::given_more))]
 pub fn put<'c>(rest: Rest<'c>, rests: &mut Vec<Rest<'c>>) -> Result<(), Memory>
@@ -100,7 +139,7 @@ pub fn put<'c>(rest: Rest<'c>, rests: &mut Vec<Rest<'c>>) -> Result<(), Memory>
     Ok(())
 }
 
-/// Takes what is to be done first of what is left. Arguments that no call has taken are dropped.
+/// Pops the innermost continuation; `None` if there is none. Arguments that no call has taken are dropped.
 #[tactic(auto, using(crate::proofs::Piles::stack_more, crate::proofs::Piles::given_more))]
 pub(crate) fn take<'c>(rests: &mut Vec<Rest<'c>>) -> Option<Rest<'c>>
     ensures { Taken result rests.old.items rests.new.items }
@@ -120,9 +159,9 @@ pub(crate) fn take<'c>(rests: &mut Vec<Rest<'c>>) -> Option<Rest<'c>>
     None
 }
 
-/// A level above this one.
+/// The level `n` cells above `s`.
 ///
-/// `Memory` comes where no number is so great, which no level of a frame is.
+/// `Memory` if the sum overflows, which no level of a frame does.
 #[inline(always)]
 pub(crate) fn above(s: u32, n: u32) -> Result<u32, Memory>
     ensures { IfOk result (λ r. r ≡ s + n) }

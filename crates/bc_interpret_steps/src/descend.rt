@@ -1,4 +1,4 @@
-// Further into an expression than one step leads.
+//! Evaluating an expression further than one step of the definition's machine leads.
 
 ghost use Rattle.std.specs.Prelude.{cond, ◌≡◌, ◌∷◌, false};
 ghost use Rattle.bc_core.specs.View.{exp};
@@ -23,8 +23,10 @@ use bc_core::CoreExp;
 use bc_interpret_pure::Truth;
 use bc_word::{Memory, Op};
 
-/// An expression whose value is wanted is gone into. A condition in which no call stands is decided at once, and its branch comes with it. A call that
-/// is an operator's first operand comes with the operator. It stands apart, so that `step` stays small enough to be a part of the loop around it.
+/// Begins to evaluate an expression. Decides a pure condition and begins the branch within the same step, and begins an operator together
+/// with the call that is its first operand. Not inlined, so that `step` stays small enough to be inlined into the loop around it.
+///
+/// `Memory` if an allocation fails.
 #[inline(never)]
 pub(crate) fn go_into<'c>(
     table: &[Callable<'c>],
@@ -60,7 +62,7 @@ pub(crate) fn go_into<'c>(
     }
 }
 
-/// The same of an expression with no condition first.
+/// `go_into` for any expression but a conditional one.
 #[inline(always)]
 fn go_on<'c>(
     table: &[Callable<'c>],
@@ -79,7 +81,8 @@ fn go_on<'c>(
     }
 }
 
-/// The same of an expression that is no such operator. A call is gone into at once where it can be.
+/// `go_into` for an expression that is neither conditional nor an operator on a call. Enters the routine of a call if its arguments are
+/// pure.
 #[inline(always)]
 pub(crate) fn go_over<'c>(
     table: &[Callable<'c>],
@@ -112,9 +115,13 @@ pub(crate) fn go_over<'c>(
 /// An operator whose first operand is a call.
 #[derive(Clone, Copy)]
 pub(crate) struct FirstCall<'c> {
+    /// The operator.
     pub(crate) op: Op,
+    /// The arguments of the call.
     pub(crate) arguments: &'c [CoreExp],
+    /// The expression whose value is called.
     pub(crate) routine: &'c CoreExp,
+    /// The second operand.
     pub(crate) second: &'c CoreExp,
 }
 
@@ -138,7 +145,7 @@ fn first_call<'c>(e: &'c CoreExp) -> Option<FirstCall<'c>>
     }
 }
 
-/// The same of an operator's operands.
+/// `first_call` of an operator with these operands.
 #[inline(always)]
 fn called<'c>(op: Op, left: &'c CoreExp, second: &'c CoreExp) -> Option<FirstCall<'c>>
     ensures { IsFirstCall (tree.Bin op (exp left.now) (exp second.now)) result }
@@ -163,7 +170,7 @@ fn called<'c>(op: Op, left: &'c CoreExp, second: &'c CoreExp) -> Option<FirstCal
     }
 }
 
-/// An operator is gone into, and the call that is its first operand too.
+/// Begins an operator together with the call that is its first operand.
 fn operand<'c>(
     table: &[Callable<'c>],
     spot: Spot<'c>,
@@ -191,7 +198,7 @@ fn operand<'c>(
     )
 }
 
-/// The branch that is taken.
+/// The branch that is taken if the condition has this truth.
 #[inline(always)]
 fn taken<'c>(t: bool, this: &'c CoreExp, that: &'c CoreExp) -> &'c CoreExp
     ensures { exp result.now ≡ cond t (exp this.now) (exp that.now) }
@@ -199,7 +206,7 @@ fn taken<'c>(t: bool, this: &'c CoreExp, that: &'c CoreExp) -> &'c CoreExp
     if t { this } else { that }
 }
 
-/// A conditional expression, past its condition where no call stands in that.
+/// Begins a conditional expression; if its condition is pure, goes on with the branch that is taken.
 #[inline(always)]
 fn conditional<'c>(
     table: &[Callable<'c>],
@@ -220,7 +227,7 @@ fn conditional<'c>(
     }
 }
 
-/// A conditional expression whose condition has this truth, and no call in it.
+/// Goes on with a conditional expression whose pure condition has this truth.
 #[inline(always)]
 fn past<'c>(
     table: &[Callable<'c>],
@@ -256,7 +263,7 @@ fn past<'c>(
     }
 }
 
-/// A branch: its worth, or the steps into it where a call stands in it.
+/// Begins a branch: gives its worth if it is pure, else goes as far into it as `go_into`.
 #[inline(always)]
 fn enter_branch<'c>(
     table: &[Callable<'c>],
@@ -275,7 +282,7 @@ fn enter_branch<'c>(
     }
 }
 
-/// The same of any form.
+/// `enter_branch` for a branch that isn't an operator on a call.
 #[inline(always)]
 fn enter_any<'c>(
     table: &[Callable<'c>],
@@ -298,7 +305,8 @@ fn enter_any<'c>(
     }
 }
 
-/// A condition in which a call stands comes next, and one of the branches is left to do.
+/// Begins a conditional expression whose condition isn't pure: decides the condition next, and pushes the continuation that selects a
+/// branch.
 pub(crate) fn selects<'c>(
     spot: Spot<'c>,
     condition: &'c CoreExp,

@@ -1,4 +1,5 @@
-// One step into an expression.
+//! One step into an expression: evaluates it if it is pure, else pushes a continuation and begins its first part. Each call returns
+//! `Memory` if an allocation fails.
 
 ghost use Rattle.std.specs.Prelude.{◌≡◌, ◌∷◌, IfOk};
 ghost use Rattle.bc_core.specs.View.{exp, args};
@@ -20,9 +21,7 @@ use bc_core::CoreExp;
 use bc_interpret_pure::{Cause, Room, Sight, Truth, Worth, truth_of, worth_of};
 use bc_word::{Memory, Op};
 
-/// What an expression is worth, or none where a call stands in it.
-///
-/// `Memory` comes where an allocation was refused.
+/// The worth of an expression, or `None` if it contains a call.
 #[inline(always)]
 pub(crate) fn worth_at<'c>(
     spot: &Spot<'c>,
@@ -41,9 +40,7 @@ pub(crate) fn worth_at<'c>(
     Ok(found)
 }
 
-/// The truth of an expression, or none where a call stands in it.
-///
-/// `Memory` comes where an allocation was refused.
+/// The truth of an expression, or `None` if it contains a call.
 #[inline(always)]
 pub(crate) fn truth_at<'c>(
     spot: &Spot<'c>,
@@ -62,7 +59,7 @@ pub(crate) fn truth_at<'c>(
     Ok(found)
 }
 
-/// What comes of an expression that is worth this.
+/// The outcome of a step that evaluates an expression with this worth.
 #[inline(always)]
 pub(crate) fn settled<'c>(worth: Worth) -> Progress<'c>
     ensures { result ≡ progress_of worth }
@@ -74,7 +71,7 @@ pub(crate) fn settled<'c>(worth: Worth) -> Progress<'c>
     }
 }
 
-/// What comes of an expression that has this truth.
+/// The outcome of a step that decides an expression with this truth.
 #[inline(always)]
 pub(crate) fn verdict<'c>(truth: Truth) -> Progress<'c>
     ensures { result ≡ progress_of_truth truth }
@@ -86,7 +83,7 @@ pub(crate) fn verdict<'c>(truth: Truth) -> Progress<'c>
     }
 }
 
-/// One step into an expression whose value is wanted. One with no call in it is computed at once.
+/// Begins to evaluate an expression; a pure one is evaluated within this step.
 #[inline(always)]
 #[tactic(auto, using(crate::proofs::Quiet::valued, crate::proofs::Quiet::value_parts))]
 pub(crate) fn evaluate<'c>(
@@ -108,7 +105,7 @@ pub(crate) fn evaluate<'c>(
     }
 }
 
-/// An operand comes next, and this is done with its value.
+/// Evaluates an operand next, and pushes the continuation that takes its value.
 #[inline(always)]
 fn part_of<'c>(
     rest: NumberRest<'c>,
@@ -125,7 +122,7 @@ fn part_of<'c>(
     Ok(())
 }
 
-/// The first operand of an operator comes next, a level above it.
+/// Begins an operator with its first operand, which is one level higher.
 #[inline(always)]
 fn operator<'c>(
     spot: Spot<'c>,
@@ -149,7 +146,7 @@ fn operator<'c>(
     )
 }
 
-/// One step into an expression in which a call stands.
+/// Begins to evaluate an expression that contains a call.
 pub(crate) fn evaluate_parts<'c>(
     spot: Spot<'c>,
     e: &'c CoreExp,
@@ -182,7 +179,7 @@ pub(crate) fn evaluate_parts<'c>(
     }
 }
 
-/// One step into a call.
+/// Begins a call with its arguments.
 pub(crate) fn call<'c>(
     spot: Spot<'c>,
     arguments: &'c [CoreExp],
@@ -208,7 +205,7 @@ pub(crate) fn call<'c>(
     Ok(argue(begun, stacks, state)?)
 }
 
-/// One step into a conditional expression in which a call stands.
+/// Begins to evaluate a conditional expression that contains a call.
 #[tactic(auto, using(crate::proofs::Quiet::of_a_choice))]
 fn choice<'c>(
     spot: Spot<'c>,
@@ -238,7 +235,7 @@ fn choice<'c>(
     }
 }
 
-/// Into the body of the VALOF with this number.
+/// Begins the body of the VALOF with this number. It is wild (`Malformed`) if this part has no such VALOF.
 fn valof<'c>(spot: Spot<'c>, number: u32, s: u32, stacks: &mut Stacks<'c>) -> Result<(), Memory>
     ensures { (st : StateValue) → ProceedsOrMalformed
         (machine.evaluate_parts (spot_of spot.entry) (tree.Valof number) s) stacks.old.rests st result stacks.new.next stacks.new.rests st }
@@ -263,7 +260,7 @@ fn valof<'c>(spot: Spot<'c>, number: u32, s: u32, stacks: &mut Stacks<'c>) -> Re
     Ok(())
 }
 
-/// One step into an expression whose truth is wanted. One with no call in it is computed at once.
+/// Begins to decide an expression; a pure one is decided within this step.
 #[inline(always)]
 #[tactic(auto, using(crate::proofs::Quiet::judged, crate::proofs::Quiet::truth_parts))]
 pub(crate) fn decide<'c>(
@@ -284,7 +281,7 @@ pub(crate) fn decide<'c>(
     }
 }
 
-/// The truth of an operand comes next, and this is done with it.
+/// Decides an operand next, and pushes the continuation that takes its truth.
 #[inline(always)]
 pub(crate) fn decide_part<'c>(
     rest: TruthRest<'c>,
@@ -301,7 +298,7 @@ pub(crate) fn decide_part<'c>(
     Ok(())
 }
 
-/// One step into an expression in which a call stands and whose truth is wanted.
+/// Begins to decide an expression that contains a call.
 fn decide_parts<'c>(
     spot: Spot<'c>,
     e: &'c CoreExp,

@@ -1,4 +1,5 @@
-// What is done where control leaves a command, and after a store.
+//! Giving an exit to a continuation: what happens when control leaves a command. Also resuming the continuations that follow an
+//! assignment or an initialiser.
 
 ghost use Rattle.std.specs.Prelude.{ℕ, List};
 ghost use Rattle.bc_core.specs.Exit.{Past};
@@ -20,7 +21,7 @@ use bc_interpret_pure::{Cause, cell_of};
 use bc_interpret_store::Cell;
 use bc_word::Memory;
 
-/// What comes after a loop's body: none where the loop goes on, else how it is left.
+/// What an exit from a loop's body does: `None` if the loop goes on, else how control leaves the loop.
 #[inline(always)]
 fn following(exit: Exit) -> Option<Exit>
     ensures { IsAfter result (exit_of exit) }
@@ -35,7 +36,9 @@ fn following(exit: Exit) -> Option<Exit>
     }
 }
 
-/// A FOR goes on after its body: its variable is stepped, which takes a turn.
+/// Continues a FOR after its body: steps its variable and takes a turn.
+///
+/// `Memory` never comes.
 #[tactic(auto, using(crate::proofs::Loops::stepped_dead, crate::proofs::Loops::stepped_unset))]
 fn step_variable<'c>(
     spot: Spot<'c>,
@@ -62,7 +65,7 @@ fn step_variable<'c>(
     Ok(Progress::On(Work::Round(spot, limit, by, body, s)))
 }
 
-/// Whether nothing is done after a command, with these items after it, that control leaves so.
+/// Whether nothing more is done in a list: control leaves a command with this exit, and these items follow it.
 #[inline(always)]
 fn is_left(items: &[ListItem], exit: Exit) -> bool
     ensures { IsLeft (items_view items.now) (exit_of exit) result }
@@ -81,8 +84,9 @@ fn is_left(items: &[ListItem], exit: Exit) -> bool
     }
 }
 
-/// How control leaves this where nothing is done after it: a command of a list with none after it, or which is left for good, a list to
-/// which no jump leads, and a SWITCHON.
+/// The exit that a continuation passes on without doing anything; `None` if it does something. These do nothing: the continuation after
+/// a command, if no item follows or control doesn't go on there; that of a whole list, unless it is left by a jump; and that of a
+/// SWITCHON.
 #[inline(always)]
 fn handed_on(rest: &ExitRest<'_>, exit: Exit) -> Option<Exit>
     ensures { IsHandedOn (exit_of exit) rest.now result }
@@ -114,7 +118,7 @@ fn handed_on(rest: &ExitRest<'_>, exit: Exit) -> Option<Exit>
     }
 }
 
-/// How control leaves what is left to do first, where nothing is done after it.
+/// The exit that the innermost continuation passes on without doing anything; `None` if it does something.
 #[inline(always)]
 fn passed(exit: Exit, rests: &[Rest<'_>]) -> Option<Exit>
     ensures { IsPassed (exit_of exit) rests.now result }
@@ -125,7 +129,7 @@ fn passed(exit: Exit, rests: &[Rest<'_>]) -> Option<Exit>
     }
 }
 
-/// Control leaves what is left to do first, as long as nothing is done after it. How it leaves the last of that is given.
+/// Pops the continuations that only pass an exit on, and returns the exit that the last of them passes on.
 #[inline(always)]
 fn pass<'c>(exit: Exit, rests: &mut Vec<Rest<'c>>) -> Exit
     ensures { PassesOn (exit_of exit) (stack rests.old.items) (exit_of result) (stack rests.new.items) }
@@ -139,7 +143,7 @@ fn pass<'c>(exit: Exit, rests: &mut Vec<Rest<'c>>) -> Exit
 }
 
 impl<'c> Stacks<'c> {
-    /// Control leaves what is left to do first, as long as nothing is done after it. How it leaves the last of that is given.
+    /// Pops the continuations that only pass an exit on, and returns the exit that the last of them passes on.
     #[inline(always)]
     pub(crate) fn pass(&mut self, exit: Exit) -> Exit
         ensures { PassesOn (exit_of exit) (stack self.old.rests.items) (exit_of result) (stack self.new.rests.items) }
@@ -148,7 +152,9 @@ impl<'c> Stacks<'c> {
     }
 }
 
-/// What is done where control leaves a command.
+/// Gives an exit to this continuation, which was popped.
+///
+/// `Memory` if an allocation fails.
 pub(crate) fn exit_taken<'c>(
     rest: &ExitRest<'c>,
     exit: Exit,
@@ -192,7 +198,7 @@ pub(crate) fn exit_taken<'c>(
     }
 }
 
-/// A WHILE or a REPEAT whose body control leaves so: it goes on with this, which takes a turn, or is left.
+/// Continues a WHILE or REPEAT after its body with the work `again`, which takes a turn, or leaves the loop.
 #[inline(always)]
 fn loop_on<'c>(exit: Exit, again: Work<'c>, state: &mut State) -> Progress<'c>
     ensures { (rs : List machine.Rest) (vs : List ℕ) → CameOrMalformed (machine.following (in_turn (machine.go (work_of vs again.entry) rs))
@@ -209,7 +215,7 @@ fn loop_on<'c>(exit: Exit, again: Work<'c>, state: &mut State) -> Progress<'c>
     }
 }
 
-/// A REPEATWHILE or REPEATUNTIL whose body control leaves so: its condition comes next, or it is left.
+/// Continues a REPEATWHILE or REPEATUNTIL after its body with its condition, or leaves the loop.
 #[inline(always)]
 fn decide_on<'c>(
     spot: Spot<'c>,
@@ -238,7 +244,7 @@ fn decide_on<'c>(
     }
 }
 
-/// A FOR with this limit and this step whose body control leaves so: its variable is stepped, or it is left.
+/// Continues a FOR after its body by stepping its variable, or leaves the loop. `bounds` has the limit and the step.
 #[inline(always)]
 fn step_on<'c>(
     spot: Spot<'c>,
@@ -265,7 +271,7 @@ fn step_on<'c>(
     }
 }
 
-/// The items after a command that control leaves so: they come next where it goes past.
+/// Continues a list after a command if control goes on after it, else passes the exit on.
 #[inline(always)]
 fn follow<'c>(spot: Spot<'c>, items: &'c [ListItem], s: u32, exit: Exit) -> Progress<'c>
     ensures { (st : StateValue) → GivesOrMalformed (machine.Follows (spot_of spot.entry) (items_view items.now) s) (machine.Left (exit_of exit)) st result st }
@@ -281,7 +287,7 @@ fn follow<'c>(spot: Spot<'c>, items: &'c [ListItem], s: u32, exit: Exit) -> Prog
     }
 }
 
-/// A whole list that control leaves so: a jump to one of its labels enters it again.
+/// Leaves a whole list; a jump to one of its labels enters it again.
 #[inline(always)]
 fn list_left<'c>(
     spot: Spot<'c>,
@@ -318,7 +324,7 @@ fn list_left<'c>(
     }
 }
 
-/// The value of a routine of BE, which control leaves so.
+/// Returns from a routine whose body is a command, with 0 as its value. An exit other than `Past` and `Returned` is wild.
 fn returned<'c>(exit: Exit) -> Progress<'c>
     ensures { (st : StateValue) → GivesOrMalformed machine.Returns (machine.Left (exit_of exit)) st result st }
 {
@@ -329,7 +335,7 @@ fn returned<'c>(exit: Exit) -> Progress<'c>
     }
 }
 
-/// The value of a VALOF, whose body control leaves so.
+/// Returns the value of a VALOF: that of RESULTIS, or 0 if control reaches the end of its body. Other exits are wild.
 fn resulted<'c>(exit: Exit) -> Progress<'c>
     ensures { (st : StateValue) → GivesOrMalformed machine.Results (machine.Left (exit_of exit)) st result st }
 {
@@ -341,7 +347,7 @@ fn resulted<'c>(exit: Exit) -> Progress<'c>
     }
 }
 
-/// How control leaves a SWITCHON whose list it leaves so.
+/// How control leaves a SWITCHON, given how it leaves its list.
 fn after_cases(exit: Exit) -> Exit
     ensures { IsAfterCases (exit_of result) (exit_of exit) }
 {
@@ -356,7 +362,7 @@ fn after_cases(exit: Exit) -> Exit
     }
 }
 
-/// The variable of a FOR is set, and the limit comes next.
+/// Evaluates the limit of a FOR, whose variable has been set. `turns` has the step and the body.
 #[inline(always)]
 fn limits<'c>(
     spot: Spot<'c>,
@@ -378,7 +384,9 @@ fn limits<'c>(
     Ok(())
 }
 
-/// What is done after a store or an initialiser.
+/// Resumes this continuation, which was popped, after an assignment or an initialiser.
+///
+/// `Memory` if an allocation fails.
 pub(crate) fn nothing_taken<'c>(
     rest: &NothingRest<'c>,
     stacks: &mut Stacks<'c>,

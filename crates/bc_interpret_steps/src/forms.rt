@@ -1,108 +1,150 @@
-// What is to be done, and what comes of it.
+//! The machine's work and the outcome of a step, and the small types that they use.
 
 use crate::sections::Section;
 use bc_core::{Block, Command, Condition, CoreExp, Declaration, ListItem, Variable};
 use bc_interpret_pure::Cause;
 use bc_machine_defs::Side;
 
-/// Where a part of the source is worked on: its section, the number of the first VALOF that stands within it, and the address of the
-/// frame.
+/// Where a part of the source is evaluated.
 #[derive(Clone, Copy)]
 pub struct Spot<'c> {
+    /// The section that contains the part.
     pub section: &'c Section<'c>,
+    /// The number of the first VALOF inside the part.
     pub first: u32,
+    /// The address of the frame.
     pub frame: u32,
 }
 
 /// How control leaves a command.
 #[derive(Clone, Copy)]
 pub enum Exit {
+    /// It goes on after the command.
     Past,
+    /// By BREAK.
     Broke,
+    /// By LOOP.
     Looped,
+    /// By ENDCASE.
     LeftCases,
+    /// By RETURN.
     Returned,
+    /// By RESULTIS, with this value.
     Resulted(u16),
+    /// By a GOTO to this label.
     Jumped(u16),
 }
 
 /// Where a list of items is entered.
 #[derive(Clone, Copy)]
 pub enum Entry {
+    /// At its first item.
     Beginning,
+    /// At the CASE with this value.
     AtCase(u16),
+    /// At DEFAULT.
     AtDefault,
+    /// At this label.
     AtLabel(u16),
 }
 
-/// A call whose arguments are computed: those that are left, the first of them at this level, the routine, how many arguments there are
-/// in all, and whether none is given yet.
+/// A call whose arguments are being evaluated.
 #[derive(Clone, Copy)]
 pub struct Arguments<'c> {
+    /// Where the call is evaluated.
     pub spot: Spot<'c>,
+    /// The remaining arguments.
     pub left: &'c [CoreExp],
+    /// The level of the first remaining argument.
     pub level: u32,
+    /// The expression whose value is called.
     pub routine: &'c CoreExp,
+    /// The number of arguments of the whole call.
     pub count: u32,
+    /// The level of the call.
     pub s: u32,
+    /// Whether no argument has been evaluated yet.
     pub fresh: bool,
 }
 
-/// What is to be done next, or what a part of the source came to.
+/// The current work: what to do next, or the answer to give to the innermost continuation. A field of type `u32` that isn't explained is
+/// the level: the first free offset of the frame.
 #[derive(Clone, Copy)]
 pub enum Work<'c> {
+    /// Evaluates an expression for its value.
     Evaluate(Spot<'c>, &'c CoreExp, u32),
+    /// Evaluates an expression for its truth.
     Decide(Spot<'c>, &'c CoreExp, u32),
+    /// Evaluates the remaining arguments of a call, and then calls.
     Argue(Arguments<'c>),
-    /// The value, and the address.
+    /// Assigns: the value, and the address.
     Store(Spot<'c>, &'c CoreExp, &'c CoreExp, u32),
+    /// Performs a command.
     Perform(Spot<'c>, &'c Command, u32),
+    /// Performs a WHILE or UNTIL. After a round its continuation has only its parts and not the command, so this isn't `Perform`.
     While(Spot<'c>, &'c Condition, &'c Block, u32),
+    /// Performs a REPEAT, likewise.
     Repeat(Spot<'c>, &'c Block, u32),
+    /// Performs a REPEATWHILE or REPEATUNTIL, likewise.
     RepeatWhile(Spot<'c>, &'c Block, &'c Condition, u32),
+    /// Performs a block.
     Enter(Spot<'c>, &'c Block, u32),
-    /// The declarations from here on, and then the list at the second level.
+    /// Makes the remaining declarations, at the first level, and then performs the list, at the second level.
     Declare(Spot<'c>, &'c [Declaration], &'c [ListItem], u32, u32),
-    /// The variables from here on, the first at this offset.
+    /// Initialises the remaining variables; the first is at this offset of the frame, and the level is after all of them.
     Initialise(Spot<'c>, &'c [Variable], u32, u32),
+    /// Performs a list, from where it is entered.
     Listing(Spot<'c>, &'c [ListItem], u32, Entry),
-    /// A FOR with its limit and its step, from its test on.
+    /// Performs a round of a FOR, beginning with its test: the limit, the step and the body.
     Round(Spot<'c>, u16, u16, &'c Block, u32),
+    /// Gives a number.
     Number(u16),
+    /// Gives a truth.
     Verdict(bool),
+    /// Gives the answer of an assignment or an initialiser.
     Nothing,
+    /// Gives an exit: control has left a command.
     Left(Exit),
 }
 
 /// A routine of the library that works on streams.
 #[derive(Clone, Copy, Debug, PartialEq, Eq)]
 pub enum Primitive {
+    /// Selects a stream.
     Select(Side),
+    /// Reads a byte from the selected input.
     ReadByte,
+    /// Writes a byte to the selected output.
     WriteByte,
+    /// Finds a stream by its name.
     Find(Side),
+    /// Ends the selected stream.
     EndStream(Side),
 }
 
 /// How a run ended by itself.
 #[derive(Clone, Copy, Debug, PartialEq, Eq)]
 pub enum Ending {
-    /// By FINISH, or since START returned.
+    /// By FINISH, or because START returned.
     Finished,
-    /// By a division with the divisor 0.
+    /// By a division by zero.
     ZeroDivide,
 }
 
-/// What comes of a step.
+/// The outcome of a step.
 #[derive(Clone, Copy)]
 pub enum Progress<'c> {
+    /// The run goes on with this work.
     On(Work<'c>),
-    /// A primitive is called in the frame at this address: its turn is taken, and it has its argument.
+    /// A primitive is called, in the frame at this address. The caller of `step` must carry it out: its turn has been taken, and its
+    /// argument has been passed.
     Serve(Primitive, u32),
-    /// The run is over, since START returned.
+    /// The run is over because START returned.
     Answered,
+    /// The run has ended.
     Ended(Ending),
-    /// No turn is left.
+    /// The run stops because no turn remains.
     Going,
+    /// The step is wild.
     Wild(Cause),
 }

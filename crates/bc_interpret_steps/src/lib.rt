@@ -1,7 +1,12 @@
-//! The steps of a run of a resolved program. Each takes what is at work and what is left to do to the next, as the machine of
-//! `bc_interpret_defs` does, or some steps further: where control only leaves commands, where a number is an operator's first operand, past a
-//! condition in which no call stands, into a call that is an operator's first operand, and into the routine that is called. None takes native
-//! stack for the depth of calls; trees take it down to a depth of 16.
+//! The steps of a run of a resolved program: the machine of `bc_interpret_defs` as code.
+//!
+//! A rest is what is usually called a continuation frame: what is left to do with an answer. Comments call it a continuation, since a
+//! frame here is that of a routine. The continuations are in a vector, with the innermost last, so a run uses no native stack for the
+//! depth of calls. (Pure expressions use it down to a depth of 16.)
+//!
+//! One call of `step` does at least one step of the definition's machine. To be fast it does several where all but the last change no cell
+//! and take no turn: where control only leaves commands, from an operator's first operand to its second, past a pure condition, into a call
+//! that is an operator's first operand, and into the called routine.
 #![tactic(auto)]
 
 mod answers;

@@ -1,4 +1,4 @@
-// Lists of items: commands, and the places at which control enters them.
+//! Lists of items: commands, and the cases and labels at which control enters the list.
 
 ghost use Rattle.std.specs.Prelude.{◌≡◌, ◌||◌, IfOk};
 ghost use Rattle.bc_core.specs.Commands.{Items};
@@ -65,15 +65,16 @@ pub(crate) fn has_label(items: &[ListItem], label: u16) -> bool
     false
 }
 
-/// What comes next in a list.
+/// What an item of a list does.
 #[derive(Clone, Copy)]
 enum Next<'c> {
-    /// The items after, entered so.
+    /// Nothing: the items after it are entered here.
     Passes(Entry),
+    /// The item is this command, and it is performed.
     Does(&'c Command),
 }
 
-/// What an item does where the list from it on is entered so.
+/// What an item does if the list that begins with it is entered at `at`.
 #[inline(always)]
 fn next_of(item: &ListItem, at: Entry) -> Next<'_>
     ensures { IsNext result item.now at }
@@ -98,7 +99,7 @@ fn next_of(item: &ListItem, at: Entry) -> Next<'_>
     }
 }
 
-/// Whether an item is the place at which a list is entered so.
+/// Whether an item is the case, default or label at which a list is entered.
 #[inline(always)]
 #[tactic(auto, using(crate::proofs::Entered::no_entry))]
 fn is_entry(item: &ListItem, at: Entry) -> bool
@@ -112,7 +113,7 @@ fn is_entry(item: &ListItem, at: Entry) -> bool
     }
 }
 
-/// The items after the place at which a list is entered so, which is not at its beginning.
+/// The items after the case, default or label `at`; none if the list doesn't have it. Promises nothing for `Beginning`.
 fn after_entry<'c>(items: &'c [ListItem], at: Entry) -> &'c [ListItem]
     ensures { IsAfterEntry result.now items.now at }
 {
@@ -126,7 +127,7 @@ fn after_entry<'c>(items: &'c [ListItem], at: Entry) -> &'c [ListItem]
     left
 }
 
-/// The items that are done from the place on at which a list is entered so.
+/// The items that are performed if a list is entered at `at`.
 #[inline(always)]
 #[tactic(auto, using(crate::proofs::Entered::from_beginning, crate::proofs::Entered::from_entry))]
 fn entered<'c>(items: &'c [ListItem], at: Entry) -> &'c [ListItem]
@@ -138,8 +139,8 @@ fn entered<'c>(items: &'c [ListItem], at: Entry) -> &'c [ListItem]
     }
 }
 
-/// Puts what is left to do where an assignment is wild, or divides by zero: to pass it, and then the items after it. By these its place
-/// is found.
+/// Pushes the continuations that would follow a failed assignment. The run ends there; `bc_interpret_trace` finds the place of the
+/// assignment by them.
 fn stop<'c>(
     spot: Spot<'c>,
     following: &'c [ListItem],
@@ -151,16 +152,16 @@ fn stop<'c>(
     Ok(())
 }
 
-/// What comes of the first item of a list.
+/// The outcome of the first item of a list.
 #[derive(Clone, Copy)]
 enum Along {
-    /// The items after it are entered so.
+    /// The step goes on with the items after it, entered here.
     On(Entry),
-    /// The step is over.
+    /// The step is over; its outcome is in `Stacks::next`.
     Over,
 }
 
-/// What comes of the first item of a list that is entered so.
+/// Does the first item of a list that is entered at `at`.
 #[inline(always)]
 #[tactic(auto, using(crate::proofs::Listings::along_a_list))]
 fn list_item<'c>(
@@ -201,7 +202,7 @@ fn list_item<'c>(
     }
 }
 
-/// One step along a list. Assignments with no call in them are done at once.
+/// One step along a list that is entered at `entry`: performs its pure assignments, up to the first other command, which comes next.
 pub(crate) fn listing<'c>(
     spot: Spot<'c>,
     items: &'c [ListItem],

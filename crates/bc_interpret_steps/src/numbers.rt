@@ -1,4 +1,4 @@
-// What is done with a number.
+//! Giving a number to a continuation.
 
 ghost use Rattle.std.specs.Prelude.{◌≡◌, IfOk};
 ghost use Rattle.bc_core.specs.Level.{side_level as level_of_side};
@@ -19,7 +19,7 @@ use bc_interpret_pure::Cause;
 use bc_interpret_store::Cell;
 use bc_word::{Memory, Op, Word, apply};
 
-/// The word of the cell at this address.
+/// Reads the cell at this address; the step is wild if it is dead or unset.
 #[inline(always)]
 #[tactic(auto, using(crate::proofs::Loads::loaded_dead, crate::proofs::Loads::loaded_unset, crate::proofs::Loads::loaded_set))]
 fn load<'c>(v: u16, state: &State) -> Progress<'c>
@@ -32,7 +32,7 @@ fn load<'c>(v: u16, state: &State) -> Progress<'c>
     }
 }
 
-/// An operator has its first operand, and the second one comes next.
+/// Gives an operator its first operand: evaluates the second one next.
 #[inline(always)]
 fn operates<'c>(
     spot: Spot<'c>,
@@ -51,7 +51,7 @@ fn operates<'c>(
     Ok(())
 }
 
-/// An operator has both operands.
+/// Applies an operator to both operands.
 #[inline(always)]
 #[tactic(auto, using(crate::proofs::Loads::operated, crate::proofs::Loads::not_operated))]
 fn operated<'c>(op: Op, x: u16, v: u16) -> Progress<'c>
@@ -63,7 +63,7 @@ fn operated<'c>(op: Op, x: u16, v: u16) -> Progress<'c>
     }
 }
 
-/// An argument is given, and those after it come next.
+/// Stores an evaluated argument, and goes on with the remaining ones.
 #[inline(always)]
 fn argues<'c>(arguments: &Arguments<'c>, v: u16, stacks: &mut Stacks<'c>) -> Result<(), Memory>
     ensures { (st : StateValue) → Takes (number_rest (given stacks.old.rests.items) (number_rests.Argues arguments.now)) (machine.Number v)
@@ -79,7 +79,9 @@ fn argues<'c>(arguments: &Arguments<'c>, v: u16, stacks: &mut Stacks<'c>) -> Res
     Ok(())
 }
 
-/// What is done with a number within an expression.
+/// Gives a number to this continuation inside an expression, which was popped.
+///
+/// `Memory` if an allocation fails.
 pub(crate) fn number_taken<'c>(
     rest: &NumberRest<'c>,
     v: u16,
@@ -115,7 +117,7 @@ pub(crate) fn number_taken<'c>(
     }
 }
 
-/// The cell at this address gets a word.
+/// Writes a word to the cell at this address; the step is wild if it is dead.
 #[inline(always)]
 #[tactic(auto, using(crate::proofs::Loads::stored, crate::proofs::Loads::not_stored))]
 fn store<'c>(address: u16, word: u16, state: &mut State) -> Progress<'c>
@@ -127,7 +129,7 @@ fn store<'c>(address: u16, word: u16, state: &mut State) -> Progress<'c>
     }
 }
 
-/// The level of both sides of an assignment to this address.
+/// The level at which both sides of an assignment to this address are evaluated.
 #[inline(always)]
 pub(crate) fn side_level(address: &CoreExp, s: u32) -> Result<u32, Memory>
     ensures { IfOk result (λ level. level ≡ level_of_side (exp address.now) s) }
@@ -139,7 +141,7 @@ pub(crate) fn side_level(address: &CoreExp, s: u32) -> Result<u32, Memory>
     }
 }
 
-/// An assignment has its value, and the address comes next.
+/// Gives an assignment its value: evaluates the address next.
 #[inline(always)]
 fn stores<'c>(
     spot: Spot<'c>,
@@ -157,7 +159,7 @@ fn stores<'c>(
     Ok(())
 }
 
-/// Where the list of a SWITCHON on this number is entered.
+/// Where a SWITCHON on this number enters its list.
 #[inline(always)]
 fn case_of(items: &[ListItem], v: u16) -> Entry
     ensures { entry_of result ≡ entry_of_switch (has_case_of (items_view items.now)) v }
@@ -169,7 +171,7 @@ fn case_of(items: &[ListItem], v: u16) -> Entry
     }
 }
 
-/// A SWITCHON has its number, and its list comes next.
+/// Gives a SWITCHON its number: enters its list next.
 #[inline(always)]
 fn switches<'c>(
     spot: Spot<'c>,
@@ -190,7 +192,9 @@ fn switches<'c>(
     Ok(())
 }
 
-/// What is done with the number that an expression comes to in a command.
+/// Gives the value of an expression in a command to this continuation, which was popped.
+///
+/// `Memory` if an allocation fails.
 pub(crate) fn value_taken<'c>(
     rest: &ValueRest<'c>,
     v: u16,

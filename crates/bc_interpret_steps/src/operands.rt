@@ -1,4 +1,5 @@
-// The second operand of an operator, which comes at once after the first.
+//! Giving a number to the innermost continuation. If that is an operator which waits for its first operand, the second one is begun in
+//! the same step.
 
 ghost use Rattle.std.specs.Prelude.{Some};
 ghost use Rattle.bc_interpret_defs.specs.Machine as machine;
@@ -13,16 +14,20 @@ use crate::state::{Stacks, State};
 use bc_core::CoreExp;
 use bc_word::{Memory, Op};
 
-/// An operator whose first operand is computed, with the second one and the operator's level.
+/// An operator that waits for its first operand.
 #[derive(Clone, Copy)]
 pub(crate) struct Operator<'c> {
+    /// Where it is evaluated.
     pub(crate) spot: Spot<'c>,
+    /// The operator.
     pub(crate) op: Op,
+    /// Its second operand.
     pub(crate) second: &'c CoreExp,
+    /// Its level.
     pub(crate) s: u32,
 }
 
-/// The operator to which a number is handed as its first operand, if it is handed to one.
+/// The operator that waits for its first operand, if the innermost continuation is one.
 #[inline(always)]
 fn waiting<'c>(rests: &[Rest<'c>]) -> Option<Operator<'c>>
     ensures { IsOperator result rests.now }
@@ -38,7 +43,8 @@ fn waiting<'c>(rests: &[Rest<'c>]) -> Option<Operator<'c>>
     }
 }
 
-/// A number is handed on. Where it is the first operand of an operator, the second one comes at once. It stands apart, as `go_into` does.
+/// Gives a number to the innermost continuation; if that takes it as an operator's first operand, also begins the second one. Not
+/// inlined, so that `step` stays small enough to be inlined into the loop around it.
 #[inline(never)]
 pub(crate) fn hand_number<'c>(
     table: &[Callable<'c>],
@@ -54,7 +60,7 @@ pub(crate) fn hand_number<'c>(
     }
 }
 
-/// The second operand of an operator whose first one is this number, which is handed to it.
+/// Gives an operator its first operand `v`, and begins the second one. The operator must be the innermost continuation.
 #[inline(always)]
 fn second<'c>(
     table: &[Callable<'c>],

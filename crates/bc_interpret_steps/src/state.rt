@@ -1,4 +1,4 @@
-// The store and the turns of a run, and memory that serves again.
+//! The state of a run: its store and turns, its continuations, and buffers that are reused.
 
 ghost use Rattle.std.specs.Prelude.{◌≡◌, OnOk};
 ghost use Rattle.bc_interpret_steps.specs.Came.{Turned, Wrote, StandsAfter};
@@ -9,34 +9,42 @@ use bc_interpret_pure::{Cause, Room};
 use bc_interpret_store::Store;
 use bc_word::Memory;
 
-/// The store, and the turns that are left.
+/// The store and the remaining turns: the part of a run's state that isn't control.
 #[derive(Drop)]
 pub struct State {
+    /// The cells.
     pub store: Store,
+    /// How many turns remain. A turn is a call, a loop's way back or a GOTO.
     pub turns: u64,
 }
 
-/// What was called in a step: the address, that of the frame, and how much is left to do at least while the run is in there, which is 0 where
-/// the step called nothing.
+/// The call that a step made. No contract speaks of it: it is for `bc_interpret_trace`.
 #[derive(Clone, Copy)]
 pub struct Called {
+    /// The least length of the stack of continuations while the run is inside the called routine; 0 if the step made no call.
     pub least: usize,
+    /// The address of the frame of the called routine.
     pub frame: u32,
+    /// The address of the called routine.
     pub routine: u16,
 }
 
-/// What came of the last step, what was called in it, and what is left to do; and memory that serves again: for expressions without call, and
-/// for the arguments of a call.
+/// The control state of a run, and buffers.
 #[derive(Drop)]
 pub struct Stacks<'c> {
+    /// The outcome of the last step, which says what the next one does.
     pub next: Progress<'c>,
+    /// The call that the last step made.
     pub called: Called,
+    /// The continuations, with the innermost last.
     pub rests: Vec<Rest<'c>>,
+    /// Buffers for evaluating pure expressions.
     pub room: Room<'c>,
+    /// A buffer for the arguments of a call, in reverse order.
     pub arguments: Vec<u16>,
 }
 
-/// Takes a turn, if one is left, and answers whether one was.
+/// Takes a turn and returns true; returns false if none remains.
 #[inline(always)]
 #[tactic(auto, using(crate::proofs::Turns::turn_left, crate::proofs::Turns::no_turn_left))]
 pub(crate) fn turn(state: &mut State) -> bool
@@ -50,7 +58,7 @@ pub(crate) fn turn(state: &mut State) -> bool
     true
 }
 
-/// The cell at this address gets a word: none where it is live, else the wild access.
+/// Writes a word to the cell at this address. Returns the cause of the wild access if the cell isn't live, else `None`.
 #[inline(always)]
 #[tactic(auto, using(crate::proofs::Writes::wrote, crate::proofs::Writes::wrote_not))]
 pub(crate) fn put_word(state: &mut State, address: u16, word: u16) -> Option<Cause>
@@ -63,9 +71,9 @@ pub(crate) fn put_word(state: &mut State, address: u16, word: u16) -> Option<Cau
     }
 }
 
-/// This comes next, and that is left to do after it.
+/// Pushes a continuation and sets what comes next.
 ///
-/// `Memory` comes where an allocation was refused.
+/// `Memory` if an allocation fails.
 #[inline(always)]
 pub(crate) fn put_after<'c>(
     rest: Rest<'c>,

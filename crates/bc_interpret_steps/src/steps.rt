@@ -1,4 +1,4 @@
-// One step, or more.
+//! The public call: one step of a run, or several of which all but the last change no cell and take no turn.
 
 ghost use Rattle.bc_interpret_steps.specs.Code.{work_of, given};
 ghost use Rattle.bc_interpret_steps.specs.Passing.{RunsOver, work_next};
@@ -16,12 +16,16 @@ use crate::sections::Callable;
 use crate::state::{Stacks, State};
 use bc_word::Memory;
 
-/// One step of a run, and what comes of it. What stands next is done, or nothing is given to what is left where nothing stands there. Steps in which
-/// control only leaves one command after the other are taken in one. So are that in which an operator gets its first operand and the step into the
-/// second one, that past a condition in which no call stands and the step into its branch, those into an operator and into the call that is its
-/// first operand, and those into a call and into its routine, where no call stands in the arguments. What was called is told in `called`.
+/// Does the work in `stacks.next` and stores the outcome there. `table` must list the routines of the program.
 ///
-/// `Memory` comes where an allocation was refused.
+/// One call does at least one step of the machine of `bc_interpret_defs`, and more in these cases: control leaves one command after the
+/// other; an operator receives its first operand and the second is begun; a pure condition is decided and its branch is begun; an
+/// operator is begun together with the call that is its first operand; a call with pure arguments is begun together with its routine.
+/// If the step calls something, `stacks.called` says what.
+///
+/// If `stacks.next` holds no work, the answer `Nothing` is given to the innermost continuation, so no precondition is needed.
+///
+/// `Memory` if an allocation fails.
 #[inline(always)]
 pub fn step<'c>(
     table: &[Callable<'c>],

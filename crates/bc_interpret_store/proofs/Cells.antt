@@ -1,4 +1,4 @@
--- The cells as the meaning has them.
+-- The operations of the store on lists of cells.
 use Rattle.std.proofs.Common.{◌≡◌, ℕ, zero, suc, ◌+◌, ◌≤◌, ◌<◌, List, [], ◌∷◌, ◌++◌, length, reverse, slice_index_or, slice_set, map, refl, sym, ap, subst, ◌∙◌, arith}
 use Rattle.std.proofs.Math.ListN.{get_or-map}
 use Rattle.std.proofs.Math.Seq.{set_out}
@@ -16,7 +16,7 @@ cell_seen cells a = get_or-map cell_view cells a Dead
 pub cell_put : (cells : List Cell) (a : ℕ) (c : Cell) → map cell_view (slice_set cells a c) ≡ slice_set (map cell_view cells) a (cell_view c)
 cell_put cells a c = map-set cell_view cells a c
 
--- after the last cell nothing is put
+-- writing past the last cell changes nothing
 pub put_beyond : (cells : List store.Cell) (a : ℕ) (c : store.Cell) → length cells ≤ a → slice_set cells a c ≡ cells
 put_beyond cells a c h = set_out cells a c h
 
@@ -32,7 +32,7 @@ passed_beyond (suc n) a [] cells h =
 passed_beyond (suc n) a (v ∷ vs) cells h =
     ap (passed n (a + 1) vs) (put_beyond cells a (store.Set v) h) ∙ passed_beyond n (a + 1) vs cells (omega arith)
 
--- the same of cells of the program
+-- the same of the cells of the code
 pub beyond : (cells : List Cell) (a : ℕ) (c : store.Cell) → length cells ≤ a → slice_set (map cell_view cells) a c ≡ map cell_view cells
 beyond cells a c h = put_beyond (map cell_view cells) a c (omega (arith, length-map cells cell_view))
 

@@ -1,10 +1,12 @@
-/// A cell of the store.
+//! One cell of the store.
+
+/// The state of a cell.
 #[derive(Clone, Copy, Debug, PartialEq, Eq)]
 pub enum Cell {
-    /// No variable, vector or datum has the cell.
+    /// The cell belongs to no variable, vector or datum at present.
     Dead,
-    /// The cell is live, and nothing was put into it yet.
+    /// The cell is live, but was never written.
     Unset,
-    /// The cell is live and has this word.
+    /// The cell is live and holds this word.
     Set(u16),
 }

@@ -1,4 +1,4 @@
-//! The store of a run of the source: cells, each of which is dead, or live and unset, or live with a word.
+//! The store of a run of the source: cells, each of which is dead, live but unset, or live with a word.
 #![tactic(auto)]
 
 mod cell;

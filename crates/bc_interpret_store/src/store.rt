@@ -1,3 +1,5 @@
+//! The cells of a run, and the operations on them: read, write, open, close, and pass arguments.
+
 ghost use Rattle.std.specs.Prelude.{◌≡◌, ◌≢◌, ◌∷◌, length, slice_set, map, reverse, IsTrue, ◌↔◌};
 ghost use Rattle.bc_core.specs.Store.{Dead, Set, cell_at, filled, opened, closed};
 ghost use Rattle.bc_core.specs.Meaning.{passed};
@@ -6,9 +8,9 @@ ghost use Rattle.bc_interpret_store.specs.Cells.{cell_view, IsNext};
 use crate::cell::Cell;
 use std::marker::Model;
 
-/// The cells, by address. What lies after the last one is dead.
+/// The cells, by address. Every address past the last cell is dead, and writing there has no effect.
 ///
-/// Contracts see the list of the cells.
+/// In contracts a store is the list of its cells.
 #[derive(Drop)]
 pub struct Store {
     cells: Vec<Cell>,
@@ -24,7 +26,7 @@ impl Model for Store {
     ghost view = { λ s. map cell_view s.cells.items };
 }
 
-/// The cell for the next argument, which is the last of these.
+/// Pops the next argument and returns its cell: unset where there are no more arguments. The arguments are in reverse order.
 #[tactic(auto, using(crate::proofs::Cells::passed_last, crate::proofs::Cells::passed_none))]
 fn next_cell(arguments: &mut Vec<u16>) -> Cell
     ensures { IsNext arguments.old.items (cell_view result) arguments.new.items }
@@ -36,14 +38,14 @@ fn next_cell(arguments: &mut Vec<u16>) -> Cell
 }
 
 impl Store {
-    /// The store of these cells, by address.
+    /// A store of these cells; the index of a cell is its address.
     pub fn new(cells: Vec<Cell>) -> Store
         ensures { result ≡ map cell_view cells.items }
     {
         Store { cells }
     }
 
-    /// How many cells there are.
+    /// The number of cells.
     #[inline(always)]
     #[tactic(auto, using(crate::proofs::Cells::as_many))]
     pub fn len(&self) -> usize
@@ -52,7 +54,7 @@ impl Store {
         self.cells.len()
     }
 
-    /// The cell at this address.
+    /// The cell at this address, `Dead` past the last cell.
     #[inline(always)]
     #[tactic(auto, using(crate::proofs::Cells::cell_seen))]
     pub fn at(&self, address: u16) -> Cell
@@ -64,7 +66,7 @@ impl Store {
         }
     }
 
-    /// Puts a cell instead of the one at this address, and nothing after the last one.
+    /// Replaces the cell at this address. Does nothing past the last cell.
     #[inline(always)]
     #[tactic(auto, using(crate::proofs::Cells::cell_put, crate::proofs::Cells::beyond))]
     fn put(&mut self, address: usize, cell: Cell)
@@ -76,7 +78,7 @@ impl Store {
         self.cells[address] = cell;
     }
 
-    /// Gives the cell at this address a word, and answers true, where it is live.
+    /// Writes a word to the cell at this address and returns true. If the cell is dead, returns false and changes nothing.
     #[inline(always)]
     pub fn write(&mut self, address: u16, word: u16) -> bool
         ensures live { IsTrue result → self.new ≡ slice_set self.old address (Set word) }
@@ -90,7 +92,7 @@ impl Store {
         true
     }
 
-    /// Puts this cell in the places of so many from an address on.
+    /// Replaces `count` cells from address `from` on by this one. Stops at the last cell, so no address wraps.
     #[tactic(auto, using(crate::proofs::Cells::filled_beyond))]
     fn fill(&mut self, count: usize, from: usize, cell: Cell)
         ensures { self.new ≡ filled count from (cell_view cell) self.old }
@@ -104,22 +106,23 @@ impl Store {
         }
     }
 
-    /// Makes so many cells from this address on live and unset.
+    /// Makes `count` cells from address `from` on live and unset.
     pub fn open(&mut self, count: usize, from: usize)
         ensures { self.new ≡ opened count from self.old }
     {
         self.fill(count, from, Cell::Unset);
     }
 
-    /// Gives so many cells from this address on back.
+    /// Frees `count` cells from address `from` on: they are dead afterwards.
     pub fn close(&mut self, count: usize, from: usize)
         ensures { self.new ≡ closed count from self.old }
     {
         self.fill(count, from, Cell::Dead);
     }
 
-    /// Makes so many cells from this address on live, with the arguments, of which the first is the last of these. Where there are fewer
-    /// arguments the last cells are unset, and where there are more, these are dropped.
+    /// Makes `count` cells from address `from` on live and fills them with the arguments. `arguments` is in reverse order: its last
+    /// element is the first argument. If there are fewer arguments than cells, the last cells are unset. Surplus arguments are ignored.
+    /// The contents of `arguments` afterwards are unspecified.
     #[tactic(auto, using(crate::proofs::Cells::passed_beyond))]
     pub fn pass(&mut self, count: usize, from: usize, arguments: &mut Vec<u16>)
         ensures { self.new ≡ passed count from (reverse arguments.old.items) self.old }

@@ -1,4 +1,4 @@
-//! Where a run of a resolved program stands: the calls that led there, and how much of each body is after the place.
+//! Where a run of a resolved program is: the calls that led there, and how much of each body follows that place.
 #![tactic(auto)]
 
 mod remaining;

@@ -1,20 +1,23 @@
-// What of a body stands after the place at which something is left to do.
+//! What a continuation says about the current place: how much of the body follows it.
+//!
+//! A root is an expression, test or assignment as a whole. A rest is what is usually called a continuation frame, and here a
+//! continuation.
 
 use crate::roots::{roots_of_block, roots_of_declarations, roots_of_items, roots_of_variables};
 use bc_interpret_steps::{ExitRest, NothingRest, NumberRest, Rest, Spot, TruthRest, ValueRest};
 
-/// What a rest tells of the place at which the run stands, which is within the part that comes before the rest.
+/// What a continuation says about the current place, which is inside the part whose answer the continuation takes.
 #[derive(Clone, Copy)]
 pub(crate) struct Clue {
-    /// How many expressions, tests and assignments of the body stand after the place.
+    /// How many roots of the body the continuation adds to those that follow the place in the text.
     pub following: u64,
-    /// One more than the number of the VALOF within whose body the place is, or 0 where it is in no VALOF's.
+    /// One more than the number of the VALOF whose body contains the place, 0 if it is in no VALOF; `None` if the continuation doesn't say.
     pub first: Option<usize>,
-    /// Whether the body begins here.
+    /// Whether this is the outermost continuation of the body.
     pub is_bottom: bool,
 }
 
-/// This many stand after, and no more is told.
+/// A continuation that says only how many roots follow.
 fn only(following: u64) -> Clue {
     Clue {
         following,
@@ -23,7 +26,7 @@ fn only(following: u64) -> Clue {
     }
 }
 
-/// This many stand after a place at this spot.
+/// A continuation that says how many roots follow, and in which VALOF the place is.
 fn at(spot: &Spot<'_>, following: u64) -> Clue {
     Clue {
         following,
@@ -32,14 +35,14 @@ fn at(spot: &Spot<'_>, following: u64) -> Clue {
     }
 }
 
-/// The body begins here.
+/// The outermost continuation of a body.
 const BOTTOM: Clue = Clue {
     following: 0,
     first: None,
     is_bottom: true,
 };
 
-/// What a rest tells of the place.
+/// What a continuation says about the current place.
 pub(crate) fn clue_of(rest: &Rest<'_>) -> Clue {
     match rest {
         Rest::Number(rest) => of_number(rest),
@@ -51,6 +54,7 @@ pub(crate) fn clue_of(rest: &Rest<'_>) -> Clue {
     }
 }
 
+/// The clue of a continuation that takes a number inside an expression.
 fn of_number(rest: &NumberRest<'_>) -> Clue {
     match rest {
         NumberRest::Operates(spot, _, _, _) => at(spot, 0),
@@ -63,6 +67,7 @@ fn of_number(rest: &NumberRest<'_>) -> Clue {
     }
 }
 
+/// The clue of a continuation that takes the number of an expression in a command.
 fn of_value(rest: &ValueRest<'_>) -> Clue {
     match rest {
         ValueRest::Stores(spot, _, _) => at(spot, 0),
@@ -74,6 +79,7 @@ fn of_value(rest: &ValueRest<'_>) -> Clue {
     }
 }
 
+/// The clue of a continuation that takes a truth.
 fn of_truth(rest: &TruthRest<'_>) -> Clue {
     match rest {
         TruthRest::Opposes => only(0),
@@ -91,6 +97,7 @@ fn of_truth(rest: &TruthRest<'_>) -> Clue {
     }
 }
 
+/// The clue of a continuation that follows an assignment or an initialiser.
 fn of_nothing(rest: &NothingRest<'_>) -> Clue {
     match rest {
         NothingRest::Passes => only(0),
@@ -106,6 +113,7 @@ fn of_nothing(rest: &NothingRest<'_>) -> Clue {
     }
 }
 
+/// The clue of a continuation that takes an exit.
 fn of_exit(rest: &ExitRest<'_>) -> Clue {
     match rest {
         ExitRest::Returns | ExitRest::Results => BOTTOM,

@@ -1,8 +1,8 @@
-// How many expressions, tests and assignments the code of a tree has, those of the bodies of VALOFs aside.
+//! Counts the roots of a tree: the expressions, tests and assignments for which code is chosen. Those inside VALOFs aren't counted.
 
 use bc_core::{Block, Body, Command, Declaration, ListItem, Variable};
 
-/// How many expressions, tests and assignments the body of a routine has, those within VALOFs aside.
+/// The number of roots (expressions, tests and assignments) in the body of a routine, not counting those inside VALOFs.
 pub fn roots_of_body(body: &Body) -> u64 {
     match body {
         Body::Value(_) => 1,
@@ -10,13 +10,13 @@ pub fn roots_of_body(body: &Body) -> u64 {
     }
 }
 
-/// How many expressions, tests and assignments a block has, those within VALOFs aside.
+/// The number of roots (expressions, tests and assignments) in a block, not counting those inside VALOFs.
 #[cycle(roots)]
 pub fn roots_of_block(block: &Block) -> u64 {
     roots_of_declarations(&block.declarations).saturating_add(roots_of_items(&block.list))
 }
 
-/// Those of declarations: a value for each variable that has one.
+/// The roots of declarations: one for each variable with an initial value.
 pub(crate) fn roots_of_declarations(declarations: &[Declaration]) -> u64 {
     let mut roots = 0u64;
     for declaration in declarations {
@@ -25,7 +25,7 @@ pub(crate) fn roots_of_declarations(declarations: &[Declaration]) -> u64 {
     roots
 }
 
-/// Those of variables.
+/// The roots of variables.
 pub(crate) fn roots_of_variables(variables: &[Variable]) -> u64 {
     let mut roots = 0u64;
     for variable in variables {
@@ -37,7 +37,7 @@ pub(crate) fn roots_of_variables(variables: &[Variable]) -> u64 {
     roots
 }
 
-/// Those of a list of items.
+/// The roots of a list of items.
 #[cycle(roots)]
 pub(crate) fn roots_of_items(items: &[ListItem]) -> u64 {
     let mut roots = 0u64;

@@ -1,4 +1,5 @@
-// The calls of a run, and the first branches of TESTs that it is in.
+//! Follows a run through its calls and through the first branches of TESTs. The continuations don't show the latter: once a TEST
+//! has taken a branch, its continuation is gone, but the other branch still follows in the text.
 
 use crate::remaining::clue_of;
 use crate::roots::roots_of_block;
@@ -7,45 +8,46 @@ use bc_interpret_steps::{Progress, Rest, Stacks, TruthRest, Work};
 use bc_word::Memory;
 use std::alloc::Global;
 
-/// What a run has gone into.
+/// Something that a run has entered.
 #[derive(Clone, Copy)]
 enum Within<'c> {
-    /// A call of the routine at this address, in the frame at this one.
+    /// A call: the address of the routine, and that of the frame.
     Call { routine: u16, frame: usize },
-    /// The first branch of a TEST, with the other one.
+    /// The first branch of a TEST; the block is the other branch.
     Branch(&'c Block),
 }
 
-/// What a run has gone into, and how much is left to do at least while it is there.
+/// Something that a run has entered. The run is inside it while the stack of continuations has at least `least` entries.
 #[derive(Clone, Copy)]
-struct Mark<'c> {
+struct TraceMark<'c> {
     least: usize,
     within: Within<'c>,
 }
 
-/// Where a run stands in one of its calls.
+/// Where a run is in one of its calls.
 #[derive(Clone, Copy, Debug, PartialEq, Eq)]
 pub struct Standing {
     /// The address that was called.
     pub routine: u16,
     /// The address of the call's frame.
     pub frame: usize,
-    /// The number of the VALOF of its section in whose body it stands, if it does.
+    /// The number, in its section, of the VALOF whose body contains the place, if any.
     pub valof: Option<usize>,
-    /// How many expressions, tests and assignments of the body stand after the place.
+    /// How many roots (expressions, tests and assignments) of the body follow the place in the text.
     pub following: u64,
 }
 
-/// What a run has gone into and not left: its calls, and the first branches of TESTs.
+/// What a run has entered and not left: its calls, and the first branches of TESTs.
 #[derive(Drop)]
 pub struct Trace<'c> {
-    marks: Vec<Mark<'c>>,
-    /// How much is left to do at least while the run is in what it went into last.
+    /// The innermost mark is the last.
+    marks: Vec<TraceMark<'c>>,
+    /// The `least` of the last mark, or 0 if there is none.
     least: usize,
 }
 
 impl<'c> Trace<'c> {
-    /// Of a run that has not begun.
+    /// The trace of a run that hasn't begun.
     pub fn new(alloc: Global) -> Trace<'c> {
         Trace {
             marks: Vec::new(alloc),
@@ -53,9 +55,9 @@ impl<'c> Trace<'c> {
         }
     }
 
-    /// Follows a run through the step that does what is to be done next, before the step.
+    /// Call this before each step: drops what the run has left, and notes the branch that the step enters.
     ///
-    /// `Memory` comes where an allocation was refused.
+    /// `Memory` if an allocation fails.
     #[inline(always)]
     pub fn follow(&mut self, stacks: &Stacks<'c>) -> Result<(), Memory> {
         let rests = stacks.rests.as_slice();
@@ -68,9 +70,9 @@ impl<'c> Trace<'c> {
         }
     }
 
-    /// Follows a run into what the last step called, after the step.
+    /// Call this after each step: notes the call that the step made, if it made one.
     ///
-    /// `Memory` comes where an allocation was refused.
+    /// `Memory` if an allocation fails.
     #[inline(always)]
     pub fn enter(&mut self, stacks: &Stacks<'c>) -> Result<(), Memory> {
         let called = stacks.called;
@@ -86,7 +88,7 @@ impl<'c> Trace<'c> {
         )
     }
 
-    /// What was left is forgotten.
+    /// Drops the marks that the run has left, given the number of continuations.
     fn forget(&mut self, left: usize) {
         for _each in 0..self.marks.len() {
             let least = match self.marks.last() {
@@ -102,14 +104,14 @@ impl<'c> Trace<'c> {
         self.least = 0;
     }
 
-    /// The run goes into this, where so much is left to do at least.
+    /// Notes that the run enters something.
     fn mark(&mut self, least: usize, within: Within<'c>) -> Result<(), Memory> {
-        self.marks.push(Mark { least, within })?;
+        self.marks.push(TraceMark { least, within })?;
         self.least = least;
         Ok(())
     }
 
-    /// A truth, with which a TEST takes its first branch.
+    /// Notes that a TEST takes its first branch, if the innermost continuation is a TEST. The truth given to it is true.
     fn branch(&mut self, rests: &[Rest<'c>]) -> Result<(), Memory> {
         let Some(Rest::Truth(TruthRest::Chooses(_, _, that, _))) = rests.last() else {
             return Ok(());
@@ -117,7 +119,7 @@ impl<'c> Trace<'c> {
         self.mark(rests.len().saturating_sub(1), Within::Branch(that))
     }
 
-    /// How many calls the run is in.
+    /// The number of calls that the run is in.
     pub fn calls(&self) -> usize {
         let mut calls = 0usize;
         for mark in &self.marks {
@@ -128,9 +130,9 @@ impl<'c> Trace<'c> {
         calls
     }
 
-    /// Where the run stands in its newest calls, the newest one first, at most so many, with what is left to do.
+    /// Where the run is in its newest calls: at most `most` of them, the newest first. `rests` must be the run's continuations.
     ///
-    /// `Memory` comes where an allocation was refused.
+    /// `Memory` if an allocation fails.
     pub fn standings(
         &self,
         alloc: Global,
@@ -155,7 +157,7 @@ impl<'c> Trace<'c> {
     }
 }
 
-/// What was seen of one call, from what is done first on, down to some place of what is left to do.
+/// What the continuations of one call have shown, from the innermost one down to index `next`.
 #[derive(Clone, Copy)]
 struct Above {
     next: usize,
@@ -165,6 +167,7 @@ struct Above {
 }
 
 impl Above {
+    /// Nothing has been read yet: the next continuation to read is the one below index `next`.
     fn new(next: usize) -> Above {
         Above {
             next,
@@ -174,7 +177,7 @@ impl Above {
         }
     }
 
-    /// Looks at what is left to do, down to this place.
+    /// Reads the continuations down to this index.
     fn down_to(&mut self, place: usize, rests: &[Rest<'_>]) {
         let from = self.next.min(rests.len());
         let to = place.min(from);
@@ -184,6 +187,7 @@ impl Above {
         self.next = to;
     }
 
+    /// Reads one continuation, unless the body's outermost continuation has been read.
     fn look(&mut self, rest: &Rest<'_>) {
         if self.is_done {
             return;
@@ -196,7 +200,7 @@ impl Above {
         self.is_done = clue.is_bottom;
     }
 
-    /// The run is in the first branch of a TEST, from this place of what is left to do on; this is the other one.
+    /// Reads the continuations down to this index, at which the run entered the first branch of a TEST. The block is the other branch.
     fn branch(&mut self, place: usize, that: &Block, rests: &[Rest<'_>]) {
         self.down_to(place, rests);
         if !self.is_done {
@@ -204,6 +208,7 @@ impl Above {
         }
     }
 
+    /// Where the run is in the call whose frames have been read.
     fn standing(&self, routine: u16, frame: usize) -> Standing {
         Standing {
             routine,

@@ -1,4 +1,4 @@
--- What a call answers that gives what is read, unless memory ran out.
+-- From the two laws (Sound and Complete) to the clauses of `lex`.
 use Rattle.std.proofs.Common.{◌≡◌, refl, arith, ℕ, ◌+◌, ◌≤◌, ◌⊎◌, inl, inr, Bool, false, true, List, ◌++◌, length, Result, Ok, Err, IfOk}
 use Rattle.std.specs.Prelude.{IfErr, MatchResult}
 use Rattle.bc_lex_tokens.specs.Token.{Lexeme}

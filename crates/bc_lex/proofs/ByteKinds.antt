@@ -1,4 +1,4 @@
--- Kinds of bytes that exclude one another.
+-- Classes of bytes that exclude each other.
 use Rattle.std.proofs.Common.{◌≡◌, ◌∙◌, refl, sym, ap, arith, ℕ, ◌+◌, ◌-◌, ◌≤◌, inl, inr, Bool, true, false, ◌||◌, Some, None, cond, nat_eq, nat_lt, nat_le, is_some}
 use Rattle.std.proofs.lemmas.Bool.{eqb-true, and_parts, or_parts, or_cases, both_ways, false_from_ne_true, le-ltb, lt-ltb, leb-true, not-true}
 use Rattle.bc_lex.specs.Bytes.{is_between, is_letter, is_digit, is_name_byte, is_space, below}
@@ -22,7 +22,7 @@ digit_no_letter b h =
     let p = between 48 57 b h in
     false_from_ne_true (is_letter b) (λ t. let q : 65 ≤ b = letter_bound b t in omega arith)
 
--- a digit is one of base 10
+-- a digit is a digit of base 10
 pub digit_ten : (b : ℕ) → is_digit b ≡ true → is_digit_of 10 b ≡ true
 digit_ten b h =
     let p = between 48 57 b h in
@@ -41,14 +41,14 @@ ten_other b false h = absurd (both_ways (is_some (below 10 (cond (is_between 65 
 pub ten_digit : (b : ℕ) → is_digit_of 10 b ≡ true → is_digit b ≡ true
 ten_digit b h = ten_other b (is_digit b) h
 
--- a byte that passes a test that another fails is not that other
+-- two bytes are different if only one of them passes a test
 pub test_apart : (p : ℕ → Bool) (b c : ℕ) → p b ≡ true → p c ≡ false → nat_eq b c ≡ false
 test_apart p b c h n = false_from_ne_true (nat_eq b c) (λ t. both_ways (p c) n (ap p (sym (eqb-true b c t)) ∙ h))
 
 pub letter_name : (b : ℕ) → is_letter b ≡ true → is_name_byte b ≡ true
 letter_name b h = rw h refl
 
--- what a byte that begins signs alone is not
+-- what a byte that can only begin a sign is not
 pub record IsOther (b : ℕ) : Type 0 where
   pub letter : is_letter b ≡ false
   pub digit : is_digit b ≡ false

@@ -1,4 +1,4 @@
--- What has the definition of a source's tokens, or of its first fault, is read as that.
+-- From the definition to the reader: the tokens of a source, or its first fault, by definition are what is read.
 use Rattle.std.proofs.Common.{◌≡◌, ◌≢◌, ◌∙◌, refl, sym, ap, arith, ℕ, zero, suc, ◌+◌, ◌-◌, ◌≤◌, ◌<◌, inl, inr, Bool, true, false, ◌||◌, List, [], ◌∷◌, ◌++◌, length, drop, Option, Some, Result, Ok, Err, nat_eq, nat_lt, append_assoc}
 use Rattle.std.specs.Prelude.{codes}
 use Rattle.std.proofs.lemmas.Bool.{ne_eqb, eqb-true, both_ways, eq-eqb, lt-ltb, le-ltb, cond-true, cond-false}
@@ -9,7 +9,7 @@ use Rattle.bc_lex_tokens.specs.Token.{Kind, Sign, Name, Number, Character, Strin
 use Rattle.bc_lex.specs.declared.fault.FaultKind.{FaultKind}
 use Rattle.bc_lex.specs.declared.error.LexError.{LexError}
 use Rattle.bc_lex.specs.declared.error.LexError.TheVariants as errors
-use Rattle.bc_lex.specs.declared.reading.Place.{Place}
+use Rattle.bc_lex.specs.declared.reading.Position.{Position}
 use Rattle.bc_lex.specs.Bytes.{is_name_byte}
 use Rattle.bc_lex.specs.Gaps.{Holds, breaks, begins, opens_block, IsGap}
 use Rattle.bc_lex.specs.Lexemes.{Ends, IsLexeme, Word}
@@ -51,7 +51,7 @@ fault_in : (file : ℕ) (text : List ℕ) (at : ℕ) (bytes : List ℕ) (kind : 
 unfolding lexeme_at
 fault_in file text at bytes kind n e h = rw (e, h) refl
 
--- a place of a file, and the bytes from there on
+-- an offset of a file, and the bytes from it on
 record At (files : List File) (file at : ℕ) (bytes : List ℕ) : Type 0 where
   there : drop at (text_of files file) ≡ bytes
   sum : at + length bytes ≡ length (text_of files file)
@@ -62,7 +62,7 @@ after_at files file at front rest h =
     let s : at + length (front ++ rest) ≡ length (text_of files file) = h.sum in
     record { there = drop_after (text_of files file) front rest at (length front) h.there refl; sum = omega arith }
 
--- the item that stands after blanks
+-- the item after blanks
 item_after : (files : List File) (file at : ℕ) (line : Bool) (gap rest : List ℕ) → At files file at (gap ++ rest) → IsGap gap rest → NoBlank rest → 1 ≤ length rest → item_of files file (place_at at line) ≡ (lexeme_at file (text_of files file) (at + length gap) >>= item_by files file (text_of files file) (place_at at line) (at + length gap))
 unfolding item_of
 item_after files file at line gap rest h g no_blank some =
@@ -229,19 +229,19 @@ target_faulty files file start at space bytes kind n h g faulty =
       ]
     ]
 
--- turns
+-- iterations
 
-turn_is : (deeper : Deeper) (files : List File) (file k : ℕ) (place : Place) (before : List Lexeme) (x : Found) → 1 ≤ k → item_of files file place ≡ Ok x → rest_of deeper files file k place before ≡ found_on (rest_of deeper files file (k - 1)) deeper file before x
+turn_is : (deeper : Deeper) (files : List File) (file k : ℕ) (place : Position) (before : List Lexeme) (x : Found) → 1 ≤ k → item_of files file place ≡ Ok x → rest_of deeper files file k place before ≡ found_on (rest_of deeper files file (k - 1)) deeper file before x
 turn_is deeper files file k place before x some e =
     let s : k ≡ suc (k - 1) = omega arith in
     ap (λ n. rest_of deeper files file n place before) s ∙ ap (λ r. r >>= found_on (rest_of deeper files file (k - 1)) deeper file before) e
 
-turn_fails : (deeper : Deeper) (files : List File) (file k : ℕ) (place : Place) (before : List Lexeme) (x : LexError) → 1 ≤ k → item_of files file place ≡ Err x → rest_of deeper files file k place before ≡ Err x
+turn_fails : (deeper : Deeper) (files : List File) (file k : ℕ) (place : Position) (before : List Lexeme) (x : LexError) → 1 ≤ k → item_of files file place ≡ Err x → rest_of deeper files file k place before ≡ Err x
 turn_fails deeper files file k place before x some e =
     let s : k ≡ suc (k - 1) = omega arith in
     ap (λ n. rest_of deeper files file n place before) s ∙ ap (λ r. r >>= found_on (rest_of deeper files file (k - 1)) deeper file before) e
 
--- how a reading ends, after tokens
+-- the end of a reading, after tokens
 abbrev outcome : List Lexeme → List Lexeme → Ending → Result (List Lexeme) LexError
 outcome before tokens Whole = Ok (before ++ tokens)
 outcome before tokens (Faulty e) = Err e
@@ -269,12 +269,12 @@ pushed_some t before h = cond-true (nat_lt (length before) 60000) _ _ (lt-ltb (l
 pushed_none : (t : Lexeme) (before : List Lexeme) → 60000 ≤ length before → pushed t before ≡ Err (errors.TooManyTokens t.file t.start)
 pushed_none t before h = cond-false (nat_lt (length before) 60000) _ _ (le-ltb (length before) 60000 h)
 
--- a GET's item, by the file that it names
+-- the item of a GET, by the file that it names
 get_item : (files : List File) (file at : ℕ) (line : Bool) (gap after : List ℕ) (target : Result (ℕ × ℕ) LexError) → At files file at (gap ++ (codes "GET" ++ after)) → IsGap gap (codes "GET" ++ after) → Ends is_name_byte after → target_of files file (text_of files file) (at + length gap) (at + length gap + 3) ≡ target → item_of files file (place_at at line) ≡ (target >>= λ t. Ok (lexing.Get (at + length gap) t.0 t.1))
 get_item files file at line gap after target h g end e =
     item_get files file at line gap after h g end ∙ ap (λ r. r >>= λ t. Ok (lexing.Get (at + length gap) t.0 t.1)) e
 
--- after a GET's word
+-- after the word GET
 after_word : (files : List File) (file at : ℕ) (gap after : List ℕ) → At files file at (gap ++ (codes "GET" ++ after)) → At files file (at + length gap + 3) after
 after_word files file at gap after h = after_at files file (at + length gap) (codes "GET") after (after_at files file at gap (codes "GET" ++ after) h)
 
@@ -367,7 +367,7 @@ complete files levels file before at line bytes tokens ending (GetFaulty levels'
     let w = word_short gap (space ++ rest) k few in
     turn_fails (deeper_of files levels') files file' k (place_at at' line') acc _ w.0 (get_item files file' at' line' gap (space ++ rest) _ here g end (target_faulty files file' (at' + length gap) (at' + length gap + 3) space rest kind following (after_word files file' at' gap (space ++ rest) here) space_gap faulty))
 
--- what is read of a source
+-- a whole source
 
 read_whole : (files : List File) (main : ℕ) (tokens : List Lexeme) (ending : Ending) → Reads files 8 main 0 0 false (text_of files main) tokens ending → read_of files main ≡ outcome [] tokens ending
 unfolding read_of file_to_end

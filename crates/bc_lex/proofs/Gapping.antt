@@ -12,7 +12,7 @@ use Rattle.bc_lex.specs.Reading.{fault_at}
 use Rattle.bc_lex.specs.Blank.{ends_comment, closing_from, line_of, blank_of, gap_from, gap_on, gap_of}
 use Rattle.bc_lex.proofs.Runs.{run_sound, run_length, run_complete, drop-front, length-append_ℕ}
 
--- the closing sign of a block comment
+-- the end of a block comment
 abbrev sign : List ℕ
 sign = codes "*/"
 
@@ -20,7 +20,7 @@ no_empty : (front back : List ℕ) → [] ≡ front ++ (sign ++ back) → ⊥
 no_empty [] back e = cc
 no_empty (x ∷ front) back e = cc
 
--- a sign occurs at the front or after it
+-- a part occurs at the start or after it
 holds_cases : (b : ℕ) (bs : List ℕ) → Holds sign (b ∷ bs) → ((b ≡ 42) × (begins 47 bs ≡ true)) ⊎ Holds sign bs
 holds_cases b bs ([], back, e) =
     let b_is : b ≡ 42 = cc in
@@ -52,7 +52,7 @@ ends_parts b bs h = let p = and_parts (nat_eq b 42) (begins 47 bs) h in (eqb-tru
 clash : (b : ℕ) (bs : List ℕ) → ends_comment (b ∷ bs) ≡ false → b ≡ 42 → begins 47 bs ≡ true → ⊥
 clash b bs f e h = let t : ends_comment (b ∷ bs) ≡ true = rw (e, h) refl in both_ways (ends_comment (b ∷ bs)) f t
 
--- how the search for the end of a block comment ends
+-- the possible results of the search for the end of a block comment
 pub data ClosingRead (at : ℕ) (bs : List ℕ) : Option ℕ → Type 0 where
   Found : (text rest : List ℕ) (n : ℕ) → bs ≡ text ++ (sign ++ rest) → (Holds sign (text ++ codes "*") → ⊥) → n ≡ at + length text + 2 → ClosingRead at bs (Some n)
   Open : (Holds sign bs → ⊥) → ClosingRead at bs None
@@ -92,12 +92,12 @@ closing_open at (b ∷ bs) h =
     false_from_ne_true (ends_comment (b ∷ bs)) (λ t. let p = ends_parts b bs t in h (holds_here b bs p.0 p.1)) in
     rw apart (closing_open (at + 1) bs (λ q. h (holds_more b bs q)))
 
--- no blank and no comment begins here
+-- a list begins with no blank and no comment
 abbrev pub NoBlank : List ℕ → Type 0
 NoBlank [] = Unit {0}
 NoBlank (b ∷ bs) = (is_space b ≡ false) × (opens_line (b ∷ bs) ≡ false) × (opens_block (b ∷ bs) ≡ false)
 
--- what stands in front
+-- what is at the start
 pub data BlankRead (bs : List ℕ) : Option ℕ → Type 0 where
   Stands : (text rest : List ℕ) (n : ℕ) → bs ≡ text ++ rest → IsBlank text rest → n ≡ length text → 1 ≤ n → BlankRead bs (Some n)
   Absent : NoBlank bs → BlankRead bs (Some 0)
@@ -192,7 +192,7 @@ blank_positive text after (Space b rest h) = omega arith
 blank_positive text after (Line b c line rest h e l) = omega arith
 blank_positive text after (Block body rest h) = omega arith
 
--- how the reading of blanks ends
+-- the possible results of reading blanks
 pub data GapRead (at : ℕ) (bs : List ℕ) : Result ℕ Fault → Type 0 where
   Whole : (gap rest : List ℕ) (n : ℕ) → bs ≡ gap ++ rest → IsGap gap rest → NoBlank rest → n ≡ at + length gap → GapRead at bs (Ok n)
   Cut : (gap text : List ℕ) (n : ℕ) → bs ≡ gap ++ (codes "/*" ++ text) → IsGap gap (codes "/*" ++ text) → (Holds sign text → ⊥) → n ≡ at + length gap → GapRead at bs (Err (fault_at faults.Unterminated n))

@@ -1,4 +1,4 @@
--- The lexeme in front is what its definition says, or what stands there is faulty.
+-- From the reader to the definition: what is read at the start of a list is a lexeme by definition, or has the fault.
 use Rattle.std.proofs.Common.{◌≡◌, ◌≢◌, ◌∙◌, refl, sym, ap, arith, ℕ, suc, ◌+◌, ◌≤◌, ◌<◌, inl, inr, Bool, true, false, ◌||◌, List, [], ◌∷◌, ◌++◌, length, take, drop, Option, Some, None, Result, Ok, Err, cond, nat_eq, nat_lt, append_assoc, take-append-drop}
 use Rattle.std.specs.List.{list_all, prefix_len}
 use Rattle.std.proofs.lemmas.Bool.{eqb-true, and_parts, and_from, or_cases, or_parts, both_ways, lt-ltb, cond-true, cond-false}
@@ -24,7 +24,7 @@ use Rattle.bc_lex.proofs.Numbering.{DigitsRead, NoDigit, Small, Large, read_digi
 use Rattle.bc_lex.proofs.ByteKinds.{digit_no_letter, digit_ten, ten_digit, test_apart, letter_name, other_parts, sign_byte}
 use Rattle.bc_lex.proofs.Shapes.{Shape, Letters, One, Two, shape}
 
--- what was read
+-- the lexeme that was read
 pub data LexemeRead (bs : List ℕ) : Result (Kind × ℕ) Fault → Type 0 where
   Found : (text after : List ℕ) (kind : Kind) (n : ℕ) → bs ≡ text ++ after → IsLexeme text after kind → n ≡ length text → LexemeRead bs (Ok (kind, n))
   Faulty : (kind : FaultKind) (at : ℕ) → IsFaulty bs kind at → LexemeRead bs (Err (fault_at kind at))
@@ -104,7 +104,7 @@ number_found b bs v m k e h = rw (e, h) refl
 number_refused : (b : ℕ) (bs : List ℕ) (f : Fault) → number_of (b ∷ bs) ≡ Err f → number_at (b ∷ bs) ≡ Err f
 number_refused b bs f e = rw e refl
 
--- the reading of a number is that of its digits
+-- reading a number is reading its digits
 pub number_splits : (text after : List ℕ) (n : ℕ) → IsNumber text after n → (n ≤ 65535 → lexeme_in_front (text ++ after) ≡ Ok (Number n, length text)) × (65535 < n → lexeme_in_front (text ++ after) ≡ Err (fault_at faults.NumberTooLarge 0))
 number_splits text after n (Decimal b bs rest all end) =
     let first : is_digit_of 10 b ≡ true = (and_parts (is_digit_of 10 b) (list_all (is_digit_of 10) bs) all).0 in

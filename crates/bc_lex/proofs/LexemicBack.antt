@@ -1,4 +1,4 @@
--- What has the definition of a lexeme, or of a fault, is read as that.
+-- From the definition to the reader: what is a lexeme, or a fault, by definition is read as that.
 use Rattle.std.proofs.Common.{◌≡◌, ◌≢◌, ◌∙◌, refl, sym, ap, arith, ℕ, suc, ◌+◌, ◌-◌, ◌≤◌, ◌<◌, ◌⊎◌, inl, inr, Bool, true, false, ◌||◌, List, [], ◌∷◌, ◌++◌, length, take, drop, Option, Some, None, Result, Ok, Err, cond, nat_eq, nat_lt, append_assoc}
 use Rattle.std.specs.Prelude.{codes}
 use Rattle.std.specs.List.{list_all, prefix_len}
@@ -102,7 +102,7 @@ constant_found text rest c ch =
     let cut : drop (1 + length text) (39 ∷ bs) ≡ 39 ∷ rest = ap (λ n. drop n (39 ∷ bs)) s ∙ drop-front text (39 ∷ rest) in
     ap (λ q. as_character (character_by (39 ∷ bs) q)) front ∙ ap (λ ys. as_character (cond (begins 39 ys) (Ok (c, length text + 2)) (Err (fault_at faults.Unterminated 0)))) cut
 
--- a string of fewer than 256 characters goes on with what stands after them
+-- after fewer than 256 characters, a string continues with what follows them
 string_after : (text cs rest : List ℕ) → Spells 34 text cs → length cs < 256 → (j : ℕ) × (string_of (34 ∷ (text ++ rest)) ≡ string_on (string_from j) (1 + length text) rest (quoted_of 34 rest))
 unfolding string_of
 string_after text cs rest sp short =
@@ -188,7 +188,7 @@ lexeme_found text after kind (Bracket bracket tag rest s e has all end) =
 
 -- faults
 
--- a fault that is none of an open comment
+-- a fault other than that of an open comment
 pub record Refused (bs : List ℕ) (kind : FaultKind) (at : ℕ) : Type 0 where
   pub some : 1 ≤ length bs
   pub no_blank : NoBlank bs
@@ -244,7 +244,7 @@ number_some text after n (Decimal b bs rest all end) = omega arith
 number_some text after n (Octal b bs rest all end) = omega arith
 number_some text after n (Hexadecimal b bs rest all end) = omega arith
 
--- an open comment, or a fault that is read
+-- an open comment, or a fault that the reader reports
 pub refused : (bs : List ℕ) (kind : FaultKind) (at : ℕ) → IsFaulty bs kind at → ((text : List ℕ) × (bs ≡ codes "/*" ++ text) × (Holds (codes "*/") text → ⊥) × (kind ≡ faults.Unterminated) × (at ≡ 0)) ⊎ Refused bs kind at
 refused bs kind at (OpenComment text unclosed) = inl (text, refl, unclosed, refl, refl)
 refused bs kind at (LargeNumber text after n number large) = inr (record {

@@ -1,4 +1,4 @@
--- The turns of the loops that go over bytes.
+-- The iterations of the loops over bytes.
 use Rattle.std.proofs.Common.{◌≡◌, ◌∙◌, ap, arith, ℕ, suc, ◌+◌, ◌-◌, ◌<◌, false, true, List, [], ◌∷◌, get_or, length, drop, drop-drop, drop-cons, add-one, Result, Option, Some, Ok, nat_eq}
 use Rattle.std.proofs.lemmas.Bool.{ne_eqb, cond-true}
 use Rattle.bc_lex_tokens.specs.Token.{Kind}

@@ -1,4 +1,4 @@
--- The first source of a name.
+-- The first source with a name.
 use Rattle.std.proofs.Common.{◌≡◌, ◌≢◌, ◌∙◌, refl, sym, ap, arith, ℕ, zero, suc, ◌+◌, ◌<◌, Bool, true, false, inl, inr, List, [], ◌∷◌, ◌++◌, length, Some, None, cond, nat_eq, append_assoc, slice_get}
 use Rattle.std.proofs.lemmas.Bool.{eq-eqb, eqb-true, both_ways, cases_Bool}
 use Rattle.bc_lex.specs.Quotes.{IsCharacter, Spells, Empty, More}
@@ -8,7 +8,7 @@ use Rattle.bc_lex.specs.Tokens.{IsFirstNamed, IsUnnamed}
 use Rattle.bc_lex.proofs.Runs.{drop-front}
 use Rattle.bc_lex.proofs.Quoting.{quoted_character}
 
--- a name's first byte is compared with the first character
+-- the first byte of a name is compared with the first character of a string
 names_turn : (b : ℕ) (name first rest : List ℕ) (c : ℕ) → IsCharacter 34 first c → names_from (b ∷ name) (first ++ rest) ≡ names_on (names_from name) (first ++ rest) (cond (nat_eq c b) (Some (length first)) None)
 names_turn b name first rest c ch = ap (λ q. names_on (names_from name) (first ++ rest) (same_as b q)) (quoted_character 34 first rest c refl ch)
 
@@ -40,7 +40,7 @@ names_complete text cs (More first more c others ch sp) rest =
     ∙ ap (λ b. names_on (names_from others) (first ++ (more ++ 34 ∷ rest)) (cond b (Some (length first)) None)) t
     ∙ ap (names_from others) (drop-front first (more ++ 34 ∷ rest)) ∙ names_complete more others sp rest
 
--- a string that names one name alone
+-- a string spells only one name
 pub record Names (string name : List ℕ) : Type 0 where
   pub only : (other : List ℕ) → spells_name string other ≡ true → other ≡ name
   pub this : spells_name string name ≡ true
@@ -49,7 +49,7 @@ pub string_names : (text cs : List ℕ) → Spells 34 text cs → Names (34 ∷ 
 unfolding spells_name
 string_names text cs sp = record { only = λ other h. names_sound text cs sp other [] h; this = names_complete text cs sp [] }
 
--- the first of the files has the name
+-- the first file has the name
 first_here : (f : File) (files : List File) (name : List ℕ) → f.name ≡ name → IsFirstNamed (f ∷ files) name 0
 first_here f files name e = record {
   text = f.text;
@@ -89,7 +89,7 @@ pub source_none : (string name : List ℕ) → Names string name → (i : ℕ) (
 source_none string name names i [] h = λ j other get. let n : None ≡ Some other = get in cc
 source_none string name names i (f ∷ files) h = none_step string name names i f files (spells_name string f.name) refl (source_none string name names (i + 1) files) h
 
--- and back
+-- and the converse
 
 apart_names : (string name : List ℕ) → Names string name → (other : List ℕ) → other ≢ name → spells_name string other ≡ false
 apart_names string name names other ne = elim (cases_Bool (spells_name string other)) [ inl t ↦ absurd (ne (names.only other t)) | inr f ↦ f ]

@@ -8,13 +8,13 @@ use Rattle.bc_lex.specs.Lexemes.{Ends, is_digit_of, value_after}
 use Rattle.bc_lex.specs.Reading.{fault_at, value_from, digits_of, valued}
 use Rattle.bc_lex.proofs.Runs.{run_sound, run_length, run_complete, value_small, value_large, take-front}
 
--- how the reading of digits ends
+-- the possible results of reading digits
 pub data DigitsRead (base prefix : ℕ) (bs : List ℕ) : Result (ℕ × ℕ) Fault → Type 0 where
   NoDigit : Ends (is_digit_of base) bs → DigitsRead base prefix bs (Err (fault_at faults.BadCharacter 0))
   Small : (b : ℕ) (ds after : List ℕ) (n : ℕ) → bs ≡ (b ∷ ds) ++ after → list_all (is_digit_of base) (b ∷ ds) ≡ true → Ends (is_digit_of base) after → value_after base 0 (b ∷ ds) ≤ 65535 → n ≡ prefix + length (b ∷ ds) → DigitsRead base prefix bs (Ok (value_after base 0 (b ∷ ds), n))
   Large : (b : ℕ) (ds after : List ℕ) → bs ≡ (b ∷ ds) ++ after → list_all (is_digit_of base) (b ∷ ds) ≡ true → Ends (is_digit_of base) after → 65535 < value_after base 0 (b ∷ ds) → DigitsRead base prefix bs (Err (fault_at faults.NumberTooLarge 0))
 
--- of digits before other bytes
+-- digits, followed by other bytes
 abbrev pub read_digits : ℕ → ℕ → List ℕ → Result (ℕ × ℕ) Fault
 read_digits base prefix bs = cond (nat_eq (digits_of base bs) 0) (Err (fault_at faults.BadCharacter 0)) (valued (prefix + digits_of base bs) (value_from base 0 (take (digits_of base bs) bs)))
 

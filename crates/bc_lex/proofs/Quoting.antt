@@ -1,4 +1,4 @@
--- What is read between the signs of a string or a character constant is what its definition says.
+-- The text between quotes is read as its definition says.
 use Rattle.std.proofs.Common.{◌≡◌, ◌≢◌, ◌∙◌, refl, sym, ap, arith, ℕ, zero, suc, ◌+◌, ◌<◌, Bool, true, false, List, [], ◌∷◌, ◌++◌, length, Option, Some, None, Result, Ok, Err, cond, nat_eq, append_assoc}
 use Rattle.std.proofs.lemmas.Bool.{ne_eqb, eqb-true, eqb-false}
 use Rattle.bc_lex.specs.declared.fault.Fault.{Fault}
@@ -10,7 +10,7 @@ use Rattle.bc_lex.specs.Quotes.{IsCharacter, Plain, Escape, Spells, Empty, More,
 use Rattle.bc_lex.specs.Reading.{fault_at, escape_of, quoted_of, string_from, string_on}
 use Rattle.bc_lex.proofs.Runs.{drop-front, length-append_ℕ}
 
--- what stands in front
+-- what comes next
 pub data Front (close : ℕ) : List ℕ → Quoted → Type 0 where
   Closes : (rest : List ℕ) → Front close (close ∷ rest) quoted.Closed
   Cuts : (bs : List ℕ) → IsCut bs → Front close bs quoted.Cut
@@ -61,7 +61,7 @@ quoted_cut close bs apart (BreakAfter rest) = rw apart refl
 pub quoted_bad : (close : ℕ) (bs : List ℕ) → nat_eq 42 close ≡ false → IsBadEscape bs → quoted_of close bs ≡ quoted.BadEscape
 quoted_bad close bs apart (Bad b rest ne e) = rw (apart, ne_eqb b 10 ne, e) refl
 
--- how the reading of a string ends, with room for fewer than k characters
+-- the possible results of reading a string that may have fewer than k more characters
 pub data StringRead (k at : ℕ) (bs : List ℕ) : Result ℕ Fault → Type 0 where
   Closed : (text rest cs : List ℕ) (n : ℕ) → bs ≡ text ++ (34 ∷ rest) → Spells 34 text cs → length cs < k → n ≡ at + length text + 1 → StringRead k at bs (Ok n)
   Cut : (text after cs : List ℕ) → bs ≡ text ++ after → Spells 34 text cs → length cs < k → IsCut after → StringRead k at bs (Err (fault_at faults.Unterminated 0))

@@ -1,4 +1,4 @@
--- Bytes of a kind in front, lists that are cut, and the value of digits.
+-- Runs of bytes at the start of a list, lists that are cut off, and the value of digits.
 use Rattle.std.proofs.Common.{◌≡◌, refl, ap, arith, ℕ, suc, ◌+◌, ◌*◌, ◌<◌, ◌≤◌, Bool, true, false, List, [], ◌∷◌, ◌++◌, length, take, drop, Some, None, cond, unwrap_or, nat_lt}
 use Rattle.std.specs.List.{list_all, prefix_len}
 use Rattle.std.proofs.lemmas.Bool.{and_parts, le-ltb, ltb-false}

@@ -1,4 +1,4 @@
--- What the spellings of symbols look like.
+-- The form of spellings: each fact is one test over the rows of the table.
 use Rattle.std.proofs.Common.{◌≡◌, ◌∙◌, refl, sym, ap, ℕ, Bool, true, false, not, ◌&&◌, ◌||◌, inl, inr, List, [], ◌∷◌, Some, None, cond, nat_eq}
 use Rattle.std.specs.List.{list_all}
 use Rattle.std.specs.Cmp.Lexicographic.{pointwise}
@@ -12,7 +12,7 @@ use Rattle.bc_lex.specs.Bytes.{is_letter}
 use Rattle.bc_lex.specs.Tags.{has_tag}
 use Rattle.bc_lex.specs.Faults.{is_sign_byte}
 
--- whether a sign has one byte or two, and a bracket two of which the first is $
+-- a sign has one or two bytes; a section bracket has two and begins with $
 abbrev is_short : ℕ → List ℕ → Symbol → Bool
 is_short b [] s = not (has_tag s)
 is_short b (c ∷ []) s = not (has_tag s) || nat_eq b 36
@@ -66,7 +66,7 @@ shape_of (b ∷ bs) s h = elim (or_cases (is_letter b && not (has_tag s)) (is_si
 pub shape : (text : List ℕ) (s : Symbol) → symbol_of text ≡ Some s → Shape text s
 shape text s h = shape_of text s (spelled_test text s h)
 
--- GET has one spelling
+-- GET has only one spelling
 abbrev is_get_symbol : Symbol → Bool
 is_get_symbol symbol.Get = true
 is_get_symbol _ = false

@@ -1,4 +1,4 @@
--- What is read is what the definition of a source's tokens says: the tokens, or the first fault.
+-- From the reader to the definition: what is read of a source are its tokens by definition, or its first fault.
 use Rattle.std.proofs.Common.{◌≡◌, ◌≢◌, ◌∙◌, refl, sym, ap, subst, arith, ℕ, zero, suc, ◌+◌, ◌-◌, ◌≤◌, ◌<◌, inl, inr, Bool, true, false, ◌||◌, List, [], ◌∷◌, ◌++◌, length, take, drop, drop-drop, length-drop, Option, Some, None, Result, Ok, Err, cond, nat_eq, nat_lt, append_assoc}
 use Rattle.std.specs.Prelude.{codes}
 use Rattle.std.proofs.lemmas.Bool.{eqb-true, eqb-false, ltb-true, ltb-false}
@@ -10,7 +10,7 @@ use Rattle.bc_lex.specs.declared.fault.FaultKind.{FaultKind}
 use Rattle.bc_lex.specs.declared.fault.FaultKind.TheVariants as faults
 use Rattle.bc_lex.specs.declared.error.LexError.{LexError}
 use Rattle.bc_lex.specs.declared.error.LexError.TheVariants as errors
-use Rattle.bc_lex.specs.declared.reading.Place.{Place}
+use Rattle.bc_lex.specs.declared.reading.Position.{Position}
 use Rattle.bc_lex.specs.Bytes.{is_name_byte}
 use Rattle.bc_lex.specs.Tags.{has_tag}
 use Rattle.bc_lex.specs.Gaps.{Holds, breaks, begins, IsGap, Nothing}
@@ -32,11 +32,11 @@ use Rattle.bc_lex.proofs.Shapes.{Shape, Letters, One, Two, shape, get_spelled}
 use Rattle.bc_lex.proofs.Lexemic.{LexemeRead, Found as LexemeFound, Faulty as LexemeFaulty, lexeme_reads}
 use Rattle.bc_lex.proofs.Naming.{Names, string_names, source_some, source_none}
 
--- after a front
+-- what follows a first part
 pub drop_after : (text front rest : List ℕ) (at n : ℕ) → drop at text ≡ front ++ rest → n ≡ length front → drop (at + n) text ≡ rest
 drop_after text front rest at n e n_is = sym (drop-drop n at text) ∙ ap (drop n) e ∙ ap (λ k. drop k (front ++ rest)) n_is ∙ drop-front front rest
 
--- the part of a text from a place on
+-- the first part, by its offsets
 pub part_is : (text front rest : List ℕ) (from to : ℕ) → drop from text ≡ front ++ rest → to ≡ from + length front → part text from to ≡ front
 part_is text front rest from to e to_is =
     let n : to - from ≡ length front = omega arith in
@@ -121,7 +121,7 @@ target_reads : (files : List File) (file : ℕ) (text : List ℕ) (start end : �
 unfolding target_of
 target_reads files file text start end after there end_is ends = target_by files file text start end after (skipped file text end) there end_is ends (skip_reads file text end)
 
--- what comes first after a place
+-- what comes next in a file
 
 pub data ItemRead (files : List File) (file at : ℕ) (line : Bool) (bytes : List ℕ) : Result Found LexError → Type 0 where
   AtEnd : IsGap bytes [] → ItemRead files file at line bytes (Ok lexing.End)
@@ -129,7 +129,7 @@ pub data ItemRead (files : List File) (file at : ℕ) (line : Bool) (bytes : Lis
   AGet : (gap space string after name : List ℕ) (start named following : ℕ) → bytes ≡ gap ++ (codes "GET" ++ (space ++ (string ++ after))) → IsGap gap (codes "GET" ++ (space ++ (string ++ after))) → IsGet space string after name → IsFirstNamed files name named → start ≡ at + length gap → following ≡ at + length gap + 3 + length space + length string → ItemRead files file at line bytes (Ok (lexing.Get start named following))
   Wrong : (e : LexError) → ((levels before : ℕ) → Reads files levels file before at line bytes [] (Faulty e)) → ItemRead files file at line bytes (Err e)
 
--- a GET's text and what follows it
+-- the text of a GET, and what follows it
 get_word : (text after : List ℕ) (kind : Kind) → IsLexeme text after kind → kind ≡ Sign symbol.Get → (text ≡ codes "GET") × Ends is_name_byte after
 get_word text after kind (Word word rest s name end spelled) e =
     let s_is : s ≡ symbol.Get = cc in
@@ -161,7 +161,7 @@ item_get files file at line bytes gap after start read e g end s_is (BadString' 
 pub no_get : (kind : Kind) → is_get kind ≡ false → kind ≢ Sign symbol.Get
 no_get kind h e = let n : is_get (Sign symbol.Get) ≡ false = rw e at h in let m : true ≡ false = n in cc
 
-item_kind : (files : List File) (file : ℕ) (whole : List ℕ) (place : Place) (bytes gap text after : List ℕ) (kind : Kind) (start end : ℕ) (t : Bool) → is_get kind ≡ t → (is_get kind ≡ true → kind ≡ Sign symbol.Get) → drop place.at whole ≡ bytes → bytes ≡ gap ++ (text ++ after) → IsGap gap (text ++ after) → IsLexeme text after kind → start ≡ place.at + length gap → end ≡ start + length text → drop start whole ≡ text ++ after → ItemRead files file place.at place.line bytes (cond t (target_of files file whole start end >>= (λ u. Ok (lexing.Get start u.0 u.1))) (Ok (lexing.Token (record { kind = kind; text = part whole start end; file = file; start = start; end = end; line_before = place.line || breaks (part whole place.at start) }))))
+item_kind : (files : List File) (file : ℕ) (whole : List ℕ) (place : Position) (bytes gap text after : List ℕ) (kind : Kind) (start end : ℕ) (t : Bool) → is_get kind ≡ t → (is_get kind ≡ true → kind ≡ Sign symbol.Get) → drop place.at whole ≡ bytes → bytes ≡ gap ++ (text ++ after) → IsGap gap (text ++ after) → IsLexeme text after kind → start ≡ place.at + length gap → end ≡ start + length text → drop start whole ≡ text ++ after → ItemRead files file place.at place.line bytes (cond t (target_of files file whole start end >>= (λ u. Ok (lexing.Get start u.0 u.1))) (Ok (lexing.Token (record { kind = kind; text = part whole start end; file = file; start = start; end = end; line_before = place.line || breaks (part whole place.at start) }))))
 item_kind files file whole place bytes gap text after kind start end true is is_kind there e g lex s_is end_is at_start =
     let w = get_word text after kind lex (is_kind is) in
     let end_three : end ≡ start + 3 = end_is ∙ ap (λ ys. start + length ys) w.0 in
@@ -187,7 +187,7 @@ pub append-nil : (xs : List ℕ) → xs ++ [] ≡ xs
 append-nil [] = refl
 append-nil (x ∷ xs) = ap (λ ys. x ∷ ys) (append-nil xs)
 
-item_lexeme : (files : List File) (file : ℕ) (whole : List ℕ) (place : Place) (bytes gap rest : List ℕ) (start : ℕ) (read : Result (Kind × ℕ) Fault) → drop place.at whole ≡ bytes → bytes ≡ gap ++ rest → IsGap gap rest → start ≡ place.at + length gap → drop start whole ≡ rest → LexemeRead rest read → ItemRead files file place.at place.line bytes (located file start read >>= (λ x. Ok (x.0, start + x.1)) >>= item_by files file whole place start)
+item_lexeme : (files : List File) (file : ℕ) (whole : List ℕ) (place : Position) (bytes gap rest : List ℕ) (start : ℕ) (read : Result (Kind × ℕ) Fault) → drop place.at whole ≡ bytes → bytes ≡ gap ++ rest → IsGap gap rest → start ≡ place.at + length gap → drop start whole ≡ rest → LexemeRead rest read → ItemRead files file place.at place.line bytes (located file start read >>= (λ x. Ok (x.0, start + x.1)) >>= item_by files file whole place start)
 unfolding item_by
 item_lexeme files file whole place bytes gap rest start read there e g s_is at_start (LexemeFound text after kind n rest_is lex n_is) =
     let e' : bytes ≡ gap ++ (text ++ after) = e ∙ ap (λ ys. gap ++ ys) rest_is in
@@ -196,14 +196,14 @@ item_lexeme files file whole place bytes gap rest start read there e g s_is at_s
 item_lexeme files file whole place bytes gap rest start read there e g s_is at_start (LexemeFaulty kind at faulty) =
     Wrong (error_of kind file (start + at)) (λ levels before. rw (e, s_is) (FaultHere levels file before place.at place.line gap rest kind at g faulty))
 
-item_there : (files : List File) (file : ℕ) (whole : List ℕ) (place : Place) (bytes gap : List ℕ) (b : ℕ) (bs : List ℕ) (start : ℕ) → drop place.at whole ≡ bytes → bytes ≡ gap ++ (b ∷ bs) → IsGap gap (b ∷ bs) → NoBlank (b ∷ bs) → start ≡ place.at + length gap → drop start whole ≡ b ∷ bs → ItemRead files file place.at place.line bytes (lexeme_at file whole start >>= item_by files file whole place start)
+item_there : (files : List File) (file : ℕ) (whole : List ℕ) (place : Position) (bytes gap : List ℕ) (b : ℕ) (bs : List ℕ) (start : ℕ) → drop place.at whole ≡ bytes → bytes ≡ gap ++ (b ∷ bs) → IsGap gap (b ∷ bs) → NoBlank (b ∷ bs) → start ≡ place.at + length gap → drop start whole ≡ b ∷ bs → ItemRead files file place.at place.line bytes (lexeme_at file whole start >>= item_by files file whole place start)
 unfolding lexeme_at
 item_there files file whole place bytes gap b bs start there e g no_blank s_is at_start =
     let read = item_lexeme files file whole place bytes gap (b ∷ bs) start (lexeme_in_front (b ∷ bs)) there e g s_is at_start (lexeme_reads b bs no_blank.0 no_blank.1 no_blank.2) in
     let P : List ℕ → Type 0 = λ ys. ItemRead files file place.at place.line bytes (located file start (lexeme_in_front ys) >>= (λ x. Ok (x.0, start + x.1)) >>= item_by files file whole place start) in
     subst P (sym at_start) read
 
-item_rest : (files : List File) (file : ℕ) (whole : List ℕ) (place : Place) (bytes gap rest : List ℕ) (start : ℕ) (t : Bool) → nat_eq start (length whole) ≡ t → drop place.at whole ≡ bytes → bytes ≡ gap ++ rest → IsGap gap rest → NoBlank rest → start ≡ place.at + length gap → drop start whole ≡ rest → start + length rest ≡ length whole → ItemRead files file place.at place.line bytes (cond t (Ok lexing.End) (lexeme_at file whole start >>= item_by files file whole place start))
+item_rest : (files : List File) (file : ℕ) (whole : List ℕ) (place : Position) (bytes gap rest : List ℕ) (start : ℕ) (t : Bool) → nat_eq start (length whole) ≡ t → drop place.at whole ≡ bytes → bytes ≡ gap ++ rest → IsGap gap rest → NoBlank rest → start ≡ place.at + length gap → drop start whole ≡ rest → start + length rest ≡ length whole → ItemRead files file place.at place.line bytes (cond t (Ok lexing.End) (lexeme_at file whole start >>= item_by files file whole place start))
 item_rest files file whole place bytes gap [] start true t there e g no_blank s_is at_start sum =
     AtEnd (let same : bytes ≡ gap = e ∙ append-nil gap in rw same g)
 item_rest files file whole place bytes gap (b ∷ bs) start true t there e g no_blank s_is at_start sum =
@@ -213,7 +213,7 @@ item_rest files file whole place bytes gap [] start false t there e g no_blank s
 item_rest files file whole place bytes gap (b ∷ bs) start false t there e g no_blank s_is at_start sum =
     item_there files file whole place bytes gap b bs start there e g no_blank s_is at_start
 
-item_start : (files : List File) (file : ℕ) (whole : List ℕ) (place : Place) (read : Result ℕ LexError) → place.at ≤ length whole → SkipRead file whole place.at read → ItemRead files file place.at place.line (drop place.at whole) (read >>= item_on files file whole place)
+item_start : (files : List File) (file : ℕ) (whole : List ℕ) (place : Position) (read : Result ℕ LexError) → place.at ≤ length whole → SkipRead file whole place.at read → ItemRead files file place.at place.line (drop place.at whole) (read >>= item_on files file whole place)
 item_start files file whole place read within (Skipped gap rest start e g no_blank s_is at_start) =
     let l : length (drop place.at whole) ≡ length whole - place.at = length-drop place.at whole in
     let m : length (drop place.at whole) ≡ length gap + length rest = ap length e ∙ length-append_ℕ gap rest in
@@ -222,17 +222,17 @@ item_start files file whole place read within (Unclosed gap rest n e g unclosed 
     let p : place.at + n ≡ place.at + length gap + 0 = omega arith in
     Wrong (errors.Unterminated file (place.at + n)) (λ levels before. rw (e, p) (FaultHere levels file before place.at place.line gap (codes "/*" ++ rest) faults.Unterminated 0 g (OpenComment rest unclosed)))
 
-item_reads : (files : List File) (file : ℕ) (place : Place) → place.at ≤ length (text_of files file) → ItemRead files file place.at place.line (drop place.at (text_of files file)) (item_of files file place)
+item_reads : (files : List File) (file : ℕ) (place : Position) → place.at ≤ length (text_of files file) → ItemRead files file place.at place.line (drop place.at (text_of files file)) (item_of files file place)
 unfolding item_of
 item_reads files file place within = item_start files file (text_of files file) place (skipped file (text_of files file) place.at) within (skip_reads file (text_of files file) place.at)
 
--- the rest of a file
+-- the rest of a file, from some offset
 
 pub data RestRead (files : List File) (levels file : ℕ) (before : List Lexeme) (at : ℕ) (line : Bool) (bytes : List ℕ) : Result (List Lexeme) LexError → Type 0 where
   All : (tokens all : List Lexeme) → all ≡ before ++ tokens → Reads files levels file (length before) at line bytes tokens Whole → RestRead files levels file before at line bytes (Ok all)
   Fails : (tokens : List Lexeme) (e : LexError) → Reads files levels file (length before) at line bytes tokens (Faulty e) → RestRead files levels file before at line bytes (Err e)
 
--- the reading of a deeper file
+-- reading the file that a GET names
 pub data DeepRead (files : List File) (levels file start named : ℕ) (before : List Lexeme) : Result (List Lexeme) LexError → Type 0 where
   TooDeep : levels ≡ 0 → DeepRead files levels file start named before (Err (errors.GetTooDeep file start))
   Deeper' : (l : ℕ) (read : Result (List Lexeme) LexError) → levels ≡ suc l → RestRead files l named before 0 true (text_of files named) read → DeepRead files levels file start named before read
@@ -240,9 +240,9 @@ pub data DeepRead (files : List File) (levels file start named : ℕ) (before : 
 abbrev Deep : List File → ℕ → Type 0
 Deep files levels = (file start named : ℕ) (before : List Lexeme) → DeepRead files levels file start named before (deeper_of files levels file start named before)
 
--- the rest of a file after any place of it, once it is read in fewer turns
-abbrev Again : List File → ℕ → ℕ → (Place → List Lexeme → Result (List Lexeme) LexError) → ℕ → Type 0
-Again files levels file again k = (place : Place) (before : List Lexeme) → place.at ≤ length (text_of files file) → length (drop place.at (text_of files file)) ≤ k → RestRead files levels file before place.at place.line (drop place.at (text_of files file)) (again place before)
+-- the rest of a file from any offset, if it is right for fewer iterations
+abbrev Again : List File → ℕ → ℕ → (Position → List Lexeme → Result (List Lexeme) LexError) → ℕ → Type 0
+Again files levels file again k = (place : Position) (before : List Lexeme) → place.at ≤ length (text_of files file) → length (drop place.at (text_of files file)) ≤ k → RestRead files levels file before place.at place.line (drop place.at (text_of files file)) (again place before)
 
 shape_positive : (text : List ℕ) (s : Symbol) → Shape text s → 1 ≤ length text
 shape_positive text s (Letters b bs s' letter tag) = omega arith
@@ -305,13 +305,13 @@ no_bytes : (xs : List ℕ) → length xs ≤ 0 → xs ≡ []
 no_bytes [] h = refl
 no_bytes (x ∷ xs) h = absurd (omega arith)
 
--- what an item needs to be read: its place in the file
-record Stands (files : List File) (file k : ℕ) (place : Place) (bytes : List ℕ) : Type 0 where
+-- the offset of an item in the file
+record Stands (files : List File) (file k : ℕ) (place : Position) (bytes : List ℕ) : Type 0 where
   there : drop place.at (text_of files file) ≡ bytes
   sum : place.at + length bytes ≡ length (text_of files file)
   few : length bytes ≤ suc k
 
-again_at : (files : List File) (levels file : ℕ) (again : Place → List Lexeme → Result (List Lexeme) LexError) (k : ℕ) (place : Place) (bytes : List ℕ) → Again files levels file again k → Stands files file k place bytes → (front after : List ℕ) (at : ℕ) (line : Bool) (before : List Lexeme) → bytes ≡ front ++ after → 1 ≤ length front → at ≡ place.at + length front → RestRead files levels file before at line after (again (place_at at line) before)
+again_at : (files : List File) (levels file : ℕ) (again : Position → List Lexeme → Result (List Lexeme) LexError) (k : ℕ) (place : Position) (bytes : List ℕ) → Again files levels file again k → Stands files file k place bytes → (front after : List ℕ) (at : ℕ) (line : Bool) (before : List Lexeme) → bytes ≡ front ++ after → 1 ≤ length front → at ≡ place.at + length front → RestRead files levels file before at line after (again (place_at at line) before)
 again_at files levels file again k place bytes go here front after at line before e some at_is =
     let following : drop at (text_of files file) ≡ after = ap (λ n. drop n (text_of files file)) at_is ∙ drop_after (text_of files file) front after place.at (length front) (here.there ∙ e) refl in
     let l : length bytes ≡ length front + length after = ap length e ∙ length-append_ℕ front after in
@@ -320,7 +320,7 @@ again_at files levels file again k place bytes go here front after at line befor
     let n : length (drop at (text_of files file)) ≡ length after = ap length following in
     rw following at (go (place_at at line) before (omega arith) (omega arith))
 
-push_read : (files : List File) (levels file : ℕ) (again : Place → List Lexeme → Result (List Lexeme) LexError) (k : ℕ) (place : Place) (bytes : List ℕ) (before : List Lexeme) (gap text after : List ℕ) (kind : Kind) (t : Lexeme) (b : Bool) → nat_lt (length before) 60000 ≡ b → Again files levels file again k → Stands files file k place bytes → bytes ≡ gap ++ (text ++ after) → IsGap gap (text ++ after) → IsLexeme text after kind → kind ≢ Sign symbol.Get → t ≡ token file (place.at + length gap) (place.line || breaks gap) kind text → RestRead files levels file before place.at place.line bytes (cond b (Ok (before ++ t ∷ [])) (Err (errors.TooManyTokens t.file t.start)) >>= again (place_at t.end false))
+push_read : (files : List File) (levels file : ℕ) (again : Position → List Lexeme → Result (List Lexeme) LexError) (k : ℕ) (place : Position) (bytes : List ℕ) (before : List Lexeme) (gap text after : List ℕ) (kind : Kind) (t : Lexeme) (b : Bool) → nat_lt (length before) 60000 ≡ b → Again files levels file again k → Stands files file k place bytes → bytes ≡ gap ++ (text ++ after) → IsGap gap (text ++ after) → IsLexeme text after kind → kind ≢ Sign symbol.Get → t ≡ token file (place.at + length gap) (place.line || breaks gap) kind text → RestRead files levels file before place.at place.line bytes (cond b (Ok (before ++ t ∷ [])) (Err (errors.TooManyTokens t.file t.start)) >>= again (place_at t.end false))
 push_read files levels file again k place bytes before gap text after kind t true room go here e g lex ne t_is =
     let n : length before < 60000 = ltb-true (length before) 60000 room in
     let some : 1 ≤ length text = text_positive text after kind lex in
@@ -333,7 +333,7 @@ push_read files levels file again k place bytes before gap text after kind t fal
     let x : errors.TooManyTokens t.file t.start ≡ errors.TooManyTokens file (place.at + length gap) = ap (λ y. errors.TooManyTokens y.file y.start) t_is in
     Fails [] (errors.TooManyTokens t.file t.start) (rw (e, x) (TooMany levels file (length before) place.at place.line gap text after kind g lex ne n))
 
-deep_read : (files : List File) (levels file : ℕ) (again : Place → List Lexeme → Result (List Lexeme) LexError) (k : ℕ) (place : Place) (bytes : List ℕ) (before : List Lexeme) (gap space string after name : List ℕ) (start named following : ℕ) (read : Result (List Lexeme) LexError) → Again files levels file again k → Stands files file k place bytes → bytes ≡ gap ++ (codes "GET" ++ (space ++ (string ++ after))) → IsGap gap (codes "GET" ++ (space ++ (string ++ after))) → IsGet space string after name → IsFirstNamed files name named → start ≡ place.at + length gap → following ≡ place.at + length gap + 3 + length space + length string → DeepRead files levels file start named before read → RestRead files levels file before place.at place.line bytes (read >>= again (place_at following true))
+deep_read : (files : List File) (levels file : ℕ) (again : Position → List Lexeme → Result (List Lexeme) LexError) (k : ℕ) (place : Position) (bytes : List ℕ) (before : List Lexeme) (gap space string after name : List ℕ) (start named following : ℕ) (read : Result (List Lexeme) LexError) → Again files levels file again k → Stands files file k place bytes → bytes ≡ gap ++ (codes "GET" ++ (space ++ (string ++ after))) → IsGap gap (codes "GET" ++ (space ++ (string ++ after))) → IsGet space string after name → IsFirstNamed files name named → start ≡ place.at + length gap → following ≡ place.at + length gap + 3 + length space + length string → DeepRead files levels file start named before read → RestRead files levels file before place.at place.line bytes (read >>= again (place_at following true))
 deep_read files levels file again k place bytes before gap space string after name start named following read go here e g get first s_is b_is (TooDeep zero_is) =
     Fails [] (errors.GetTooDeep file start) (rw (e, zero_is, s_is) (GetTooDeep file (length before) place.at place.line gap space string after name named g get first))
 deep_read files levels file again k place bytes before gap space string after name start named following read go here e g get first s_is b_is (Deeper' l inner_read l_is (All inner middle m_is deep)) =
@@ -348,7 +348,7 @@ deep_read files levels file again k place bytes before gap space string after na
 deep_read files levels file again k place bytes before gap space string after name start named following read go here e g get first s_is b_is (Deeper' l inner_read l_is (Fails inner x deep)) =
     Fails inner x (rw (e, l_is) (GetFault l file (length before) place.at place.line gap space string after name named inner x g get first deep))
 
-turn_read : (files : List File) (levels file : ℕ) (again : Place → List Lexeme → Result (List Lexeme) LexError) (k : ℕ) (place : Place) (bytes : List ℕ) (before : List Lexeme) (read : Result Found LexError) → Deep files levels → Again files levels file again k → Stands files file k place bytes → ItemRead files file place.at place.line bytes read → RestRead files levels file before place.at place.line bytes (read >>= found_on again (deeper_of files levels) file before)
+turn_read : (files : List File) (levels file : ℕ) (again : Position → List Lexeme → Result (List Lexeme) LexError) (k : ℕ) (place : Position) (bytes : List ℕ) (before : List Lexeme) (read : Result Found LexError) → Deep files levels → Again files levels file again k → Stands files file k place bytes → ItemRead files file place.at place.line bytes read → RestRead files levels file before place.at place.line bytes (read >>= found_on again (deeper_of files levels) file before)
 turn_read files levels file again k place bytes before read deep go here (AtEnd g) = All [] before (sym (append-none before)) (End levels file (length before) place.at place.line bytes g)
 turn_read files levels file again k place bytes before read deep go here (AToken gap text after kind t e g lex ne t_is) =
     push_read files levels file again k place bytes before gap text after kind t (nat_lt (length before) 60000) refl go here e g lex ne t_is
@@ -375,7 +375,7 @@ unfolding deeper_of
 deep_reads files zero file start named before = TooDeep refl
 deep_reads files (suc l) file start named before = Deeper' l _ refl (file_reads files l (deep_reads files l) named true before)
 
--- what is read of a source
+-- a whole source
 pub data SourceRead (files : List File) (main : ℕ) : Result (List Lexeme) LexError → Type 0 where
   HasAll : (tokens : List Lexeme) → HasTokens files main tokens → SourceRead files main (Ok tokens)
   HasFirst : (e : LexError) → HasFault files main e → SourceRead files main (Err e)

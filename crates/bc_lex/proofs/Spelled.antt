@@ -1,4 +1,4 @@
--- What is found without the table of spellings is what stands in it.
+-- The symbols found without the table of spellings are those of the table.
 use Rattle.std.proofs.Common.{◌≡◌, ℕ, Bool, true, false, cond, Option, Some, None, List, [], ◌∷◌, length, get_or, refl, ap, sym, ◌∙◌, rules, arith, true≢false}
 use Rattle.std.specs.Prelude.{nat_eq, ◌==◌, ◌&&◌, if◌then◌else◌}
 use Rattle.std.specs.Cmp.Lexicographic.{pointwise, same_text}
@@ -6,7 +6,7 @@ use Rattle.bc_lex_tokens.specs.declared.symbol.Symbol.{Symbol}
 use Rattle.bc_lex_tokens.specs.Spelling.{symbol_in, symbol_of, spellings}
 use Rattle.bc_lex.specs.Spelled.{symbol_by_byte, may_spell}
 
--- the rows of one byte
+-- the rows with one byte
 abbrev by_row : List ℕ → Symbol → ℕ → Option Symbol → Option Symbol
 by_row (a ∷ []) s b x = if b == a then Some s else x
 by_row _ s b x = x
@@ -33,7 +33,7 @@ alone [] b d h i = absurd (omega (arith, h))
 alone (x ∷ []) b d h i = by_byte_is b ∙ ap (λ y. symbol_of (y ∷ [])) i
 alone (x ∷ y ∷ ys) b d h i = absurd (omega (arith, h))
 
--- every spelling passes
+-- every spelling passes the test of its first two bytes
 abbrev all_fit : List (List ℕ × Symbol) → Bool
 all_fit [] = true
 all_fit (row ∷ rows) = may_spell row.0 && all_fit rows

@@ -1,4 +1,4 @@
--- The turns of the loop that reads a string.
+-- The iterations of the loop that reads a string.
 use Rattle.std.proofs.Common.{◌≡◌, arith, ℕ, suc, ◌+◌, ◌-◌, ◌<◌, List, drop, drop-drop, Result}
 use Rattle.bc_lex.specs.declared.fault.Fault.{Fault}
 use Rattle.bc_lex.specs.declared.quoted.Quoted.{Quoted}

@@ -1,14 +1,14 @@
--- The turns of the loop that reads a file.
+-- The iterations of the loop that reads a file.
 use Rattle.std.proofs.Common.{◌≡◌, refl, sym, ap, true, arith, ℕ, suc, ◌+◌, ◌-◌, ◌<◌, List, Result, Ok, Err}
 use Rattle.bc_lex_tokens.specs.Token.{Lexeme}
 use Rattle.bc_lex.specs.declared.error.LexError.{LexError}
 use Rattle.bc_lex.specs.declared.error.LexError.TheVariants as errors
-use Rattle.bc_lex.specs.declared.reading.Place.{Place}
+use Rattle.bc_lex.specs.declared.reading.Position.{Position}
 use Rattle.bc_lex.specs.Lexeme.{◌>>=◌}
 use Rattle.bc_lex.specs.Files.{File}
 use Rattle.bc_lex.specs.Lexing.{Fails, Found, Deeper, item_of, found_on, rest_of, file_to_end, deeper_of}
 
--- where one reading's faults are another's
+-- when a fault of one reading is a fault of another
 pub Fails-through : {Y Z : Type 0} (e : LexError) (r : Result Y LexError) (s : Result Z LexError) → ((x : LexError) → r ≡ Err x → s ≡ Err x) → Fails e r → Fails e s
 Fails-through errors.Memory r s f h = tt
 Fails-through (errors.BadCharacter file at) r s f h = f _ h
@@ -20,17 +20,17 @@ Fails-through (errors.GetMissing file at) r s f h = f _ h
 Fails-through (errors.GetTooDeep file at) r s f h = f _ h
 Fails-through (errors.TooManyTokens file at) r s f h = f _ h
 
--- one turn, of which i are done and k are to be done in all
-pub turn : (deeper : Deeper) (files : List File) (file k i : ℕ) (place : Place) (tokens : List Lexeme) (read : Result (List Lexeme) LexError) → i < k → rest_of deeper files file (k - i) place tokens ≡ read → (item_of files file place >>= found_on (rest_of deeper files file (k - (i + 1))) deeper file tokens) ≡ read
+-- one iteration, after i of k
+pub turn : (deeper : Deeper) (files : List File) (file k i : ℕ) (place : Position) (tokens : List Lexeme) (read : Result (List Lexeme) LexError) → i < k → rest_of deeper files file (k - i) place tokens ≡ read → (item_of files file place >>= found_on (rest_of deeper files file (k - (i + 1))) deeper file tokens) ≡ read
 turn deeper files file k i place tokens read h r =
     let s : k - i ≡ suc (k - (i + 1)) = omega arith in
     rw s at r
 
--- at a turn that finds something
-pub turn_found : (deeper : Deeper) (files : List File) (file k i : ℕ) (place : Place) (tokens : List Lexeme) (read : Result (List Lexeme) LexError) (x : Found) → i < k → item_of files file place ≡ Ok x → rest_of deeper files file (k - i) place tokens ≡ read → found_on (rest_of deeper files file (k - (i + 1))) deeper file tokens x ≡ read
+-- an iteration that finds something
+pub turn_found : (deeper : Deeper) (files : List File) (file k i : ℕ) (place : Position) (tokens : List Lexeme) (read : Result (List Lexeme) LexError) (x : Found) → i < k → item_of files file place ≡ Ok x → rest_of deeper files file (k - i) place tokens ≡ read → found_on (rest_of deeper files file (k - (i + 1))) deeper file tokens x ≡ read
 turn_found deeper files file k i place tokens read x h e r = rw e at (turn deeper files file k i place tokens read h r)
 
-pub turn_fails : (deeper : Deeper) (files : List File) (file k i : ℕ) (place : Place) (tokens : List Lexeme) (read : Result (List Lexeme) LexError) (e : LexError) → i < k → rest_of deeper files file (k - i) place tokens ≡ read → Fails e (item_of files file place) → Fails e read
+pub turn_fails : (deeper : Deeper) (files : List File) (file k i : ℕ) (place : Position) (tokens : List Lexeme) (read : Result (List Lexeme) LexError) (e : LexError) → i < k → rest_of deeper files file (k - i) place tokens ≡ read → Fails e (item_of files file place) → Fails e read
 turn_fails deeper files file k i place tokens read e h r =
     Fails-through e (item_of files file place) read (λ x f. sym (rw f at (turn deeper files file k i place tokens read h r)))
 

@@ -1,7 +1,7 @@
--- What single bytes are.
+-- Classes of bytes, values of digits, and escapes.
 use Rattle.std.specs.Prelude.{ℕ, ◌+◌, ◌-◌, Bool, ◌&&◌, ◌||◌, ◌==◌, nat_le, nat_lt, Option, Some, None, if◌then◌else◌}
 
--- whether a byte lies between two, these included
+-- whether a byte is between two others, or is one of them
 abbrev pub is_between : ℕ → ℕ → ℕ → Bool
 is_between low high b = nat_le low b && nat_le b high
 
@@ -28,6 +28,7 @@ digit_value b = if is_digit b then Some (b - 48)
     else (if is_between 97 102 b then Some (b - 97 + 10)
     else None))
 
+-- a digit's value, if it is below the base
 abbrev pub below : ℕ → Option ℕ → Option ℕ
 below base None = None
 below base (Some n) = if nat_lt n base then Some n else None
@@ -36,7 +37,8 @@ below base (Some n) = if nat_lt n base then Some n else None
 abbrev pub digit_of : ℕ → ℕ → Option ℕ
 digit_of base b = below base (digit_value b)
 
--- what stands after * for another byte: N T S B P C in either case, and the two signs and * for themselves
+-- the byte that * and this byte denote: N T S B P C in upper or lower case denote LF, tab, space, BS, FF and CR; quotes and * denote
+-- themselves
 abbrev pub escaped : ℕ → Option ℕ
 escaped b =
     if (b == 78) || (b == 110) then Some 10

@@ -1,4 +1,4 @@
--- Worked examples of what stands in a source.
+-- Worked examples of the definitions, computed at each check.
 use Rattle.std.specs.Prelude.{◌≡◌, false, List, [], ◌∷◌, codes}
 use Rattle.std.proofs.Common.{refl, arith}
 use Rattle.bc_lex_tokens.specs.declared.symbol.Symbol.TheVariants as symbol
@@ -24,11 +24,11 @@ hexadecimal = Hexadecimal 49 (codes "F") (codes " G") refl refl
 line_break : IsCharacter 39 (codes "*n") 10
 line_break = Escape 110 10 refl
 
--- no escape is *Q
+-- *Q is no escape
 bad_escape : IsBadEscape (codes "*Q\"")
 bad_escape = Bad 81 (codes "\"") (λ e. cc) refl
 
--- a comment up to the end of its line, which stands after it
+-- a comment up to the end of its line; the line break follows it
 comment : IsBlank (codes "// a") (10 ∷ codes "B")
 comment = Line 47 47 (codes " a") (10 ∷ codes "B") refl refl refl
 

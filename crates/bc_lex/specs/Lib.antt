@@ -1,3 +1,4 @@
+-- The definition of tokens (Bytes, Gaps, Quotes, Lexemes, Tags, Faults, Files, Tokens), and the pure reader that proofs relate to it.
 pub mod Bytes
 pub mod Reading
 pub mod Blank

@@ -1,9 +1,9 @@
--- For proofs: which symbol a byte spells, and what spellings begin with.
+-- For proofs: the symbols of single bytes, and the first two bytes of spellings, as the code tests them.
 use Rattle.std.specs.Prelude.{ℕ, Bool, true, false, ◌||◌, ◌==◌, List, [], ◌∷◌, Option, Some, None, if◌then◌else◌}
 use Rattle.bc_lex_tokens.specs.declared.symbol.Symbol.{Symbol}
 use Rattle.bc_lex_tokens.specs.declared.symbol.Symbol.TheVariants as symbol
 
--- the symbol whose spelling is this byte
+-- the symbol whose spelling is this single byte
 abbrev pub symbol_by_byte : ℕ → Option Symbol
 symbol_by_byte b =
     if b == 40 then Some symbol.OpenBracket
@@ -25,7 +25,7 @@ symbol_by_byte b =
     else (if b == 126 then Some symbol.Not
     else None))))))))))))))))
 
--- whether a spelling begins with these two bytes
+-- whether some spelling begins with these two bytes
 abbrev pub begins_spelling : ℕ → ℕ → Bool
 begins_spelling a b =
     if (a == 65) || (a == 85) then b == 78
@@ -52,7 +52,7 @@ begins_spelling a b =
     else (if a == 92 then b == 47
     else false)))))))))))))))))))))
 
--- whether a text may be a spelling, by its first two bytes
+-- whether the first two bytes of a text allow that it is a spelling
 abbrev pub may_spell : List ℕ → Bool
 may_spell (a ∷ b ∷ bs) = begins_spelling a b
 may_spell bs = true

@@ -1,3 +1,4 @@
+//! Blanks, line breaks and comments between tokens.
 ghost use Rattle.std.specs.Prelude.{◌≡◌, ◌≤◌, length, IfOk, IfErr, IfSome};
 ghost use Rattle.bc_lex.specs.Blank.{ends_comment, closing_from, blank_of, gap_of};
 
@@ -5,14 +6,14 @@ use crate::byte::is_space;
 use crate::fault::{Fault, FaultKind};
 use crate::run::{following, line_bytes};
 
-/// Whether a block comment ends in front.
+/// Whether the bytes begin with the end of a block comment.
 fn closes(bytes: &[u8]) -> bool
     ensures { result ≡ ends_comment bytes.now }
 {
     matches!(bytes, [b'*', b'/', ..])
 }
 
-/// How many bytes the rest of a block comment has, with its closing sign, or `None` where it is not closed.
+/// The number of bytes up to and including the end of a block comment that has been opened, or `None` if it isn't closed.
 fn closing(bytes: &[u8]) -> Option<usize>
     ensures value { result ≡ closing_from 0 bytes.now }
     ensures within { IfSome result (λ n. n ≤ length bytes.now) }
@@ -25,8 +26,8 @@ fn closing(bytes: &[u8]) -> Option<usize>
     None
 }
 
-/// How many bytes the blank, the line break or the comment in front has, 0 where none stands there, or `None` where
-/// a comment is not closed.
+/// The number of bytes of the blank, line break or comment at the start of the bytes: 0 if there is none, `None` if it is a
+/// comment that isn't closed.
 fn blank(bytes: &[u8]) -> Option<usize>
     ensures value { result ≡ blank_of bytes.now }
     ensures within { IfSome result (λ n. n ≤ length bytes.now) }
@@ -39,7 +40,8 @@ fn blank(bytes: &[u8]) -> Option<usize>
     }
 }
 
-/// How many bytes of blanks, line breaks and comments stand in front.
+/// The number of bytes of blanks, line breaks and comments at the start of the bytes. Fails with `Unterminated` at a comment that
+/// isn't closed.
 #[tactic(auto, unfolding(crate::specs::Blank::gap_of))]
 pub fn gap(bytes: &[u8]) -> Result<usize, Fault>
     ensures value { result ≡ gap_of bytes.now }
@@ -47,7 +49,7 @@ pub fn gap(bytes: &[u8]) -> Result<usize, Fault>
     ensures fault { IfErr result (λ f. f.at ≤ length bytes.now) }
 {
     let mut at = 0;
-    // Each turn goes on by a byte at least.
+    // Each iteration moves on by at least one byte.
     for _ in 0..bytes.len() {
         match blank(following(bytes, at)) {
             Some(0) => return Ok(at),

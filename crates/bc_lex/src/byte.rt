@@ -1,3 +1,4 @@
+//! Classes of bytes, values of digits, and escapes.
 ghost use Rattle.std.specs.Prelude.{◌≡◌, ◌<◌, IfSome};
 ghost use Rattle.bc_lex.specs.Bytes.{is_letter as letter, is_name_byte as name_byte, is_space as space, digit_value as value, digit_of, escaped as escape};
 
@@ -8,21 +9,21 @@ pub fn is_letter(byte: u8) -> bool
     byte.is_ascii_alphabetic()
 }
 
-/// Whether the byte may stand in a name or a tag after its beginning.
+/// Whether the byte may be in a name after its first letter, or in a tag: letters, digits and the dot.
 pub fn is_name_byte(byte: u8) -> bool
     ensures { result ≡ name_byte byte }
 {
     byte.is_ascii_alphanumeric() || byte == b'.'
 }
 
-/// Whether the byte is a blank or a line break.
+/// Whether the byte is a blank or a line break: space, tab, CR, FF or LF.
 pub fn is_space(byte: u8) -> bool
     ensures { result ≡ space byte }
 {
     matches!(byte, b' ' | b'\t' | b'\r' | b'\x0c' | b'\n')
 }
 
-/// The value of a digit of any base up to 16, in either case.
+/// The value of a digit of any base up to 16, in upper or lower case.
 fn digit_value(byte: u8) -> Option<u32>
     ensures { result ≡ value byte }
 {
@@ -34,7 +35,7 @@ fn digit_value(byte: u8) -> Option<u32>
     }
 }
 
-/// The value of a digit of this base.
+/// The value of a digit of this base, or `None` for other bytes.
 pub fn digit(base: u32, byte: u8) -> Option<u32>
     ensures value { result ≡ digit_of base byte }
     ensures small { IfSome result (λ n. n < base) }
@@ -45,7 +46,7 @@ pub fn digit(base: u32, byte: u8) -> Option<u32>
     }
 }
 
-/// The byte that stands after `*` for another one, or `None` where nothing is written so.
+/// The byte that `*` and this byte denote in a string or character constant, or `None` if that is no escape.
 pub fn escaped(byte: u8) -> Option<u8>
     ensures { result ≡ escape byte }
 {

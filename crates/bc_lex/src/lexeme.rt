@@ -1,3 +1,4 @@
+//! Reading a single lexeme, the longest one at the start of the bytes.
 ghost use Rattle.std.specs.Prelude.{◌≡◌, ◌<◌, ◌≤◌, length, IfOk, IfErr};
 ghost use Rattle.bc_lex_tokens.specs.Token.{kind_of};
 ghost use Rattle.bc_lex.specs.Tags.{has_tag as with_tag};
@@ -11,14 +12,14 @@ use crate::run::{following, name_bytes};
 use crate::symbols::spelled;
 use bc_lex_tokens::{Symbol, TokenKind};
 
-/// Whether a tag may follow the symbol.
+/// Whether the symbol may have a tag: it is a section bracket.
 fn has_tag(symbol: Symbol) -> bool
     ensures { result ≡ with_tag symbol }
 {
     matches!(symbol, Symbol::OpenSection | Symbol::CloseSection)
 }
 
-/// The name or the reserved word in front, with the number of its bytes.
+/// The name or reserved word at the start of the bytes, and the number of its bytes.
 fn word<'s>(bytes: &'s [u8]) -> (TokenKind<'s>, usize)
     ensures value { word_of bytes.now ≡ (kind_of result.0, result.1) }
     ensures within { result.1 ≤ length bytes.now }
@@ -31,7 +32,8 @@ fn word<'s>(bytes: &'s [u8]) -> (TokenKind<'s>, usize)
     }
 }
 
-/// The sign in front, a bracket with its whole tag, with the number of its bytes.
+/// The sign at the start of the bytes, and the number of its bytes with those of its tag. Fails with `BadCharacter` if there is
+/// no sign.
 fn sign(bytes: &[u8]) -> Result<(Symbol, usize), Fault>
     requires { 0 < length bytes.now }
     ensures value { result ≡ sign_of bytes.now }
@@ -51,7 +53,8 @@ fn sign(bytes: &[u8]) -> Result<(Symbol, usize), Fault>
     }
 }
 
-/// The lexeme in front, where no blank and no comment stands, with the number of its bytes.
+/// The lexeme at the start of the bytes, which must not begin with a blank or comment, and the number of its bytes. Fails with the
+/// fault of the lexeme.
 #[tactic(auto, unfolding(crate::specs::Lexeme::lexeme_in_front))]
 pub fn lexeme<'s>(bytes: &'s [u8]) -> Result<(TokenKind<'s>, usize), Fault>
     requires { 0 < length bytes.now }

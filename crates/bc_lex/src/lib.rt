@@ -1,4 +1,4 @@
-//! From the texts of sources to their tokens.
+//! Turns the texts of sources into tokens, and follows GETs.
 #![tactic(auto)]
 
 mod blank;

@@ -1,3 +1,4 @@
+//! Number constants: decimal, `#` octal, `#X` hexadecimal.
 ghost use Rattle.std.specs.Prelude.{◌≡◌, ◌<◌, ◌≤◌, ◌+◌, length, IfOk, IfErr};
 ghost use Rattle.bc_lex.specs.Reading.{value_from, based_of, number_of};
 
@@ -5,7 +6,7 @@ use crate::byte::digit;
 use crate::fault::{Fault, FaultKind};
 use crate::run::digits;
 
-/// The value of digits, or `None` where it is over 65,535.
+/// The value of digits of this base, or `None` if it is over 65,535.
 fn value(base: u32, digits: &[u8]) -> Option<u16>
     requires { base ≤ 16 }
     ensures { result ≡ value_from base 0 digits.now }
@@ -20,7 +21,8 @@ fn value(base: u32, digits: &[u8]) -> Option<u16>
     Some(value as u16)
 }
 
-/// The number of this base after a prefix, with the number of its bytes.
+/// The number of this base at the start of the bytes, after a prefix of `prefix` bytes, and the number of bytes with the prefix.
+/// Fails with `BadCharacter` if there is no digit, or with `NumberTooLarge`.
 fn based(base: u32, prefix: usize, bytes: &[u8]) -> Result<(u16, usize), Fault>
     requires base { base ≤ 16 }
     requires prefix { prefix ≤ length bytes.now }
@@ -38,7 +40,8 @@ fn based(base: u32, prefix: usize, bytes: &[u8]) -> Result<(u16, usize), Fault>
     }
 }
 
-/// The number in front, with the number of its bytes.
+/// The number at the start of the bytes, and how many bytes it takes. Fails with `BadCharacter` if `#` or `#X` has no digit, or
+/// with `NumberTooLarge`.
 pub fn number(bytes: &[u8]) -> Result<(u16, usize), Fault>
     ensures value { result ≡ number_of bytes.now }
     ensures within { IfOk result (λ x. x.1 ≤ length bytes.now) }

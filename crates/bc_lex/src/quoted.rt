@@ -1,3 +1,4 @@
+//! Strings and character constants.
 ghost use Rattle.std.specs.Prelude.{◌≡◌, ◌<◌, ◌≤◌, ◌+◌, length, IfOk, IfErr, drop};
 ghost use Rattle.bc_lex.specs.Reading.{quoted_of, string_from, string_of, character_of, Fits};
 
@@ -5,20 +6,20 @@ use crate::byte::escaped;
 use crate::fault::{Fault, FaultKind};
 use crate::run::following;
 
-/// What stands in front in a string or a character constant.
+/// The next item in a string or character constant.
 #[derive(Clone, Copy, Debug, PartialEq, Eq)]
 pub enum Quoted {
-    /// The closing sign.
+    /// The closing quote.
     Closed,
-    /// A line break or the end of the file, also after a `*`.
+    /// A line break or the end of the file, or a `*` followed by one of these.
     Cut,
-    /// A `*` after which no escape goes on.
+    /// A `*` that begins no escape.
     BadEscape,
-    /// A character, with the number of bytes that it is spelled with.
+    /// A character, by the byte that it denotes and the number of bytes in its spelling.
     Character(u8, usize),
 }
 
-/// What stands in front, within these closing signs.
+/// The item at the start of these bytes, which are inside a string or constant with this closing quote.
 pub fn next_quoted(close: u8, bytes: &[u8]) -> Quoted
     ensures value { result ≡ quoted_of close bytes.now }
     ensures fits { Fits bytes.now result }
@@ -35,7 +36,8 @@ pub fn next_quoted(close: u8, bytes: &[u8]) -> Quoted
     }
 }
 
-/// The number of bytes of the string in front, with the signs around it.
+/// The number of bytes of the string at the start of the bytes, with its quotes. Fails with `Unterminated`, `BadEscape` or
+/// `StringTooLong`, whichever comes first.
 #[tactic(auto, unfolding(crate::specs::Reading::string_of))]
 pub fn string(bytes: &[u8]) -> Result<usize, Fault>
     requires { 0 < length bytes.now }
@@ -44,7 +46,7 @@ pub fn string(bytes: &[u8]) -> Result<usize, Fault>
     ensures fault { IfErr result (λ f. f.at ≤ length bytes.now) }
 {
     let mut at = 1;
-    // A string has at most 255 characters, and then its end.
+    // At most 255 characters, and then the closing quote.
     for _ in 0..256usize {
         match next_quoted(b'"', following(bytes, at)) {
             Quoted::Closed => return Ok(at + 1),
@@ -61,7 +63,8 @@ pub fn string(bytes: &[u8]) -> Result<usize, Fault>
     Err(Fault::here(FaultKind::StringTooLong))
 }
 
-/// The byte of the character constant in front, with the number of its bytes.
+/// The byte that the character constant at the start of the bytes denotes, and the number of bytes of the constant. Fails with
+/// `Unterminated` or `BadEscape`.
 pub fn character(bytes: &[u8]) -> Result<(u16, usize), Fault>
     requires { 0 < length bytes.now }
     ensures value { result ≡ character_of bytes.now }

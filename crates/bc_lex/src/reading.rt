@@ -1,3 +1,4 @@
+//! The public call `lex`, and the loop that reads a file and the files that its GETs name.
 ghost use Rattle.std.specs.Prelude.{◌≡◌, ◌<◌, ◌≤◌, ◌⊎◌, List, length, IfOk, IfErr, MatchResult, IsTrue};
 ghost use Rattle.bc_lex_tokens.specs.Token.{Lexeme, kind_of, lexeme_of, lexemes_of};
 ghost use Rattle.bc_lex.specs.Files.{files_of, text_of};
@@ -19,17 +20,19 @@ use std::alloc::Global;
 /// The greatest number of tokens.
 const MOST_TOKENS: usize = 60_000;
 
-/// How deep GETs may nest.
+/// The greatest depth to which GETs may nest.
 const MOST_LEVELS: usize = 8;
 
-/// A place in a file, and whether a line break stands between it and the token before.
+/// How far the reading of a file has come.
 #[derive(Clone, Copy, Debug)]
-pub struct Place {
+pub struct Position {
+    /// The offset in the file.
     pub at: usize,
+    /// Whether there is a line break between the previous token and this offset.
     pub line: bool,
 }
 
-/// The place after the blanks, line breaks and comments that begin at a place.
+/// The offset after the blanks, line breaks and comments that begin at an offset.
 #[tactic(auto, unfolding(crate::specs::Lexing::skipped))]
 fn skip(file: usize, text: &[u8], at: usize) -> Result<usize, LexError>
     requires { at ≤ length text.now }
@@ -42,7 +45,7 @@ fn skip(file: usize, text: &[u8], at: usize) -> Result<usize, LexError>
     }
 }
 
-/// The place after the string that begins at a place.
+/// The offset after the string that begins at an offset.
 #[tactic(auto, unfolding(crate::specs::Lexing::string_end_of))]
 fn string_end(file: usize, text: &[u8], at: usize) -> Result<usize, LexError>
     requires { at < length text.now }
@@ -55,7 +58,7 @@ fn string_end(file: usize, text: &[u8], at: usize) -> Result<usize, LexError>
     }
 }
 
-/// The lexeme that begins at a place, and the place after it.
+/// The lexeme that begins at an offset, and the offset after it.
 #[tactic(auto, unfolding(crate::specs::Lexing::lexeme_at))]
 fn lexeme_after<'s>(
     file: usize,
@@ -72,7 +75,7 @@ fn lexeme_after<'s>(
     }
 }
 
-/// Whether a string may begin at a place.
+/// Whether the bytes begin with a quote.
 fn has_quote(bytes: &[u8]) -> bool
     ensures value { result ≡ begins 34 bytes.now }
     ensures some { IsTrue result → 0 < length bytes.now }
@@ -80,8 +83,7 @@ fn has_quote(bytes: &[u8]) -> bool
     matches!(bytes, [b'"', ..])
 }
 
-/// The index of the file that a GET names, and the place after the GET's string. The GET begins at `start` and ends
-/// at `end`.
+/// The index of the file that a GET names, and the offset after its string. The word GET begins at `start` and ends at `end`.
 #[tactic(auto, unfolding(crate::specs::Lexing::target_of))]
 fn target(
     sources: &[Source],
@@ -106,14 +108,14 @@ fn target(
     }
 }
 
-/// What comes first after a place.
+/// The next item in a file.
 #[derive(Clone, Copy, Debug)]
 enum Found<'s> {
     /// The end of the file.
     End,
     /// A token.
     Token(Token<'s>),
-    /// A GET that begins at `start`, with the index of the file that it names, and the place after its string.
+    /// A GET that begins at `start`, with the index of the file that it names, and the offset after its string.
     Get {
         start: usize,
         named: usize,
@@ -121,7 +123,7 @@ enum Found<'s> {
     },
 }
 
-/// Whether a line break is among the bytes.
+/// Whether the bytes contain a line break.
 fn has_line_break(bytes: &[u8]) -> bool
     ensures { result ≡ breaks bytes.now }
 {
@@ -135,9 +137,9 @@ fn is_get(kind: TokenKind) -> bool
     matches!(kind, TokenKind::Symbol(Symbol::Get))
 }
 
-/// What comes first after a place, blanks, line breaks and comments aside.
+/// Finds the next item in a file, after blanks, line breaks and comments. Fails with the first fault of these or the item.
 #[tactic(auto, unfolding(crate::specs::Lexing::item_of, crate::specs::Lexing::item_by))]
-fn find<'s>(sources: &[Source<'s>], file: usize, place: Place) -> Result<Found<'s>, LexError>
+fn find<'s>(sources: &[Source<'s>], file: usize, place: Position) -> Result<Found<'s>, LexError>
     requires file { file < length sources.now }
     requires place { place.at ≤ length (text_of (files_of sources.now) file) }
     ensures value { ReadsAs (λ x. found x) result (item_of (files_of sources.now) file place) }
@@ -167,7 +169,7 @@ fn find<'s>(sources: &[Source<'s>], file: usize, place: Place) -> Result<Found<'
     }))
 }
 
-/// One more token.
+/// Appends a token. Fails with `TooManyTokens` after 60,000 tokens, or with `Memory`.
 fn push<'s>(tokens: &mut Vec<Token<'s>>, token: Token<'s>) -> Result<(), LexError>
     ensures { ReadsAs (λ _. lexemes_of tokens.new.items) result (pushed (lexeme_of token.entry) (lexemes_of tokens.old.items)) }
 {
@@ -178,7 +180,8 @@ fn push<'s>(tokens: &mut Vec<Token<'s>>, token: Token<'s>) -> Result<(), LexErro
     Ok(())
 }
 
-/// ReadsAs a file to its end. `line` says whether a line break stands before it, `levels` how deep GETs may nest in it.
+/// Reads a file to its end and appends its tokens. `line` says whether its first token counts as following a line break, and
+/// `levels` how deep GETs may nest in it.
 #[tactic(auto, unfolding(crate::specs::Lexing::file_to_end, crate::specs::Lexing::deeper_of))]
 fn read_file<'s>(
     sources: &[Source<'s>],
@@ -191,14 +194,14 @@ fn read_file<'s>(
     ensures { ReadsAs (λ _. lexemes_of tokens.new.items) result (file_to_end (deeper_of (files_of sources.now) levels) (files_of sources.now) file line
         (lexemes_of tokens.old.items)) }
 {
-    let mut place = Place { at: 0, line };
-    // Each turn goes on by a byte at least.
+    let mut place = Position { at: 0, line };
+    // Each iteration moves on by at least one byte.
     for _ in 0..text_at(sources, file).len() {
         match find(sources, file, place)? {
             Found::End => return Ok(()),
             Found::Token(token) => {
                 push(tokens, token)?;
-                place = Place {
+                place = Position {
                     at: token.end,
                     line: false,
                 };
@@ -212,7 +215,7 @@ fn read_file<'s>(
                     return Err(LexError::GetTooDeep(file, start));
                 }
                 read_file(sources, levels - 1, named, true, tokens)?;
-                place = Place {
+                place = Position {
                     at: following,
                     line: true,
                 };
@@ -222,7 +225,7 @@ fn read_file<'s>(
     Ok(())
 }
 
-/// What is read of a source.
+/// Reads a source, and the files that its GETs name.
 #[tactic(auto, unfolding(crate::specs::Lexing::read_of))]
 fn read<'s>(alloc: Global, sources: &[Source<'s>], main: usize) -> Result<Vec<Token<'s>>, LexError>
     requires { main < length sources.now }
@@ -233,13 +236,12 @@ fn read<'s>(alloc: Global, sources: &[Source<'s>], main: usize) -> Result<Vec<To
     Ok(tokens)
 }
 
-/// The tokens of a source, whose index among the sources is `main`: at most 60,000. Each GET and its string mean
-/// the tokens of the file that the string names, the first source of that name; up to eight GETs may lead to a file.
-/// The tokens' texts are slices of their files, and nothing is copied.
+/// Returns the tokens of the source with index `main`, at most 60,000.
 ///
-/// # Errors
+/// Each GET and its string are replaced by the tokens of the first source that has the name in the string. GETs may nest up to
+/// eight deep. The texts of tokens are slices of the sources; nothing is copied.
 ///
-/// The first fault in reading order, with its file and its offset, or `Memory` where an allocation was refused.
+/// Fails with the first fault in reading order, with its file and offset, or with `Memory` when an allocation fails.
 pub fn lex<'s>(
     alloc: Global,
     sources: &[Source<'s>],
@@ -247,14 +249,14 @@ pub fn lex<'s>(
 ) -> Result<Vec<Token<'s>>, LexError>
     requires { main < length sources.now }
 
-    // The tokens are those of the definition, and at most 60,000.
+    // A result is the token list that the definition gives, of at most 60,000 tokens.
     ensures tokens { IfOk result (λ v. HasTokens (files_of sources.now) main (lexemes_of v.items)) }
     ensures few { IfOk result (λ v. length (lexemes_of v.items) ≤ 60000) }
 
-    // A fault is the first one of the definition.
+    // An error is the first fault by the definition, or Memory.
     ensures fault { IfErr result (λ e. (e ≡ LexError.Memory) ⊎ HasFault (files_of sources.now) main e) }
 
-    // What has tokens gives no other answer than these, and what has a fault none but this, unless memory ran out.
+    // If the definition gives tokens, the result is these; if it gives a fault, the error is this one; or the error is Memory.
     ensures only_tokens { (tokens : List Lexeme) → HasTokens (files_of sources.now) main tokens →
         MatchResult result (λ v. lexemes_of v.items ≡ tokens) (λ e. e ≡ LexError.Memory) }
     ensures only_fault { (first : LexError) → HasFault (files_of sources.now) main first →

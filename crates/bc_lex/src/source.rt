@@ -1,3 +1,4 @@
+//! Sources, and finding the one that a GET names.
 ghost use Rattle.std.specs.Prelude.{◌≡◌, ◌<◌, ◌≤◌, length, IfOk, IfSome};
 ghost use Rattle.bc_lex.specs.Reading.{quoted_of};
 ghost use Rattle.bc_lex.specs.Files.{files_of, text_of};
@@ -6,14 +7,16 @@ ghost use Rattle.bc_lex.specs.Search.{is_closed, same_of, spells_name, source_fr
 use crate::quoted::{Quoted, next_quoted};
 use crate::run::following;
 
-/// A text that can be read, and the name by which a GET finds it.
+/// A source text with its name.
 #[derive(Clone, Copy, Debug)]
 pub struct Source<'s> {
+    /// The name by which a GET finds the source.
     pub name: &'s [u8],
+    /// The text.
     pub text: &'s [u8],
 }
 
-/// How many bytes this character has in front in a string, or `None` where another stands there or none.
+/// The number of bytes of this character's spelling, if it comes next in a string; `None` if something else comes next.
 fn same_character(expected: u8, bytes: &[u8]) -> Option<usize>
     ensures value { result ≡ same_of expected bytes.now }
     ensures within { IfSome result (λ n. n ≤ length bytes.now) }
@@ -24,14 +27,14 @@ fn same_character(expected: u8, bytes: &[u8]) -> Option<usize>
     }
 }
 
-/// Whether the string ends in front.
+/// Whether the closing quote of a string comes next.
 fn closes(bytes: &[u8]) -> bool
     ensures { result ≡ is_closed (quoted_of 34 bytes.now) }
 {
     matches!(next_quoted(b'"', bytes), Quoted::Closed)
 }
 
-/// Whether the string, which stands with its signs, spells the name.
+/// Whether a string, which begins with its opening quote, spells this name.
 #[tactic(auto, unfolding(crate::specs::Search::spells_name))]
 fn names(string: &[u8], name: &[u8]) -> bool
     requires { 0 < length string.now }
@@ -47,7 +50,7 @@ fn names(string: &[u8], name: &[u8]) -> bool
     closes(following(string, at))
 }
 
-/// The index of the first source that has the name that the string spells.
+/// The index of the first source whose name the string spells. `string` begins with its opening quote.
 pub fn source_named(sources: &[Source], string: &[u8]) -> Option<usize>
     requires { 0 < length string.now }
     ensures value { result ≡ source_from string.now 0 (files_of sources.now) }
@@ -61,7 +64,7 @@ pub fn source_named(sources: &[Source], string: &[u8]) -> Option<usize>
     None
 }
 
-/// The text of the source at an index.
+/// The text of the source with this index.
 pub fn text_at<'s>(sources: &[Source<'s>], index: usize) -> &'s [u8]
     requires { index < length sources.now }
     ensures { result.now ≡ text_of (files_of sources.now) index }

@@ -1,4 +1,5 @@
-//! The symbol that a text spells. What no spelling begins with, and a sign of one byte, ask for no look at the table of spellings.
+//! The symbol that a text spells. Single-byte signs, and texts whose first two bytes begin no symbol, are decided without searching
+//! the table of spellings.
 
 ghost use Rattle.std.specs.Prelude.{◌≡◌, ◌∷◌, []};
 ghost use Rattle.bc_lex_tokens.specs.Spelling.{symbol_of};
@@ -6,7 +7,7 @@ ghost use Rattle.bc_lex.specs.Spelled.{symbol_by_byte, begins_spelling, may_spel
 
 use bc_lex_tokens::Symbol;
 
-/// The symbol that a byte spells alone.
+/// The symbol whose spelling is this single byte.
 fn one(byte: u8) -> Option<Symbol>
     ensures { result ≡ symbol_by_byte byte }
 {
@@ -32,7 +33,7 @@ fn one(byte: u8) -> Option<Symbol>
     }
 }
 
-/// Whether any spelling begins with these two bytes.
+/// Whether some spelling begins with these two bytes.
 fn begins(first: u8, second: u8) -> bool
     ensures { result ≡ begins_spelling first second }
 {
@@ -63,7 +64,7 @@ fn begins(first: u8, second: u8) -> bool
     }
 }
 
-/// Whether a text may be a spelling, by its first two bytes.
+/// Whether the first two bytes of a text allow that it is a spelling.
 fn fits(text: &[u8]) -> bool
     ensures { result ≡ may_spell text.now }
 {
@@ -73,7 +74,7 @@ fn fits(text: &[u8]) -> bool
     }
 }
 
-/// The symbol that a text spells, or `None` where it spells none: what `Symbol::spelled` gives.
+/// The symbol that a text spells, or `None`. Returns the same as `Symbol::spelled`, without a search where that is possible.
 pub fn spelled(text: &[u8]) -> Option<Symbol>
     ensures { result ≡ symbol_of text.now }
 {

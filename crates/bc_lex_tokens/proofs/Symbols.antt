@@ -1,4 +1,4 @@
--- Two symbols of one number are one symbol.
+-- Symbols with the same number are the same.
 use Rattle.std.proofs.Common.{◌≡◌, ◌↔◌, refl, ap, Some, List, [], ◌∷◌, slice_get, IsTrue, eq-eqb}
 use Rattle.std.proofs.lemmas.Bool.{eqb-true}
 use Rattle.bc_lex_tokens.specs.declared.symbol.Symbol.{Symbol}
@@ -6,7 +6,7 @@ use Rattle.bc_lex_tokens.specs.declared.symbol.Symbol.TheVariants as symbol
 use Rattle.bc_lex_tokens.specs.Numbers.{number_of, same}
 use Rattle.bc_lex_tokens.specs.Spelling.{spelling_of, symbol_of}
 
--- all symbols, in their order
+-- all symbols in their order
 abbrev every_symbol : List Symbol
 every_symbol =
     symbol.And ∷
@@ -156,7 +156,7 @@ same-≡ a b = (
   (λ e. eq-eqb (number_of a) (number_of b) (ap number_of e)),
 )
 
--- the spelling that a symbol is written with spells it
+-- the main spelling of a symbol spells it
 pub symbol_of-spelling_of : (s : Symbol) → symbol_of (spelling_of s) ≡ Some s
 unfolding symbol_of
 symbol_of-spelling_of symbol.And = refl

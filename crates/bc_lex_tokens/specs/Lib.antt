@@ -1,3 +1,4 @@
+-- The definitions of tokens, symbols and spellings.
 pub mod Spelling
 pub mod Table
 pub mod Token

@@ -1,8 +1,9 @@
--- The place of each symbol in their order, by which two symbols are compared.
+-- The number of each symbol, by which symbols are compared.
 use Rattle.std.specs.Prelude.{ℕ, Bool, ◌==◌}
 use Rattle.bc_lex_tokens.specs.declared.symbol.Symbol.{Symbol}
 use Rattle.bc_lex_tokens.specs.declared.symbol.Symbol.TheVariants as symbol
 
+-- the index of a symbol in their order
 abbrev pub number_of : Symbol → ℕ
 number_of symbol.And = 0
 number_of symbol.Be = 1
@@ -70,6 +71,6 @@ number_of symbol.Greater = 62
 number_of symbol.LogicalAnd = 63
 number_of symbol.LogicalOr = 64
 
--- whether two symbols are one
+-- whether two symbols are the same
 abbrev pub same : Symbol → Symbol → Bool
 same a b = number_of a == number_of b

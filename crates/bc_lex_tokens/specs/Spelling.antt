@@ -1,10 +1,10 @@
--- How symbols are spelled.
+-- The spellings of symbols.
 use Rattle.std.specs.Prelude.{ℕ, nat_eq, List, [], ◌∷◌, Option, Some, None, cond, codes}
 use Rattle.std.specs.Cmp.Lexicographic.{pointwise}
 use Rattle.bc_lex_tokens.specs.declared.symbol.Symbol.{Symbol}
 use Rattle.bc_lex_tokens.specs.declared.symbol.Symbol.TheVariants as symbol
 
--- the spelling that a symbol is written with
+-- the main spelling of a symbol
 abbrev pub spelling_of : Symbol → List ℕ
 spelling_of symbol.And = codes "AND"
 spelling_of symbol.Be = codes "BE"
@@ -72,7 +72,7 @@ spelling_of symbol.Greater = codes ">"
 spelling_of symbol.LogicalAnd = codes "&"
 spelling_of symbol.LogicalOr = codes "|"
 
--- every spelling, beside its symbol
+-- all spellings, each with its symbol
 abbrev pub spellings : List (List ℕ × Symbol)
 spellings =
     (codes "AND", symbol.And) ∷
@@ -157,11 +157,11 @@ spellings =
     (codes "LOGOR", symbol.LogicalOr) ∷
     []
 
--- the symbol beside the text in a table
+-- the symbol of the first row of a table with this text
 abbrev pub symbol_in : List (List ℕ × Symbol) → List ℕ → Option Symbol
 symbol_in [] text = None
 symbol_in (row ∷ rows) text = cond (pointwise nat_eq row.0 text) (Some row.1) (symbol_in rows text)
 
--- the symbol that a text spells
+-- the symbol with this spelling
 unfoldable pub symbol_of : List ℕ → Option Symbol
 symbol_of text = symbol_in spellings text

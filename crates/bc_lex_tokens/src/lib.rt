@@ -1,4 +1,4 @@
-//! The tokens of the language, and the one table of how they are spelled.
+//! The tokens of the language, and the only table of how symbols are spelled.
 #![tactic(auto)]
 
 pub mod laws;

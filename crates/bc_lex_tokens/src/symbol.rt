@@ -1,10 +1,11 @@
+//! Symbols, and the table of their spellings.
 ghost use Rattle.std.specs.Prelude.{◌≡◌};
 ghost use Rattle.std.specs.Prelude.{◌↔◌, IsTrue};
 ghost use Rattle.bc_lex_tokens.specs.Table.{rows};
 ghost use Rattle.bc_lex_tokens.specs.Numbers.{number_of, same};
 ghost use Rattle.bc_lex_tokens.specs.Spelling.{spelling_of, symbol_of, symbol_in};
 
-/// A reserved word or a sign of the language, whichever way it is spelled: `DO` and `THEN` are one symbol.
+/// A reserved word or a sign of the language, however it is spelled: `DO` and `THEN` are the same symbol.
 #[derive(Clone, Copy, Debug, PartialEq, Eq, Hash)]
 pub enum Symbol {
     /// `AND`
@@ -139,13 +140,13 @@ pub enum Symbol {
     LogicalOr,
 }
 
-/// A symbol beside one of its spellings.
+/// One spelling of a symbol.
 struct Spelling {
     text: &'static [u8],
     symbol: Symbol,
 }
 
-/// Every spelling: first the one that each symbol is written with, in the order of the symbols, then the others.
+/// All spellings: first the main spelling of each symbol, in the order of the symbols, then the other ones.
 static SPELLINGS: [Spelling; 80] = [
     Spelling {
         text: b"AND",
@@ -470,14 +471,14 @@ static SPELLINGS: [Spelling; 80] = [
 ];
 
 impl Symbol {
-    /// The place of the symbol in the order above, from 0.
+    /// The index of the symbol in the order of `Symbol`, from 0 to 64.
     pub fn number(self) -> u8
         ensures { result ≡ number_of self }
     {
         self as u8
     }
 
-    /// Whether two symbols are one.
+    /// Whether two symbols are the same.
     pub fn is(self, other: Symbol) -> bool
         ensures computed { result ≡ same self other }
         ensures equal { IsTrue result ↔ (self ≡ other) }
@@ -485,14 +486,14 @@ impl Symbol {
         self.number() == other.number()
     }
 
-    /// The spelling that the symbol is written with.
+    /// The main spelling of the symbol, with which the compiler writes it.
     pub fn spelling(self) -> &'static [u8]
         ensures { result.now ≡ spelling_of self }
     {
         SPELLINGS[self as usize].text
     }
 
-    /// The symbol with this spelling, or `None` where the text spells none.
+    /// The symbol with this spelling, or `None` if the text is not a spelling. Spellings are case-sensitive.
     #[tactic(auto, unfolding(crate::specs::Spelling::symbol_of))]
     pub fn spelled(text: &[u8]) -> Option<Symbol>
         ensures { result ≡ symbol_of text.now }
@@ -501,7 +502,7 @@ impl Symbol {
     }
 }
 
-/// The symbol beside the text in a table.
+/// The symbol of the first row of `table` with this text.
 fn symbol_in(table: &[Spelling], text: &[u8]) -> Option<Symbol>
     ensures { result ≡ symbol_in (rows table.now) text.now }
 {

@@ -1,25 +1,27 @@
+//! Tokens. Their texts are slices of the sources.
 use crate::symbol::Symbol;
 
-/// What a token is.
+/// The kind of a token, with its value.
 #[derive(Clone, Copy, Debug, PartialEq, Eq)]
 pub enum TokenKind<'s> {
-    /// A reserved word or a sign.
+    /// A reserved word or a sign: an operator or a punctuation mark.
     Symbol(Symbol),
-    /// A name, as it is spelled.
+    /// A name, as it is spelled in the source.
     Name(&'s [u8]),
-    /// A number: the word of its value.
+    /// A number, by its value.
     Number(u16),
-    /// A character constant: the word of the byte between its signs.
+    /// A character constant, by the byte that it denotes.
     Character(u16),
-    /// A string, as it is spelled, with the signs around it.
+    /// A string, as it is spelled in the source, with its quotes.
     String(&'s [u8]),
 }
 
-/// A token, and where it stands.
+/// A token, and where it is.
 #[derive(Clone, Copy, Debug, PartialEq, Eq)]
 pub struct Token<'s> {
+    /// The kind of the token, with its value.
     pub kind: TokenKind<'s>,
-    /// How the token is spelled in its file; a bracket's tag belongs to it.
+    /// The text of the token in its file. The tag of a section bracket belongs to it.
     pub text: &'s [u8],
     /// The index of the file among the sources.
     pub file: usize,
@@ -27,6 +29,6 @@ pub struct Token<'s> {
     pub start: usize,
     /// Where the text ends in the file, in bytes.
     pub end: usize,
-    /// Whether a line break stands between the token before (or the start) and this one.
+    /// Whether there is a line break between the previous token (or the start of the source) and this one.
     pub line_before: bool,
 }

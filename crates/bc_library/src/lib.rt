@@ -1,11 +1,11 @@
-//! The library of the language, as source.
+//! The standard library of the language as source text, and the names that its header declares.
 #![tactic(auto)]
 
 mod names;
 
 pub use names::{is_of_library, library_name, library_word};
 
-/// The declarations that programs get by `GET "LIBHDR"`.
+/// The header: the declarations that a program includes with `GET "LIBHDR"`.
 pub const LIBHDR: &str = "\
 GLOBAL $( START:1; SELECTINPUT:11; SELECTOUTPUT:12; RDCH:13; WRCH:14
 FINDINPUT:15; FINDOUTPUT:16; ENDREAD:17; ENDWRITE:18; GETBYTE:20
@@ -13,7 +13,7 @@ PUTBYTE:21; WRITES:22; WRITEN:23; NEWLINE:24; WRITEF:25 $)
 MANIFEST $( ENDSTREAMCH=-1 $)
 ";
 
-/// The routines of the library that are written in the language itself.
+/// The routines of the library that are written in BCPL. The others are primitives of the machine.
 pub const BLIB: &str = r#"GET "LIBHDR"
 LET GETBYTE(S,I) = (I&1)=0 -> S!(I>>1)>>8, S!(I>>1)&255
 AND PUTBYTE(S,I,C) BE

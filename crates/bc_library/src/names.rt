@@ -1,6 +1,6 @@
-//! What LIBHDR declares.
+//! The names that LIBHDR declares, for messages and the conversion of old sources. The gate checks that they are those of the text.
 
-/// The globals that LIBHDR declares, each with its number.
+/// The globals that LIBHDR declares, with their numbers.
 const GLOBALS: [(u16, &str); 15] = [
     (1, "START"),
     (11, "SELECTINPUT"),
@@ -19,10 +19,10 @@ const GLOBALS: [(u16, &str); 15] = [
     (25, "WRITEF"),
 ];
 
-/// The constant that LIBHDR declares.
+/// The only manifest that LIBHDR declares.
 const CONSTANT: &str = "ENDSTREAMCH";
 
-/// The name that LIBHDR has for the global of this number.
+/// The name of the global with this number in LIBHDR, or `None`.
 pub fn library_name(number: u16) -> Option<&'static str> {
     for (known, name) in GLOBALS {
         if known == number {
@@ -32,7 +32,7 @@ pub fn library_name(number: u16) -> Option<&'static str> {
     None
 }
 
-/// The name declared by LIBHDR that a word is, in letters of either case.
+/// The name in LIBHDR that equals `word` if case is ignored, or `None`.
 pub fn library_word(word: &[u8]) -> Option<&'static str> {
     for (_, name) in GLOBALS {
         if word.eq_ignore_ascii_case(name.as_bytes()) {
@@ -46,7 +46,7 @@ pub fn library_word(word: &[u8]) -> Option<&'static str> {
     }
 }
 
-/// Whether LIBHDR declares this name.
+/// Whether LIBHDR declares exactly this name.
 pub fn is_of_library(name: &[u8]) -> bool {
     match library_word(name) {
         Some(known) => known.as_bytes() == name,

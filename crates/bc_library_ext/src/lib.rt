@@ -1,11 +1,11 @@
-//! The further library of the language, as source: what stands in the folder `library`, byte for byte.
+//! The extension library as source text: EXTHDR and EXTLIB. The texts are those in the folder `library`, byte for byte.
 #![tactic(auto)]
 
 mod names;
 
 pub use names::{further_bit, further_word, is_of_further_library};
 
-/// The declarations that programs get by `GET "EXTHDR"`.
+/// The header: the declarations that a program includes with `GET "EXTHDR"`. It includes LIBHDR.
 pub const EXTHDR: &str =
     r#"// The header of the further library EXTLIB. It gets LIBHDR; of the names that both have, these are the ones that count.
 GET "LIBHDR"
@@ -22,7 +22,7 @@ $)
 MANIFEST $( FIRSTFREEGLOBAL=100; BYTESPERWORD=2; MAXINT=32767; MININT=#X8000 $)
 "#;
 
-/// The routines of the further library.
+/// The routines of the extension library, which are compiled after those of BLIB.
 pub const EXTLIB: &str =
     r#"// A further library, behind BLIB. A program that gets EXTHDR calls these routines; each is described in docs/library.md.
 GET "EXTHDR"

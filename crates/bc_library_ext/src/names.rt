@@ -1,6 +1,7 @@
-//! What EXTHDR declares beside LIBHDR.
+//! The names that EXTHDR adds to those of LIBHDR, for messages and the conversion of old sources. The gate checks that they are those
+//! of the text.
 
-/// The names that EXTHDR declares, and LIBHDR doesn't.
+/// The names that EXTHDR declares and LIBHDR doesn't.
 const NAMES: [&str; 27] = [
     "WRITED",
     "WRITEU",
@@ -31,7 +32,7 @@ const NAMES: [&str; 27] = [
     "MININT",
 ];
 
-/// The name declared by EXTHDR, and not by LIBHDR, that a word is, in letters of either case.
+/// The name in EXTHDR, but not in LIBHDR, that equals `word` if case is ignored, or `None`.
 pub fn further_word(word: &[u8]) -> Option<&'static str> {
     for name in NAMES {
         if word.eq_ignore_ascii_case(name.as_bytes()) {
@@ -41,7 +42,7 @@ pub fn further_word(word: &[u8]) -> Option<&'static str> {
     None
 }
 
-/// A bit of its own for each name that EXTHDR declares and LIBHDR doesn't; 0 where a word is none of them, in letters of either case.
+/// A different bit for each name that EXTHDR declares and LIBHDR doesn't, if `word` equals it with case ignored; otherwise 0.
 pub fn further_bit(word: &[u8]) -> u32 {
     let mut bit: u32 = 1;
     for name in NAMES {
@@ -53,7 +54,7 @@ pub fn further_bit(word: &[u8]) -> u32 {
     0
 }
 
-/// Whether EXTHDR declares this name, and LIBHDR doesn't.
+/// Whether EXTHDR declares exactly this name and LIBHDR doesn't.
 pub fn is_of_further_library(name: &[u8]) -> bool {
     match further_word(name) {
         Some(known) => known.as_bytes() == name,

@@ -1,4 +1,4 @@
--- As a run begins, the library's routines can be called in any frame above the stack's base; and a whole program.
+-- When a run begins, the library's routines can be called in any frame above the stack's base; and the law of a whole program.
 use Rattle.std.proofs.Common.{◌≡◌, ⊎_elim, ℕ, zero, suc, ◌+◌, ◌-◌, ◌<◌, ◌≤◌, ◌&&◌, List, [], ◌∷◌, map, length, Bool, true, false, Some, None, refl, sym, ap, ◌∙◌, subst, arith}
 use Rattle.std.specs.Prelude.{All, nat_le, nat_lt}
 use Rattle.std.specs.Fmt.{signed_decimal}
@@ -23,7 +23,7 @@ use Rattle.bc_library_laws.proofs.Steps.{fits_true}
 use Rattle.bc_library_laws.proofs.Finding.{has, unlike, itself}
 use Rattle.bc_library_laws.proofs.Numbers.{writen_does}
 
--- a list that nothing unfolds
+-- a list that isn't unfolded
 pub first_cells : List Standing → List Cell
 first_cells all = start_cells all
 
@@ -56,7 +56,7 @@ cell_is all a lt =
     let e : 0 + a ≡ a = omega arith in
     ap (λ z. cell_at z a) (cells_sized all n.0 n.1) ∙ cell_from n.0 0 a all (omega (arith, n.1)) ∙ ap (λ z. start_cell all z) e
 
--- no data stands from the base on
+-- no data is at the base or above
 no_word : (base a : ℕ) (s : Standing) → Inside base (range_of s) → base ≤ a → word_of s.holding s.address a ≡ None
 no_word base a s inside le = by s.address s.holding inside.1 where
   by : (from : ℕ) (h : Holding) → from + size_of h ≤ base → word_of h from a ≡ None
@@ -123,7 +123,7 @@ over_cells w word address other base m c streams n r c9 =
     let does1 = subst (λ k. calls (placed (library ∷ start w ∷ []) (address ∷ other ∷ [])) k (address 5) (w ∷ []) (base + 2 + 2) (state c streams (turns_of (signed w) + n)) ≡ Done 0 (state c (after_writes (signed_decimal (signed w)) streams) n)) depth does in
     rw (c9, known, fits, r.write_n, does1) refl
 
--- for every word, every map and every input: the program prints the number, and ends
+-- for every word, every map and every input: the program prints the number and finishes
 pub whole_program : AProgramPrintsItsNumber
 whole_program w word address other base m room streams n =
     let all : List Standing = standing (placed (library ∷ start w ∷ []) (address ∷ other ∷ [])) in

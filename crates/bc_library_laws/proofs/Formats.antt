@@ -1,4 +1,4 @@
--- WRITEF, where a format has no `%`.
+-- What WRITEF does: an iteration for each kind of piece, the loop by induction over the pieces, and the call.
 use Rattle.std.proofs.Common.{◌≡◌, ◌≢◌, inl, inr, ℕ, zero, suc, ◌+◌, ◌-◌, ◌*◌, ◌/◌, ◌%◌, ◌<◌, ◌≤◌, ◌==◌, List, [], ◌∷◌, ◌++◌, length, true, false, refl, ap, ◌∙◌, subst, arith}
 use Rattle.std.proofs.lemmas.Bool.Decides.{nat_tests}
 use Rattle.std.proofs.lemmas.List.{get_or-set_same, get_or-set_other, length-set, set-set, set_comm}
@@ -29,7 +29,7 @@ use Rattle.bc_library_laws.proofs.Bytes.{get_byte_does}
 use Rattle.bc_library_laws.proofs.Numbers.{writen_does}
 use Rattle.bc_library_laws.proofs.Strings.{among, write_s_does}
 
--- a round of the UNTIL of WRITEF
+-- one iteration of WRITEF's UNTIL
 abbrev round : List Placed → (ℕ → ℕ) → (n f : ℕ) → Unit {0} → LoopRound
 round program address n f u =
     then_do (truth (among program address n) (Bin Greater (at 8) (at 9)) f 10) (λ t.
@@ -51,7 +51,7 @@ unlike_case b k ne = grind (arith, nat_tests)
 abbrev with_k : List Cell → (f t i n : ℕ) → Cell → List Cell
 with_k c f t i n x = slice_set (variables c f t i n) (f + 10) x
 
--- what the cells of the frame hold, as long as those from f + 7 on were free before
+-- the cells of the frame, if those from f + 7 on were free before
 section_ready7 : (address : ℕ → ℕ) (c : List Cell) (f t i n : ℕ) → Ready address c (f + 7) 30 → Ready address (variables c f t i n) (f + 10) 27
 section_ready7 address c f t i n r =
     grown address _ (f + 9) (f + 10) (f + 9) 28 27 (Set n)
@@ -203,7 +203,7 @@ lone_round program address h c streams f n t s v i last r s_in b same short =
       k_gone address c f v (i + 1) last (Set 37) r,
     ) refl
 
--- a round that meets `%N`, over what the call comes to
+-- an iteration at `%N`, given what the call does
 number_round : (program : List Placed) (address : ℕ → ℕ) → Has program address
     → (c : List Cell) (streams next : Content) (f n t T s v i last w : ℕ) → Ready address c (f + 7) 30 → cell_at c (f + 2) ≡ Set s
     → ByteAt c s i 37 → ByteAt c s (i + 1) 78 → suc i ≤ last → last < 256 → cell_at c v ≡ Set w → v < f + 7
@@ -254,7 +254,7 @@ number_round program address h c streams next f n t T s v i last w r s_in b d le
       k_gone address c f (v + 1) (i + 1 + 1) last (Set 37) r,
     ) refl
 
--- a round that meets `%S`, over what the call comes to
+-- an iteration at `%S`, given what the call does
 string_round : (program : List Placed) (address : ℕ → ℕ) → Has program address
     → (c : List Cell) (streams next : Content) (f n t T s v i last w : ℕ) → Ready address c (f + 7) 30 → cell_at c (f + 2) ≡ Set s
     → ByteAt c s i 37 → ByteAt c s (i + 1) 83 → suc i ≤ last → last < 256 → cell_at c v ≡ Set w → v < f + 7
@@ -305,7 +305,7 @@ string_round program address h c streams next f n t T s v i last w r s_in b d le
       k_gone address c f (v + 1) (i + 1 + 1) last (Set 37) r,
     ) refl
 
--- a round that meets `%C`, over what the call comes to
+-- an iteration at `%C`, given what the call does
 character_round : (program : List Placed) (address : ℕ → ℕ) → Has program address
     → (c : List Cell) (streams next : Content) (f n t T s v i last w : ℕ) → Ready address c (f + 7) 30 → cell_at c (f + 2) ≡ Set s
     → ByteAt c s i 37 → ByteAt c s (i + 1) 67 → suc i ≤ last → last < 256 → cell_at c v ≡ Set w → v < f + 7
@@ -356,7 +356,7 @@ character_round program address h c streams next f n t T s v i last w r s_in b d
       k_gone address c f (v + 1) (i + 1 + 1) last (Set 37) r,
     ) refl
 
--- a round that meets a `%` before another byte
+-- an iteration at a `%` before another byte
 escaped_round : (program : List Placed) (address : ℕ → ℕ) → Has program address
     → (c : List Cell) (streams : Content) (f n t s v i last byte : ℕ) → Ready address c (f + 7) 30 → cell_at c (f + 2) ≡ Set s
     → ByteAt c s i 37 → ByteAt c s (i + 1) byte → byte ≢ 78 → byte ≢ 83 → byte ≢ 67 → suc i ≤ last → last < 256 → 0 < v → v < f + 8
@@ -447,7 +447,7 @@ after_both (x ∷ xs) ys streams = after_both xs ys (after_write x streams)
 byte_first : (c : List Cell) (s i b : ℕ) (bs : List ℕ) → HoldsBytes c s i (b ∷ bs) → ByteAt c s i b
 byte_first c s i b bs h = record { word = h.0.0; there = h.0.1; is = h.0.2; small = h.0.3 }
 
--- what is left of the turns of the call is enough to nest in
+-- the remaining turns of the call suffice as its nesting depth
 loop : (program : List Placed) (address : ℕ → ℕ) → Has program address
     → (c : List Cell) (f n t s last : ℕ) → Ready address c (f + 7) 30 → cell_at c (f + 2) ≡ Set s → last < 256
     → (pieces : List Piece) (streams : Content) (v i K T x : ℕ) → HoldsBytes c s i (format_of pieces) → ArePieces c pieces → HoldWords c v (taken_by pieces)
@@ -515,7 +515,7 @@ loop program address h c f n t s last r s_in short (Lone ∷ ps) streams v i K T
     rw (turns, fuel, first)
     (loop program address h c f n t s last r s_in short ps (after_write 37 streams) v (i + 1) (length ps + x) (turns_by ps + t) x b.1 pieces.1 ws (omega (arith, ei)) some_v room (omega (arith, deep)) refl refl)
 
--- T, I and N while they are made
+-- T, I and N while they are initialised
 abbrev made : List Cell → (f : ℕ) → (x y z : Cell) → List Cell
 made c f x y z = slice_set (slice_set (slice_set c (f + 7) x) (f + 8) y) (f + 9) z
 
@@ -544,7 +544,7 @@ apart : (f a k : ℕ) → Outside 3 (f + 7) a → 7 ≤ k → k < 10 → a ≢ f
 apart f a k (inl lt) low_k high same = omega arith
 apart f a k (inr ge) low_k high same = omega arith
 
--- each piece takes a turn at least
+-- each piece uses at least one turn
 few_pieces : (ps : List Piece) → length ps ≤ turns_by ps
 few_pieces [] = omega arith
 few_pieces (Plain b ∷ ps) = omega (arith, few_pieces ps)
@@ -554,7 +554,7 @@ few_pieces (OfCharacter w ∷ ps) = omega (arith, few_pieces ps)
 few_pieces (Escaped b ∷ ps) = omega (arith, few_pieces ps)
 few_pieces (Lone ∷ ps) = omega (arith, few_pieces ps)
 
--- the body of WRITEF, over a store with its arguments
+-- the body of WRITEF, in a store with its arguments
 body_does : (program : List Placed) (address : ℕ → ℕ) → Has program address
     → (s : ℕ) (pieces : List Piece) (c : List Cell) (streams : Content) (f n t : ℕ) → Ready address c (f + 7) 30 → cell_at c (f + 2) ≡ Set s
     → HoldsString c s (format_of pieces) → ArePieces c pieces → HoldWords c (f + 3) (taken_by pieces) → length (taken_by pieces) ≤ 4 → turns_by pieces ≤ n
@@ -600,7 +600,7 @@ body_does program address h s pieces c streams f n t r s_in b ps words few deep 
     (λ a out. get_or-set_other _ (f + 9) a _ Dead (apart f a 9 out (omega arith) (omega arith)) ∙ get_or-set_other _ (f + 8) a _ Dead (apart f a 8 out (omega arith) (omega arith)) ∙ get_or-set_other c (f + 7) a _ Dead (apart f a 7 out (omega arith) (omega arith))) in
     rw (e8, e9, u7, s7, u8, s8, s_is, q.get_byte, get, b.0.2, u9, s9, all_rounds, gone) refl
 
--- the format is no shorter than its pieces are many
+-- a format has at least as many bytes as pieces
 pub write_f_does : (program : List Placed) (address : ℕ → ℕ) → Has program address
     → (s : ℕ) (pieces : List Piece) (more : List ℕ) (cells : List Cell) (streams : Content) (f n t : ℕ) → Ready address cells f 37
     → HoldsString cells s (format_of pieces) → ArePieces cells pieces → length (taken_by pieces) ≤ 4 → turns_by pieces ≤ n

@@ -1,4 +1,4 @@
--- Calls in a symbolic store.
+-- Calls in a store that is known only by equations: frames are opened and given back, cells are read and written.
 use Rattle.std.proofs.Common.{◌≡◌, ◌≢◌, ◌⊎◌, inl, inr, ⊎_elim, ℕ, zero, suc, ◌+◌, ◌<◌, ◌≤◌, ◌%◌, List, [], ◌∷◌, length, true, false, Some, refl, sym, ap, ◌∙◌, arith}
 use Rattle.std.proofs.lemmas.Bool.{cases_lt}
 use Rattle.std.proofs.lemmas.List.{get_or-set_same, get_or-set_other, length-set, set-set, set-get_or, ext_get_or}
@@ -43,7 +43,7 @@ wrch program known cells streams f n t v whole free room =
     let given : slice_set (slice_set cells (f + 2) (Set v)) (f + 2) Dead ≡ cells = given_back cells (f + 2) (Set v) dead in
     rw (known, fits, back, given) refl
 
--- where a program has the library's routines
+-- the routines of the library, as a program has them
 pub record Has (program : List Placed) (address : ℕ → ℕ) : Type 0 where
   pub wrch : entered_at program 530 ≡ entered_of (Some (OfLibrary WriteByte))
   pub newline : entered_at program (address 4) ≡ entered_of (Some (OfSection (record { core = library; address = address }) newline))
@@ -111,7 +111,7 @@ passed_length zero a vs cells = refl
 passed_length (suc n) a [] cells = passed_length n (a + 1) [] (slice_set cells a Unset) ∙ length-set cells a Unset
 passed_length (suc n) a (v ∷ vs) cells = passed_length n (a + 1) vs (slice_set cells a (Set v)) ∙ length-set cells a (Set v)
 
--- a store that differs in n cells from a on alone, which were not live, is as it was once they are given back
+-- a store that differs only in n cells from a on, which weren't live, is the old one once they are given back
 pub frame_back : (n f a : ℕ) (c cells : List Cell) → DeadFrom f cells → f ≤ a → length c ≡ length cells
     → ((b : ℕ) → Outside n a b → cell_at c b ≡ cell_at cells b) → closed n a c ≡ cells
 frame_back n f a c cells free up size same =
@@ -121,7 +121,7 @@ frame_back n f a c cells free up size same =
           (λ from. ⊎_elim (λ inside. closed_inside n a c b from inside ∙ sym (dead_cell _ (free b (omega arith))))
           (λ following. filled_outside n a Dead c b (inr following) ∙ same b (inr following)) (cases_lt b (a + n))) (cases_lt b a)
 
--- a frame higher up, over a store with one more cell
+-- the store is ready for a higher frame too, after one more cell was set
 pub grown : (address : ℕ → ℕ) (cells : List Cell) (f g b most less : ℕ) (k : Cell) → Ready address cells f most → f ≤ b → b < g → g + less ≤ f + most → Ready address (slice_set cells b k) g less
 grown address cells f g b most less k r up lt room = record {
   whole = length-set cells b k ∙ r.whole;
@@ -140,7 +140,7 @@ written_same cells a w k e = get_or-set_same cells a k Dead (⊎_elim (λ lt. lt
 pub differ : (n k : ℕ) → (n ≢ k) ⊎ (n ≡ k)
 differ n k = ⊎_elim (λ lt. inl (λ e. omega arith)) (λ ge. ⊎_elim (λ lt. inl (λ e. omega arith)) (λ le. inr (omega arith)) (cases_lt k n)) (cases_lt n k)
 
--- where stores are the same, they are so after a write to both
+-- equal stores remain equal after the same write to both
 pub same_after : (c cells : List Cell) (a b : ℕ) (k : Cell) → length c ≡ length cells → cell_at c b ≡ cell_at cells b → cell_at (slice_set c a k) b ≡ cell_at (slice_set cells a k) b
 same_after c cells a b k size e = ⊎_elim
     (λ ne. get_or-set_other c a b k Dead ne ∙ e ∙ sym (get_or-set_other cells a b k Dead ne))

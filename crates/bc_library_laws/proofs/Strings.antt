@@ -1,4 +1,4 @@
--- WRITES.
+-- What WRITES does: its FOR, by induction over the remaining bytes.
 use Rattle.std.proofs.Common.{◌≡◌, ℕ, suc, ◌+◌, ◌*◌, ◌/◌, ◌%◌, ◌<◌, List, [], ◌∷◌, length, true, false, refl, ◌∙◌, arith}
 use Rattle.std.proofs.lemmas.List.{get_or-set_same, get_or-set_other, length-set, set-set}
 use Rattle.std.specs.Prelude.{slice_set, nat_le, int_lt}
@@ -23,7 +23,7 @@ use Rattle.bc_library_laws.proofs.Bytes.{get_byte_does}
 abbrev pub among : List Placed → (ℕ → ℕ) → ℕ → Context
 among program address n = context_in (record { core = library; address = address }) (calls program n)
 
--- a round of the FOR of WRITES, with its variable at f + 3 and this limit
+-- one iteration of WRITES's FOR, with its variable at f + 3 and this limit
 abbrev round : List Placed → (ℕ → ℕ) → (n f limit : ℕ) → Unit {0} → LoopRound
 round program address n f limit u =
     then_do (value (among program address n) (Load (Frame 3)) f 5) (λ i.

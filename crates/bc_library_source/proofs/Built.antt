@@ -1,4 +1,4 @@
--- Whatever section a source with BLIB's text is found to be, it resolves to the library.
+-- Whatever section a source with BLIB's text parses to, it resolves to the library.
 use Rattle.std.specs.Prelude.{ℕ, ◌≡◌, List, ◌∷◌, Some, Result, Ok, Err, length}
 use Rattle.std.proofs.Common.{sym, ap, ◌∙◌}
 use Rattle.bc_lex_tokens.specs.Token.{Lexeme}
@@ -30,7 +30,7 @@ by_closed end (Ok ps) section e = by_section (places_in ps) end (section_of (par
 by_closed end (Err (closing.NotOpen at)) section e = absurd (let z : ⊥ = cc in z)
 by_closed end (Err closing.Unclosed) section e = absurd (let z : ⊥ = cc in z)
 
--- the source with BLIB's text is the library
+-- the section of BLIB's text resolves to the library
 pub library_of : (rest : List File) (tokens : List Lexeme) (section : Declarations)
     → HasTokens (header_file ∷ source_file ∷ rest) 1 tokens → parsed tokens ≡ Ok section → core_of section ≡ library
 library_of rest tokens section lexed read =

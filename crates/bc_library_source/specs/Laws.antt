@@ -1,4 +1,4 @@
--- Which section BLIB is.
+-- The statement which section the text of BLIB is.
 use Rattle.std.specs.Prelude.{◌≡◌, List, ◌∷◌, Ok}
 use Rattle.bc_lex_tokens.specs.Token.{Lexeme}
 use Rattle.bc_lex.specs.Files.{File}
@@ -9,7 +9,8 @@ use Rattle.bc_scope_defs.specs.Translation.{core_of}
 use Rattle.bc_library_laws.specs.Library.{library}
 use Rattle.bc_library_source.specs.Texts.{header_file, source_file}
 
--- after LIBHDR, whatever files follow: the section of BLIB's text resolves to the library that the laws speak of
+-- if LIBHDR and BLIB are the first two files, then whatever files follow: if BLIB lexes to these tokens and they parse to this section,
+-- the section resolves to the library of `bc_library_laws`
 abbrev pub LibraryIsTheSection : Type 0
 LibraryIsTheSection =
     (rest : List File) (tokens : List Lexeme) (section : Declarations)

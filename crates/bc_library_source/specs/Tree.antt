@@ -1,4 +1,4 @@
--- For proofs: the lexer, the parser and the scopes, computed on the text of BLIB, give the section that the laws speak of.
+-- For proofs: lexing, parsing and resolving the text of BLIB, computed on the definitions, gives the library of `bc_library_laws`.
 use Rattle.std.specs.Prelude.{◌≡◌, List, ◌∷◌, Option, Some, None, Result, Ok, Err, refl}
 use Rattle.bc_lex_tokens.specs.Token.{Lexeme}
 use Rattle.bc_lex_tokens.specs.Spelling.{symbol_of}

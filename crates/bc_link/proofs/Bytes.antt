@@ -1,4 +1,4 @@
--- Bytes that share a word, item by item.
+-- Assembling item by item, where two consecutive bytes share a word.
 use Rattle.bc_link.proofs.Front.{drop-front}
 use Rattle.std.proofs.Common.{◌≡◌, ◌∙◌, ◌<◌, length, drop, get_or, arith, ℕ, ◌+◌, List, [], ◌∷◌, Bool, true, false, ◌++◌, append_assoc, refl, ap, add-zero, zero-add, sym}
 use Rattle.bc_text_items.specs.Sizes.{size_of_all}
@@ -12,7 +12,7 @@ abbrev pub label_here : ℕ → Item → List (ℕ × ℕ)
 label_here at (Label m) = (m, at) ∷ []
 label_here at item = []
 
--- the words of a byte and what stands after it
+-- the words of a byte and of what follows it
 pub size_of_all-Byte : (high : ℕ) (items : List Item) → size_of_all (Byte high ∷ items) ≡ 1 + size_of_all (uncounted true items)
 size_of_all-Byte high [] = refl
 size_of_all-Byte high (Byte low ∷ items) = refl
@@ -46,7 +46,7 @@ size_of_all_step false (DataLabel m) items = refl
 size_of_all_step false (Operation f i b n) items = refl
 size_of_all_step false (Global g m) items = refl
 
--- the places of the labels after an item that is no label are those of the items after it
+-- after an item that isn't a label, the places of labels are those of the items after it
 pub label_places_step : (half : Bool) (at : ℕ) (item : Item) (items : List Item) → label_places at (uncounted half (item ∷ items)) ≡ label_here at item ++ label_places (at + words_begun half item) (uncounted (leaves_half half item) items)
 label_places_step true at (Byte low) items = ap (λ a. label_places a items) (sym (add-zero at))
 label_places_step false at (Byte high) items = label_places-Byte at high items
@@ -61,7 +61,7 @@ label_places_step false at (DataLabel m) items = refl
 label_places_step false at (Operation f i b n) items = refl
 label_places_step false at (Global g m) items = refl
 
--- one item more is counted
+-- one more item is counted
 pub counted : (half : Bool) (next total : ℕ) (items : List Item) (i : ℕ) (item : Item) → i < length items → item ≡ get_or items i item → next + size_of_all (uncounted half (drop i items)) ≡ total
     → next + words_begun half item + size_of_all (uncounted (leaves_half half item) (drop (i + 1) items)) ≡ total
 counted half next total items i item within is h =
@@ -81,6 +81,6 @@ label_here-other at (Byte b) other = refl
 label_here-other at (Operation f i b n) other = refl
 label_here-other at (Global g m) other = refl
 
--- what is placed so far, with what stands here
+-- the labels placed so far, with the one set here
 pub placed_more : {X : Type 0} (so_far here rest all whole more : List X) → rest ≡ here ++ more → so_far ++ rest ≡ all → whole ≡ so_far ++ here → whole ++ more ≡ all
 placed_more so_far here rest all whole more e h w = ap (λ l. l ++ more) w ∙ append_assoc so_far here more ∙ ap (λ l. so_far ++ l) (sym e) ∙ h

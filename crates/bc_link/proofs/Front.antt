@@ -1,4 +1,4 @@
--- The rest of a list, with its first element.
+-- Splitting off the first element of a list.
 use Rattle.std.proofs.Common.{◌≡◌, ℕ, ◌+◌, ◌<◌, List, ◌∷◌, length, drop, get_or, ◌∙◌, sym, ap, suc, add-one}
 use Rattle.std.proofs.Math.Seq.{drop-cons}
 

@@ -1,4 +1,4 @@
--- A draft with one segment more.
+-- A draft with one more segment.
 use Rattle.std.proofs.Common.{◌≡◌, ◌∙◌, ℕ, ◌+◌, List, [], ◌∷◌, ◌++◌, append_assoc, ap, sym, arith}
 use Rattle.std.specs.Option.{option_map}
 use Rattle.bc_text_items.specs.Sizes.{size_of_all}

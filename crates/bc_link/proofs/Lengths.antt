@@ -1,4 +1,4 @@
--- How many words items become.
+-- The number of words that items become.
 use Rattle.std.proofs.Common.{◌≡◌, ◌∙◌, ℕ, List, [], ◌∷◌, length, length-append, Bool, true, false, cond, nat_le, refl, sym, zero-add, arith}
 use Rattle.bc_text_items.specs.Sizes.{size_of_all, operation_size}
 use Rattle.bc_text_items.specs.Assembled.{assembled, operation_words, instruction}

@@ -1,4 +1,4 @@
--- The address of a label in a list of pairs with one pair more.
+-- The address of a label in a list of pairs with one more pair.
 use Rattle.std.proofs.Common.{◌≡◌, ℕ, ◌∙◌, List, [], ◌∷◌, ◌++◌, Bool, true, false, cond, eqb, Option, Some, None, is_some, refl, sym, ap, true≢false, eqb-true, eq-eqb}
 use Rattle.bc_machine_defs.specs.Places.{address_in}
 use Rattle.bc_link.specs.Refusals.{first_of}

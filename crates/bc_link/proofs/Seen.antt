@@ -1,4 +1,4 @@
--- The first number that stands before itself already, one number at a time.
+-- The first repeated number, one number at a time.
 use Rattle.std.proofs.Common.{◌≡◌, ◌∙◌, ℕ, List, [], ◌∷◌, ◌++◌, Bool, true, false, not, cond, eqb, Some, refl, sym, ap, true≢false}
 use Rattle.std.specs.List.{list_any}
 use Rattle.std.specs.Prelude.{if◌then◌else◌}
@@ -9,7 +9,7 @@ use Rattle.bc_link.specs.Refusals.{repeated_after, globals_set}
 abbrev pub is_seen : List ℕ → ℕ → Bool
 is_seen keys n = list_any (λ y. eqb n y) keys
 
--- a number that was seen is the first repeated
+-- a number that has been seen is the first repeated one
 pub repeated_after-seen : (keys : List ℕ) (n : ℕ) (fresh : Bool) (xs : List ℕ) → fresh ≡ not (is_seen keys n) → fresh ≡ false → repeated_after keys (n ∷ xs) ≡ Some n
 repeated_after-seen keys n fresh xs added old = by (is_seen keys n) (sym old ∙ added)
   where
@@ -17,7 +17,7 @@ repeated_after-seen keys n fresh xs added old = by (is_seen keys n) (sym old ∙
     by true h = refl
     by false h = absurd (true≢false (sym h))
 
--- one that was not is seen from now on
+-- one that hasn't been seen is seen from now on
 pub repeated_after-fresh : (keys keys1 : List ℕ) (n : ℕ) (fresh : Bool) (xs : List ℕ) → fresh ≡ not (is_seen keys n) → keys1 ≡ (if is_seen keys n then keys else keys ++ n ∷ []) → fresh ≡ true → repeated_after keys (n ∷ xs) ≡ repeated_after keys1 xs
 repeated_after-fresh keys keys1 n fresh xs added after new = by (is_seen keys n) (sym new ∙ added) after
   where

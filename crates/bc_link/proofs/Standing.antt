@@ -1,4 +1,4 @@
--- Where the words of segments stand in the store.
+-- Where the words of segments are in the store.
 use Rattle.std.proofs.Common.{◌≡◌, ◌∙◌, ℕ, zero, suc, ◌+◌, ◌-◌, ◌<◌, ◌≤◌, List, [], ◌∷◌, ◌++◌, Some, take, drop, set, slice_get, length, replicate, length-append, length-drop, length-set, append_assoc, refl, ap, sym, add_assoc, add-zero, arith, subst}
 use Rattle.std.proofs.Math.Seq.{take-append_seam, drop-append-add}
 use Rattle.std.proofs.lemmas.List.{take-append-le, drop-append-le, length-replicate}
@@ -11,7 +11,7 @@ use Rattle.bc_link.specs.Layout.{size_of_segments, stack_base_of, place_at, plac
 use Rattle.bc_link.specs.Laws.{IsSegment, PlacesAreStarts, RangesLieBetween, RangesAreDisjoint, WordsStandAtStarts, StoreIsWhole}
 use Rattle.bc_link.specs.Store.{boot, words_from, with_settings, with_globals_from, globals_of, store_of}
 
--- the words before the segment of this number
+-- the words before the segment with this number
 abbrev front_of : List (List Item) → ℕ → ℕ
 front_of segments k = size_of_segments (take k segments)
 
@@ -23,7 +23,7 @@ place start (s ∷ ss) (suc k) segment h = place (start + size_of_all s) ss k se
 pub places_are_starts : PlacesAreStarts
 places_are_starts segments k segment h = place 520 segments k segment h
 
--- what stands before a segment, and the segment, are no more than all
+-- the words before a segment and those of the segment are at most all words
 front-size-le : (segments : List (List Item)) (k : ℕ) (segment : List Item) → IsSegment segments k segment → front_of segments k + size_of_all segment ≤ size_of_segments segments
 front-size-le [] k segment h = cc
 front-size-le (s ∷ ss) zero segment h = let e : s ≡ segment = cc in let f = ap size_of_all e in omega arith
@@ -71,7 +71,7 @@ stands start (s ∷ ss) (suc k) segment h =
     let following : drop (size_of_all s + n) (assembled f s ++ rest) ≡ drop n rest = ap (λ m. drop (m + n) (assembled f s ++ rest)) (sym (length-assembled f s)) ∙ drop-append-add (assembled f s) rest n in
     ap (take (size_of_all segment)) following ∙ stands (start + size_of_all s) ss k segment h ∙ ap (λ m. assembled (label_address (label_places m segment)) segment) (add_assoc start (size_of_all s) n)
 
--- the cells stay as many as they are
+-- the number of cells stays the same
 length-with_settings : (address : ℕ → ℕ) (settings : List (ℕ × ℕ)) (cells : List ℕ) → length (with_settings address settings cells) ≡ length cells
 length-with_settings address [] cells = refl
 length-with_settings address ((number, label) ∷ settings) cells = length-with_settings address settings (set cells number (address label)) ∙ length-set cells number (address label)
@@ -85,7 +85,7 @@ length-with_globals_from start (s ∷ ss) cells =
 length-globals_of : (segments : List (List Item)) → length (globals_of segments) ≡ 512
 length-globals_of segments = length-with_globals_from 520 segments (replicate 512 0) ∙ length-replicate {A = ℕ} 512 0
 
--- what stands at 0 to 7
+-- the words at 0 to 7
 abbrev low : List ℕ
 low = boot ++ replicate 5 0
 
@@ -99,7 +99,7 @@ length-front segments = let g = length-globals_of segments in let l = length-app
 store-parts : (segments : List (List Item)) → store_of segments ≡ (low ++ globals_of segments) ++ (words_from 520 segments ++ zeros segments)
 store-parts segments = append_assoc (low ++ globals_of segments) (words_from 520 segments) (zeros segments)
 
--- a part of what stands before an append
+-- a part of the first of two appended lists
 part-of-append : (xs ys : List ℕ) (n size : ℕ) → n + size ≤ length xs → take size (drop n (xs ++ ys)) ≡ take size (drop n xs)
 part-of-append xs ys n size fits =
     let l = length-drop n xs in

@@ -1,4 +1,4 @@
--- Labels that are set, by the places of a segment and by its list of labels.
+-- The labels that a segment sets are the same by its places and by its list of labels.
 use Rattle.std.proofs.Common.{◌≡◌, ℕ, ◌+◌, List, [], ◌∷◌, Bool, true, false, not, cond, eqb, Some, find, is_none, ◌||◌, refl, ap, sym}
 use Rattle.std.specs.List.{list_any}
 use Rattle.bc_machine_defs.specs.Places.{address_in}

@@ -1,4 +1,4 @@
--- For proofs: the parts of an image, as far as segments were added.
+-- For proofs: the parts of an image for the segments that have been added.
 use Rattle.std.specs.Prelude.{ℕ, ◌≡◌, ◌+◌, ◌-◌, replicate, List, [], ◌∷◌, ◌++◌, None, vec_len}
 use Rattle.bc_text_items.specs.Sizes.{size_of_all}
 use Rattle.bc_text_items.specs.Assembled.{assembled, label_places, global_settings}
@@ -14,11 +14,11 @@ use Rattle.bc_link.specs.Layout.{place_at, places_from, size_of_segments}
 use Rattle.bc_link.specs.Store.{with_settings, with_globals_from, words_from, globals_of, boot}
 use Rattle.bc_link.specs.Refusals.{first_unset, label_unset_from}
 
--- where the next segment is to stand
+-- the address of the next segment
 abbrev pub next_start : Draft → ℕ
 next_start d = 520 + vec_len d.code
 
--- a segment was added to the old draft
+-- the new draft is the old one with this segment added
 pub record Added (old new : Draft) (segment : List Item) : Type 0 where
   pub globals : new.globals.items ≡ with_settings (label_address (label_places (next_start old) segment)) (global_settings segment) old.globals.items
   pub cells : vec_len new.globals ≡ 512
@@ -27,7 +27,7 @@ pub record Added (old new : Draft) (segment : List Item) : Type 0 where
   pub places : new.places.items ≡ old.places.items ++ place_at (next_start old) segment ∷ []
   pub unset : first_unset (labels_of segment) (uses_of segment) ≡ None
 
--- with the segments that are left, the draft becomes that of all; `k` is the number of the first that is left
+-- adding the remaining segments turns the draft into that of all; `k` is the number of the first remaining one
 pub record Becomes (d : Draft) (k : ℕ) (rest segments : List (List Item)) : Type 0 where
   pub globals : with_globals_from (next_start d) rest d.globals.items ≡ globals_of segments
   pub cells : vec_len d.globals ≡ 512
@@ -36,7 +36,7 @@ pub record Becomes (d : Draft) (k : ℕ) (rest segments : List (List Item)) : Ty
   pub places : d.places.items ++ places_from (next_start d) rest ≡ places_from 520 segments
   pub unset : label_unset_from k rest ≡ label_unset_from 0 segments
 
--- a label that is not set in a segment, whose number this is
+-- the error is the first label that this segment refers to but doesn't set, or Memory
 abbrev pub IsUnsetIn : ℕ → List Item → LinkError → Type 0
 IsUnsetIn number segment e = IsRefusal (option_map (LabelUnset number) (first_unset (labels_of segment) (uses_of segment))) e
 

@@ -7,24 +7,24 @@ use Rattle.bc_text_items.specs.declared.item.Base.TheVariants as bases
 use Rattle.bc_text_items.specs.declared.item.Function.TheVariants as functions
 use Rattle.bc_machine_defs.specs.Places.{address_in}
 
--- the address that pairs of a label and its address give a label: that of the first pair, or 0 where there is none
+-- the address of a label, given pairs of a label and its address: that of the first pair with the label, or 0 if there is none
 abbrev pub label_address : List (ℕ × ℕ) → ℕ → ℕ
 label_address pairs label = unwrap_or (address_in label pairs) 0
 
--- the labels that stand among items, in their order
+-- the labels that items set, in order
 abbrev pub labels_of : List Item → List ℕ
 labels_of [] = []
 labels_of (Label m ∷ items) = m ∷ labels_of items
 labels_of (item ∷ items) = labels_of items
 
--- the label that an item speaks of: a word of data, an operation and a global may have one
+-- the label that an item refers to: a word of data, an operation or a global may have one
 abbrev pub use_of : Item → Option ℕ
 use_of (DataLabel m) = Some m
 use_of (Operation function indirect bases.Label m) = Some m
 use_of (Global number m) = Some m
 use_of item = None
 
--- the labels that items speak of, in their order
+-- the labels that items refer to, in order
 abbrev pub uses_of : List Item → List ℕ
 uses_of items = filter_map use_of items
 

@@ -1,10 +1,10 @@
--- For proofs: how assemblers go on from item to item: neighbouring bytes share a word.
+-- For proofs: assembling item by item, where two consecutive bytes share a word.
 use Rattle.std.specs.Prelude.{ℕ, List, ◌∷◌, Bool, true, false, Option, Some, None}
 use Rattle.bc_text_items.specs.Sizes.{size}
 use Rattle.bc_text_items.specs.declared.item.Item.{Item}
 use Rattle.bc_text_items.specs.declared.item.Item.TheVariants.{Byte}
 
--- the items whose words are still to be counted, where a byte before them may have left the low half of its word free
+-- the items whose words aren't counted yet; a byte before them may have left the low half of its word free
 abbrev pub uncounted : Bool → List Item → List Item
 uncounted true (Byte low ∷ items) = items
 uncounted half items = items
@@ -19,7 +19,7 @@ abbrev pub leaves_half : Bool → Item → Bool
 leaves_half false (Byte high) = true
 leaves_half half item = false
 
--- the items with a byte before them that waits for its neighbour
+-- the items, preceded by the byte that waits, if there is one
 abbrev pub with_waiting : Option ℕ → List Item → List Item
 with_waiting None items = items
 with_waiting (Some high) items = Byte high ∷ items

@@ -1,4 +1,4 @@
-//! The parts of an image, segment by segment.
+//! The parts of an image, built segment by segment.
 
 ghost use Rattle.std.specs.Prelude.{◌≡◌, ◌+◌, ◌-◌, ◌≤◌, ◌++◌, ◌∷◌, [], None, vec_len, length, replicate, OnOk, IfOk, IfErr, find, is_none};
 ghost use Rattle.std.specs.List.{filter_map};
@@ -19,7 +19,7 @@ use bc_text_items::{Base, Item, Segment};
 use bc_word::{Memory, Word};
 use std::alloc::Global;
 
-/// The label that the item speaks of.
+/// The label that the item refers to, if it refers to one.
 fn label_used(item: &Item) -> Option<Word>
     ensures { result ≡ use_of item.now }
 {
@@ -30,7 +30,7 @@ fn label_used(item: &Item) -> Option<Word>
     }
 }
 
-/// The first label that the items speak of and the table lacks.
+/// The first label that the items refer to and that isn't in the table.
 fn unset_label(items: &[Item], labels: &LabelTable) -> Option<Word>
     ensures { result ≡ find (λ m. is_none (address_in m labels.now)) (uses_of items.now) }
 {
@@ -44,19 +44,26 @@ fn unset_label(items: &[Item], labels: &LabelTable) -> Option<Word>
     None
 }
 
-/// The words of `LIG1 K2 X22`: a call of the routine in global 1, and the end of the run.
+/// The three words of `LIG1 K2 X22`: call the routine in global 1, and end the run. The vector has room for the whole store.
+///
+/// `Memory` if an allocation fails.
 fn boot_words(alloc: Global) -> Result<Vec<Word>, Memory>
     ensures words { IfOk result (λ words. words.items ≡ boot) }
     ensures length { IfOk result (λ words. vec_len words ≡ 3) }
 {
     let mut words = Vec::with_capacity(alloc, 65_536)?;
+    // LIG1: function 0, indirect 4096, base G 1024, address 1
     words.push(Word::new(5121))?;
+    // K2: function 6 times 8192, address 2
     words.push(Word::new(49_154))?;
+    // X22: function 7 times 8192, operation 22
     words.push(Word::new(57_366))?;
     Ok(words)
 }
 
-/// Puts zeros after the words, up to this number of words.
+/// Appends zeros up to this number of words.
+///
+/// `Memory` if an allocation fails.
 fn fill_up(words: &mut Vec<Word>, length: usize) -> Result<(), Memory>
     requires { vec_len words.old ≤ length }
     ensures words { OnOk result (words.new.items ≡ words.old.items ++ replicate (length - vec_len words.old) 0) }
@@ -66,18 +73,21 @@ fn fill_up(words: &mut Vec<Word>, length: usize) -> Result<(), Memory>
     Ok(())
 }
 
-/// The cells of the globals, the words of the segments and their places, as far as segments were added.
+/// The parts of an image for the segments that have been added.
 #[derive(Drop)]
 pub struct Draft {
+    /// The 512 cells of the globals.
     pub globals: Vec<Word>,
+    /// The words of the segments, which begin at address 520.
     pub code: Vec<Word>,
+    /// Where the segments and their labels are.
     pub places: Vec<SegmentPlace>,
 }
 
 impl Draft {
     ghost use Rattle.bc_link.specs.Drafts.{next_start, Added, Becomes, IsUnsetIn, IsImageOf};
 
-    /// No segment was added.
+    /// The draft without any segment. `Memory` if an allocation fails.
     fn new(alloc: Global) -> Result<Draft, Memory>
         ensures globals { IfOk result (λ d. d.globals.items ≡ replicate 512 0) }
         ensures cells { IfOk result (λ d. vec_len d.globals ≡ 512) }
@@ -93,7 +103,9 @@ impl Draft {
         })
     }
 
-    /// One segment more, whose number is `number`.
+    /// Adds a segment, whose number is `number`. There must be room for it.
+    ///
+    /// `LabelUnset` if it refers to a label that it doesn't set; `Memory` if an allocation fails.
     fn add(&mut self, alloc: Global, number: usize, segment: &Segment) -> Result<(), LinkError>
         requires room { next_start self.old + size_of_all segment.now ≤ 65472 }
         requires cells { vec_len self.old.globals ≡ 512 }
@@ -115,7 +127,9 @@ impl Draft {
         Ok(())
     }
 
-    /// The draft of all these segments.
+    /// The draft of all these segments. There must be room for them.
+    ///
+    /// `LabelUnset` for the first label that a segment refers to but doesn't set; `Memory` if an allocation fails.
     pub fn of(alloc: Global, segments: &[Segment]) -> Result<Draft, LinkError>
         requires { stack_base_of segments.now ≤ 65472 }
         ensures ok { IfOk result (λ d. Becomes d (length segments.now) [] segments.now) }
@@ -128,7 +142,9 @@ impl Draft {
         Ok(draft)
     }
 
-    /// The image, whose stack begins after the last segment.
+    /// The image of the draft. `stack_base` must be the address after the last segment.
+    ///
+    /// `Memory` if an allocation fails.
     pub fn into_image(self, alloc: Global, stack_base: u16) -> Result<Image, Memory>
         requires cells { vec_len self.globals ≡ 512 }
         requires following { stack_base ≡ next_start self }

@@ -1,3 +1,5 @@
+//! A table of labels that is searched in constant time, while contracts see a list of pairs.
+
 ghost use Rattle.std.specs.Prelude.{◌≡◌, IfOk};
 ghost use Rattle.bc_machine_defs.specs.Places.{address_in};
 ghost use Rattle.bc_link.specs.Labels.{label_address};
@@ -8,13 +10,14 @@ use indexmap::IndexMap;
 use std::alloc::Global;
 use std::marker::Model;
 
-/// Labels with their addresses, looked up in constant time.
+/// Labels with their addresses. A look-up takes constant time.
 ///
-/// Contracts see them as the list of pairs of a label and its address. Where a label stands twice, the first
-/// pair has its address.
+/// In contracts the table is a list of pairs of a label and its address. The first of several pairs with one label counts.
 #[derive(Drop)]
 pub struct LabelTable {
+    /// All pairs, in order.
     pairs: Vec<(Word, Word)>,
+    /// The address of each label, from its first pair.
     addresses: IndexMap<Word, Word>,
 }
 
@@ -31,7 +34,7 @@ impl Model for LabelTable {
 }
 
 impl LabelTable {
-    /// The table of these pairs of a label and its address.
+    /// A table of these pairs of a label and its address. `Memory` if an allocation fails.
     pub fn new(alloc: Global, pairs: Vec<(Word, Word)>) -> Result<LabelTable, Memory>
         ensures { IfOk result (λ table. table ≡ pairs.items) }
     {
@@ -44,21 +47,21 @@ impl LabelTable {
         Ok(LabelTable { pairs, addresses })
     }
 
-    /// The address of this label, or `None` where it isn't in the table.
+    /// The address of this label, or `None` if it isn't in the table.
     pub fn address(&self, label: Word) -> Option<Word>
         ensures { result ≡ address_in label self.now }
     {
         self.addresses.get(&label).copied()
     }
 
-    /// The address of this label, or 0 where it isn't in the table.
+    /// The address of this label, or 0 if it isn't in the table.
     pub fn address_or_zero(&self, label: Word) -> Word
         ensures { result ≡ label_address self.now label }
     {
         self.address(label).unwrap_or(Word::new(0))
     }
 
-    /// The labels and their addresses, which takes no memory.
+    /// The labels and their addresses. Allocates nothing.
     pub fn into_labels(self) -> Labels
         ensures { result ≡ self }
     {

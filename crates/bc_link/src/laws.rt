@@ -1,29 +1,28 @@
-//! Laws of images, each the contract of a function that does nothing.
+//! Laws of images. Each is the contract of a function that does nothing.
 
 ghost use Rattle.bc_link.specs.Laws.{PlacesAreStarts, RangesLieBetween, RangesAreDisjoint, WordsStandAtStarts, StoreIsWhole};
 
-/// An image's place of a segment starts after the segments before it.
+/// The start of a segment in the image's places is the address after the segments before it.
 pub fn places_are_starts()
     ensures { PlacesAreStarts }
 {}
 
-/// A segment lies between address 520 and the stack base.
+/// Every segment is between address 520 and the stack base.
 pub fn ranges_lie_between()
     ensures { RangesLieBetween }
 {}
 
-/// The words of two segments never meet.
+/// The words of different segments don't overlap.
 pub fn ranges_are_disjoint()
     ensures { RangesAreDisjoint }
 {}
 
-/// The words that a segment becomes, with the addresses of its labels, stand at its start.
+/// The words that a segment becomes, with the addresses of its labels, begin at its start.
 pub fn words_stand_at_starts()
     ensures { WordsStandAtStarts }
 {}
 
-/// Boot stands at 0 and the cells of the globals at 8, and the store has 65,536 words where the segments leave room for
-/// them.
+/// The boot words are at address 0 and the cells of the globals at 8. The store has 65,536 words if the segments fit into it.
 pub fn store_is_whole()
     ensures { StoreIsWhole }
 {}

@@ -1,4 +1,4 @@
-//! Where segments and their labels stand.
+//! The addresses of segments and their labels.
 
 ghost use Rattle.std.specs.Prelude.{◌≡◌, ◌+◌, ◌≤◌, IfOk};
 ghost use Rattle.std.specs.Option.{SomeIff};
@@ -14,10 +14,10 @@ use std::alloc::Global;
 /// The address of the first segment.
 pub const FIRST_ADDRESS: u16 = 520;
 
-/// The greatest stack base: 64 cells are left for the stack.
+/// The greatest stack base. It leaves 64 cells for the stack.
 pub const GREATEST_BASE: u16 = 65_472;
 
-/// How many words an operation takes.
+/// The number of words of an operation.
 fn operation_size(base: Base, number: Word) -> u16
     ensures { result ≡ operation_size base number }
 {
@@ -28,7 +28,7 @@ fn operation_size(base: Base, number: Word) -> u16
     }
 }
 
-/// How many words the item takes where it stands alone.
+/// The number of words of a single item.
 fn size(item: &Item) -> u16
     ensures of_item { result ≡ size item.now }
     ensures small { result ≤ 2 }
@@ -40,7 +40,7 @@ fn size(item: &Item) -> u16
     }
 }
 
-/// How many words the item begins, where the low half of the word before it may be free for a byte.
+/// The number of words that the item begins. `half_free` says whether a byte before it left the low half of its word free.
 fn words_begun(half_free: bool, item: &Item) -> u16
     ensures of_item { result ≡ words_begun half_free item.now }
     ensures small { result ≤ 2 }
@@ -51,7 +51,7 @@ fn words_begun(half_free: bool, item: &Item) -> u16
     }
 }
 
-/// Whether the item leaves the low half of its word free for a byte.
+/// Whether the item leaves the low half of its word free for a byte after it.
 fn leaves_half(half_free: bool, item: &Item) -> bool
     ensures { result ≡ leaves_half half_free item.now }
 {
@@ -61,8 +61,8 @@ fn leaves_half(half_free: bool, item: &Item) -> bool
     }
 }
 
+/// The address after items whose words begin at `start`; `None` if it is above 65,472. It stops at that limit, so no sum overflows.
 #[tactic(auto, using(crate::proofs::Bytes::size_of_all_step))]
-/// The address after the items, where they stand from `start` on; none where it is over 65,472.
 fn address_after(start: u16, items: &[Item]) -> Option<u16>
     requires { start ≤ 65472 }
     ensures { SomeIff result (start + size_of_all items.now ≤ 65472) (start + size_of_all items.now) }
@@ -80,7 +80,7 @@ fn address_after(start: u16, items: &[Item]) -> Option<u16>
     Some(next)
 }
 
-/// Where the stack begins, after the segments; none where that is over 65,472.
+/// The address at which the stack begins, after the segments; `None` if it is above 65,472.
 pub fn stack_base(segments: &[Segment]) -> Option<u16>
     ensures { SomeIff result (stack_base_of segments.now ≤ 65472) (stack_base_of segments.now) }
 {
@@ -91,8 +91,8 @@ pub fn stack_base(segments: &[Segment]) -> Option<u16>
     Some(next)
 }
 
+/// Each label of the items with its address, for items whose words begin at `start`. `Memory` if an allocation fails.
 #[tactic(auto, using(crate::proofs::Bytes::size_of_all_step, crate::proofs::Bytes::label_places_step))]
-/// Each label of the items with its address, where they stand from `start` on.
 pub fn label_places(alloc: Global, start: u16, items: &[Item]) -> Result<Vec<(Word, Word)>, Memory>
     requires { start + size_of_all items.now ≤ 65472 }
     ensures { IfOk result (λ pairs. pairs.items ≡ label_places start items.now) }

@@ -1,4 +1,4 @@
-//! The linker: INTCODE segments, assembled one after another, become the image that the machine starts from.
+//! The linker: assembles INTCODE segments one after another into the image from which the machine starts.
 #![tactic(auto)]
 
 mod draft;

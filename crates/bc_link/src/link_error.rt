@@ -1,24 +1,26 @@
+//! The errors of linking.
+
 use bc_text_items::GlobalNumber;
 use bc_word::{Memory, Word};
 use std::alloc::{AllocError, AllocFailed};
 use thiserror::Error;
 
-/// Why segments were not linked. Segments are numbered from 0, in their order.
+/// Why segments weren't linked. Segments are numbered from 0, in order.
 #[derive(Clone, Copy, Debug, PartialEq, Eq, Hash, Error)]
 pub enum LinkError {
-    /// In this segment an item speaks of this label, and it stands nowhere in the segment.
+    /// In this segment an item refers to this label, but the segment doesn't set it.
     #[error("a label of segment {0} is spoken of and stands nowhere in it")]
     LabelUnset(usize, Word),
-    /// In this segment this label stands twice.
+    /// This segment sets this label twice.
     #[error("a label of segment {0} stands twice in it")]
     LabelTwice(usize, Word),
     /// This global is set twice.
     #[error("a global is set twice")]
     GlobalTwice(GlobalNumber),
-    /// The segments would end after address 65,472, and leave too little for the stack.
+    /// The stack base would be above 65,472, which leaves too little room for the stack.
     #[error("the segments take more words than the store has for them")]
     TooLarge,
-    /// An allocation was refused.
+    /// An allocation failed.
     #[error("out of memory")]
     Memory,
 }

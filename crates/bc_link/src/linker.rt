@@ -1,3 +1,5 @@
+//! The public call: links segments into an image.
+
 ghost use Rattle.std.specs.Prelude.{◌≡◌, None, OnOk, IfOk, IfErr};
 ghost use Rattle.bc_link.specs.Linked.{image_of, IsRefusal};
 ghost use Rattle.bc_link.specs.Refusals.{refusal_of, label_twice_from};
@@ -10,7 +12,7 @@ use bc_machine_defs::Image;
 use bc_text_items::Segment;
 use std::alloc::Global;
 
-/// Refuses segments of which one has a label twice.
+/// `LabelTwice` for the first segment that sets a label twice; `Memory` if an allocation fails.
 fn refuse_repeated_labels(alloc: Global, segments: &[Segment]) -> Result<(), LinkError>
     ensures ok { OnOk result (label_twice_from 0 segments.now ≡ None) }
     ensures err { IfErr result (IsRefusal (label_twice_from 0 segments.now)) }
@@ -23,12 +25,12 @@ fn refuse_repeated_labels(alloc: Global, segments: &[Segment]) -> Result<(), Lin
     Ok(())
 }
 
-/// Assembles the segments one after another from address 520 on, and makes the image that the machine starts from:
-/// boot at 0 to 2, the cells of the globals at 8 to 519, and 0 everywhere else. Each segment has labels of its own.
+/// Assembles the segments one after another from address 520 on, and returns the image from which the machine starts: the boot words at 0
+/// to 2, the cells of the globals at 8 to 519, and 0 everywhere else. Each segment has its own labels. A global that no segment sets
+/// holds 0, even global 1 (START).
 ///
-/// Of the refusals `LabelTwice` comes first, then `GlobalTwice`, then `TooLarge`, then `LabelUnset`; of one kind
-/// the first in the order of segments and items, where a `LabelTwice` or a `GlobalTwice` stands at the item that
-/// repeats. `Memory` comes where an allocation was refused. A global 1 that no segment sets holds 0.
+/// If there are several errors, `LabelTwice` takes precedence, then `GlobalTwice`, then `TooLarge`, then `LabelUnset`. Within one kind, the
+/// first in the order of segments and items is reported; a repetition counts at the item that repeats. `Memory` if an allocation fails.
 pub fn link(alloc: Global, segments: &[Segment]) -> Result<Image, LinkError>
     ensures accepted { OnOk result (refusal_of segments.now ≡ None) }
     ensures image { IfOk result (λ image. image ≡ image_of segments.now) }

@@ -1,4 +1,4 @@
-//! What stands twice where it may stand once.
+//! Labels and globals that are set twice.
 
 ghost use Rattle.std.specs.Prelude.{◌≡◌, ℕ, List, ◌++◌, IfOk};
 ghost use Rattle.bc_link.specs.Labels.{labels_of};
@@ -9,7 +9,7 @@ use bc_word::{Memory, Word};
 use indexmap::IndexSet;
 use std::alloc::Global;
 
-/// The first label that stands among the items already.
+/// The first label of the items that has been set before. `Memory` if an allocation fails.
 pub fn repeated_label(alloc: Global, items: &[Item]) -> Result<Option<Word>, Memory>
     ensures { IfOk result (λ label. label ≡ first_repeated (labels_of items.now)) }
 {
@@ -24,7 +24,9 @@ pub fn repeated_label(alloc: Global, items: &[Item]) -> Result<Option<Word>, Mem
     Ok(None)
 }
 
-/// The first global of the items that was seen already; where there is none, all of the items' globals are seen.
+/// The first global of the items that is in `seen` already. If there is none, all globals of the items are in `seen` afterwards.
+///
+/// `Memory` if an allocation fails.
 fn note_globals(
     seen: &mut IndexSet<GlobalNumber>,
     items: &[Item],
@@ -42,7 +44,7 @@ fn note_globals(
     Ok(None)
 }
 
-/// The first global that the segments set twice.
+/// The first global that the segments set twice. `Memory` if an allocation fails.
 pub fn repeated_global(alloc: Global, segments: &[Segment]) -> Result<Option<GlobalNumber>, Memory>
     ensures { IfOk result (λ global. global ≡ repeated_global_of segments.now) }
 {

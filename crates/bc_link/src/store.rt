@@ -1,4 +1,4 @@
-//! The words that items become.
+//! The words that items become. The functions return `Memory` if an allocation fails.
 
 ghost use Rattle.std.specs.Prelude.{◌≡◌, ℕ, ◌+◌, ◌*◌, ◌^◌, ◌<◌, ◌≤◌, List, [], ◌∷◌, ◌++◌, length, vec_len, OnOk, IfOk};
 ghost use Rattle.bc_text_items.specs.Assembled.{function_number, base_bit, instruction, operation_words, words_of_item, assembled, global_settings};
@@ -11,7 +11,7 @@ use crate::label_table::LabelTable;
 use bc_text_items::{Base, Function, Item};
 use bc_word::{Memory, Word};
 
-/// The word of an instruction, with its address from 0 to 511, or 512 for the long form.
+/// The word of an instruction. `low` is its address, from 0 to 511, or 512 for the long form.
 fn instruction(function: Function, indirect: bool, base: Base, low: u16) -> Word
     requires { low ≤ 512 }
     ensures { result ≡ instruction function indirect base low }
@@ -35,7 +35,7 @@ fn instruction(function: Function, indirect: bool, base: Base, low: u16) -> Word
     Word::new(8192 * code + indirection + base_bit + low)
 }
 
-/// Puts the words of an operation after the words.
+/// Appends the words of an operation.
 fn push_operation(
     words: &mut Vec<Word>,
     function: Function,
@@ -58,7 +58,7 @@ fn push_operation(
     Ok(())
 }
 
-/// Puts the words of an item that stands alone after the words.
+/// Appends the words of a single item.
 fn push_item(words: &mut Vec<Word>, item: &Item, labels: &LabelTable) -> Result<(), Memory>
     ensures { OnOk result (words.new.items ≡ words.old.items ++ words_of_item (label_address labels.now) item.now) }
 {
@@ -76,15 +76,15 @@ fn push_item(words: &mut Vec<Word>, item: &Item, labels: &LabelTable) -> Result<
     }
 }
 
-/// The word of two neighbouring bytes.
+/// The word of two consecutive bytes.
 fn two_bytes(high: u8, low: u8) -> Word
     ensures { result ≡ high * 256 + low }
 {
     Word::new(u16::from(high) * 256 + u16::from(low))
 }
 
-/// Puts the words of an item after the words, and before them the word of a byte that waited before it.
-/// Gives the byte that waits now.
+/// Appends the words of an item, after the word of the waiting byte if that can't be shared. A byte waits until it is known whether
+/// another byte follows it. Returns the byte that waits now.
 fn push_next(
     words: &mut Vec<Word>,
     waiting: Option<u8>,
@@ -112,7 +112,7 @@ fn push_next(
     }
 }
 
-/// Puts the words of the items after the words.
+/// Appends the words of all these items.
 pub fn push_items(words: &mut Vec<Word>, items: &[Item], labels: &LabelTable) -> Result<(), Memory>
     ensures { OnOk result (words.new.items ≡ words.old.items ++ assembled (label_address labels.now) items.now) }
 {
@@ -126,7 +126,7 @@ pub fn push_items(words: &mut Vec<Word>, items: &[Item], labels: &LabelTable) ->
     Ok(())
 }
 
-/// Writes the address of each label that the items give a global into the global's cell.
+/// Sets the cells of the globals that the items set to the addresses of their labels.
 pub fn set_globals(cells: &mut [Word], items: &[Item], labels: &LabelTable)
     requires { length cells.old ≡ 512 }
     ensures { cells.new ≡ with_settings (label_address labels.now) (global_settings items.now) cells.old }

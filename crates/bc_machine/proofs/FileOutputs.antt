@@ -1,4 +1,4 @@
--- The outputs of streams over writers, as they are written and ended.
+-- Writing and ending the outputs of streams over writers.
 use Rattle.std.proofs.Common.{◌≡◌, ℕ, ◌-◌, ◌<◌, ◌≤◌, zero, suc, List, [], ◌∷◌, ◌++◌, map, length, get_or, set, Option, Some, None, refl, ap, ◌∙◌, arith, slice_get, slice_set, subst}
 use Rattle.std.specs.Prelude.{IsSome}
 use Rattle.std.specs.Option.{option_map}
@@ -55,7 +55,7 @@ length_outputs [] bytes h = refl
 length_outputs (o ∷ os) [] h = absurd (omega arith)
 length_outputs (o ∷ os) (b ∷ bytes) h = let same : length os ≡ length bytes = omega arith in ap suc (length_outputs os bytes same)
 
--- what all tell, each tells
+-- if all devices say what they hold, each does
 pub known_get : (all : List Told) (k : ℕ) (b : Told) → AllKnown all → slice_get all k ≡ Some b → IsSome b
 known_get [] k b h j = absurd cc
 known_get (None ∷ all) k b h j = absurd h

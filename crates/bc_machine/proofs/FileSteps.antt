@@ -1,4 +1,4 @@
--- What the operations of streams over readers and writers do, where these tell their bytes.
+-- The operations of streams over readers and writers that say which bytes they hold.
 use Rattle.std.proofs.Common.{◌≡◌, ℕ, ◌-◌, ◌<◌, ◌≤◌, List, [], ◌∷◌, ◌++◌, map, length, get_or, set, true, false, Some, None, refl, sym, ap, ◌∙◌, arith, slice_set}
 use Rattle.std.specs.Prelude.{IsSome}
 use Rattle.std.specs.Io.KnownBytes.{Keeps, Appends}
@@ -31,7 +31,7 @@ appends_known None after bytes h p = absurd cc
 appends_known (Some old) None bytes h p = absurd h
 appends_known (Some old) (Some new) bytes h p = refl
 
--- an element is replaced by one of which the same is told
+-- an element is replaced by one with the same known bytes
 pub same_told : {X Y : Type 0} (f : X → Y) (xs : List X) (k : ℕ) (x y : X) → x ≡ get_or xs k x → f y ≡ f x → map f (set xs k y) ≡ map f xs
 same_told f xs k x y is h = map-set_same f xs k y x (h ∙ ap f is)
 
@@ -85,7 +85,7 @@ module _ {W : Type 0} (contents : W → Told) (inputs : List Input) (os : List N
         ∙ ap (λ x. content inputs (slice_set outputs (n - 1) x) input 0) end_of
         ∙ sym (end_output-at inputs outputs input n (file_output o (contents w)) at_told)
 
--- what was told of the devices that are handed in
+-- what the devices that are passed in say they hold
 pub told_of_devices : {T : Type 0} (f : T → Told) (named : List (Named T)) → map f (devices named) ≡ map (λ (n : Named T). f n.device) named
 told_of_devices f [] = refl
 told_of_devices f (n ∷ named) = ap (λ rest. f n.device ∷ rest) (told_of_devices f named)

@@ -1,4 +1,4 @@
--- The outputs of streams in memory, as they are written and ended.
+-- Writing and ending the outputs of streams in memory.
 use Rattle.std.proofs.Common.{◌≡◌, ◌≢◌, ℕ, ◌-◌, ◌+◌, ◌<◌, ◌≤◌, ◌==◌, zero, suc, List, [], ◌∷◌, ◌++◌, map, filter, length, get_or, set, Bool, false, cond, Some, refl, sym, ap, ◌∙◌, arith, slice_get, slice_set, eq-eqb, subst}
 use Rattle.std.proofs.lemmas.Bool.Decides.{nat_tests}
 use Rattle.std.proofs.lemmas.List.{map-append, append-nil}
@@ -96,7 +96,7 @@ pub memory_outputs-fresh : (number : ℕ) (os : List NamedOutput) (o : NamedOutp
 memory_outputs-fresh number [] o h = rw h refl
 memory_outputs-fresh number (p ∷ os) o h = rw (memory_outputs-fresh (number + 1) os o h) refl
 
--- a byte more for the output of this number
+-- one more byte for the output of this number
 pub memory_outputs-more : (n : ℕ) (log : Log) (byte : ℕ) (os : List NamedOutput) (o : NamedOutput) → 0 < n → n ≤ length os → o ≡ get_or os (n - 1) o
     → memory_outputs 1 (log ++ (n, byte) ∷ []) os
     ≡ slice_set (memory_outputs 1 log os) (n - 1) (record (output_at n log o) { written = bytes_to n log ++ byte ∷ [] })

@@ -1,4 +1,4 @@
--- The names of a table, one after another.
+-- The loop over the names of a table.
 use Rattle.std.proofs.Common.{◌≡◌, ℕ, ◌+◌, ◌<◌, ◌≤◌, List, [], ◌∷◌, ◌++◌, length, take, drop, map, get_or, Bool, true, false, nat_lt, Some, None, Option, refl, sym, ap, ◌∙◌, arith}
 use Rattle.std.proofs.lemmas.List.{drop_more, take_more, map-append}
 use Rattle.std.proofs.lemmas.Bool.Decides.{nat_tests}
@@ -14,12 +14,12 @@ is_short n h = grind (arith, nat_tests)
 abbrev pub stands_in : List ℕ → List (List ℕ) → Bool
 stands_in name before = list_any (λ known. bytes_eq known name) before
 
--- the name at the front is no fault
+-- the first name is right
 pub refusal_from-passed : (before names : List (List ℕ)) (name : List ℕ) → length name ≤ 255 → stands_in name before ≡ false
     → refusal_from before (name ∷ names) ≡ refusal_from (before ++ name ∷ []) names
 refusal_from-passed before names name short fresh = rw (is_short (length name) short, fresh) refl
 
--- the name at the front stands before
+-- the first name already occurred
 pub refusal_from-twice : (before names : List (List ℕ)) (name : List ℕ) → length name ≤ 255 → stands_in name before ≡ true
     → refusal_from before (name ∷ names) ≡ Some NameTwice
 refusal_from-twice before names name short found = rw (is_short (length name) short, found) refl
@@ -45,6 +45,6 @@ module _ {X : Type 0} (name_of : X → List ℕ) (table : List X) (i : ℕ) (x :
   pub repeats : stands_in (name_of x) before ≡ true → refusal_from before (map name_of (drop i table)) ≡ Some NameTwice
   repeats found = rw names_from (refusal_from-twice before (map name_of (drop (i + 1) table)) (name_of x) short found)
 
--- the outputs' names are looked at where the inputs' are no fault
+-- the names of outputs are checked if those of inputs are right
 pub refusal_of-second : (inputs outputs : List (List ℕ)) (fault : Option StreamsError) → refusal_in inputs ≡ None → refusal_in outputs ≡ fault → refusal_of inputs outputs ≡ fault
 refusal_of-second inputs outputs fault none second = ap (λ first. first_of first (refusal_in outputs)) none ∙ second

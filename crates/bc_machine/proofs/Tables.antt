@@ -47,7 +47,7 @@ pub end_output-at : (inputs : List Input) (outputs : List Output) (input n : ℕ
     ≡ content inputs (slice_set outputs (n - 1) (record o { ended = true })) input 0
 end_output-at inputs outputs input n o h = ap (λ x. with_output_ended x (content inputs outputs input n)) h
 
--- over a table of inputs that are views of what the code holds
+-- over a table of inputs that are views of the code's inputs
 module _ {X : Type 0} (f : X → Input) (table : List X) (outputs : List Output) (n output : ℕ) (x : X) (some : 0 < n) (within : n ≤ length table) (is : x ≡ get_or table (n - 1) x) where
   pub reads : (byte : Option ℕ) → byte ≡ next_byte (f x).ended (f x).rest → byte ≡ read_byte (content (map f table) outputs n output)
   reads byte h = h ∙ sym (read_byte-at (map f table) outputs n output (f x) (numbered-map f table n x some within is))
@@ -64,7 +64,7 @@ module _ {X : Type 0} (f : X → Input) (table : List X) (outputs : List Output)
       ap (λ inputs. content inputs outputs 0 output) (map-set f table (n - 1) y ∙ ap (set (map f table) (n - 1)) h)
       ∙ sym (end_input-at (map f table) outputs n output (f x) (numbered-map f table n x some within is))
 
--- the names of a table that is a view of what the code holds
+-- the names of a table that is a view of the code's table
 pub names_of_inputs : {X : Type 0} (f : X → Input) (name_of : X → List ℕ) → ((x : X) → (f x).name ≡ name_of x) → (table : List X)
     → map (λ (i : Input). i.name) (map f table) ≡ map name_of table
 names_of_inputs f name_of h [] = refl

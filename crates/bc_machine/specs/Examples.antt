@@ -15,7 +15,7 @@ other = 66 ∷ []
 twice : refusal_of (one ∷ other ∷ one ∷ []) [] ≡ Some NameTwice
 twice = refl
 
--- an input and an output may have one name
+-- an input and an output may have the same name
 tables_apart : refusal_of (one ∷ other ∷ []) (one ∷ []) ≡ None
 tables_apart = refl
 
@@ -25,13 +25,13 @@ long = refl
 long_enough : refusal_of [] (replicate 255 65 ∷ []) ≡ None
 long_enough = refl
 
--- the length of a name is looked at before its equals, and the inputs before the outputs
+-- the length of a name is checked before duplicates, and the inputs before the outputs
 length_first : refusal_of (replicate 256 65 ∷ replicate 256 65 ∷ []) (one ∷ one ∷ []) ≡ Some NameTooLong
 length_first = refl
 
 inputs_first : refusal_of (one ∷ one ∷ []) (replicate 256 65 ∷ []) ≡ Some NameTwice
 inputs_first = refl
 
--- of the bytes 7, 8 and 9, of which 8 went to output 2
+-- output 1 gets the bytes 7 and 9 of 7, 8 and 9, since 8 went to output 2
 sent : bytes_to 1 ((1, 7) ∷ (2, 8) ∷ (1, 9) ∷ []) ≡ 7 ∷ 9 ∷ []
 sent = refl

@@ -1,7 +1,7 @@
--- Bytes that readers and writers tell.
+-- The bytes that readers and writers say they hold.
 use Rattle.std.specs.Prelude.{ℕ, List, [], ◌∷◌, Option, Some, None}
 
--- all of these bytes are told
+-- every one of these devices says which bytes it holds
 abbrev pub AllKnown : List (Option (List ℕ)) → Type 0
 AllKnown [] = Unit {0}
 AllKnown (None ∷ told_bytes) = ⊥

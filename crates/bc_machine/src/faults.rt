@@ -1,12 +1,14 @@
+//! The errors of streams.
+
 use bc_word::Memory;
 use thiserror::Error;
 
-/// A device failed.
+/// A device has failed: a reader, a writer, or the room for output.
 #[derive(Clone, Copy, Debug, PartialEq, Eq, Error)]
 #[error("a device failed")]
 pub struct DeviceFault;
 
-/// Why streams can't be made.
+/// Why streams can't be created.
 #[derive(Clone, Copy, Debug, PartialEq, Eq, Error)]
 pub enum StreamsError {
     /// Two streams of one table have the same name.
@@ -15,7 +17,7 @@ pub enum StreamsError {
     /// A name has more than 255 bytes.
     #[error("the name of a stream has more than 255 bytes")]
     NameTooLong,
-    /// An allocation was refused.
+    /// An allocation failed.
     #[error("out of memory")]
     Memory,
 }

@@ -1,3 +1,5 @@
+//! Streams over readers and writers.
+
 ghost use Rattle.std.specs.Prelude.{◌≡◌, ◌≤◌, [], ◌∷◌, map, vec_len, OnOk, OnErr};
 ghost use Rattle.std.specs.Io.KnownBytes.{Appends, Keeps};
 ghost use Rattle.bc_machine.specs.Known.{AllKnown};
@@ -32,8 +34,7 @@ impl<R: Read> FileInput<R> {
     ghost use Rattle.bc_machine_defs.specs.StreamCalls.{next_byte, after_byte};
     ghost use Rattle.bc_machine.specs.FileContent.{file_input};
 
-    /// The next byte, or `None` at the end and after an end. A reader that gave nothing once is at
-    /// its end for good.
+    /// The next byte, or `None` at the end and once the input has been ended. A reader that returned nothing once stays at its end.
     fn next_byte(&mut self) -> Result<Option<u8>, DeviceFault>
         ensures byte { IsSome (R.remaining self.old.reader) → IfOk result (λ byte. byte ≡ next_byte self.old.ended (file_input R.remaining self.old).rest) }
         ensures ok { IsSome (R.remaining self.old.reader)
@@ -57,7 +58,7 @@ impl<R: Read> FileInput<R> {
     }
 }
 
-/// Writes one byte. A writer that takes nothing has failed.
+/// Writes one byte. A writer that takes nothing counts as failed.
 fn write_byte<W: Write>(writer: &mut W, byte: u8) -> Result<(), DeviceFault>
     ensures ok { OnOk result (Appends (W.contents writer.old) (W.contents writer.new) (byte ∷ [])) }
     ensures err { OnErr result (Keeps (W.contents writer.old) (W.contents writer.new)) }
@@ -69,6 +70,7 @@ fn write_byte<W: Write>(writer: &mut W, byte: u8) -> Result<(), DeviceFault>
     }
 }
 
+/// Flushes a writer.
 fn flush<W: Write>(writer: &mut W) -> Result<(), DeviceFault>
     ensures { Keeps (W.contents writer.old) (W.contents writer.new) }
 {
@@ -78,7 +80,7 @@ fn flush<W: Write>(writer: &mut W) -> Result<(), DeviceFault>
     }
 }
 
-/// Flushes every writer, also where one before it failed.
+/// Flushes every writer, even after one has failed; `DeviceFault` if one fails.
 fn flush_all<W: Write>(writers: &mut [W]) -> Result<(), DeviceFault>
     ensures { AllKnown (map W.contents writers.old) → map W.contents writers.new ≡ map W.contents writers.old }
 {
@@ -91,14 +93,16 @@ fn flush_all<W: Write>(writers: &mut [W]) -> Result<(), DeviceFault>
     flushed
 }
 
-/// Streams over readers and writers.
+/// Streams over readers and writers, which are the devices.
 #[derive(Drop)]
 pub struct FileStreams<R, W> {
     inputs: Vec<FileInput<R>>,
     outputs: Vec<NamedOutput>,
     writers: Vec<W>,
+    /// The numbers of the selected input and output, 0 if none is selected.
     input: u16,
     output: u16,
+    /// How often a device has failed; saturates at 2^64 - 1.
     failures: u64,
     ghost input_exists: { input ≤ vec_len inputs },
     ghost output_exists: { output ≤ vec_len outputs },
@@ -109,7 +113,7 @@ impl<R: Read> FileInput<R> {
     ghost use Rattle.std.specs.Prelude.{◌≡◌, IfOk, map};
     ghost use Rattle.bc_machine.specs.FileContent.{file_input, fresh_inputs};
 
-    /// The table of these inputs, of which nothing was read.
+    /// The table of these inputs, before anything has been read.
     fn table(alloc: Global, inputs: Vec<Named<R>>) -> Result<Vec<FileInput<R>>, Memory>
     where
         R: Drop,
@@ -130,7 +134,7 @@ impl<R: Read> FileInput<R> {
     }
 }
 
-/// The outputs' names, and their writers, each in order.
+/// The names of the outputs and their writers, both in order.
 #[derive(Drop)]
 struct Outputs<W> {
     names: Vec<NamedOutput>,
@@ -142,7 +146,7 @@ impl<W: Write> Outputs<W> {
     ghost use Rattle.std.specs.Prelude.{◌≡◌, IfOk, map};
     ghost use Rattle.bc_machine.specs.FileContent.{file_outputs, fresh_outputs, devices};
 
-    /// The tables of these outputs, to which nothing was written.
+    /// The tables of these outputs, before anything has been written.
     fn tables(alloc: Global, outputs: Vec<Named<W>>) -> Result<Outputs<W>, Memory>
     where
         W: Drop,
@@ -171,11 +175,10 @@ impl<R: Read, W: Write> FileStreams<R, W> {
     ghost use Rattle.bc_machine.specs.FileContent.{file_content, file_writers, file_failures, fresh_inputs, fresh_outputs, devices, AllTell, AllTold, IsKnown};
     ghost use Rattle.bc_machine_defs.specs.Streams.{HoldBytes};
 
-    /// The streams over these named readers and writers, with input 1 and output 1 selected.
+    /// The streams over these named readers and writers, with input 1 and output 1 selected if they exist.
     ///
-    /// The names are looked at in order, the inputs' first: `NameTooLong` comes at one of more than
-    /// 255 bytes, `NameTwice` at one that stands before in its table. `Memory` comes where an
-    /// allocation was refused.
+    /// The names are checked in order, the inputs first: `NameTooLong` for a name of more than 255 bytes, `NameTwice` for one that
+    /// already occurred in its table. `Memory` if an allocation fails.
     pub fn new(
         alloc: Global,
         inputs: Vec<Named<R>>,
@@ -189,7 +192,7 @@ impl<R: Read, W: Write> FileStreams<R, W> {
         ensures content { IfOk result (λ streams. file_content R.remaining W.contents streams ≡ opened (fresh_inputs R.remaining inputs.items)
             (fresh_outputs W.contents outputs.items)) }
         ensures told { IfOk result (λ streams. AllTell R.remaining inputs.items → AllTell W.contents outputs.items → AllTold R.remaining W.contents streams) }
-        // Where what the readers tell are bytes, the streams are known.
+        // If the readers say what they hold, and it consists of bytes, and the writers say what they hold, the content is known.
         ensures known { IfOk result (λ streams. AllTell R.remaining inputs.items → HoldBytes (fresh_inputs R.remaining inputs.items)
             → AllTell W.contents outputs.items → IsKnown R.remaining W.contents streams) }
         ensures writers { IfOk result (λ streams. file_writers streams ≡ devices outputs.items) }
@@ -222,9 +225,9 @@ impl<R: Read, W: Write> FileStreams<R, W> {
         self.writers.as_slice()
     }
 
-    /// Flushes every output, also where one before it failed.
+    /// Flushes every output, even after one has failed.
     ///
-    /// `DeviceFault` comes where one failed.
+    /// `DeviceFault` if one fails.
     #[tactic(auto, unfolding(crate::specs::Rose::Rose))]
     pub fn close(&mut self) -> Result<(), DeviceFault>
         ensures content { AllTold R.remaining W.contents self.old → file_content R.remaining W.contents self.new

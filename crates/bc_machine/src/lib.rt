@@ -1,4 +1,4 @@
-//! The interpreter of INTCODE: images, the machine that runs them, and the streams of a run.
+//! The INTCODE machine: runs an image, over streams in memory or over readers and writers.
 #![tactic(auto)]
 
 mod faults;

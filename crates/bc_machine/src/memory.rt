@@ -1,3 +1,5 @@
+//! Streams in memory.
+
 ghost use Rattle.std.specs.Prelude.{◌≡◌, ◌≤◌, [], IfOk, vec_len, vec_capacity};
 
 use crate::faults::{DeviceFault, StreamsError};
@@ -7,7 +9,7 @@ use bc_machine_defs::Side;
 use bc_word::{Memory, Word};
 use std::alloc::Global;
 
-/// An input that lies in memory.
+/// An input in memory: its bytes, and how many of them have been read.
 #[derive(Drop)]
 struct MemoryInput {
     name: Vec<u8>,
@@ -29,7 +31,7 @@ impl MemoryInput {
     ghost use Rattle.bc_machine_defs.specs.StreamCalls.{next_byte, after_byte};
     ghost use Rattle.bc_machine.specs.MemoryContent.{memory_input};
 
-    /// The next byte, or `None` at the end and after an end.
+    /// The next byte, or `None` at the end and once the input has been ended.
     fn next_byte(&mut self) -> Option<u8>
         ensures byte { result ≡ next_byte self.old.ended (memory_input self.old).rest }
         ensures after { memory_input self.new ≡ record (memory_input self.old) { rest = after_byte self.old.ended (memory_input self.old).rest } }
@@ -50,7 +52,7 @@ impl MemoryInput {
     ghost use Rattle.bc_machine.specs.MemoryContent.{memory_input};
     ghost use Rattle.bc_machine.specs.Names.{named_bytes};
 
-    /// An input of which nothing was read.
+    /// An input before anything has been read.
     fn fresh(name: Vec<u8>, bytes: Vec<u8>) -> MemoryInput
         ensures content { memory_input result ≡ fresh_input name.items bytes.items }
         ensures bytes { AreBytes (memory_input result).rest }
@@ -63,7 +65,7 @@ impl MemoryInput {
         }
     }
 
-    /// The table of these inputs, of which nothing was read.
+    /// The table of these inputs, before anything has been read.
     #[tactic(auto, using(crate::proofs::Held::held_more))]
     fn table(alloc: Global, inputs: Vec<Named<Vec<u8>>>) -> Result<Vec<MemoryInput>, Memory>
         ensures content { IfOk result (λ table. map memory_input table.items ≡ map (λ i. fresh_input i.0 i.1) (named_bytes inputs.items)) }
@@ -84,7 +86,7 @@ impl NamedOutput {
     ghost use Rattle.bc_machine.specs.MemoryContent.{memory_outputs};
     ghost use Rattle.bc_machine.specs.Names.{bytes_of};
 
-    /// The table of outputs of these names, to which nothing was written.
+    /// The table of outputs with these names, before anything has been written.
     fn table(alloc: Global, names: Vec<Vec<u8>>) -> Result<Vec<NamedOutput>, Memory>
         ensures { IfOk result (λ table. memory_outputs 1 [] table.items ≡ map fresh_output (bytes_of names.items)) }
     {
@@ -96,7 +98,7 @@ impl NamedOutput {
     }
 }
 
-/// Room for this many bytes of output.
+/// A buffer with room for this many bytes of output.
 fn room_for(alloc: Global, room: usize) -> Result<Vec<(Word, u8)>, Memory>
     ensures empty { IfOk result (λ written. written.items ≡ []) }
     ensures room { IfOk result (λ written. room ≤ vec_capacity written) }
@@ -104,15 +106,19 @@ fn room_for(alloc: Global, room: usize) -> Result<Vec<(Word, u8)>, Memory>
     Ok(Vec::with_capacity(alloc, room)?)
 }
 
-/// Streams in memory: inputs whose bytes are at hand, and one room for the bytes of all outputs.
+/// Streams in memory. The bytes of all outputs share one buffer, whose size is fixed at the start.
 #[derive(Drop)]
 pub struct MemoryStreams {
     inputs: Vec<MemoryInput>,
     outputs: Vec<NamedOutput>,
+    /// The bytes that have been written, each with the number of its output.
     written: Vec<(Word, u8)>,
+    /// The greatest number of bytes in `written`.
     room: usize,
+    /// The numbers of the selected input and output, 0 if none is selected.
     input: u16,
     output: u16,
+    /// How often no room was left; saturates at 2^64 - 1.
     failures: u64,
     ghost input_exists: { input ≤ vec_len inputs },
     ghost output_exists: { output ≤ vec_len outputs },
@@ -128,12 +134,11 @@ impl MemoryStreams {
     ghost use Rattle.bc_machine.specs.Names.{given_names, bytes_of, named_bytes};
     ghost use Rattle.bc_machine.specs.MemoryContent.{memory_content, memory_written, memory_room, memory_failures, IsKnown};
 
-    /// The streams over inputs of these names and bytes and outputs of these names, with input 1 and
-    /// output 1 selected, and room for `room` bytes of output.
+    /// The streams with inputs of these names and bytes and outputs of these names. Input 1 and output 1 are selected if they exist.
+    /// There is room for `room` bytes of output in all.
     ///
-    /// The names are looked at in order, the inputs' first: `NameTooLong` comes at one of more than
-    /// 255 bytes, `NameTwice` at one that stands before in its table. `Memory` comes where an
-    /// allocation was refused.
+    /// The names are checked in order, the inputs first: `NameTooLong` for a name of more than 255 bytes, `NameTwice` for one that
+    /// already occurred in its table. `Memory` if an allocation fails.
     pub fn new(
         alloc: Global,
         inputs: Vec<Named<Vec<u8>>>,
@@ -169,7 +174,7 @@ impl MemoryStreams {
         })
     }
 
-    /// The bytes that were written, in order, each after the number of its output.
+    /// The bytes that have been written, in order, each with the number of its output.
     pub fn written(&self) -> &[(Word, u8)]
         ensures { result.now ≡ memory_written self.now }
     {
@@ -209,7 +214,7 @@ impl Streams for MemoryStreams {
         }
     }
 
-    /// It never fails.
+    /// Never fails.
     fn read(&mut self) -> Result<Option<u8>, DeviceFault>
         ensures byte { result ≡ Ok (read_byte (memory_content self.old)) }
         ensures content { memory_content self.new ≡ after_read (memory_content self.old) }
@@ -223,8 +228,7 @@ impl Streams for MemoryStreams {
         Ok(input.next_byte())
     }
 
-    /// A byte that is dropped needs no room; for any other, `DeviceFault` comes just where the room is
-    /// spent.
+    /// A byte that is dropped needs no room. For any other, `DeviceFault` comes exactly if no room is left.
     #[tactic(auto, unfolding(crate::specs::Rose::Rose))]
     fn write(&mut self, byte: u8) -> Result<(), DeviceFault>
         ensures ok { OnOk result (memory_content self.new ≡ after_write byte (memory_content self.old)) }
@@ -236,7 +240,7 @@ impl Streams for MemoryStreams {
         ensures kept { OnErr result (memory_written self.new ≡ memory_written self.old) }
         ensures room { memory_room self.new ≡ memory_room self.old }
         ensures unfailed { OnOk result (memory_failures self.new ≡ memory_failures self.old) }
-        // A fault comes just where the room is spent.
+        // It fails exactly if no room is left.
         ensures spent { OnErr result (IsSpent self.old) }
         ensures given { OnOk result (IsSpent self.old → ⊥) }
     {
@@ -254,7 +258,7 @@ impl Streams for MemoryStreams {
         Err(DeviceFault)
     }
 
-    /// It never fails.
+    /// Never fails.
     fn end(&mut self, side: Side) -> Result<(), DeviceFault>
         ensures ended { result ≡ Ok tt }
         ensures content { memory_content self.new ≡ end_stream side (memory_content self.old) }

@@ -1,3 +1,5 @@
+//! The names and numbers of streams.
+
 ghost use Rattle.std.specs.Prelude.{◌≡◌, ◌≤◌, ℕ, List, map, cond, nat_le, length};
 ghost use Rattle.bc_machine_defs.specs.StreamStart.{first_number};
 ghost use Rattle.std.specs.List.{position_from, list_any};
@@ -8,21 +10,25 @@ ghost use Rattle.bc_machine.specs.Refusal.{refusal_in};
 use crate::faults::StreamsError;
 use bc_word::Word;
 
-/// A stream's device, and the name that the stream is found by.
+/// A device with the name by which its stream is found.
 #[derive(Drop)]
 pub struct Named<T> {
+    /// The name. Streams reject one of more than 255 bytes.
     pub name: Vec<u8>,
+    /// The device: the bytes of an input in memory, a reader or a writer.
     pub device: T,
 }
 
-/// The name of an output, and whether the output was ended.
+/// The name of an output, and whether the output has been ended.
 #[derive(Drop)]
 pub struct NamedOutput {
+    /// The name.
     pub name: Vec<u8>,
+    /// Whether the output has been ended, and drops what is written to it.
     pub ended: bool,
 }
 
-/// What has the name of a stream.
+/// Something with the name of a stream.
 pub trait HasName {
     ghost name_of: { Self → List ℕ };
 
@@ -67,8 +73,7 @@ fn is_among<N: HasName>(table: &[N], name: &[u8]) -> bool
     false
 }
 
-/// Why these names can't be those of a table, or `None` where they can: the first fault in their
-/// order.
+/// Why these names can't be the names of a table, by the first name that is wrong; `None` if they can.
 pub fn refusal<N: HasName>(table: &[N]) -> Option<StreamsError>
     ensures { result ≡ refusal_in (map N.name_of table.now) }
 {
@@ -83,8 +88,7 @@ pub fn refusal<N: HasName>(table: &[N]) -> Option<StreamsError>
     None
 }
 
-/// The number of the first stream with this name, or 0 where there is none or a word can't hold its
-/// number.
+/// The number of the first stream with this name, counted from 1; 0 if there is none or the number doesn't fit into a word.
 pub fn number_of<N: HasName>(table: &[N], name: &[u8]) -> Word
     ensures { result ≡ number_or_none (position_from (λ known. bytes_eq known name.now) 1 (map N.name_of table.now)) }
 {
@@ -100,7 +104,7 @@ pub fn number_of<N: HasName>(table: &[N], name: &[u8]) -> Word
     Word::new(0)
 }
 
-/// The number, if a table of this many streams has it, else 0.
+/// The number if a table of this many streams has it, else 0.
 pub fn chosen(number: Word, streams: usize) -> u16
     ensures number { result ≡ cond (nat_le number streams) number 0 }
     ensures within { result ≤ streams }
@@ -112,7 +116,7 @@ pub fn chosen(number: Word, streams: usize) -> u16
     }
 }
 
-/// The number of a table's first stream: 1, or 0 where it has none.
+/// The number of a table's first stream: 1, or 0 if the table is empty.
 pub fn number_of_first<N: HasName>(table: &[N]) -> u16
     ensures number { result ≡ first_number table.now }
     ensures within { result ≤ length table.now }

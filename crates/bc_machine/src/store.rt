@@ -1,3 +1,5 @@
+//! What operations read from the store: the table of a switch, and the name of a stream. All addresses are modulo 65,536.
+
 ghost use Rattle.std.specs.Prelude.{◌≡◌, length, slice_index};
 ghost use Rattle.bc_machine_defs.specs.Operand.{next};
 ghost use Rattle.bc_machine_defs.specs.Switch.{case_of, switch_of};
@@ -7,7 +9,7 @@ ghost use Rattle.bc_machine_defs.specs.Text.{byte_at as byte_of, string_at};
 use crate::streams::Streams;
 use bc_machine_defs::Side;
 
-/// Where the switch whose words stand from `c` on goes for the value `a`.
+/// The address to which a switch goes for the value `a`. The words of the switch begin at address `c`.
 pub fn switch_target(store: &[u16], c: u16, a: u16) -> u16
     requires { length store.now ≡ 65536 }
     ensures { result ≡ switch_of c a store.now }
@@ -24,7 +26,7 @@ pub fn switch_target(store: &[u16], c: u16, a: u16) -> u16
     store[c.wrapping_add(1) as usize]
 }
 
-/// Byte `k` of the string at this address.
+/// Byte `k` of the string at this address; byte 0 is its length.
 fn byte_at(store: &[u16], address: u16, k: u16) -> u8
     requires { length store.now ≡ 65536 }
     ensures { result ≡ byte_of address k store.now }
@@ -37,7 +39,7 @@ fn byte_at(store: &[u16], address: u16, k: u16) -> u8
     }
 }
 
-/// The number of the stream whose name is the string at this address.
+/// The number of the stream whose name is the string at this address, or 0 if there is none.
 #[inline(never)]
 pub fn find_named<S: Streams>(store: &[u16], address: u16, side: Side, streams: &S) -> u16
     requires { length store.now ≡ 65536 }

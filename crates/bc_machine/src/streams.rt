@@ -1,3 +1,5 @@
+//! The streams that a run needs, as a trait.
+
 ghost use Rattle.std.specs.Prelude.{◌≡◌, ◌≤◌, ℕ, OnOk, OnErr, IfOk};
 ghost use Rattle.bc_machine_defs.specs.StreamCalls.{find_stream, select_stream, read_byte, after_read, after_write, end_stream};
 ghost use Rattle.bc_machine_defs.specs.Streams.{Content, HoldBytes};
@@ -7,11 +9,10 @@ use crate::faults::DeviceFault;
 use bc_machine_defs::Side;
 use bc_word::Word;
 
-/// The streams of a run: two tables of named inputs and outputs, each numbered from 1, and what is
-/// selected of them.
+/// The streams of a run: a table of named inputs and one of named outputs, each numbered from 1, with one input and one output selected.
 ///
-/// Contracts see what the streams hold as their content, where that is known, and count how often a
-/// device failed; the count stays at 2^64 - 1. What is known of an input are bytes.
+/// In contracts they have a content, which may be known or not, and a count of device failures, which saturates at 2^64 - 1. Where the
+/// content is known, the inputs hold bytes.
 pub trait Streams {
     ghost content: { Self → Content };
 
@@ -21,20 +22,19 @@ pub trait Streams {
 
     ghost holds_bytes: { (streams : Self) → known streams → HoldBytes (content streams).inputs };
 
-    /// The number of the stream with this name, or 0 where there is none.
+    /// The number of the stream with this name, or 0 if there is none.
     fn find(&self, side: Side, name: &[u8]) -> Word
         ensures { known self.now → result ≡ find_stream side name.now (content self.now) };
 
-    /// Selects the stream of this number; a number of no stream selects nothing.
+    /// Selects the stream with this number. A number that no stream has selects nothing.
     fn select(&mut self, side: Side, number: Word)
         ensures content { known self.old → content self.new ≡ select_stream side number (content self.old) }
         ensures known { known self.old → known self.new }
         ensures counted { failures self.new ≡ failures self.old };
 
-    /// The next byte of the selected input, or `None` at its end, after its end, or with nothing
-    /// selected.
+    /// The next byte of the selected input. `None` if it is at its end or has been ended, or if no input is selected.
     ///
-    /// `DeviceFault` comes where the device failed; nothing was read then.
+    /// `DeviceFault` if the device fails; nothing has been read then.
     fn read(&mut self) -> Result<Option<u8>, DeviceFault>
         ensures byte { IfOk result (λ byte. known self.old → byte ≡ read_byte (content self.old)) }
         ensures ok { OnOk result (known self.old → content self.new ≡ after_read (content self.old)) }
@@ -43,9 +43,9 @@ pub trait Streams {
         ensures failed { OnErr result (Rose (failures self.old) (failures self.new)) }
         ensures counted { failures self.old ≤ failures self.new };
 
-    /// Writes a byte to the selected output; it is dropped where none is selected or it was ended.
+    /// Writes a byte to the selected output. It is dropped if no output is selected or the output has been ended.
     ///
-    /// `DeviceFault` comes where the device failed; nothing was written then.
+    /// `DeviceFault` if the device fails; nothing has been written then.
     fn write(&mut self, byte: u8) -> Result<(), DeviceFault>
         ensures ok { OnOk result (known self.old → content self.new ≡ after_write byte (content self.old)) }
         ensures err { OnErr result (known self.old → content self.new ≡ content self.old) }
@@ -55,7 +55,7 @@ pub trait Streams {
 
     /// Ends the selected stream for good, and selects nothing.
     ///
-    /// `DeviceFault` comes where the device failed; the stream is still selected then.
+    /// `DeviceFault` if the device fails; the stream is still selected then.
     fn end(&mut self, side: Side) -> Result<(), DeviceFault>
         ensures ok { OnOk result (known self.old → content self.new ≡ end_stream side (content self.old)) }
         ensures err { OnErr result (known self.old → content self.new ≡ content self.old) }

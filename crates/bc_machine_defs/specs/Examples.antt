@@ -28,7 +28,7 @@ reads_on = refl
 reads_end : read_byte (after_read (after_read small)) ≡ None
 reads_end = refl
 
--- an ended input is still found and selected, and gives no byte
+-- an ended input can still be found and selected, but gives no byte
 ended_reads_nothing : read_byte (select_stream sides.Input 1 (end_stream sides.Input small)) ≡ None
 ended_reads_nothing = refl
 
@@ -36,7 +36,7 @@ ended_reads_nothing = refl
 writes : output_of (after_write 8 (select_stream sides.Output 1 (end_stream sides.Output (after_write 7 small)))) ≡ (7 ∷ []) ∷ []
 writes = refl
 
--- `LIG1 K2 X22`, and at 10 the routine of global 1: `L65 X27 X4`
+-- `LIG1 K2 X22`, and at address 10 the routine of global 1: `L65 X27 X4`
 abbrev prints_A : List ℕ
 prints_A = 5121 ∷ 49154 ∷ 57366 ∷ 0 ∷ 0 ∷ 0 ∷ 0 ∷ 0 ∷ 0 ∷ 10 ∷ 65 ∷ 57371 ∷ 57348 ∷ 0 ∷ 0 ∷ 0 ∷ 0 ∷ 0 ∷ 0 ∷ []
 
@@ -55,7 +55,7 @@ one_less : (runs 5 started).1 ≡ BudgetSpent
 unfolding runs step started
 one_less = refl
 
--- `L0 X6` divides by 0, and the division isn't carried out
+-- `L0 X6` divides by 0, and the division changes nothing
 divides : runs 9 (start (0 ∷ 57350 ∷ []) 2 small) ≡ (
   record { registers = record { a = 0; b = 0; c = 1; p = 2 }; store = 0 ∷ 57350 ∷ []; streams = small },
   ZeroDivide,
@@ -63,7 +63,7 @@ divides : runs 9 (start (0 ∷ 57350 ∷ []) 2 small) ≡ (
 unfolding runs step
 divides = refl
 
--- `X30` is no operation
+-- `X30` isn't an operation
 bad : (runs 1 (start (57374 ∷ []) 1 small)).1 ≡ BadInstruction 0
 unfolding runs step
 bad = refl

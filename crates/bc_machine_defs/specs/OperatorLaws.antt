@@ -1,11 +1,11 @@
--- The operators' numbers are their numbers as operations of X.
+-- The laws of the numbers of operators, which are also numbers of operations of X.
 use Rattle.std.specs.Prelude.{ℕ, ◌≡◌}
 use Rattle.bc_word.specs.Words.{number_of}
 use Rattle.bc_word.specs.declared.operator.Op.{Op}
 use Rattle.bc_machine_defs.specs.Operation.{operation_of}
 use Rattle.bc_machine_defs.specs.declared.operation.Operation.TheVariants.{Operate}
 
--- the operation of X with an operator's number is to compute that operator
+-- the operation of X with an operator's number computes that operator
 abbrev pub OperatorsAreOperations : Type 0
 OperatorsAreOperations = (op : Op) → operation_of (number_of op) ≡ Operate op
 

@@ -1,7 +1,7 @@
--- Where the labels of a segment stand.
+-- The address of a label of a segment.
 use Rattle.std.specs.Prelude.{ℕ, ◌≡◌, ◌==◌, List, [], ◌∷◌, Option, Some, None, cond, refl}
 
--- the address of a label, in the first pair of it and its address
+-- the address of a label: that of the first pair with the label
 abbrev pub address_in : ℕ → List (ℕ × ℕ) → Option ℕ
 address_in label [] = None
 address_in label (pair ∷ pairs) = cond (label == pair.0) (Some pair.1) (address_in label pairs)

@@ -1,3 +1,5 @@
+//! The image of a linked program, from which the machine starts. It is in this crate so that the linker needn't depend on the interpreter.
+
 ghost use Rattle.std.specs.Prelude.{◌≡◌, ◌<◌, ◌≤◌, ℕ, List, length, vec_len, slice_index, IfOk};
 ghost use Rattle.bc_machine_defs.specs.Places.{address_in};
 
@@ -5,9 +7,7 @@ use bc_word::{Memory, Word};
 use std::alloc::Global;
 use std::marker::Model;
 
-/// The 65,536 words of a store.
-///
-/// Contracts see them as the list of the words, by address.
+/// The 65,536 words of a store. In contracts they are a list, indexed by address.
 #[derive(Drop)]
 pub struct Words {
     words: Vec<Word>,
@@ -24,7 +24,7 @@ impl Model for Words {
 }
 
 impl Words {
-    /// The store of these words, by address. There have to be 65,536.
+    /// A store of these words, of which there must be exactly 65,536. The index of a word is its address.
     pub fn new(words: Vec<Word>) -> Words
         requires { vec_len words ≡ 65536 }
         ensures { result ≡ words.items }
@@ -39,7 +39,7 @@ impl Words {
         self.words[address.get() as usize]
     }
 
-    /// All words, by address.
+    /// All words, indexed by address.
     pub fn as_slice(&self) -> &[Word]
         ensures words { result.now ≡ self.now }
         ensures length { length result.now ≡ 65536 }
@@ -47,8 +47,9 @@ impl Words {
         self.words.as_slice()
     }
 
-    /// The words as numbers, in memory of their own.
-    // A function apart, so that the interpreter's loop lies well (docs/PERFORMANCE.md).
+    /// A copy of the words as numbers. Not inlined, since inlining it makes the interpreter's loop slower (docs/PERFORMANCE.md).
+    ///
+    /// `Memory` if an allocation fails.
     #[inline(never)]
     pub fn to_numbers(&self, alloc: Global) -> Result<Vec<u16>, Memory>
         ensures numbers { IfOk result (λ numbers. numbers.items ≡ self.now) }
@@ -62,9 +63,7 @@ impl Words {
     }
 }
 
-/// The addresses of a segment's labels.
-///
-/// Contracts see them as the list of pairs of a label and its address.
+/// The addresses of a segment's labels. In contracts they are a list of pairs of a label and its address.
 #[derive(Drop)]
 pub struct Labels {
     pairs: Vec<(Word, Word)>,
@@ -79,21 +78,21 @@ impl Model for Labels {
 }
 
 impl Labels {
-    /// The labels and their addresses, in pairs.
+    /// A table of these pairs of a label and its address.
     pub fn new(pairs: Vec<(Word, Word)>) -> Labels
         ensures { result ≡ pairs.items }
     {
         Labels { pairs }
     }
 
-    /// The labels and their addresses, in pairs.
+    /// The pairs of a label and its address.
     pub fn as_slice(&self) -> &[(Word, Word)]
         ensures { result.now ≡ self.now }
     {
         self.pairs.as_slice()
     }
 
-    /// The address of this label, or `None` where the segment doesn't set it.
+    /// The address of this label, or `None` if the segment doesn't set it. The first of several pairs with the label counts.
     pub fn address(&self, label: Word) -> Option<Word>
         ensures { result ≡ address_in label self.now }
     {
@@ -106,16 +105,16 @@ impl Labels {
     }
 }
 
-/// Where a segment stands: the address of its first word, and those of its labels.
+/// Where a segment is in the store.
 #[derive(Drop)]
 pub struct SegmentPlace {
+    /// The address of its first word.
     pub start: Word,
+    /// The addresses of its labels.
     pub labels: Labels,
 }
 
-/// Where the segments of an image stand.
-///
-/// Contracts see them as the list of the segments' places, in the order of the segments.
+/// Where the segments of an image are. In contracts it is the list of the segments' places, in the order of the segments.
 #[derive(Drop)]
 pub struct Places {
     segments: Vec<SegmentPlace>,
@@ -146,11 +145,13 @@ impl Places {
     }
 }
 
-/// What the machine starts from: the store's words, where the stack begins, and where the segments
-/// stand.
+/// The image of a linked program.
 #[derive(Drop)]
 pub struct Image {
+    /// The words of the store at the start.
     pub words: Words,
+    /// The address at which the stack begins.
     pub stack_base: Word,
+    /// Where the segments are.
     pub places: Places,
 }

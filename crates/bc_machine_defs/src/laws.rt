@@ -1,17 +1,18 @@
-//! Laws of the machine, each the contract of a function that does nothing.
+//! Laws of the machine. Each is the contract of a function that does nothing.
+
 ghost use Rattle.bc_machine_defs.specs.Laws.{StopsLeaveState, RunsAdd, ComesIsRunning};
 
-/// An instruction that meets an end changes nothing, and no instruction spends a budget or meets a device.
+/// An instruction that ends the run changes nothing, and the end is never `BudgetSpent` or `Device`.
 pub fn stops_leave_state()
     ensures { StopsLeaveState }
 {}
 
-/// A run of `n + m` instructions is one of `n`, and then one of `m` where it is still running.
+/// A run of `n + m` instructions is a run of `n`, followed by one of `m` if the machine is still running.
 pub fn runs_add()
     ensures { RunsAdd }
 {}
 
-/// A run of `n` instructions is still running just where `n` instructions were carried out.
+/// The machine is still running after `n` instructions exactly if `n` instructions were executed.
 pub fn comes_is_running()
     ensures { ComesIsRunning }
 {}

@@ -1,10 +1,7 @@
-//! What the machine of INTCODE does: its registers, one instruction, a run, and its streams.
+//! The definition of the INTCODE machine: its registers, one instruction, a run, and its streams.
 //!
-//! The machine is defined in `specs/`; here stand the few types that the definition speaks of.
-//!
-//! That the numbers of the operators are their numbers as operations of the machine.
-//!
-//! The image of a linked program: what the machine starts from.
+//! The definition is in `specs/`. The Rust code here is small: the types that the definition mentions, the image from which the machine
+//! starts, and the laws. `operator_laws` is about the numbers of operators.
 #![tactic(auto)]
 
 mod image;

@@ -1,7 +1,9 @@
-//! Laws of the operations of the machine's function X.
+//! Laws of the numbers of operators, which are also numbers of operations of X. They are separate from `laws` because they don't speak of
+//! runs.
+
 ghost use Rattle.bc_machine_defs.specs.OperatorLaws.{OperatorsAreOperations, OperationsAreOperators};
 
-/// The operation of X with an operator's number is to compute that operator.
+/// The operation of X with an operator's number computes that operator.
 pub fn operators_are_operations()
     ensures { OperatorsAreOperations }
 {}

@@ -1,28 +1,30 @@
+//! The registers of the machine, and how a run ends.
+
 use bc_word::Word;
 
-/// The registers that the machine keeps from one instruction to the next.
+/// The registers that persist from one instruction to the next.
 #[derive(Clone, Copy, Debug, PartialEq, Eq)]
 pub struct Registers {
-    /// The second accumulator, what A was before the last load.
+    /// The second accumulator: the value of A before the last load.
     pub b: u16,
     /// The accumulator.
     pub a: u16,
     /// The address of the next instruction.
     pub c: u16,
-    /// The address of the frame at work.
+    /// The address of the current frame.
     pub p: u16,
 }
 
 /// How a run ended.
 #[derive(Clone, Copy, Debug, PartialEq, Eq)]
 pub enum End {
-    /// The program finished itself.
+    /// The program executed FINISH.
     Finished,
-    /// A division or a remainder by 0.
+    /// A division or remainder by 0.
     ZeroDivide,
-    /// The instruction at this address is none of the machine's.
+    /// The word at this address isn't a valid instruction.
     BadInstruction(Word),
-    /// The machine is still running after the instructions that it was given.
+    /// The machine is still running after all instructions of its budget.
     BudgetSpent,
     /// A device failed.
     Device,

@@ -1,6 +1,10 @@
-/// The two sides of a run's streams.
+//! The direction of a stream.
+
+/// The direction of a stream.
 #[derive(Clone, Copy, Debug, PartialEq, Eq)]
 pub enum Side {
+    /// Streams that are read.
     Input,
+    /// Streams that are written.
     Output,
 }

@@ -10,7 +10,7 @@ use Rattle.bc_parse.specs.Canonical.{IsCanonical}
 use Rattle.bc_parse.specs.Parsing.{parsed, placed, read_list}
 
 pub canonical_parsed : (ds : Declarations) (ts : List Lexeme) → SpellingIsRead → SpellingIsClosed → IsCanonical ds ts → parsed ts ≡ Ok ds
-canonical_parsed ds ts read closed c =
-    let list = closed ds ts c.tokens in
+canonical_parsed ds ts read followed_by c =
+    let list = followed_by ds ts c.tokens in
     let whole : section_of (section_spelling ds) ≡ Ok ds = read ds c.some_spelling c.is_spelled c.nests c.brackets c.repeats in
     ap (read_list (length ts)) list.1 ∙ (rw list.2 (ap (placed (places_in list.0) (length ts)) whole))

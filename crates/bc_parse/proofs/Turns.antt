@@ -8,8 +8,8 @@ use Rattle.bc_parse_tree.specs.Tree as tree
 use Rattle.bc_parse_defs.specs.Reading.{Fault, Expected, ◌>>=◌, Piece, piece, Reader, Choice, expect_of, suffix_read, with_choice, turns, word_in, repeat_word_of, repeat_turn, repeats_read}
 use Rattle.bc_parse.specs.Seen.{Fails, Takes, read_view, turn_view, turn_height}
 use Rattle.bc_parse.specs.declared.read.Read.{Read}
-use Rattle.bc_parse.specs.declared.read.Turn.{Turn}
-use Rattle.bc_parse.specs.declared.read.Turn.TheVariants as turn
+use Rattle.bc_parse.specs.declared.read.Step.{Step}
+use Rattle.bc_parse.specs.declared.read.Step.TheVariants as turn
 use Rattle.bc_parse.specs.declared.fault.ReadFault.{ReadFault}
 use Rattle.bc_parse.specs.declared.fault.ReadFault.TheVariants as faults
 
@@ -23,11 +23,11 @@ module _ {X : Type 0} (step : Piece X → Result (Piece X × Bool) Fault) (n i :
   turns_done t last lt is is_last = let k : n - i ≡ suc (n - (i + 1)) = omega arith in sym so_far ∙ rw (k, is, is_last) refl
 
   -- the same for a turn as the code returns it
-  pub turns_more : {T : Type 0} (view : T → X) (v : Turn T) (r : Read T) → i < n → Takes view (Ok v) (step s) → v ≡ turn.More r → turns step (n - (i + 1)) (read_view view r) ≡ total
-  turns_more view v r lt took is = turns_next (read_view view r) false lt (took ∙ ap (λ (w : Turn _). Ok (turn_view view w)) is) refl
+  pub turns_more : {T : Type 0} (view : T → X) (v : Step T) (r : Read T) → i < n → Takes view (Ok v) (step s) → v ≡ turn.More r → turns step (n - (i + 1)) (read_view view r) ≡ total
+  turns_more view v r lt took is = turns_next (read_view view r) false lt (took ∙ ap (λ (w : Step _). Ok (turn_view view w)) is) refl
 
-  pub turns_last : {T : Type 0} (view : T → X) (v : Turn T) (r : Read T) → i < n → Takes view (Ok v) (step s) → v ≡ turn.Last r → total ≡ Ok (read_view view r)
-  turns_last view v r lt took is = turns_done (read_view view r) true lt (took ∙ ap (λ (w : Turn _). Ok (turn_view view w)) is) refl
+  pub turns_last : {T : Type 0} (view : T → X) (v : Step T) (r : Read T) → i < n → Takes view (Ok v) (step s) → v ≡ turn.Last r → total ≡ Ok (read_view view r)
+  turns_last view v r lt took is = turns_done (read_view view r) true lt (took ∙ ap (λ (w : Step _). Ok (turn_view view w)) is) refl
 
   pub turns_fails : (error : ReadFault) → i < n → Fails error (step s) → Fails error total
   unfolding turns
@@ -44,8 +44,8 @@ fails_then faults.Memory r f is = tt
 fails_then (faults.Expected m) r f is = rw is refl
 fails_then (faults.TooDeep m) r f is = rw is refl
 
-pub more_low : {T : Type 0} (v : Turn T) (r : Read T) (m : ℕ) → v ≡ turn.More r → turn_height v ≤ m → r.height ≤ m
-more_low v r m is low = subst (λ (w : Turn _). turn_height w ≤ m) is low
+pub more_low : {T : Type 0} (v : Step T) (r : Read T) (m : ℕ) → v ≡ turn.More r → turn_height v ≤ m → r.height ≤ m
+more_low v r m is low = subst (λ (w : Step _). turn_height w ≤ m) is low
 
 -- a loop whose first turn is its last
 pub turns_at_once : {X : Type 0} (step : Piece X → Result (Piece X × Bool) Fault) (n : ℕ) (s : Piece X) → step s ≡ Ok (s, true) → turns step (n + 1) s ≡ Ok s

@@ -11,8 +11,8 @@ use Rattle.bc_parse.specs.declared.fault.ReadFault.{ReadFault}
 use Rattle.bc_parse.specs.declared.fault.ReadFault.TheVariants as faults
 use Rattle.bc_parse.specs.declared.cursor.Rest.{Rest}
 use Rattle.bc_parse.specs.declared.read.Read.{Read}
-use Rattle.bc_parse.specs.declared.read.Turn as code_turn
-use Rattle.bc_parse.specs.declared.read.Turn.TheVariants as turn
+use Rattle.bc_parse.specs.declared.read.Step as code_turn
+use Rattle.bc_parse.specs.declared.read.Step.TheVariants as turn
 use Rattle.bc_parse.specs.declared.expressions.Levelled.{Levelled}
 use Rattle.bc_parse.specs.declared.blocks.Parts.{Parts}
 
@@ -52,16 +52,16 @@ abbrev pub Reads : {X Y : Type 0} → (X → Y) → Result (Read X) ReadFault �
 Reads view = Gives (read_view view)
 
 -- the view of a turn, and whether it was the last
-abbrev pub turn_view : {X Y : Type 0} → (X → Y) → code_turn.Turn X → Piece Y × Bool
+abbrev pub turn_view : {X Y : Type 0} → (X → Y) → code_turn.Step X → Piece Y × Bool
 turn_view view (turn.More r) = (read_view view r, false)
 turn_view view (turn.Last r) = (read_view view r, true)
 
 -- the code took the turn that the definition gives, unless memory ran out
-abbrev pub Takes : {X Y : Type 0} → (X → Y) → Result (code_turn.Turn X) ReadFault → Result (Piece Y × Bool) Fault → Type 0
+abbrev pub Takes : {X Y : Type 0} → (X → Y) → Result (code_turn.Step X) ReadFault → Result (Piece Y × Bool) Fault → Type 0
 Takes view = Gives (turn_view view)
 
 -- how deep nests what was read in a turn
-abbrev pub turn_height : {X : Type 0} → code_turn.Turn X → ℕ
+abbrev pub turn_height : {X : Type 0} → code_turn.Step X → ℕ
 turn_height (turn.More r) = r.height
 turn_height (turn.Last r) = r.height
 
@@ -89,7 +89,7 @@ MadeOperand view part whole next level = (r : Result (Piece _) Fault) → Reads 
     → Reads levelled_view whole ((r ~> next) ~> λ p. Ok (piece (p.tree, level) p.height p.rest))
 
 -- the same for a turn
-abbrev pub MadeTurn : {X Y A B : Type 0} → (X → Y) → Result (Read X) ReadFault → (A → B) → Result (code_turn.Turn A) ReadFault
+abbrev pub MadeTurn : {X Y A B : Type 0} → (X → Y) → Result (Read X) ReadFault → (A → B) → Result (code_turn.Step A) ReadFault
     → (Piece Y → Result (Piece B × Bool) Fault) → Type 0
 MadeTurn view part whole_view whole next = (r : Result (Piece _) Fault) → Reads view part r → Takes whole_view whole (r ~> next)
 
@@ -98,5 +98,5 @@ abbrev pub Nests : {X : Type 0} → Result (Read X) ReadFault → ℕ → Type 0
 Nests read most = IfOk read (λ x. x.height ≤ most)
 
 -- the same for a turn
-abbrev pub NestsTurn : {X : Type 0} → Result (code_turn.Turn X) ReadFault → ℕ → Type 0
+abbrev pub NestsTurn : {X : Type 0} → Result (code_turn.Step X) ReadFault → ℕ → Type 0
 NestsTurn read most = IfOk read (λ x. turn_height x ≤ most)

@@ -15,11 +15,11 @@ ghost use Rattle.bc_parse.specs.Seen.{turn_height};
 ghost use Rattle.bc_parse.specs.SeenFollow.{end_view};
 
 use crate::commands::{command, repeats};
-use crate::cursor::{LabelAt, Rest};
+use crate::cursor::{LabelStartAt, Rest};
 use crate::declarations::declaration;
-use crate::expressions::exp_apart;
+use crate::expressions::boxed_exp;
 use crate::fault::ReadFault;
-use crate::read::{Answer, Read, Room, Turn};
+use crate::read::{Limits, Read, ReadResult, Step};
 use crate::{boxes, construction, cursor};
 use bc_lex_tokens::Symbol;
 use bc_parse_defs::words::{DeclarationWord, Places};
@@ -38,7 +38,7 @@ pub struct Parts<'s> {
 /// A block, after `$(`.
 #[cycle(parser)]
 #[tactic(auto, unfolding(bc_parse_defs::specs::Reading::block_read))]
-pub fn block<'s, 't>(room: Room, rest: Rest<'s, 't>) -> Answer<'s, 't, Block<'s>>
+pub fn block<'s, 't>(room: Limits, rest: Rest<'s, 't>) -> ReadResult<'s, 't, Block<'s>>
     ensures read { (n : ℕ) → room.nest + room.round ≤ n →
         Reads block_view result (block_read (exp_of n) (command_of n) (definition_of n) room.nest room.round (seen rest.entry)) }
     ensures low { IfOk result (λ x. x.height ≤ room.nest) }
@@ -49,7 +49,7 @@ pub fn block<'s, 't>(room: Room, rest: Rest<'s, 't>) -> Answer<'s, 't, Block<'s>
 /// A block as a body. If a repetition follows, the body is the block of the repeated command.
 #[cycle(parser)]
 #[tactic(auto, unfolding(bc_parse_defs::specs::Reading::body_of_block))]
-fn block_body<'s, 't>(room: Room, inner: Read<'s, 't, Block<'s>>) -> Answer<'s, 't, Block<'s>>
+fn block_body<'s, 't>(room: Limits, inner: Read<'s, 't, Block<'s>>) -> ReadResult<'s, 't, Block<'s>>
     requires { inner.height ≤ room.nest }
     ensures read { (n : ℕ) → room.nest + room.round ≤ n →
         Reads block_view result (body_of_block (exp_of n) (command_of n) (definition_of n) room.nest room.round (read_view block_view inner.entry)) }
@@ -72,7 +72,7 @@ fn block_body<'s, 't>(room: Room, inner: Read<'s, 't, Block<'s>>) -> Answer<'s, 
 /// A body: a block, or the block of one command.
 #[cycle(parser)]
 #[tactic(auto, unfolding(bc_parse_defs::specs::Reading::body_read))]
-pub fn body<'s, 't>(room: Room, rest: Rest<'s, 't>) -> Answer<'s, 't, Block<'s>>
+pub fn body<'s, 't>(room: Limits, rest: Rest<'s, 't>) -> ReadResult<'s, 't, Block<'s>>
     ensures read { (n : ℕ) → room.nest + room.round ≤ n →
         Reads block_view result (body_read (exp_of n) (command_of n) (definition_of n) room.nest room.round (seen rest.entry)) }
     ensures low { IfOk result (λ x. x.height ≤ room.nest) }
@@ -87,7 +87,7 @@ pub fn body<'s, 't>(room: Room, rest: Rest<'s, 't>) -> Answer<'s, 't, Block<'s>>
 /// A body that a line break and DO may precede.
 #[cycle(parser)]
 #[tactic(auto, unfolding(bc_parse_defs::specs::Reading::do_read))]
-pub fn do_body<'s, 't>(room: Room, rest: Rest<'s, 't>) -> Answer<'s, 't, Block<'s>>
+pub fn do_body<'s, 't>(room: Limits, rest: Rest<'s, 't>) -> ReadResult<'s, 't, Block<'s>>
     ensures read { (n : ℕ) → room.nest + room.round ≤ n →
         Reads block_view result (do_read (exp_of n) (command_of n) (definition_of n) room.nest room.round (seen rest.entry)) }
     ensures low { IfOk result (λ x. x.height ≤ room.nest) }
@@ -99,7 +99,7 @@ pub fn do_body<'s, 't>(room: Room, rest: Rest<'s, 't>) -> Answer<'s, 't, Block<'
 pub fn body_from<'s, 't>(
     alloc: Global,
     whole: Read<'s, 't, Command<'s>>,
-) -> Answer<'s, 't, Block<'s>>
+) -> ReadResult<'s, 't, Block<'s>>
     ensures read { Reads block_view result (Ok (piece (as_body (command_view whole.entry.tree) whole.entry.height).0
         (as_body (command_view whole.entry.tree) whole.entry.height).1 (seen whole.entry.rest))) }
     ensures low { (m : ℕ) → whole.entry.height ≤ m → IfOk result (λ x. x.height ≤ m) }
@@ -121,7 +121,7 @@ pub fn body_from<'s, 't>(
 /// The labels of an item.
 #[cycle(parser)]
 #[tactic(auto, unfolding(bc_parse_defs::specs::Reading::labels_read))]
-fn labels<'s, 't>(room: Room, rest: Rest<'s, 't>) -> Answer<'s, 't, Vec<Label<'s>>>
+fn labels<'s, 't>(room: Limits, rest: Rest<'s, 't>) -> ReadResult<'s, 't, Vec<Label<'s>>>
     ensures read { (n : ℕ) → room.nest + room.round ≤ n →
         Reads (list_view labels_view) result (labels_read (exp_of n) room.nest room.round (seen rest.entry)) }
     ensures low { IfOk result (λ x. x.height ≤ room.nest) }
@@ -133,20 +133,20 @@ fn labels<'s, 't>(room: Room, rest: Rest<'s, 't>) -> Answer<'s, 't, Vec<Label<'s
     };
     for _ in 0..rest.parts.len() + 1 {
         match label_step(room, found)? {
-            Turn::Last(list) => return Ok(list),
-            Turn::More(list) => found = list,
+            Step::Last(list) => return Ok(list),
+            Step::More(list) => found = list,
         }
     }
-    Err(boxes::spent(found))
+    Err(boxes::no_turn_left(found))
 }
 
 /// One label, if one follows.
 #[cycle(parser)]
 #[tactic(auto, unfolding(bc_parse_defs::specs::Reading::label_read))]
 fn label_step<'s, 't>(
-    room: Room,
+    room: Limits,
     list: Read<'s, 't, Vec<Label<'s>>>,
-) -> Result<Turn<'s, 't, Vec<Label<'s>>>, ReadFault>
+) -> Result<Step<'s, 't, Vec<Label<'s>>>, ReadFault>
     requires { list.height ≤ room.nest }
     ensures read { (n : ℕ) → room.nest + room.round ≤ n →
         Takes (list_view labels_view) result
@@ -154,10 +154,10 @@ fn label_step<'s, 't>(
     ensures low { IfOk result (λ x. turn_height x ≤ room.nest) }
 {
     match cursor::label_at(list.rest) {
-        LabelAt::No => Ok(Turn::Last(list)),
-        LabelAt::Case(rest) => construction::case_of(room, exp_apart(room, 2, rest), list),
-        LabelAt::Default(rest) => default_label(list, rest),
-        LabelAt::Name(name, rest) => name_label(list, name, rest),
+        LabelStartAt::No => Ok(Step::Last(list)),
+        LabelStartAt::Case(rest) => construction::case_of(room, boxed_exp(room, 2, rest), list),
+        LabelStartAt::Default(rest) => default_label(list, rest),
+        LabelStartAt::Name(name, rest) => name_label(list, name, rest),
     }
 }
 
@@ -166,7 +166,7 @@ fn label_step<'s, 't>(
 fn default_label<'s, 't>(
     list: Read<'s, 't, Vec<Label<'s>>>,
     rest: Rest<'s, 't>,
-) -> Result<Turn<'s, 't, Vec<Label<'s>>>, ReadFault>
+) -> Result<Step<'s, 't, Vec<Label<'s>>>, ReadFault>
     ensures read { (n nest round : ℕ) →
         Takes (list_view labels_view) result
         (label_read (exp_of n) nest round (read_view (list_view labels_view) list.entry) (DefaultLabel (seen rest.entry))) }
@@ -174,7 +174,7 @@ fn default_label<'s, 't>(
 {
     let rest = cursor::expect(Symbol::Colon, rest)?;
     let tree = boxes::default_added(list.tree)?;
-    Ok(Turn::More(Read {
+    Ok(Step::More(Read {
         tree,
         height: list.height,
         rest,
@@ -187,14 +187,14 @@ fn name_label<'s, 't>(
     list: Read<'s, 't, Vec<Label<'s>>>,
     name: &'s [u8],
     rest: Rest<'s, 't>,
-) -> Result<Turn<'s, 't, Vec<Label<'s>>>, ReadFault>
+) -> Result<Step<'s, 't, Vec<Label<'s>>>, ReadFault>
     ensures read { (n nest round : ℕ) →
         Takes (list_view labels_view) result
         (label_read (exp_of n) nest round (read_view (list_view labels_view) list.entry) (NameLabel name.entry.now (seen rest.entry))) }
     ensures low { (m : ℕ) → list.entry.height ≤ m → IfOk result (λ x. turn_height x ≤ m) }
 {
     let tree = boxes::name_added(list.tree, name)?;
-    Ok(Turn::More(Read {
+    Ok(Step::More(Read {
         tree,
         height: list.height,
         rest,
@@ -205,10 +205,10 @@ fn name_label<'s, 't>(
 #[cycle(parser)]
 #[tactic(auto, unfolding(bc_parse_defs::specs::Reading::item_read))]
 fn item_part<'s, 't>(
-    room: Room,
+    room: Limits,
     mode: Places,
     list: Read<'s, 't, Parts<'s>>,
-) -> Answer<'s, 't, Parts<'s>>
+) -> ReadResult<'s, 't, Parts<'s>>
     requires { list.height ≤ room.nest }
     ensures read { (n : ℕ) → room.nest + room.round ≤ n →
         Reads parts_view result
@@ -223,7 +223,7 @@ fn item_part<'s, 't>(
         return Err(ReadFault::Expected(list.rest.parts.len()));
     }
     let found = labels(room, list.rest)?;
-    if has_label(&found.tree) && cursor::is_place_end_at(found.rest) {
+    if has_label(&found.tree) && cursor::is_item_end(found.rest) {
         return labels_part(list, found);
     }
     construction::command_item(room, command(room, found.rest), list, found)
@@ -233,7 +233,7 @@ fn item_part<'s, 't>(
 fn labels_part<'s, 't>(
     list: Read<'s, 't, Parts<'s>>,
     found: Read<'s, 't, Vec<Label<'s>>>,
-) -> Answer<'s, 't, Parts<'s>>
+) -> ReadResult<'s, 't, Parts<'s>>
     ensures read { Reads parts_view result (Ok (piece (
       declarations_view list.entry.tree.declarations.items,
       add_item (items_view list.entry.tree.items.items) (Labels_alone (labels_view found.entry.tree.items)),
@@ -260,11 +260,11 @@ fn labels_part<'s, 't>(
 /// One more declaration or item.
 #[cycle(parser)]
 #[tactic(auto, unfolding(bc_parse_defs::specs::Reading::part_read))]
-fn part_of<'s, 't>(
-    room: Room,
+fn add_element<'s, 't>(
+    room: Limits,
     mode: Places,
     list: Read<'s, 't, Parts<'s>>,
-) -> Answer<'s, 't, Parts<'s>>
+) -> ReadResult<'s, 't, Parts<'s>>
     requires { list.height ≤ room.nest }
     ensures read { (n : ℕ) → room.nest + room.round ≤ n →
         Reads parts_view result
@@ -281,10 +281,10 @@ fn part_of<'s, 't>(
 #[cycle(parser)]
 #[tactic(auto, unfolding(bc_parse_defs::specs::Reading::place_turn))]
 fn place_step<'s, 't>(
-    room: Room,
+    room: Limits,
     mode: Places,
     list: Read<'s, 't, Parts<'s>>,
-) -> Result<Turn<'s, 't, Parts<'s>>, ReadFault>
+) -> Result<Step<'s, 't, Parts<'s>>, ReadFault>
     requires { list.height ≤ room.nest }
     ensures read { (n : ℕ) → room.nest + room.round ≤ n →
         Takes parts_view result
@@ -292,34 +292,38 @@ fn place_step<'s, 't>(
     ensures low { IfOk result (λ x. turn_height x ≤ room.nest) }
 {
     if let Some(rest) = cursor::end(mode, list.rest) {
-        return Ok(Turn::Last(Read { rest, ..list }));
+        return Ok(Step::Last(Read { rest, ..list }));
     }
     if let Some(rest) = cursor::separator(list.rest) {
-        return Ok(Turn::More(Read { rest, ..list }));
+        return Ok(Step::More(Read { rest, ..list }));
     }
-    let found = part_of(room, mode, list)?;
-    ended(mode, found)
+    let found = add_element(room, mode, list)?;
+    turn_of(mode, found)
 }
 
 /// A turn, which is the last if the list ends after what was read.
-fn ended<'s, 't>(
+fn turn_of<'s, 't>(
     mode: Places,
     found: Read<'s, 't, Parts<'s>>,
-) -> Result<Turn<'s, 't, Parts<'s>>, ReadFault>
+) -> Result<Step<'s, 't, Parts<'s>>, ReadFault>
     ensures read { Takes parts_view result (place_end mode (seen found.entry.rest) ~> λ e.
         Ok (moved (read_view parts_view found.entry) e.0, e.1)) }
     ensures low { (m : ℕ) → found.entry.height ≤ m → IfOk result (λ x. turn_height x ≤ m) }
 {
     Ok(match place_end_at(mode, found.rest)? {
-        PlaceEnd::Last(rest) => Turn::Last(Read { rest, ..found }),
-        PlaceEnd::More(rest) => Turn::More(Read { rest, ..found }),
+        ElementEnd::Last(rest) => Step::Last(Read { rest, ..found }),
+        ElementEnd::More(rest) => Step::More(Read { rest, ..found }),
     })
 }
 
 /// Declarations and items, separated by semicolons, up to and including the end of the list.
 #[cycle(parser)]
 #[tactic(auto, unfolding(bc_parse_defs::specs::Reading::places_read))]
-pub fn places<'s, 't>(room: Room, mode: Places, rest: Rest<'s, 't>) -> Answer<'s, 't, Parts<'s>>
+pub fn places<'s, 't>(
+    room: Limits,
+    mode: Places,
+    rest: Rest<'s, 't>,
+) -> ReadResult<'s, 't, Parts<'s>>
     ensures read { (n : ℕ) → room.nest + room.round ≤ n →
         Reads parts_view result
         (places_read (exp_of n) (command_of n) (definition_of n) mode room.nest room.round (seen rest.entry)) }
@@ -336,11 +340,11 @@ pub fn places<'s, 't>(room: Room, mode: Places, rest: Rest<'s, 't>) -> Answer<'s
     };
     for _ in 0..rest.parts.len() + 1 {
         match place_step(room, mode, found)? {
-            Turn::Last(list) => return Ok(list),
-            Turn::More(list) => found = list,
+            Step::Last(list) => return Ok(list),
+            Step::More(list) => found = list,
         }
     }
-    Err(boxes::spent(found))
+    Err(boxes::no_turn_left(found))
 }
 
 /// Whether the list has a label.
@@ -390,7 +394,7 @@ fn declared<'s, 't>(
 
 /// What follows an element of a list.
 #[derive(Clone, Copy)]
-pub enum PlaceEnd<'s, 't> {
+pub enum ElementEnd<'s, 't> {
     /// A separator; the list goes on.
     More(Rest<'s, 't>),
     /// The end of the list.
@@ -398,13 +402,16 @@ pub enum PlaceEnd<'s, 't> {
 }
 
 /// What follows an element of a list of this kind. Anything but a separator and the end is a fault.
-pub fn place_end_at<'s, 't>(mode: Places, rest: Rest<'s, 't>) -> Result<PlaceEnd<'s, 't>, ReadFault>
+pub fn place_end_at<'s, 't>(
+    mode: Places,
+    rest: Rest<'s, 't>,
+) -> Result<ElementEnd<'s, 't>, ReadFault>
     ensures { Gives end_view result (place_end mode (seen rest.entry)) }
 {
     match cursor::separator(rest) {
-        Some(then) => Ok(PlaceEnd::More(then)),
+        Some(then) => Ok(ElementEnd::More(then)),
         None => match cursor::end(mode, rest) {
-            Some(then) => Ok(PlaceEnd::Last(then)),
+            Some(then) => Ok(ElementEnd::Last(then)),
             None => Err(ReadFault::Expected(rest.parts.len())),
         },
     }
@@ -415,7 +422,7 @@ pub fn place_end_at<'s, 't>(mode: Places, rest: Rest<'s, 't>) -> Result<PlaceEnd
 pub fn section_in<'s, 't>(alloc: Global, rest: Rest<'s, 't>) -> Result<Section<'s>, ReadFault>
     ensures read { Gives (λ x. declarations_view x.declarations.items) result (section_of (seen rest.entry)) }
 {
-    let room = Room {
+    let room = Limits {
         alloc,
         nest: 200,
         round: 400,

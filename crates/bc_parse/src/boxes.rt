@@ -15,7 +15,7 @@ ghost use Rattle.bc_parse.specs.Seen.{seen, Gives, box_view, list_view};
 
 use crate::cursor;
 use crate::fault::ReadFault;
-use crate::read::{Answer, Read};
+use crate::read::{Read, ReadResult};
 use bc_lex_tokens::Symbol;
 use bc_parse_tree::{Block, Command, Constant, Declaration, Definition, Exp, Item, Label};
 use std::alloc::Global;
@@ -39,7 +39,7 @@ fn pushed<T: Drop>(list: Vec<T>, element: T) -> Result<Vec<T>, ReadFault>
 }
 
 /// What was read, if this symbol follows it.
-pub fn closed<'s, 't, T: Drop>(wanted: Symbol, found: Read<'s, 't, T>) -> Answer<'s, 't, T>
+pub fn followed_by<'s, 't, T: Drop>(wanted: Symbol, found: Read<'s, 't, T>) -> ReadResult<'s, 't, T>
     ensures tree { IfOk result (λ x. x.tree ≡ found.entry.tree) }
     ensures height { IfOk result (λ x. x.height ≡ found.entry.height) }
     ensures rest { Gives (λ x. seen x.rest) result (expect_of wanted (seen found.entry.rest)) }
@@ -49,7 +49,7 @@ pub fn closed<'s, 't, T: Drop>(wanted: Symbol, found: Read<'s, 't, T>) -> Answer
 }
 
 /// The fault of a loop whose turns are used up, as in the definition.
-pub fn spent<'s, 't, T: Drop>(found: Read<'s, 't, T>) -> ReadFault
+pub fn no_turn_left<'s, 't, T: Drop>(found: Read<'s, 't, T>) -> ReadFault
     ensures { result ≡ Expected (length (seen found.entry.rest)) }
 {
     ReadFault::Expected(found.rest.parts.len())

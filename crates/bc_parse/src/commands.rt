@@ -20,9 +20,9 @@ ghost use Rattle.bc_parse.specs.Seen.{Reads, Takes, turn_height, exp_option};
 
 use crate::blocks::{Parts, block, body, do_body, places};
 use crate::cursor::Rest;
-use crate::expressions::{exp, exp_apart, exp_count, exps};
+use crate::expressions::{boxed_exp, exp, exp_count, exps};
 use crate::fault::ReadFault;
-use crate::read::{Answer, Read, Room, Turn};
+use crate::read::{Limits, Read, ReadResult, Step};
 use crate::{boxes, construction, cursor};
 use bc_lex_tokens::Symbol;
 use bc_parse_defs::words;
@@ -32,20 +32,20 @@ use bc_parse_tree::{Block, Command, Exp};
 /// A command, unless it would nest too deep.
 #[cycle(parser)]
 #[tactic(auto, unfolding(bc_parse_defs::specs::Reading::command_of))]
-pub fn command<'s, 't>(room: Room, rest: Rest<'s, 't>) -> Answer<'s, 't, Command<'s>>
+pub fn command<'s, 't>(room: Limits, rest: Rest<'s, 't>) -> ReadResult<'s, 't, Command<'s>>
     ensures read { (n : ℕ) → room.nest + room.round ≤ n → Reads command_view result (command_of n room.nest room.round (seen rest.entry)) }
     ensures low { IfOk result (λ x. x.height ≤ room.nest) }
 {
     if room.nest == 0 {
         return Err(ReadFault::TooDeep(rest.parts.len()));
     }
-    worded(room, rest)
+    command_by_word(room, rest)
 }
 
 /// A command, by its first word.
 #[cycle(parser)]
 #[tactic(auto, unfolding(bc_parse_defs::specs::Reading::command_read))]
-fn worded<'s, 't>(room: Room, rest: Rest<'s, 't>) -> Answer<'s, 't, Command<'s>>
+fn command_by_word<'s, 't>(room: Limits, rest: Rest<'s, 't>) -> ReadResult<'s, 't, Command<'s>>
     requires { 0 < room.nest }
     ensures read { (n : ℕ) → room.nest + room.round ≤ n + 1 →
         Reads command_view result (command_read (exp_of n) (command_of n) (definition_of n) room.nest room.round (seen rest.entry)) }
@@ -60,19 +60,19 @@ fn worded<'s, 't>(room: Room, rest: Rest<'s, 't>) -> Answer<'s, 't, Command<'s>>
 /// A command that REPEAT can follow, with its repetitions.
 #[cycle(parser)]
 #[tactic(auto, unfolding(bc_parse_defs::specs::Reading::repeatable_read))]
-fn repeatable<'s, 't>(room: Room, rest: Rest<'s, 't>) -> Answer<'s, 't, Command<'s>>
+fn repeatable<'s, 't>(room: Limits, rest: Rest<'s, 't>) -> ReadResult<'s, 't, Command<'s>>
     requires { 0 < room.nest }
     ensures read { (n : ℕ) → room.nest + room.round ≤ n + 1 →
         Reads command_view result (repeatable_read (exp_of n) (command_of n) (definition_of n) room.nest room.round (seen rest.entry)) }
     ensures low { IfOk result (λ x. x.height ≤ room.nest) }
 {
-    let first = unrepeated(room, rest)?;
+    let first = simple_command(room, rest)?;
     repeats(room, first)
 }
 
 /// A command that REPEAT can follow, without its repetitions.
 #[cycle(parser)]
-fn unrepeated<'s, 't>(room: Room, rest: Rest<'s, 't>) -> Answer<'s, 't, Command<'s>>
+fn simple_command<'s, 't>(room: Limits, rest: Rest<'s, 't>) -> ReadResult<'s, 't, Command<'s>>
     requires { 0 < room.nest }
     ensures read { (n : ℕ) → room.nest + room.round ≤ n + 1 →
         Reads command_view result
@@ -88,7 +88,10 @@ fn unrepeated<'s, 't>(room: Room, rest: Rest<'s, 't>) -> Answer<'s, 't, Command<
 
 /// A command with the repetitions that follow it.
 #[cycle(parser)]
-pub fn repeats<'s, 't>(room: Room, first: Read<'s, 't, Command<'s>>) -> Answer<'s, 't, Command<'s>>
+pub fn repeats<'s, 't>(
+    room: Limits,
+    first: Read<'s, 't, Command<'s>>,
+) -> ReadResult<'s, 't, Command<'s>>
     requires { first.height ≤ room.nest }
     ensures read { (n : ℕ) → room.nest + room.round ≤ n + 1 →
         Reads command_view result (repeats_read (exp_of n) room.nest room.round (read_view command_view first.entry)) }
@@ -96,16 +99,16 @@ pub fn repeats<'s, 't>(room: Room, first: Read<'s, 't, Command<'s>>) -> Answer<'
 {
     match cursor::repeat_word(first.rest) {
         None => Ok(first),
-        Some(_) => repeats_apart(room, first),
+        Some(_) => repeats_boxed(room, first),
     }
 }
 
 /// The same if there is a repetition, which needs the command in a box.
 #[cycle(parser)]
-fn repeats_apart<'s, 't>(
-    room: Room,
+fn repeats_boxed<'s, 't>(
+    room: Limits,
     first: Read<'s, 't, Command<'s>>,
-) -> Answer<'s, 't, Command<'s>>
+) -> ReadResult<'s, 't, Command<'s>>
     requires { first.height ≤ room.nest }
     ensures read { (n : ℕ) → room.nest + room.round ≤ n + 1 →
         Reads command_view result (repeats_read (exp_of n) room.nest room.round (read_view command_view first.entry)) }
@@ -114,7 +117,7 @@ fn repeats_apart<'s, 't>(
     let height = first.height;
     let rest = first.rest;
     let tree = boxes::command(room.alloc, first.tree)?;
-    let whole = repeats_from(room, Read { tree, height, rest })?;
+    let whole = repeats_of_box(room, Read { tree, height, rest })?;
     Ok(Read {
         tree: Box::into_inner(whole.tree),
         height: whole.height,
@@ -125,10 +128,10 @@ fn repeats_apart<'s, 't>(
 /// The same for a command in a box.
 #[cycle(parser)]
 #[tactic(auto, unfolding(bc_parse_defs::specs::Reading::repeats_read))]
-fn repeats_from<'s, 't>(
-    room: Room,
+fn repeats_of_box<'s, 't>(
+    room: Limits,
     first: Read<'s, 't, Box<Command<'s>>>,
-) -> Answer<'s, 't, Box<Command<'s>>>
+) -> ReadResult<'s, 't, Box<Command<'s>>>
     requires { first.height ≤ room.nest }
     ensures read { (n : ℕ) → room.nest + room.round ≤ n + 1 →
         Reads (box_view command_view) result (repeats_read (exp_of n) room.nest room.round (read_view (box_view command_view) first.entry)) }
@@ -138,8 +141,8 @@ fn repeats_from<'s, 't>(
     let mut whole = first;
     for _ in 0..turns {
         match repeat_step(room, whole)? {
-            Turn::Last(found) => return Ok(found),
-            Turn::More(found) => whole = found,
+            Step::Last(found) => return Ok(found),
+            Step::More(found) => whole = found,
         }
     }
     Err(ReadFault::Expected(whole.rest.parts.len()))
@@ -149,16 +152,16 @@ fn repeats_from<'s, 't>(
 #[cycle(parser)]
 #[tactic(auto, unfolding(bc_parse_defs::specs::Reading::repeat_turn))]
 fn repeat_step<'s, 't>(
-    room: Room,
+    room: Limits,
     whole: Read<'s, 't, Box<Command<'s>>>,
-) -> Result<Turn<'s, 't, Box<Command<'s>>>, ReadFault>
+) -> Result<Step<'s, 't, Box<Command<'s>>>, ReadFault>
     requires { whole.height ≤ room.nest }
     ensures read { (n : ℕ) → room.nest + room.round ≤ n + 1 →
         Takes (box_view command_view) result (repeat_turn (exp_of n) room.nest room.round (read_view (box_view command_view) whole.entry)) }
     ensures low { IfOk result (λ x. turn_height x ≤ room.nest) }
 {
     match cursor::repeat_word(whole.rest) {
-        None => Ok(Turn::Last(whole)),
+        None => Ok(Step::Last(whole)),
         Some((word, remaining)) => {
             if whole.height >= room.nest {
                 return Err(ReadFault::TooDeep(whole.rest.parts.len()));
@@ -172,18 +175,18 @@ fn repeat_step<'s, 't>(
 #[cycle(parser)]
 #[tactic(auto, unfolding(bc_parse_defs::specs::Reading::repeated))]
 fn repeat_by<'s, 't>(
-    room: Room,
+    room: Limits,
     word: RepeatWord,
     whole: Read<'s, 't, Box<Command<'s>>>,
     rest: Rest<'s, 't>,
-) -> Result<Turn<'s, 't, Box<Command<'s>>>, ReadFault>
+) -> Result<Step<'s, 't, Box<Command<'s>>>, ReadFault>
     requires { whole.height < room.nest }
     ensures read { (n : ℕ) → room.nest + room.round ≤ n + 1 →
         Takes (box_view command_view) result
         (repeated (exp_of n) room.nest room.round word (read_view (box_view command_view) whole.entry) (seen rest.entry)) }
     ensures low { IfOk result (λ x. turn_height x ≤ room.nest) }
 {
-    let inner = Room {
+    let inner = Limits {
         nest: room.nest - 1,
         ..room
     };
@@ -197,10 +200,10 @@ fn repeat_by<'s, 't>(
 /// A command with REPEAT.
 #[tactic(auto, unfolding(bc_parse_defs::specs::Reading::repeated))]
 fn repeat_always<'s, 't>(
-    room: Room,
+    room: Limits,
     whole: Read<'s, 't, Box<Command<'s>>>,
     rest: Rest<'s, 't>,
-) -> Result<Turn<'s, 't, Box<Command<'s>>>, ReadFault>
+) -> Result<Step<'s, 't, Box<Command<'s>>>, ReadFault>
     requires { whole.height < room.nest }
     ensures read { (n : ℕ) →
         Takes (box_view command_view) result
@@ -208,7 +211,7 @@ fn repeat_always<'s, 't>(
     ensures low { IfOk result (λ x. turn_height x ≤ room.nest) }
 {
     let tree = boxes::command(room.alloc, Command::Repeat(whole.tree))?;
-    Ok(Turn::More(Read {
+    Ok(Step::More(Read {
         tree,
         height: whole.height + 1,
         rest,
@@ -218,13 +221,13 @@ fn repeat_always<'s, 't>(
 /// An assignment or a call.
 #[cycle(parser)]
 #[tactic(auto, unfolding(bc_parse_defs::specs::Reading::assigned_read))]
-fn assigned<'s, 't>(room: Room, rest: Rest<'s, 't>) -> Answer<'s, 't, Command<'s>>
+fn assigned<'s, 't>(room: Limits, rest: Rest<'s, 't>) -> ReadResult<'s, 't, Command<'s>>
     requires { 0 < room.nest }
     ensures read { (n : ℕ) → room.nest + room.round ≤ n + 1 →
         Reads command_view result (assigned_read (exp_of n) (command_of n) (definition_of n) room.nest room.round (seen rest.entry)) }
     ensures low { IfOk result (λ x. x.height ≤ room.nest) }
 {
-    let inner = Room {
+    let inner = Limits {
         nest: room.nest - 1,
         ..room
     };
@@ -240,7 +243,10 @@ fn assigned<'s, 't>(room: Room, rest: Rest<'s, 't>) -> Answer<'s, 't, Command<'s
 
 /// A command without `:=`: one call, or a fault.
 #[tactic(auto, using(crate::proofs::Views::call_view))]
-fn call_of<'s, 't>(room: Room, found: Read<'s, 't, Vec<Exp<'s>>>) -> Answer<'s, 't, Command<'s>>
+fn call_of<'s, 't>(
+    room: Limits,
+    found: Read<'s, 't, Vec<Exp<'s>>>,
+) -> ReadResult<'s, 't, Command<'s>>
     requires { found.height < room.nest }
     ensures read { Reads command_view result
         (on (call_in (exps_view found.entry.tree.items)) (Err (Expected (length (seen found.entry.rest))))
@@ -274,13 +280,17 @@ fn one_call<'s>(list: Vec<Exp<'s>>) -> Option<(Box<Exp<'s>>, Vec<Exp<'s>>)>
 /// A command that REPEAT can follow, after its first word.
 #[cycle(parser)]
 #[tactic(auto, unfolding(bc_parse_defs::specs::Reading::simple_read))]
-fn simple<'s, 't>(room: Room, word: SimpleWord, rest: Rest<'s, 't>) -> Answer<'s, 't, Command<'s>>
+fn simple<'s, 't>(
+    room: Limits,
+    word: SimpleWord,
+    rest: Rest<'s, 't>,
+) -> ReadResult<'s, 't, Command<'s>>
     requires { 0 < room.nest }
     ensures read { (n : ℕ) → room.nest + room.round ≤ n + 1 →
         Reads command_view result (simple_read (exp_of n) (command_of n) (definition_of n) room.nest room.round word (seen rest.entry)) }
     ensures low { IfOk result (λ x. x.height ≤ room.nest) }
 {
-    let inner = Room {
+    let inner = Limits {
         nest: room.nest - 1,
         ..room
     };
@@ -309,7 +319,7 @@ fn alone<'s, 't>(tree: Command<'s>, rest: Rest<'s, 't>) -> Read<'s, 't, Command<
 }
 
 /// GOTO, after its word.
-fn goto<'s, 't>(rest: Rest<'s, 't>) -> Answer<'s, 't, Command<'s>>
+fn goto<'s, 't>(rest: Rest<'s, 't>) -> ReadResult<'s, 't, Command<'s>>
     ensures read { Reads command_view result (name_of (seen rest.entry) ~> λ n. Ok (piece (tree.Goto n.0) 1 n.1)) }
     ensures low { (m : ℕ) → 0 < m → IfOk result (λ x. x.height ≤ m) }
 {
@@ -321,10 +331,10 @@ fn goto<'s, 't>(rest: Rest<'s, 't>) -> Answer<'s, 't, Command<'s>>
 #[cycle(parser)]
 #[tactic(auto, unfolding(bc_parse_defs::specs::Reading::compound_read))]
 fn compound<'s, 't>(
-    room: Room,
+    room: Limits,
     word: CommandWord,
     rest: Rest<'s, 't>,
-) -> Answer<'s, 't, Command<'s>>
+) -> ReadResult<'s, 't, Command<'s>>
     requires { 0 < room.nest }
     ensures read { (n : ℕ) → room.nest + room.round ≤ n + 1 →
         Reads command_view result (compound_read (exp_of n) (command_of n) (definition_of n) room.nest room.round word (seen rest.entry)) }
@@ -341,17 +351,17 @@ fn compound<'s, 't>(
 /// IF, UNLESS, WHILE or UNTIL, after its word.
 #[cycle(parser)]
 #[tactic(auto, unfolding(bc_parse_defs::specs::Reading::tested_read))]
-fn tested<'s, 't>(room: Room, word: Tested, rest: Rest<'s, 't>) -> Answer<'s, 't, Command<'s>>
+fn tested<'s, 't>(room: Limits, word: Tested, rest: Rest<'s, 't>) -> ReadResult<'s, 't, Command<'s>>
     requires { 0 < room.nest }
     ensures read { (n : ℕ) → room.nest + room.round ≤ n + 1 →
         Reads command_view result (tested_read (exp_of n) (command_of n) (definition_of n) word room.nest room.round (seen rest.entry)) }
     ensures low { IfOk result (λ x. x.height ≤ room.nest) }
 {
-    let inner = Room {
+    let inner = Limits {
         nest: room.nest - 1,
         ..room
     };
-    let test = exp_apart(inner, 1, rest)?;
+    let test = boxed_exp(inner, 1, rest)?;
     let remaining = test.rest;
     construction::tested(room, word, test, do_body(inner, remaining))
 }
@@ -372,17 +382,17 @@ pub fn tested_of<'s>(word: Tested, test: Box<Exp<'s>>, body: Block<'s>) -> Comma
 /// TEST, after its word.
 #[cycle(parser)]
 #[tactic(auto, unfolding(bc_parse_defs::specs::Reading::test_read))]
-fn test<'s, 't>(room: Room, rest: Rest<'s, 't>) -> Answer<'s, 't, Command<'s>>
+fn test<'s, 't>(room: Limits, rest: Rest<'s, 't>) -> ReadResult<'s, 't, Command<'s>>
     requires { 0 < room.nest }
     ensures read { (n : ℕ) → room.nest + room.round ≤ n + 1 →
         Reads command_view result (test_read (exp_of n) (command_of n) (definition_of n) room.nest room.round (seen rest.entry)) }
     ensures low { IfOk result (λ x. x.height ≤ room.nest) }
 {
-    let inner = Room {
+    let inner = Limits {
         nest: room.nest - 1,
         ..room
     };
-    let test = exp_apart(inner, 1, rest)?;
+    let test = boxed_exp(inner, 1, rest)?;
     let this = do_body(inner, test.rest)?;
     test_else(room, test, this)
 }
@@ -390,10 +400,10 @@ fn test<'s, 't>(room: Room, rest: Rest<'s, 't>) -> Answer<'s, 't, Command<'s>>
 /// ELSE and the second body of a TEST.
 #[cycle(parser)]
 fn test_else<'s, 't>(
-    room: Room,
+    room: Limits,
     test: Read<'s, 't, Box<Exp<'s>>>,
     this: Read<'s, 't, Block<'s>>,
-) -> Answer<'s, 't, Command<'s>>
+) -> ReadResult<'s, 't, Command<'s>>
     requires test { test.height < room.nest }
     requires this { this.height < room.nest }
     ensures read { (n : ℕ) → room.nest + room.round ≤ n + 1 →
@@ -403,7 +413,7 @@ fn test_else<'s, 't>(
         (max (max test.entry.height this.entry.height) d.height + 1) d.rest)) }
     ensures low { IfOk result (λ x. x.height ≤ room.nest) }
 {
-    let inner = Room {
+    let inner = Limits {
         nest: room.nest - 1,
         ..room
     };
@@ -421,7 +431,7 @@ pub fn test_of<'s>(test: Box<Exp<'s>>, this: Block<'s>, that: Block<'s>) -> Comm
 /// The step of a FOR: BY and its constant, which may be missing.
 #[cycle(parser)]
 #[tactic(auto, unfolding(bc_parse_defs::specs::Reading::step_read))]
-fn step<'s, 't>(room: Room, rest: Rest<'s, 't>) -> Answer<'s, 't, Option<Box<Exp<'s>>>>
+fn step<'s, 't>(room: Limits, rest: Rest<'s, 't>) -> ReadResult<'s, 't, Option<Box<Exp<'s>>>>
     ensures read { (n : ℕ) → room.nest + room.round ≤ n →
         Reads exp_option result (step_read (exp_of n) (command_of n) (definition_of n) room.nest room.round (seen rest.entry)) }
     ensures low { IfOk result (λ x. x.height ≤ room.nest) }
@@ -433,7 +443,7 @@ fn step<'s, 't>(room: Room, rest: Rest<'s, 't>) -> Answer<'s, 't, Option<Box<Exp
             rest,
         }),
         Some(then) => {
-            let value = exp_apart(room, 2, then)?;
+            let value = boxed_exp(room, 2, then)?;
             Ok(Read {
                 tree: Some(value.tree),
                 height: value.height,
@@ -446,29 +456,29 @@ fn step<'s, 't>(room: Room, rest: Rest<'s, 't>) -> Answer<'s, 't, Option<Box<Exp
 /// FOR, after its word.
 #[cycle(parser)]
 #[tactic(auto, unfolding(bc_parse_defs::specs::Reading::for_read))]
-fn for_command<'s, 't>(room: Room, rest: Rest<'s, 't>) -> Answer<'s, 't, Command<'s>>
+fn for_command<'s, 't>(room: Limits, rest: Rest<'s, 't>) -> ReadResult<'s, 't, Command<'s>>
     requires { 0 < room.nest }
     ensures read { (n : ℕ) → room.nest + room.round ≤ n + 1 →
         Reads command_view result (for_read (exp_of n) (command_of n) (definition_of n) room.nest room.round (seen rest.entry)) }
     ensures low { IfOk result (λ x. x.height ≤ room.nest) }
 {
-    let inner = Room {
+    let inner = Limits {
         nest: room.nest - 1,
         ..room
     };
     let (variable, rest) = cursor::name(rest)?;
     let rest = cursor::expect(Symbol::Equal, rest)?;
-    let start = exp_apart(inner, 1, rest)?;
+    let start = boxed_exp(inner, 1, rest)?;
     for_to(room, variable, start)
 }
 
 /// The rest of a FOR from TO on.
 #[cycle(parser)]
 fn for_to<'s, 't>(
-    room: Room,
+    room: Limits,
     variable: &'s [u8],
     start: Read<'s, 't, Box<Exp<'s>>>,
-) -> Answer<'s, 't, Command<'s>>
+) -> ReadResult<'s, 't, Command<'s>>
     requires { start.height < room.nest }
     ensures read { (n : ℕ) → room.nest + room.round ≤ n + 1 →
         Reads command_view result (expect_of sign.To (seen start.entry.rest) ~> λ last.
@@ -479,23 +489,23 @@ fn for_to<'s, 't>(
         (max (max (max start.entry.height z.height) k.height) b.height + 1) b.rest)) }
     ensures low { IfOk result (λ x. x.height ≤ room.nest) }
 {
-    let inner = Room {
+    let inner = Limits {
         nest: room.nest - 1,
         ..room
     };
     let rest = cursor::expect(Symbol::To, start.rest)?;
-    let limit = exp_apart(inner, 1, rest)?;
+    let limit = boxed_exp(inner, 1, rest)?;
     for_by(room, variable, start, limit)
 }
 
 /// The rest of a FOR from BY on.
 #[cycle(parser)]
 fn for_by<'s, 't>(
-    room: Room,
+    room: Limits,
     variable: &'s [u8],
     start: Read<'s, 't, Box<Exp<'s>>>,
     limit: Read<'s, 't, Box<Exp<'s>>>,
-) -> Answer<'s, 't, Command<'s>>
+) -> ReadResult<'s, 't, Command<'s>>
     requires start { start.height < room.nest }
     requires limit { limit.height < room.nest }
     ensures read { (n : ℕ) → room.nest + room.round ≤ n + 1 →
@@ -506,7 +516,7 @@ fn for_by<'s, 't>(
         (max (max (max start.entry.height limit.entry.height) k.height) b.height + 1) b.rest)) }
     ensures low { IfOk result (λ x. x.height ≤ room.nest) }
 {
-    let inner = Room {
+    let inner = Limits {
         nest: room.nest - 1,
         ..room
     };
@@ -530,17 +540,17 @@ fn for_by<'s, 't>(
 /// SWITCHON, after its word.
 #[cycle(parser)]
 #[tactic(auto, unfolding(bc_parse_defs::specs::Reading::switch_read))]
-fn switch_on<'s, 't>(room: Room, rest: Rest<'s, 't>) -> Answer<'s, 't, Command<'s>>
+fn switch_on<'s, 't>(room: Limits, rest: Rest<'s, 't>) -> ReadResult<'s, 't, Command<'s>>
     requires { 0 < room.nest }
     ensures read { (n : ℕ) → room.nest + room.round ≤ n + 1 →
         Reads command_view result (switch_read (exp_of n) (command_of n) (definition_of n) room.nest room.round (seen rest.entry)) }
     ensures low { IfOk result (λ x. x.height ≤ room.nest) }
 {
-    let inner = Room {
+    let inner = Limits {
         nest: room.nest - 1,
         ..room
     };
-    let value = exp_apart(inner, 1, rest)?;
+    let value = boxed_exp(inner, 1, rest)?;
     let rest = cursor::expect(Symbol::Into, value.rest)?;
     switch_cases(room, value, rest)
 }
@@ -548,10 +558,10 @@ fn switch_on<'s, 't>(room: Room, rest: Rest<'s, 't>) -> Answer<'s, 't, Command<'
 /// The items of a SWITCHON, from `$(` on.
 #[cycle(parser)]
 fn switch_cases<'s, 't>(
-    room: Room,
+    room: Limits,
     value: Read<'s, 't, Box<Exp<'s>>>,
     rest: Rest<'s, 't>,
-) -> Answer<'s, 't, Command<'s>>
+) -> ReadResult<'s, 't, Command<'s>>
     requires { value.height < room.nest }
     ensures read { (n : ℕ) → room.nest + room.round ≤ n + 1 →
         Reads command_view result (expect_of sign.OpenSection (seen rest.entry) ~> λ inner.
@@ -559,7 +569,7 @@ fn switch_cases<'s, 't>(
         Ok (piece (tree.SwitchOn (exp_view value.entry.tree.value) p.tree.1) (max value.entry.height p.height + 1) p.rest)) }
     ensures low { IfOk result (λ x. x.height ≤ room.nest) }
 {
-    let inner = Room {
+    let inner = Limits {
         nest: room.nest - 1,
         ..room
     };

@@ -21,7 +21,7 @@ use crate::cursor::Rest;
 use crate::expressions::{Levelled, exp_count};
 use crate::fault::ReadFault;
 use crate::names::name_count;
-use crate::read::{Answer, Read, Room, Turn};
+use crate::read::{Limits, Read, ReadResult, Step};
 use crate::{boxes, cursor};
 use bc_lex_tokens::Symbol;
 use bc_parse_defs::words;
@@ -31,7 +31,10 @@ use bc_parse_tree::{
 };
 
 /// Puts an expression into a box.
-pub fn exp_kept<'s, 't>(room: Room, found: Answer<'s, 't, Exp<'s>>) -> Answer<'s, 't, Box<Exp<'s>>>
+pub fn exp_boxed<'s, 't>(
+    room: Limits,
+    found: ReadResult<'s, 't, Exp<'s>>,
+) -> ReadResult<'s, 't, Box<Exp<'s>>>
     requires { Nests found room.nest }
     ensures read { (r : Result (Piece tree.Exp) Fault) → Reads exp_view found.entry r → Reads (box_view exp_view) result r }
     ensures low { Nests result room.nest }
@@ -61,9 +64,9 @@ fn operand<'s, 't>(
 
 /// A TABLE.
 pub fn table_of<'s, 't>(
-    room: Room,
-    found: Answer<'s, 't, Vec<Exp<'s>>>,
-) -> Answer<'s, 't, Levelled<'s>>
+    room: Limits,
+    found: ReadResult<'s, 't, Vec<Exp<'s>>>,
+) -> ReadResult<'s, 't, Levelled<'s>>
     requires room { 0 < room.nest }
     requires found { Nests found (room.nest - 1) }
     ensures read { MadeOperand (list_view exps_view) found.entry result (λ ks. Ok (piece (tree.Table ks.tree) (ks.height + 1) ks.rest)) 12 }
@@ -75,9 +78,9 @@ pub fn table_of<'s, 't>(
 
 /// A VALOF.
 pub fn valof_of<'s, 't>(
-    room: Room,
-    found: Answer<'s, 't, Block<'s>>,
-) -> Answer<'s, 't, Levelled<'s>>
+    room: Limits,
+    found: ReadResult<'s, 't, Block<'s>>,
+) -> ReadResult<'s, 't, Levelled<'s>>
     requires room { 0 < room.nest }
     requires found { Nests found (room.nest - 1) }
     ensures read { MadeOperand block_view found.entry result (λ b. Ok (piece (tree.Valof b.tree) (b.height + 1) b.rest)) 12 }
@@ -89,10 +92,10 @@ pub fn valof_of<'s, 't>(
 
 /// A monadic operator and its operand.
 pub fn monadic_of<'s, 't>(
-    room: Room,
+    room: Limits,
     op: Monadic,
-    found: Answer<'s, 't, Box<Exp<'s>>>,
-) -> Answer<'s, 't, Levelled<'s>>
+    found: ReadResult<'s, 't, Box<Exp<'s>>>,
+) -> ReadResult<'s, 't, Levelled<'s>>
     requires room { 0 < room.nest }
     requires found { Nests found (room.nest - 1) }
     ensures read { MadeOperand (box_view exp_view) found.entry result (λ e. Ok (piece (tree.Monadic op e.tree) (e.height + 1) e.rest)) (own_level op) }
@@ -105,26 +108,26 @@ pub fn monadic_of<'s, 't>(
 
 /// An expression in parentheses, whose `)` is read here.
 pub fn bracket_of<'s, 't>(
-    room: Room,
-    found: Answer<'s, 't, Exp<'s>>,
-) -> Answer<'s, 't, Levelled<'s>>
+    room: Limits,
+    found: ReadResult<'s, 't, Exp<'s>>,
+) -> ReadResult<'s, 't, Levelled<'s>>
     requires { Nests found room.nest }
     ensures read { MadeOperand exp_view found.entry result (λ e. expect_of sign.CloseBracket e.rest ~> λ rest. Ok (moved e rest)) 12 }
     ensures low { Nests result room.nest }
 {
     let found = found?;
-    let found = boxes::closed(Symbol::CloseBracket, found)?;
+    let found = boxes::followed_by(Symbol::CloseBracket, found)?;
     Ok(operand(found.tree, 12, found.height, found.rest))
 }
 
 /// A dyadic operator and its operands. `height` is how deep the left one nests.
 pub fn dyadic_of<'s, 't>(
-    room: Room,
+    room: Limits,
     op: Dyadic,
     height: usize,
     left: Box<Exp<'s>>,
-    right: Answer<'s, 't, Box<Exp<'s>>>,
-) -> Answer<'s, 't, Levelled<'s>>
+    right: ReadResult<'s, 't, Box<Exp<'s>>>,
+) -> ReadResult<'s, 't, Levelled<'s>>
     requires room { height < room.nest }
     requires right { Nests right (room.nest - 1) }
     ensures read { MadeOperand (box_view exp_view) right.entry result (λ r. Ok
@@ -143,11 +146,11 @@ pub fn dyadic_of<'s, 't>(
 
 /// A call. `height` is how deep the routine nests.
 pub fn call_from<'s, 't>(
-    room: Room,
+    room: Limits,
     height: usize,
     routine: Box<Exp<'s>>,
-    found: Answer<'s, 't, Vec<Exp<'s>>>,
-) -> Answer<'s, 't, Levelled<'s>>
+    found: ReadResult<'s, 't, Vec<Exp<'s>>>,
+) -> ReadResult<'s, 't, Levelled<'s>>
     requires room { height < room.nest }
     requires found { Nests found (room.nest - 1) }
     ensures read { MadeOperand (list_view exps_view) found.entry result (λ es. Ok
@@ -161,12 +164,12 @@ pub fn call_from<'s, 't>(
 
 /// A choice. `height` is how deep the test and the first value nest.
 pub fn condition_of<'s, 't>(
-    room: Room,
+    room: Limits,
     height: usize,
     test: Box<Exp<'s>>,
     this: Box<Exp<'s>>,
-    that: Answer<'s, 't, Box<Exp<'s>>>,
-) -> Answer<'s, 't, Levelled<'s>>
+    that: ReadResult<'s, 't, Box<Exp<'s>>>,
+) -> ReadResult<'s, 't, Levelled<'s>>
     requires room { height < room.nest }
     requires that { Nests that (room.nest - 1) }
     ensures read { MadeOperand (box_view exp_view) that.entry result (λ y. Ok
@@ -180,24 +183,24 @@ pub fn condition_of<'s, 't>(
 }
 
 /// A longer operand, which may be continued.
-pub fn grown<'s, 't>(
-    room: Room,
-    next: Answer<'s, 't, Levelled<'s>>,
-) -> Result<Turn<'s, 't, Levelled<'s>>, ReadFault>
+pub fn extended<'s, 't>(
+    room: Limits,
+    next: ReadResult<'s, 't, Levelled<'s>>,
+) -> Result<Step<'s, 't, Levelled<'s>>, ReadFault>
     requires { Nests next room.nest }
     ensures read { MadeTurn levelled_view next.entry levelled_view result (λ t. Ok (t, false)) }
     ensures low { NestsTurn result room.nest }
 {
-    Ok(Turn::More(next?))
+    Ok(Step::More(next?))
 }
 
 /// Expressions with one more. It is the last if there are `limit` of them, or if no comma follows.
 pub fn exps_more<'s, 't>(
-    room: Room,
+    room: Limits,
     limit: usize,
-    next: Answer<'s, 't, Exp<'s>>,
+    next: ReadResult<'s, 't, Exp<'s>>,
     list: Read<'s, 't, Vec<Exp<'s>>>,
-) -> Result<Turn<'s, 't, Vec<Exp<'s>>>, ReadFault>
+) -> Result<Step<'s, 't, Vec<Exp<'s>>>, ReadFault>
     requires list { list.height ≤ room.nest }
     requires next { Nests next room.nest }
     ensures read { MadeTurn exp_view next.entry (list_view exps_view) result (λ e. next_exp limit
@@ -209,20 +212,20 @@ pub fn exps_more<'s, 't>(
     let height = list.height.max(next.height);
     let rest = next.rest;
     if exp_count(&tree) == limit {
-        return Ok(Turn::Last(Read { tree, height, rest }));
+        return Ok(Step::Last(Read { tree, height, rest }));
     }
     Ok(match cursor::after(Symbol::Comma, rest) {
-        None => Turn::Last(Read { tree, height, rest }),
-        Some(rest) => Turn::More(Read { tree, height, rest }),
+        None => Step::Last(Read { tree, height, rest }),
+        Some(rest) => Step::More(Read { tree, height, rest }),
     })
 }
 
 /// A command with REPEATWHILE and its test.
 pub fn while_of<'s, 't>(
-    room: Room,
+    room: Limits,
     whole: Read<'s, 't, Box<Command<'s>>>,
-    test: Answer<'s, 't, Exp<'s>>,
-) -> Result<Turn<'s, 't, Box<Command<'s>>>, ReadFault>
+    test: ReadResult<'s, 't, Exp<'s>>,
+) -> Result<Step<'s, 't, Box<Command<'s>>>, ReadFault>
     requires room { whole.height < room.nest }
     requires test { Nests test (room.nest - 1) }
     ensures read { MadeTurn exp_view test.entry (box_view command_view) result (λ e. Ok
@@ -231,7 +234,7 @@ pub fn while_of<'s, 't>(
 {
     let test = test?;
     let tree = boxes::command(room.alloc, Command::RepeatWhile(whole.tree, test.tree))?;
-    Ok(Turn::More(Read {
+    Ok(Step::More(Read {
         tree,
         height: whole.height.max(test.height) + 1,
         rest: test.rest,
@@ -240,10 +243,10 @@ pub fn while_of<'s, 't>(
 
 /// A command with REPEATUNTIL and its test.
 pub fn until_of<'s, 't>(
-    room: Room,
+    room: Limits,
     whole: Read<'s, 't, Box<Command<'s>>>,
-    test: Answer<'s, 't, Exp<'s>>,
-) -> Result<Turn<'s, 't, Box<Command<'s>>>, ReadFault>
+    test: ReadResult<'s, 't, Exp<'s>>,
+) -> Result<Step<'s, 't, Box<Command<'s>>>, ReadFault>
     requires room { whole.height < room.nest }
     requires test { Nests test (room.nest - 1) }
     ensures read { MadeTurn exp_view test.entry (box_view command_view) result (λ e. Ok
@@ -252,7 +255,7 @@ pub fn until_of<'s, 't>(
 {
     let test = test?;
     let tree = boxes::command(room.alloc, Command::RepeatUntil(whole.tree, test.tree))?;
-    Ok(Turn::More(Read {
+    Ok(Step::More(Read {
         tree,
         height: whole.height.max(test.height) + 1,
         rest: test.rest,
@@ -262,10 +265,10 @@ pub fn until_of<'s, 't>(
 /// An assignment. Expected, if there are fewer values than targets.
 #[tactic(auto, using(crate::proofs::Views::assign_view))]
 pub fn assignment<'s, 't>(
-    room: Room,
+    room: Limits,
     targets: Read<'s, 't, Vec<Exp<'s>>>,
-    values: Answer<'s, 't, Vec<Exp<'s>>>,
-) -> Answer<'s, 't, Command<'s>>
+    values: ReadResult<'s, 't, Vec<Exp<'s>>>,
+) -> ReadResult<'s, 't, Command<'s>>
     requires room { targets.height < room.nest }
     requires values { Nests values (room.nest - 1) }
     ensures read { Made (list_view exps_view) values.entry command_view result (λ es.
@@ -286,7 +289,10 @@ pub fn assignment<'s, 't>(
 }
 
 /// A block as a command.
-pub fn compound<'s, 't>(room: Room, inner: Answer<'s, 't, Block<'s>>) -> Answer<'s, 't, Command<'s>>
+pub fn compound<'s, 't>(
+    room: Limits,
+    inner: ReadResult<'s, 't, Block<'s>>,
+) -> ReadResult<'s, 't, Command<'s>>
     requires room { 0 < room.nest }
     requires inner { Nests inner (room.nest - 1) }
     ensures read { Made block_view inner.entry command_view result (λ b. Ok (piece (tree.Compound b.tree) (b.height + 1) b.rest)) }
@@ -301,7 +307,10 @@ pub fn compound<'s, 't>(room: Room, inner: Answer<'s, 't, Block<'s>>) -> Answer<
 }
 
 /// RESULTIS and its value.
-pub fn result_of<'s, 't>(room: Room, value: Answer<'s, 't, Exp<'s>>) -> Answer<'s, 't, Command<'s>>
+pub fn result_of<'s, 't>(
+    room: Limits,
+    value: ReadResult<'s, 't, Exp<'s>>,
+) -> ReadResult<'s, 't, Command<'s>>
     requires room { 0 < room.nest }
     requires value { Nests value (room.nest - 1) }
     ensures read { Made exp_view value.entry command_view result (λ e. Ok (piece (tree.ResultIs e.tree) (e.height + 1) e.rest)) }
@@ -317,11 +326,11 @@ pub fn result_of<'s, 't>(room: Room, value: Answer<'s, 't, Exp<'s>>) -> Answer<'
 
 /// IF, UNLESS, WHILE or UNTIL, with its test and its body.
 pub fn tested<'s, 't>(
-    room: Room,
+    room: Limits,
     word: Tested,
     test: Read<'s, 't, Box<Exp<'s>>>,
-    found: Answer<'s, 't, Block<'s>>,
-) -> Answer<'s, 't, Command<'s>>
+    found: ReadResult<'s, 't, Block<'s>>,
+) -> ReadResult<'s, 't, Command<'s>>
     requires room { test.height < room.nest }
     requires found { Nests found (room.nest - 1) }
     ensures read { Made block_view found.entry command_view result (λ b. Ok
@@ -338,11 +347,11 @@ pub fn tested<'s, 't>(
 
 /// TEST with its test and both bodies.
 pub fn test<'s, 't>(
-    room: Room,
+    room: Limits,
     test: Read<'s, 't, Box<Exp<'s>>>,
     this: Read<'s, 't, Block<'s>>,
-    that: Answer<'s, 't, Block<'s>>,
-) -> Answer<'s, 't, Command<'s>>
+    that: ReadResult<'s, 't, Block<'s>>,
+) -> ReadResult<'s, 't, Command<'s>>
     requires room { test.height < room.nest }
     requires this { this.height < room.nest }
     requires that { Nests that (room.nest - 1) }
@@ -361,10 +370,10 @@ pub fn test<'s, 't>(
 
 /// SWITCHON with its value and its items.
 pub fn switch<'s, 't>(
-    room: Room,
+    room: Limits,
     value: Read<'s, 't, Box<Exp<'s>>>,
-    found: Answer<'s, 't, Parts<'s>>,
-) -> Answer<'s, 't, Command<'s>>
+    found: ReadResult<'s, 't, Parts<'s>>,
+) -> ReadResult<'s, 't, Command<'s>>
     requires room { value.height < room.nest }
     requires found { Nests found (room.nest - 1) }
     ensures read { Made parts_view found.entry command_view result (λ p. Ok
@@ -380,7 +389,10 @@ pub fn switch<'s, 't>(
 }
 
 /// A block of these declarations and items.
-pub fn block_from<'s, 't>(room: Room, found: Answer<'s, 't, Parts<'s>>) -> Answer<'s, 't, Block<'s>>
+pub fn block_from<'s, 't>(
+    room: Limits,
+    found: ReadResult<'s, 't, Parts<'s>>,
+) -> ReadResult<'s, 't, Block<'s>>
     requires { Nests found room.nest }
     ensures read { Made parts_view found.entry block_view result (λ p. Ok (piece (tree.block p.tree.0 p.tree.1) p.height p.rest)) }
     ensures low { Nests result room.nest }
@@ -402,7 +414,10 @@ pub fn block_from<'s, 't>(room: Room, found: Answer<'s, 't, Parts<'s>>) -> Answe
 }
 
 /// A command as a body.
-pub fn body_of<'s, 't>(room: Room, whole: Answer<'s, 't, Command<'s>>) -> Answer<'s, 't, Block<'s>>
+pub fn body_of<'s, 't>(
+    room: Limits,
+    whole: ReadResult<'s, 't, Command<'s>>,
+) -> ReadResult<'s, 't, Block<'s>>
     requires { Nests whole room.nest }
     ensures read { Made command_view whole.entry block_view result (λ c. Ok
         (piece (as_body c.tree c.height).0 (as_body c.tree c.height).1 c.rest)) }
@@ -413,10 +428,10 @@ pub fn body_of<'s, 't>(room: Room, whole: Answer<'s, 't, Command<'s>>) -> Answer
 
 /// Labels with one more, `CASE value:`, whose colon is read here.
 pub fn case_of<'s, 't>(
-    room: Room,
-    value: Answer<'s, 't, Box<Exp<'s>>>,
+    room: Limits,
+    value: ReadResult<'s, 't, Box<Exp<'s>>>,
     list: Read<'s, 't, Vec<Label<'s>>>,
-) -> Result<Turn<'s, 't, Vec<Label<'s>>>, ReadFault>
+) -> Result<Step<'s, 't, Vec<Label<'s>>>, ReadFault>
     requires list { list.height ≤ room.nest }
     requires value { Nests value room.nest }
     ensures read { MadeTurn (box_view exp_view) value.entry (list_view labels_view) result (λ k. expect_of sign.Colon k.rest ~> λ rest. Ok
@@ -426,7 +441,7 @@ pub fn case_of<'s, 't>(
     let value = value?;
     let rest = cursor::expect(Symbol::Colon, value.rest)?;
     let tree = boxes::case_added(list.tree, value.tree)?;
-    Ok(Turn::More(Read {
+    Ok(Step::More(Read {
         tree,
         height: list.height.max(value.height),
         rest,
@@ -435,11 +450,11 @@ pub fn case_of<'s, 't>(
 
 /// One more item, with these labels and this command.
 pub fn command_item<'s, 't>(
-    room: Room,
-    remaining: Answer<'s, 't, Command<'s>>,
+    room: Limits,
+    remaining: ReadResult<'s, 't, Command<'s>>,
     list: Read<'s, 't, Parts<'s>>,
     found: Read<'s, 't, Vec<Label<'s>>>,
-) -> Answer<'s, 't, Parts<'s>>
+) -> ReadResult<'s, 't, Parts<'s>>
     requires list { list.height ≤ room.nest }
     requires found { found.height ≤ room.nest }
     requires remaining { Nests remaining room.nest }
@@ -469,10 +484,10 @@ pub fn command_item<'s, 't>(
 
 /// One more declaration.
 pub fn declared<'s, 't>(
-    room: Room,
-    found: Answer<'s, 't, Declaration<'s>>,
+    room: Limits,
+    found: ReadResult<'s, 't, Declaration<'s>>,
     list: Read<'s, 't, Parts<'s>>,
-) -> Answer<'s, 't, Parts<'s>>
+) -> ReadResult<'s, 't, Parts<'s>>
     requires list { list.height ≤ room.nest }
     requires found { Nests found room.nest }
     ensures read { Made declaration_view found.entry parts_view result (λ d. Ok (piece
@@ -499,9 +514,9 @@ pub fn declared<'s, 't>(
 
 /// A LET.
 pub fn let_of<'s, 't>(
-    room: Room,
-    found: Answer<'s, 't, Vec<Definition<'s>>>,
-) -> Answer<'s, 't, Declaration<'s>>
+    room: Limits,
+    found: ReadResult<'s, 't, Vec<Definition<'s>>>,
+) -> ReadResult<'s, 't, Declaration<'s>>
     requires { Nests found room.nest }
     ensures read { Made (list_view definitions_view) found.entry declaration_view result (λ ds. Ok (piece (tree.Let ds.tree) ds.height ds.rest)) }
     ensures low { Nests result room.nest }
@@ -516,10 +531,10 @@ pub fn let_of<'s, 't>(
 
 /// A list of constants of this storage.
 pub fn constants<'s, 't>(
-    room: Room,
+    room: Limits,
     storage: Storage,
-    found: Answer<'s, 't, Vec<Constant<'s>>>,
-) -> Answer<'s, 't, Declaration<'s>>
+    found: ReadResult<'s, 't, Vec<Constant<'s>>>,
+) -> ReadResult<'s, 't, Declaration<'s>>
     requires { Nests found room.nest }
     ensures read { Made (list_view entries_view) found.entry declaration_view result (λ es. Ok (piece (tree.Constants storage es.tree) es.height es.rest)) }
     ensures low { Nests result room.nest }
@@ -534,11 +549,11 @@ pub fn constants<'s, 't>(
 
 /// One more constant, with this name.
 pub fn constant<'s, 't>(
-    room: Room,
+    room: Limits,
     name: &'s [u8],
-    value: Answer<'s, 't, Exp<'s>>,
+    value: ReadResult<'s, 't, Exp<'s>>,
     list: Read<'s, 't, Vec<Constant<'s>>>,
-) -> Answer<'s, 't, Vec<Constant<'s>>>
+) -> ReadResult<'s, 't, Vec<Constant<'s>>>
     requires list { list.height ≤ room.nest }
     requires value { Nests value room.nest }
     ensures read { Made exp_view value.entry (list_view entries_view) result (λ k. Ok
@@ -556,10 +571,10 @@ pub fn constant<'s, 't>(
 
 /// Definitions with one more. It is the last if no AND follows.
 pub fn definitions_more<'s, 't>(
-    room: Room,
-    next: Answer<'s, 't, Definition<'s>>,
+    room: Limits,
+    next: ReadResult<'s, 't, Definition<'s>>,
     list: Read<'s, 't, Vec<Definition<'s>>>,
-) -> Result<Turn<'s, 't, Vec<Definition<'s>>>, ReadFault>
+) -> Result<Step<'s, 't, Vec<Definition<'s>>>, ReadFault>
     requires list { list.height ≤ room.nest }
     requires next { Nests next room.nest }
     ensures read { MadeTurn definition_view next.entry (list_view definitions_view) result (λ d.
@@ -573,17 +588,17 @@ pub fn definitions_more<'s, 't>(
     let height = list.height.max(next.height);
     let rest = next.rest;
     Ok(match cursor::after(Symbol::And, rest) {
-        None => Turn::Last(Read { tree, height, rest }),
-        Some(rest) => Turn::More(Read { tree, height, rest }),
+        None => Step::Last(Read { tree, height, rest }),
+        Some(rest) => Step::More(Read { tree, height, rest }),
     })
 }
 
 /// A vector with this name.
 pub fn vector<'s, 't>(
-    room: Room,
+    room: Limits,
     name: &'s [u8],
-    size: Answer<'s, 't, Exp<'s>>,
-) -> Answer<'s, 't, Definition<'s>>
+    size: ReadResult<'s, 't, Exp<'s>>,
+) -> ReadResult<'s, 't, Definition<'s>>
     requires room { 0 < room.nest }
     requires size { Nests size (room.nest - 1) }
     ensures read { Made exp_view size.entry definition_view result (λ k. Ok (piece (tree.Vector name.entry.now k.tree) (k.height + 1) k.rest)) }
@@ -599,10 +614,10 @@ pub fn vector<'s, 't>(
 
 /// Variables and their initialisers. Expected, if there are fewer initialisers than names.
 pub fn variables<'s, 't>(
-    room: Room,
+    room: Limits,
     found: Vec<&'s [u8]>,
-    values: Answer<'s, 't, Vec<Exp<'s>>>,
-) -> Answer<'s, 't, Definition<'s>>
+    values: ReadResult<'s, 't, Vec<Exp<'s>>>,
+) -> ReadResult<'s, 't, Definition<'s>>
     requires room { 0 < room.nest }
     requires values { Nests values (room.nest - 1) }
     ensures read { Made (list_view exps_view) values.entry definition_view result (λ es.
@@ -624,11 +639,11 @@ pub fn variables<'s, 't>(
 
 /// A function with this name and these parameters.
 pub fn function<'s, 't>(
-    room: Room,
+    room: Limits,
     name: &'s [u8],
     found: Vec<&'s [u8]>,
-    value: Answer<'s, 't, Exp<'s>>,
-) -> Answer<'s, 't, Definition<'s>>
+    value: ReadResult<'s, 't, Exp<'s>>,
+) -> ReadResult<'s, 't, Definition<'s>>
     requires room { 0 < room.nest }
     requires value { Nests value (room.nest - 1) }
     ensures read { Made exp_view value.entry definition_view result (λ e. Ok
@@ -645,11 +660,11 @@ pub fn function<'s, 't>(
 
 /// A routine with this name and these parameters.
 pub fn routine<'s, 't>(
-    room: Room,
+    room: Limits,
     name: &'s [u8],
     found: Vec<&'s [u8]>,
-    body: Answer<'s, 't, Block<'s>>,
-) -> Answer<'s, 't, Definition<'s>>
+    body: ReadResult<'s, 't, Block<'s>>,
+) -> ReadResult<'s, 't, Definition<'s>>
     requires room { 0 < room.nest }
     requires body { Nests body (room.nest - 1) }
     ensures read { Made block_view body.entry definition_view result (λ b. Ok

@@ -143,7 +143,7 @@ pub fn declaration_word<'s, 't>(rest: Rest<'s, 't>) -> Option<(DeclarationWord, 
 
 /// What follows an operand in an expression.
 #[derive(Clone, Copy)]
-pub enum Follow<'s, 't> {
+pub enum FollowingPart<'s, 't> {
     /// Nothing that belongs to the expression.
     Ends,
     /// A dyadic operator; the remaining parts begin with its right operand.
@@ -155,46 +155,51 @@ pub enum Follow<'s, 't> {
 }
 
 /// What follows an operand of the level `top` in an expression of the level `level`.
-pub fn following_at<'s, 't>(level: usize, top: usize, rest: Rest<'s, 't>) -> Follow<'s, 't>
+pub fn following_at<'s, 't>(level: usize, top: usize, rest: Rest<'s, 't>) -> FollowingPart<'s, 't>
     ensures { follow_view result ≡ following level top (seen rest.entry) }
 {
     match first(rest) {
         Some((Part::Symbol(Symbol::OpenBracket), remaining)) => {
             if top < 12 {
-                Follow::Ends
+                FollowingPart::Ends
             } else {
-                Follow::Arguments(remaining)
+                FollowingPart::Arguments(remaining)
             }
         }
         Some((Part::Symbol(Symbol::Arrow), remaining)) => {
             if 1 < level || top < 2 {
-                Follow::Ends
+                FollowingPart::Ends
             } else {
-                Follow::Choice(remaining)
+                FollowingPart::Choice(remaining)
             }
         }
         Some((Part::Symbol(symbol), remaining)) => match words::dyadic(*symbol) {
             Some(op) => operator(level, top, op, remaining),
-            None => Follow::Ends,
+            None => FollowingPart::Ends,
         },
-        _ => Follow::Ends,
+        _ => FollowingPart::Ends,
     }
 }
 
 /// What an operator at this place is: part of the expression, or its end.
-fn operator<'s, 't>(level: usize, top: usize, op: Dyadic, rest: Rest<'s, 't>) -> Follow<'s, 't>
+fn operator<'s, 't>(
+    level: usize,
+    top: usize,
+    op: Dyadic,
+    rest: Rest<'s, 't>,
+) -> FollowingPart<'s, 't>
     ensures { follow_view result ≡ operator_of level top (seen rest.entry) (Some op) }
 {
     if words::level(op) < level || top < words::level_before(op) {
-        Follow::Ends
+        FollowingPart::Ends
     } else {
-        Follow::Operator(op, rest)
+        FollowingPart::Operator(op, rest)
     }
 }
 
 /// What begins a label.
 #[derive(Clone, Copy)]
-pub enum LabelAt<'s, 't> {
+pub enum LabelStartAt<'s, 't> {
     /// No label begins here.
     No,
     /// CASE; the remaining parts begin with its constant.
@@ -206,23 +211,23 @@ pub enum LabelAt<'s, 't> {
 }
 
 /// The label that begins here, if any.
-pub fn label_at<'s, 't>(rest: Rest<'s, 't>) -> LabelAt<'s, 't>
+pub fn label_at<'s, 't>(rest: Rest<'s, 't>) -> LabelStartAt<'s, 't>
     ensures { label_at_view result ≡ label_start (seen rest.entry) }
 {
     match first(rest) {
-        Some((Part::Symbol(Symbol::Case), remaining)) => LabelAt::Case(remaining),
-        Some((Part::Symbol(Symbol::Default), remaining)) => LabelAt::Default(remaining),
+        Some((Part::Symbol(Symbol::Case), remaining)) => LabelStartAt::Case(remaining),
+        Some((Part::Symbol(Symbol::Default), remaining)) => LabelStartAt::Default(remaining),
         Some((Part::Name(name), remaining)) => match after(Symbol::Colon, remaining) {
-            Some(then) => LabelAt::Name(*name, then),
-            None => LabelAt::No,
+            Some(then) => LabelStartAt::Name(*name, then),
+            None => LabelStartAt::No,
         },
-        _ => LabelAt::No,
+        _ => LabelStartAt::No,
     }
 }
 
 /// What follows the first name of a definition.
 #[derive(Clone, Copy)]
-pub enum ShapeAt<'s, 't> {
+pub enum DefinitionShape<'s, 't> {
     /// `(`; the remaining parts begin with the parameters.
     Parameters(Rest<'s, 't>),
     /// `= VEC`; the remaining parts begin with the constant.
@@ -232,16 +237,18 @@ pub enum ShapeAt<'s, 't> {
 }
 
 /// The shape of a definition, by the parts after its first name.
-pub fn shape_at<'s, 't>(rest: Rest<'s, 't>) -> ShapeAt<'s, 't>
+pub fn shape_at<'s, 't>(rest: Rest<'s, 't>) -> DefinitionShape<'s, 't>
     ensures { shape_view result ≡ shape_of (seen rest.entry) }
 {
     match first(rest) {
-        Some((Part::Symbol(Symbol::OpenBracket), remaining)) => ShapeAt::Parameters(remaining),
+        Some((Part::Symbol(Symbol::OpenBracket), remaining)) => DefinitionShape::Parameters(
+            remaining,
+        ),
         _ => match after(Symbol::Equal, rest) {
-            None => ShapeAt::Values,
+            None => DefinitionShape::Values,
             Some(then) => match after(Symbol::Vector, then) {
-                None => ShapeAt::Values,
-                Some(size) => ShapeAt::Size(size),
+                None => DefinitionShape::Values,
+                Some(size) => DefinitionShape::Size(size),
             },
         },
     }
@@ -283,7 +290,7 @@ pub fn end<'s, 't>(places: Places, rest: Rest<'s, 't>) -> Option<Rest<'s, 't>>
 }
 
 /// Whether an item ends here: a semicolon or `$)` comes first.
-pub fn is_place_end_at(rest: Rest<'_, '_>) -> bool
+pub fn is_item_end(rest: Rest<'_, '_>) -> bool
     ensures { result ≡ is_place_end (seen rest.entry) }
 {
     separator(rest).is_some() || after(Symbol::CloseSection, rest).is_some()

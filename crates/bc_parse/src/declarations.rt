@@ -12,12 +12,12 @@ ghost use Rattle.bc_parse_defs.specs.declared.words.DeclarationWord.TheVariants 
 ghost use Rattle.bc_parse.specs.Names.{names_view};
 ghost use Rattle.bc_parse.specs.Seen.{◌~>◌, seen, read_view, list_view, Reads, Takes, turn_height};
 
-use crate::blocks::{PlaceEnd, body, place_end_at};
-use crate::cursor::{Rest, ShapeAt};
+use crate::blocks::{ElementEnd, body, place_end_at};
+use crate::cursor::{DefinitionShape, Rest};
 use crate::expressions::{exp, exps};
 use crate::fault::ReadFault;
 use crate::names::{name_count, names, parameters};
-use crate::read::{Answer, Read, Room, Turn};
+use crate::read::{Limits, Read, ReadResult, Step};
 use crate::{boxes, construction, cursor};
 use bc_lex_tokens::Symbol;
 use bc_parse_defs::words::{DeclarationWord, Places};
@@ -27,10 +27,10 @@ use bc_parse_tree::{Constant, Declaration, Definition, Storage};
 #[cycle(parser)]
 #[tactic(auto, unfolding(bc_parse_defs::specs::Reading::declaration_read))]
 pub fn declaration<'s, 't>(
-    room: Room,
+    room: Limits,
     word: DeclarationWord,
     rest: Rest<'s, 't>,
-) -> Answer<'s, 't, Declaration<'s>>
+) -> ReadResult<'s, 't, Declaration<'s>>
     ensures read { (n : ℕ) → room.nest + room.round ≤ n →
         Reads declaration_view result (declaration_read (exp_of n) (command_of n) (definition_of n) room.nest room.round word (seen rest.entry)) }
     ensures low { IfOk result (λ x. x.height ≤ room.nest) }
@@ -45,10 +45,10 @@ pub fn declaration<'s, 't>(
 #[cycle(parser)]
 #[tactic(auto, unfolding(bc_parse_defs::specs::Reading::declaration_read))]
 fn constants<'s, 't>(
-    room: Room,
+    room: Limits,
     storage: Storage,
     rest: Rest<'s, 't>,
-) -> Answer<'s, 't, Declaration<'s>>
+) -> ReadResult<'s, 't, Declaration<'s>>
     ensures read { (n : ℕ) → room.nest + room.round ≤ n →
         Reads declaration_view result
         (declaration_read (exp_of n) (command_of n) (definition_of n) room.nest room.round (declaration_word.Constants storage) (seen rest.entry)) }
@@ -61,7 +61,7 @@ fn constants<'s, 't>(
 /// Names with their constants, up to and including `$)`.
 #[cycle(parser)]
 #[tactic(auto, unfolding(bc_parse_defs::specs::Reading::entries_read))]
-fn entries<'s, 't>(room: Room, rest: Rest<'s, 't>) -> Answer<'s, 't, Vec<Constant<'s>>>
+fn entries<'s, 't>(room: Limits, rest: Rest<'s, 't>) -> ReadResult<'s, 't, Vec<Constant<'s>>>
     ensures read { (n : ℕ) → room.nest + room.round ≤ n →
         Reads (list_view entries_view) result (entries_read (exp_of n) room.nest room.round (seen rest.entry)) }
     ensures low { IfOk result (λ x. x.height ≤ room.nest) }
@@ -73,46 +73,46 @@ fn entries<'s, 't>(room: Room, rest: Rest<'s, 't>) -> Answer<'s, 't, Vec<Constan
     };
     for _ in 0..rest.parts.len() + 1 {
         match entry_step(room, found)? {
-            Turn::Last(list) => return Ok(list),
-            Turn::More(list) => found = list,
+            Step::Last(list) => return Ok(list),
+            Step::More(list) => found = list,
         }
     }
-    Err(boxes::spent(found))
+    Err(boxes::no_turn_left(found))
 }
 
 /// One element of a list of constants: its end, an empty place, or a name and its constant.
 #[cycle(parser)]
 #[tactic(auto, unfolding(bc_parse_defs::specs::Reading::entry_turn))]
 fn entry_step<'s, 't>(
-    room: Room,
+    room: Limits,
     list: Read<'s, 't, Vec<Constant<'s>>>,
-) -> Result<Turn<'s, 't, Vec<Constant<'s>>>, ReadFault>
+) -> Result<Step<'s, 't, Vec<Constant<'s>>>, ReadFault>
     requires { list.height ≤ room.nest }
     ensures read { (n : ℕ) → room.nest + room.round ≤ n →
         Takes (list_view entries_view) result (entry_turn (exp_of n) room.nest room.round (read_view (list_view entries_view) list.entry)) }
     ensures low { IfOk result (λ x. turn_height x ≤ room.nest) }
 {
     if let Some(rest) = cursor::after(Symbol::CloseSection, list.rest) {
-        return Ok(Turn::Last(Read { rest, ..list }));
+        return Ok(Step::Last(Read { rest, ..list }));
     }
     if let Some(rest) = cursor::separator(list.rest) {
-        return Ok(Turn::More(Read { rest, ..list }));
+        return Ok(Step::More(Read { rest, ..list }));
     }
     let found = entry(room, list)?;
-    ended(found)
+    turn_of(found)
 }
 
 /// A turn, which is the last if the list ends after what was read.
-fn ended<'s, 't>(
+fn turn_of<'s, 't>(
     found: Read<'s, 't, Vec<Constant<'s>>>,
-) -> Result<Turn<'s, 't, Vec<Constant<'s>>>, ReadFault>
+) -> Result<Step<'s, 't, Vec<Constant<'s>>>, ReadFault>
     ensures read { Takes (list_view entries_view) result (place_end places_mode.Block (seen found.entry.rest) ~> λ e.
         Ok (moved (read_view (list_view entries_view) found.entry) e.0, e.1)) }
     ensures low { (m : ℕ) → found.entry.height ≤ m → IfOk result (λ x. turn_height x ≤ m) }
 {
     Ok(match place_end_at(Places::Block, found.rest)? {
-        PlaceEnd::Last(rest) => Turn::Last(Read { rest, ..found }),
-        PlaceEnd::More(rest) => Turn::More(Read { rest, ..found }),
+        ElementEnd::Last(rest) => Step::Last(Read { rest, ..found }),
+        ElementEnd::More(rest) => Step::More(Read { rest, ..found }),
     })
 }
 
@@ -120,9 +120,9 @@ fn ended<'s, 't>(
 #[cycle(parser)]
 #[tactic(auto, unfolding(bc_parse_defs::specs::Reading::entry_read))]
 fn entry<'s, 't>(
-    room: Room,
+    room: Limits,
     list: Read<'s, 't, Vec<Constant<'s>>>,
-) -> Answer<'s, 't, Vec<Constant<'s>>>
+) -> ReadResult<'s, 't, Vec<Constant<'s>>>
     requires { list.height ≤ room.nest }
     ensures read { (n : ℕ) → room.nest + room.round ≤ n →
         Reads (list_view entries_view) result (entry_read (exp_of n) room.nest room.round (read_view (list_view entries_view) list.entry)) }
@@ -136,7 +136,7 @@ fn entry<'s, 't>(
 /// The definitions of a LET, separated by AND.
 #[cycle(parser)]
 #[tactic(auto, unfolding(bc_parse_defs::specs::Reading::definitions_read))]
-fn definitions<'s, 't>(room: Room, rest: Rest<'s, 't>) -> Answer<'s, 't, Vec<Definition<'s>>>
+fn definitions<'s, 't>(room: Limits, rest: Rest<'s, 't>) -> ReadResult<'s, 't, Vec<Definition<'s>>>
     ensures read { (n : ℕ) → room.nest + room.round ≤ n →
         Reads (list_view definitions_view) result (definitions_read (exp_of n) (command_of n) (definition_of n) room.nest room.round (seen rest.entry)) }
     ensures low { IfOk result (λ x. x.height ≤ room.nest) }
@@ -148,17 +148,17 @@ fn definitions<'s, 't>(room: Room, rest: Rest<'s, 't>) -> Answer<'s, 't, Vec<Def
     };
     for _ in 0..rest.parts.len() + 1 {
         match construction::definitions_more(room, definition(room, found.rest), found)? {
-            Turn::Last(list) => return Ok(list),
-            Turn::More(list) => found = list,
+            Step::Last(list) => return Ok(list),
+            Step::More(list) => found = list,
         }
     }
-    Err(boxes::spent(found))
+    Err(boxes::no_turn_left(found))
 }
 
 /// A definition, unless it would nest too deep.
 #[cycle(parser)]
 #[tactic(auto, unfolding(bc_parse_defs::specs::Reading::definition_of))]
-fn definition<'s, 't>(room: Room, rest: Rest<'s, 't>) -> Answer<'s, 't, Definition<'s>>
+fn definition<'s, 't>(room: Limits, rest: Rest<'s, 't>) -> ReadResult<'s, 't, Definition<'s>>
     ensures read { (n : ℕ) → room.nest + room.round ≤ n → Reads definition_view result (definition_of n room.nest room.round (seen rest.entry)) }
     ensures low { IfOk result (λ x. x.height ≤ room.nest) }
 {
@@ -171,34 +171,34 @@ fn definition<'s, 't>(room: Room, rest: Rest<'s, 't>) -> Answer<'s, 't, Definiti
 /// A definition, by what follows its first name.
 #[cycle(parser)]
 #[tactic(auto, unfolding(bc_parse_defs::specs::Reading::defined_read, bc_parse_defs::specs::Reading::shaped_read, bc_parse_defs::specs::Reading::vector_read))]
-fn defined<'s, 't>(room: Room, rest: Rest<'s, 't>) -> Answer<'s, 't, Definition<'s>>
+fn defined<'s, 't>(room: Limits, rest: Rest<'s, 't>) -> ReadResult<'s, 't, Definition<'s>>
     requires { 0 < room.nest }
     ensures read { (n : ℕ) → room.nest + room.round ≤ n + 1 →
         Reads definition_view result (defined_read (exp_of n) (command_of n) (definition_of n) room.nest room.round (seen rest.entry)) }
     ensures low { IfOk result (λ x. x.height ≤ room.nest) }
 {
-    let inner = Room {
+    let inner = Limits {
         nest: room.nest - 1,
         ..room
     };
     let (name, remaining) = cursor::name(rest)?;
     match cursor::shape_at(remaining) {
-        ShapeAt::Parameters(then) => routine(room, name, remaining.parts.len(), then),
-        ShapeAt::Size(then) => construction::vector(room, name, exp(inner, 2, then)),
-        ShapeAt::Values => variables(room, rest),
+        DefinitionShape::Parameters(then) => routine(room, name, remaining.parts.len(), then),
+        DefinitionShape::Size(then) => construction::vector(room, name, exp(inner, 2, then)),
+        DefinitionShape::Values => variables(room, rest),
     }
 }
 
 /// A definition of variables: their names, `=`, and as many initialisers.
 #[cycle(parser)]
 #[tactic(auto, unfolding(bc_parse_defs::specs::Reading::variables_read))]
-fn variables<'s, 't>(room: Room, rest: Rest<'s, 't>) -> Answer<'s, 't, Definition<'s>>
+fn variables<'s, 't>(room: Limits, rest: Rest<'s, 't>) -> ReadResult<'s, 't, Definition<'s>>
     requires { 0 < room.nest }
     ensures read { (n : ℕ) → room.nest + room.round ≤ n + 1 →
         Reads definition_view result (variables_read (exp_of n) (command_of n) (definition_of n) room.nest room.round (seen rest.entry)) }
     ensures low { IfOk result (λ x. x.height ≤ room.nest) }
 {
-    let inner = Room {
+    let inner = Limits {
         nest: room.nest - 1,
         ..room
     };
@@ -212,11 +212,11 @@ fn variables<'s, 't>(room: Room, rest: Rest<'s, 't>) -> Answer<'s, 't, Definitio
 #[cycle(parser)]
 #[tactic(auto, unfolding(bc_parse_defs::specs::Reading::routine_read))]
 fn routine<'s, 't>(
-    room: Room,
+    room: Limits,
     name: &'s [u8],
     place: usize,
     rest: Rest<'s, 't>,
-) -> Answer<'s, 't, Definition<'s>>
+) -> ReadResult<'s, 't, Definition<'s>>
     requires { 0 < room.nest }
     ensures read { (n : ℕ) → room.nest + room.round ≤ n + 1 →
         Reads definition_view result
@@ -226,7 +226,7 @@ fn routine<'s, 't>(
     if room.round == 0 {
         return Err(ReadFault::TooDeep(place));
     }
-    let inner = Room {
+    let inner = Limits {
         nest: room.nest - 1,
         ..room
     };
@@ -240,11 +240,11 @@ fn routine<'s, 't>(
 /// BE and the body of a routine.
 #[cycle(parser)]
 fn procedure<'s, 't>(
-    room: Room,
+    room: Limits,
     name: &'s [u8],
     found: Vec<&'s [u8]>,
     rest: Rest<'s, 't>,
-) -> Answer<'s, 't, Definition<'s>>
+) -> ReadResult<'s, 't, Definition<'s>>
     requires { 0 < room.nest }
     ensures read { (n : ℕ) → room.nest + room.round ≤ n + 1 →
         Reads definition_view result (expect_of sign.Be (seen rest.entry) ~> λ remaining.
@@ -252,7 +252,7 @@ fn procedure<'s, 't>(
         Ok (piece (tree.Routine name.entry.now (names_view found.entry.items) b.tree) (b.height + 1) b.rest)) }
     ensures low { IfOk result (λ x. x.height ≤ room.nest) }
 {
-    let inner = Room {
+    let inner = Limits {
         nest: room.nest - 1,
         ..room
     };

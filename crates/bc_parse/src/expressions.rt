@@ -12,9 +12,9 @@ ghost use Rattle.bc_parse.specs.Seen.{◌~>◌, seen, read_view, list_view, box_
 ghost use Rattle.bc_parse.specs.Seen.{turn_height};
 
 use crate::blocks::body;
-use crate::cursor::{Follow, Rest};
+use crate::cursor::{FollowingPart, Rest};
 use crate::fault::ReadFault;
-use crate::read::{Answer, Read, Room, Turn};
+use crate::read::{Limits, Read, ReadResult, Step};
 use crate::{boxes, construction, cursor};
 use bc_lex_tokens::Symbol;
 use bc_parse_defs::words;
@@ -33,7 +33,7 @@ pub struct Levelled<'s> {
 /// An expression of at least this level.
 #[cycle(parser)]
 #[tactic(auto, unfolding(bc_parse_defs::specs::Reading::exp_of))]
-pub fn exp<'s, 't>(room: Room, level: usize, rest: Rest<'s, 't>) -> Answer<'s, 't, Exp<'s>>
+pub fn exp<'s, 't>(room: Limits, level: usize, rest: Rest<'s, 't>) -> ReadResult<'s, 't, Exp<'s>>
     ensures read { (n : ℕ) → room.nest + room.round ≤ n → Reads exp_view result (exp_of n room.nest room.round level (seen rest.entry)) }
     ensures low { IfOk result (λ x. x.height ≤ room.nest) }
 {
@@ -41,26 +41,26 @@ pub fn exp<'s, 't>(room: Room, level: usize, rest: Rest<'s, 't>) -> Answer<'s, '
         return Err(ReadFault::TooDeep(rest.parts.len()));
     }
     let first = operand(room, rest)?;
-    grow(room, level, rest.parts.len(), first)
+    suffixes(room, level, rest.parts.len(), first)
 }
 
 /// An expression of at least this level, in a box.
 #[cycle(parser)]
-pub fn exp_apart<'s, 't>(
-    room: Room,
+pub fn boxed_exp<'s, 't>(
+    room: Limits,
     level: usize,
     rest: Rest<'s, 't>,
-) -> Answer<'s, 't, Box<Exp<'s>>>
+) -> ReadResult<'s, 't, Box<Exp<'s>>>
     ensures read { (n : ℕ) → room.nest + room.round ≤ n → Reads (box_view exp_view) result (exp_of n room.nest room.round level (seen rest.entry)) }
     ensures low { IfOk result (λ x. x.height ≤ room.nest) }
 {
-    construction::exp_kept(room, exp(room, level, rest))
+    construction::exp_boxed(room, exp(room, level, rest))
 }
 
 /// An operand.
 #[cycle(parser)]
 #[tactic(auto, unfolding(bc_parse_defs::specs::Reading::operand_read))]
-fn operand<'s, 't>(room: Room, rest: Rest<'s, 't>) -> Answer<'s, 't, Levelled<'s>>
+fn operand<'s, 't>(room: Limits, rest: Rest<'s, 't>) -> ReadResult<'s, 't, Levelled<'s>>
     requires { 0 < room.nest }
     ensures read { (n : ℕ) → room.nest + room.round ≤ n + 1 →
         Reads levelled_view result (operand_read (exp_of n) (command_of n) (definition_of n) room.nest room.round (seen rest.entry)) }
@@ -76,25 +76,25 @@ fn operand<'s, 't>(room: Room, rest: Rest<'s, 't>) -> Answer<'s, 't, Levelled<'s
     }
     match cursor::start_word(rest) {
         None => Err(ReadFault::Expected(rest.parts.len())),
-        Some((word, remaining)) => started(room, rest.parts.len(), word, remaining),
+        Some((word, remaining)) => operand_rest(room, rest.parts.len(), word, remaining),
     }
 }
 
 /// An operand, after its first part, whose place is `place`.
 #[cycle(parser)]
 #[tactic(auto, unfolding(bc_parse_defs::specs::Reading::started_read, bc_parse_defs::specs::Reading::table_read, bc_parse_defs::specs::Reading::valof_read, bc_parse_defs::specs::Reading::monadic_read))]
-fn started<'s, 't>(
-    room: Room,
+fn operand_rest<'s, 't>(
+    room: Limits,
     place: usize,
     word: Start,
     rest: Rest<'s, 't>,
-) -> Answer<'s, 't, Levelled<'s>>
+) -> ReadResult<'s, 't, Levelled<'s>>
     requires { 0 < room.nest }
     ensures read { (n : ℕ) → room.nest + room.round ≤ n + 1 →
         Reads levelled_view result (started_read (exp_of n) (command_of n) (definition_of n) room.nest room.round place word (seen rest.entry)) }
     ensures low { IfOk result (λ x. x.height ≤ room.nest) }
 {
-    let inner = Room {
+    let inner = Limits {
         nest: room.nest - 1,
         ..room
     };
@@ -103,7 +103,7 @@ fn started<'s, 't>(
         Start::Table => construction::table_of(room, exps(inner, 2, rest.parts.len() + 1, rest)),
         Start::Valof => construction::valof_of(room, body(inner, rest)),
         Start::Monadic(op) => {
-            construction::monadic_of(room, op, exp_apart(inner, words::level_after(op), rest))
+            construction::monadic_of(room, op, boxed_exp(inner, words::level_after(op), rest))
         }
     }
 }
@@ -111,7 +111,11 @@ fn started<'s, 't>(
 /// An expression in parentheses, after its `(`, whose place is `place`.
 #[cycle(parser)]
 #[tactic(auto, unfolding(bc_parse_defs::specs::Reading::started_read, bc_parse_defs::specs::Reading::bracket_read))]
-fn bracket<'s, 't>(room: Room, place: usize, rest: Rest<'s, 't>) -> Answer<'s, 't, Levelled<'s>>
+fn bracket<'s, 't>(
+    room: Limits,
+    place: usize,
+    rest: Rest<'s, 't>,
+) -> ReadResult<'s, 't, Levelled<'s>>
     ensures read { (n : ℕ) → room.nest + room.round ≤ n + 1 →
         Reads levelled_view result (started_read (exp_of n) (command_of n) (definition_of n) room.nest room.round place start.Bracket (seen rest.entry)) }
     ensures low { IfOk result (λ x. x.height ≤ room.nest) }
@@ -119,7 +123,7 @@ fn bracket<'s, 't>(room: Room, place: usize, rest: Rest<'s, 't>) -> Answer<'s, '
     if room.round == 0 {
         return Err(ReadFault::TooDeep(place));
     }
-    let inner = Room {
+    let inner = Limits {
         round: room.round - 1,
         ..room
     };
@@ -130,12 +134,12 @@ fn bracket<'s, 't>(room: Room, place: usize, rest: Rest<'s, 't>) -> Answer<'s, '
 /// it begins.
 #[cycle(parser)]
 #[tactic(auto, unfolding(bc_parse_defs::specs::Reading::grow_read))]
-fn grow<'s, 't>(
-    room: Room,
+fn suffixes<'s, 't>(
+    room: Limits,
     level: usize,
     begin: usize,
     first: Read<'s, 't, Levelled<'s>>,
-) -> Answer<'s, 't, Exp<'s>>
+) -> ReadResult<'s, 't, Exp<'s>>
     requires { first.height ≤ room.nest }
     ensures read { (n : ℕ) → room.nest + room.round ≤ n + 1 →
         Reads exp_view result (grow_read (exp_of n) room.nest room.round begin level (read_view levelled_view first.entry)) }
@@ -144,39 +148,45 @@ fn grow<'s, 't>(
     let turns = first.rest.parts.len() + 1;
     let mut left = first;
     for _ in 0..turns {
-        match grow_step(room, level, begin, left)? {
-            Turn::Last(whole) => {
+        match suffix_step(room, level, begin, left)? {
+            Step::Last(whole) => {
                 return Ok(Read {
                     tree: whole.tree.exp,
                     height: whole.height,
                     rest: whole.rest,
                 });
             }
-            Turn::More(longer) => left = longer,
+            Step::More(longer) => left = longer,
         }
     }
-    Err(boxes::spent(left))
+    Err(boxes::no_turn_left(left))
 }
 
 /// One step of an expression: its end, or one operator, call or choice.
 #[cycle(parser)]
 #[tactic(auto, unfolding(bc_parse_defs::specs::Reading::grow_turn))]
-fn grow_step<'s, 't>(
-    room: Room,
+fn suffix_step<'s, 't>(
+    room: Limits,
     level: usize,
     begin: usize,
     left: Read<'s, 't, Levelled<'s>>,
-) -> Result<Turn<'s, 't, Levelled<'s>>, ReadFault>
+) -> Result<Step<'s, 't, Levelled<'s>>, ReadFault>
     requires { left.height ≤ room.nest }
     ensures read { (n : ℕ) → room.nest + room.round ≤ n + 1 →
         Takes levelled_view result (grow_turn (exp_of n) room.nest room.round begin level (read_view levelled_view left.entry)) }
     ensures low { IfOk result (λ x. turn_height x ≤ room.nest) }
 {
     match cursor::following_at(level, left.tree.level, left.rest) {
-        Follow::Ends => Ok(Turn::Last(left)),
-        Follow::Operator(op, rest) => construction::grown(room, operated(room, op, left, rest)),
-        Follow::Arguments(rest) => construction::grown(room, called(room, left, rest)),
-        Follow::Choice(rest) => construction::grown(room, chosen(room, begin, left, rest)),
+        FollowingPart::Ends => Ok(Step::Last(left)),
+        FollowingPart::Operator(op, rest) => construction::extended(
+            room,
+            operated(room, op, left, rest),
+        ),
+        FollowingPart::Arguments(rest) => construction::extended(room, called(room, left, rest)),
+        FollowingPart::Choice(rest) => construction::extended(
+            room,
+            chosen(room, begin, left, rest),
+        ),
     }
 }
 
@@ -184,11 +194,11 @@ fn grow_step<'s, 't>(
 #[cycle(parser)]
 #[tactic(auto, unfolding(bc_parse_defs::specs::Reading::suffix_read, bc_parse_defs::specs::Reading::with_operator))]
 fn operated<'s, 't>(
-    room: Room,
+    room: Limits,
     op: Dyadic,
     left: Read<'s, 't, Levelled<'s>>,
     rest: Rest<'s, 't>,
-) -> Answer<'s, 't, Levelled<'s>>
+) -> ReadResult<'s, 't, Levelled<'s>>
     ensures read { (n : ℕ) → room.nest + room.round ≤ n + 1 → (begin : ℕ) →
         Reads levelled_view result (suffix_read (exp_of n) room.nest room.round begin (Operator op (seen rest.entry))
         (exp_view left.entry.tree.exp) left.entry.height (length (seen left.entry.rest))) }
@@ -197,24 +207,24 @@ fn operated<'s, 't>(
     if left.height >= room.nest {
         return Err(boxes::too_deep(left));
     }
-    let inner = Room {
+    let inner = Limits {
         nest: room.nest - 1,
         ..room
     };
     let level = words::level(op);
     let height = left.height;
     let left = boxes::exp(room.alloc, left.tree.exp)?;
-    construction::dyadic_of(room, op, height, left, exp_apart(inner, level + 1, rest))
+    construction::dyadic_of(room, op, height, left, boxed_exp(inner, level + 1, rest))
 }
 
 /// A call of the routine `left`.
 #[cycle(parser)]
 #[tactic(auto, unfolding(bc_parse_defs::specs::Reading::suffix_read, bc_parse_defs::specs::Reading::with_arguments))]
 fn called<'s, 't>(
-    room: Room,
+    room: Limits,
     left: Read<'s, 't, Levelled<'s>>,
     rest: Rest<'s, 't>,
-) -> Answer<'s, 't, Levelled<'s>>
+) -> ReadResult<'s, 't, Levelled<'s>>
     ensures read { (n : ℕ) → room.nest + room.round ≤ n + 1 → (begin : ℕ) →
         Reads levelled_view result (suffix_read (exp_of n) room.nest room.round begin (Arguments (seen rest.entry))
         (exp_view left.entry.tree.exp) left.entry.height (length (seen left.entry.rest))) }
@@ -223,7 +233,7 @@ fn called<'s, 't>(
     if left.height >= room.nest || room.round == 0 {
         return Err(boxes::too_deep(left));
     }
-    let inner = Room {
+    let inner = Limits {
         nest: room.nest - 1,
         round: room.round - 1,
         ..room
@@ -237,11 +247,11 @@ fn called<'s, 't>(
 #[cycle(parser)]
 #[tactic(auto, unfolding(bc_parse_defs::specs::Reading::suffix_read, bc_parse_defs::specs::Reading::with_choice))]
 fn chosen<'s, 't>(
-    room: Room,
+    room: Limits,
     begin: usize,
     left: Read<'s, 't, Levelled<'s>>,
     rest: Rest<'s, 't>,
-) -> Answer<'s, 't, Levelled<'s>>
+) -> ReadResult<'s, 't, Levelled<'s>>
     ensures read { (n : ℕ) → room.nest + room.round ≤ n + 1 → (place : ℕ) →
         Reads levelled_view result (suffix_read (exp_of n) room.nest room.round begin (Choice (seen rest.entry))
         (exp_view left.entry.tree.exp) left.entry.height place) }
@@ -250,24 +260,24 @@ fn chosen<'s, 't>(
     if left.height >= room.nest {
         return Err(boxes::too_deep_at(begin, left));
     }
-    let inner = Room {
+    let inner = Limits {
         nest: room.nest - 1,
         ..room
     };
     let height = left.height;
     let test = boxes::exp(room.alloc, left.tree.exp)?;
-    let this = exp_apart(inner, 1, rest)?;
-    otherwise(room, height.max(this.height), test, this)
+    let this = boxed_exp(inner, 1, rest)?;
+    choice_rest(room, height.max(this.height), test, this)
 }
 
 /// The second value of a choice, after its comma. `height` is how deep the test and the first value nest.
 #[cycle(parser)]
-fn otherwise<'s, 't>(
-    room: Room,
+fn choice_rest<'s, 't>(
+    room: Limits,
     height: usize,
     test: Box<Exp<'s>>,
     this: Read<'s, 't, Box<Exp<'s>>>,
-) -> Answer<'s, 't, Levelled<'s>>
+) -> ReadResult<'s, 't, Levelled<'s>>
     requires { height < room.nest }
     ensures read { (n : ℕ) → room.nest + room.round ≤ n + 1 →
         Reads levelled_view result ((expect_of sign.Comma (seen this.entry.rest) ~> λ remaining.
@@ -276,18 +286,18 @@ fn otherwise<'s, 't>(
         Ok (piece (p.tree, 1) p.height p.rest)) }
     ensures low { IfOk result (λ x. x.height ≤ room.nest) }
 {
-    let inner = Room {
+    let inner = Limits {
         nest: room.nest - 1,
         ..room
     };
     let rest = cursor::expect(Symbol::Comma, this.rest)?;
-    construction::condition_of(room, height, test, this.tree, exp_apart(inner, 1, rest))
+    construction::condition_of(room, height, test, this.tree, boxed_exp(inner, 1, rest))
 }
 
 /// The arguments of a call, after `(`. The `)` is read too.
 #[cycle(parser)]
 #[tactic(auto, unfolding(bc_parse_defs::specs::Reading::arguments_read))]
-fn arguments<'s, 't>(room: Room, rest: Rest<'s, 't>) -> Answer<'s, 't, Vec<Exp<'s>>>
+fn arguments<'s, 't>(room: Limits, rest: Rest<'s, 't>) -> ReadResult<'s, 't, Vec<Exp<'s>>>
     ensures read { (n : ℕ) → room.nest + room.round ≤ n →
         Reads (list_view exps_view) result (arguments_read (exp_of n) room.nest room.round (seen rest.entry)) }
     ensures low { IfOk result (λ x. x.height ≤ room.nest) }
@@ -309,11 +319,11 @@ fn arguments<'s, 't>(room: Room, rest: Rest<'s, 't>) -> Answer<'s, 't, Vec<Exp<'
 #[cycle(parser)]
 #[tactic(auto, unfolding(bc_parse_defs::specs::Reading::exps_read))]
 pub fn exps<'s, 't>(
-    room: Room,
+    room: Limits,
     level: usize,
     limit: usize,
     rest: Rest<'s, 't>,
-) -> Answer<'s, 't, Vec<Exp<'s>>>
+) -> ReadResult<'s, 't, Vec<Exp<'s>>>
     ensures read { (n : ℕ) → room.nest + room.round ≤ n →
         Reads (list_view exps_view) result (exps_read (exp_of n) room.nest room.round level limit (seen rest.entry)) }
     ensures low { IfOk result (λ x. x.height ≤ room.nest) }
@@ -325,11 +335,11 @@ pub fn exps<'s, 't>(
     };
     for _ in 0..rest.parts.len() + 1 {
         match construction::exps_more(room, limit, exp(room, level, found.rest), found)? {
-            Turn::Last(list) => return Ok(list),
-            Turn::More(list) => found = list,
+            Step::Last(list) => return Ok(list),
+            Step::More(list) => found = list,
         }
     }
-    Err(boxes::spent(found))
+    Err(boxes::no_turn_left(found))
 }
 
 /// The number of expressions in a list.

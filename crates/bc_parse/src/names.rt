@@ -7,7 +7,7 @@ ghost use Rattle.bc_parse.specs.Names.{names_view};
 use crate::cursor;
 use crate::cursor::Rest;
 use crate::fault::ReadFault;
-use crate::read::{Answer, Read, Turn};
+use crate::read::{Read, ReadResult, Step};
 use bc_lex_tokens::Symbol;
 use std::alloc::Global;
 
@@ -15,7 +15,7 @@ use std::alloc::Global;
 #[tactic(auto, unfolding(bc_parse_defs::specs::Reading::name_turn), using(crate::proofs::Lists::names_view_push))]
 fn name_step<'s, 't>(
     list: Read<'s, 't, Vec<&'s [u8]>>,
-) -> Result<Turn<'s, 't, Vec<&'s [u8]>>, ReadFault>
+) -> Result<Step<'s, 't, Vec<&'s [u8]>>, ReadFault>
     ensures { Takes (list_view names_view) result (name_turn (read_view (list_view names_view) list.entry)) }
 {
     let height = list.height;
@@ -23,14 +23,14 @@ fn name_step<'s, 't>(
     let (name, rest) = cursor::name(list.rest)?;
     tree.push(name)?;
     Ok(match cursor::after(Symbol::Comma, rest) {
-        None => Turn::Last(Read { tree, height, rest }),
-        Some(rest) => Turn::More(Read { tree, height, rest }),
+        None => Step::Last(Read { tree, height, rest }),
+        Some(rest) => Step::More(Read { tree, height, rest }),
     })
 }
 
 /// One or more names, separated by commas.
 #[tactic(auto, unfolding(bc_parse_defs::specs::Reading::names_read))]
-pub fn names<'s, 't>(alloc: Global, rest: Rest<'s, 't>) -> Answer<'s, 't, Vec<&'s [u8]>>
+pub fn names<'s, 't>(alloc: Global, rest: Rest<'s, 't>) -> ReadResult<'s, 't, Vec<&'s [u8]>>
     ensures { Reads (list_view names_view) result (names_read (seen rest.entry)) }
 {
     let mut found = Read {
@@ -40,8 +40,8 @@ pub fn names<'s, 't>(alloc: Global, rest: Rest<'s, 't>) -> Answer<'s, 't, Vec<&'
     };
     for _ in 0..rest.parts.len() + 1 {
         match name_step(found)? {
-            Turn::Last(list) => return Ok(list),
-            Turn::More(list) => found = list,
+            Step::Last(list) => return Ok(list),
+            Step::More(list) => found = list,
         }
     }
     Err(ReadFault::Expected(found.rest.parts.len()))
@@ -49,7 +49,7 @@ pub fn names<'s, 't>(alloc: Global, rest: Rest<'s, 't>) -> Answer<'s, 't, Vec<&'
 
 /// The parameters of a routine, after `(`. The `)` is read too.
 #[tactic(auto, unfolding(bc_parse_defs::specs::Reading::parameters_read))]
-pub fn parameters<'s, 't>(alloc: Global, rest: Rest<'s, 't>) -> Answer<'s, 't, Vec<&'s [u8]>>
+pub fn parameters<'s, 't>(alloc: Global, rest: Rest<'s, 't>) -> ReadResult<'s, 't, Vec<&'s [u8]>>
     ensures { Reads (list_view names_view) result (parameters_read (seen rest.entry)) }
 {
     if let Some(rest) = cursor::after(Symbol::CloseBracket, rest) {

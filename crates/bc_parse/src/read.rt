@@ -5,7 +5,7 @@ use std::alloc::Global;
 
 /// The bounds for what is read, and the allocator for its tree.
 #[derive(Clone, Copy)]
-pub struct Room {
+pub struct Limits {
     /// Where trees are allocated.
     pub alloc: Global,
     /// How deep the tree may nest.
@@ -26,11 +26,11 @@ pub struct Read<'s, 't, T> {
 }
 
 /// What was read, or the fault.
-pub type Answer<'s, 't, T> = Result<Read<'s, 't, T>, ReadFault>;
+pub type ReadResult<'s, 't, T> = Result<Read<'s, 't, T>, ReadFault>;
 
 /// The result of one turn of a loop.
 #[derive(Drop)]
-pub enum Turn<'s, 't, T> {
+pub enum Step<'s, 't, T> {
     /// What was read up to here; another turn follows.
     More(Read<'s, 't, T>),
     /// What was read in all; this was the last turn.

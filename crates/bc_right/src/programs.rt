@@ -1,3 +1,3 @@
-//! A program's image does what its sections mean.
+//! Fourth layer: the linked image of a program does what its sections mean.
 
 pub mod laws;

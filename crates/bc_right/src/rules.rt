@@ -1,3 +1,3 @@
-//! Each derivation's code does on the machine what its expression, test or assignment means.
+//! Second layer: the code of each derivation does on the machine what its expression, test or assignment means.
 
 pub mod laws;

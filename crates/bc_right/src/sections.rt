@@ -1,3 +1,3 @@
-//! The theorem that all others are for: the image of sections does what their sources say.
+//! Fifth layer, and the purpose of the others: the image of sections does what their sources say.
 
 pub mod laws;

@@ -1,4 +1,4 @@
--- A tree of rules fits just where it is the shape of a derivation.
+-- A tree of rule names fits exactly if it is the shape of a derivation.
 use Rattle.std.proofs.Common.{◌≡◌, ℕ, ◌+◌, Bool, true, false, not, ◌&&◌, ◌||◌, ◌↔◌, Option, Some, None, refl, sym, ap, ◌∙◌, IsTrue}
 use Rattle.bc_word.specs.declared.operator.Op.{Op}
 use Rattle.bc_word.specs.declared.operator.Op.TheVariants.{Add, Subtract, Equal, NotEqual, And, Or}
@@ -33,7 +33,7 @@ right_true : (a b : Bool) → (a && b) ≡ true → b ≡ true
 right_true true b h = h
 right_true false b h = cc
 
--- free operands, by the definition and as the rules ask it
+-- free operands, by the definition and in the form that the rules use
 to_turn : (x y z : Bool) → (not x || y || z) ≡ true → (not x || (y || z)) ≡ true
 to_turn false y z h = refl
 to_turn true true z h = refl
@@ -144,7 +144,7 @@ call_found T (argument a es) f i (part d ds) h =
     let r = call_found T es f (i + 1) ds h.1 in
     ((one_more h.0.0 r.0.0, r.0.1), ap (λ x. part x (end_with (shapes r.0.0) (shape r.0.1))) h.0.1 ∙ ap (part d) r.1)
 
--- where a rule's condition holds
+-- if a rule's condition holds
 with_some : {A : Type 0} (T : Table) (x : Option A) (p : Parts) (ds : Trees) (X : Type 0) → ((y : A) → x ≡ Some y → Fitting T p ds → X) → Fitting T (where_some x p) ds → X
 with_some T None p ds X k h = absurd h
 with_some T (Some y) p ds X k h = k y refl h

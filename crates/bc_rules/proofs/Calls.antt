@@ -1,4 +1,4 @@
--- Whether a call or a VALOF stands in an expression, by the parts of a rule.
+-- Whether an expression contains a call or a VALOF follows from the parts of a rule.
 use Rattle.std.proofs.Common.{◌≡◌, ℕ, Bool, true, false, not, cond, ◌||◌, Option, Some, None, refl, ap, sym, subst, ◌∙◌}
 use Rattle.bc_word.specs.declared.operator.Op.{Op}
 use Rattle.bc_word.specs.declared.operator.Op.TheVariants.{Add, Subtract, Equal, NotEqual, And, Or}
@@ -17,7 +17,7 @@ use Rattle.bc_rules_defs.specs.Free.{is_zero, is_plain, without_zero}
 use Rattle.bc_rules_defs.specs.Parts.{Parts, no_rule, leaf, single, pair, triple, called, where_true, where_some, in_any, for_sum, for_difference, for_and, for_or, for_equal, for_not_equal, single_if, value_parts, test_parts, operator_parts, number_parts, load_parts, neg_parts, not_parts, cond_parts, call_parts, valof_parts, node_parts, parts_of}
 use Rattle.bc_rules.specs.Fits.{parts_call}
 
--- no call stands in an operand
+-- an operand contains no call
 moved_calm : (a b : Exp) (o : Operand) → moved a (constant_of b) ≡ Some o → (has_call a ≡ false) × (has_call b ≡ false)
 moved_calm (Frame k) (Num n) o h = (refl, refl)
 moved_calm (Glob k) (Num n) o h = (refl, refl)
@@ -51,7 +51,7 @@ zero_calm : (e : Exp) → is_zero e ≡ true → has_call e ≡ false
 zero_calm (Num n) h = refl
 zero_calm _ h = cc
 
--- where a rule applies, its parts tell
+-- if a rule applies, its parts decide
 abbrev pub Tells : Exp → Parts → Type 0
 Tells e no_rule = Unit {0}
 Tells e (leaf v) = v ≡ has_call e
@@ -226,6 +226,6 @@ tells_call e (called i es g) f h = h
 pub whole_call : (r : Rule) (aim : Aim) (e : Exp) → (parts_of r aim e ≡ no_rule → ⊥) → parts_call (parts_of r aim e) ≡ has_call e
 whole_call r aim e f = tells_call e (parts_of r aim e) f (parts_tell r aim e)
 
--- no parts, where the rule applies: those of a VALOF just where a call or a VALOF stands there
+-- a rule without parts applies: the expression contains a call or VALOF exactly if it is a VALOF
 pub leaf_calls : (r : Rule) (aim : Aim) (e : Exp) (v : Bool) → leaf v ≡ parts_of r aim e → v ≡ has_call e
 leaf_calls r aim e v h = subst (λ p. Tells e p) (sym h) (parts_tell r aim e)

@@ -1,4 +1,4 @@
--- The cells of an expression and of an assignment, by the parts of a rule: they are no more than the whole's.
+-- The parts of a rule use no more cells than the whole expression or assignment.
 use Rattle.std.proofs.Common.{◌≡◌, refl, ℕ, ◌+◌, ◌≤◌, max, Bool, true, false, not, cond, Option, Some, None, arith}
 use Rattle.bc_word.specs.declared.operator.Op.{Op}
 use Rattle.bc_word.specs.declared.operator.Op.TheVariants.{Add, Subtract, Equal, NotEqual, And, Or}
@@ -38,7 +38,7 @@ right x y z = omega arith
 turned : (x y z : ℕ) → max x (max z y) ≤ max x (max y z)
 turned x y z = omega arith
 
--- what a rule asks beside changes no parts
+-- a further condition of a rule changes nothing
 some : {A : Type 0} (r : Rule) (e : Exp) (s : ℕ) (x : Option A) (p : Parts) → Within r e s p → Within r e s (where_some x p)
 some r e s None p h = none (cells e s)
 some r e s (Some y) p h = h

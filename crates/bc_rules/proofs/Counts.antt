@@ -1,4 +1,4 @@
--- Counts of labels and of cells, which stop at 65,537.
+-- Counts of labels and of cells, capped at 65,537.
 use Rattle.std.proofs.Common.{◌≡◌, ℕ, zero, suc, ◌+◌, ◌<◌, ◌≤◌, max, Bool, cond, Option, Some, None, List, [], ◌∷◌, length, get_or, drop, refl, sym, ap, ◌∙◌, arith, ⊎_elim, length-drop, Vec, Box, Global}
 use Rattle.std.proofs.lemmas.List.{drop_all}
 use Rattle.std.proofs.lemmas.Bool.{cases_lt}
@@ -28,7 +28,7 @@ use Rattle.bc_rules.proofs.Trees.{tree_view, one_tree, two_trees, three_trees, n
 pub one_labels : (r : Rule) (xs : List Derivation) (d : Derivation) (m : Aim) (a : Exp) → length xs ≡ 1 → labels_of_parts r (single m a) (derivations xs) ≡ labels_by (derivation (get_or xs 0 d)) m a
 one_labels r xs d m a h = ap (labels_of_parts r (single m a)) (one_tree xs d h)
 
--- those of a rule's own
+-- a rule's own labels
 pub two_own : (r : Rule) (xs : List Derivation) (m n : Aim) (a b : Exp) → length xs ≡ 2 → own_labels r ≤ labels_of_parts r (pair m a n b) (derivations xs)
 two_own r [] m n a b h = absurd (omega arith)
 two_own r (x ∷ []) m n a b h = absurd (omega arith)
@@ -70,7 +70,7 @@ pub no_leaf_labels : (r : Rule) (xs : List Derivation) (v : Bool) → 1 ≤ leng
 no_leaf_labels r [] v h = absurd (omega arith)
 no_leaf_labels r (x ∷ xs) v h = refl
 
--- the label of a VALOF, where a rule has no parts
+-- the label of a VALOF, in rules without parts
 pub leaf_labels : (r : Rule) (aim : Aim) (e : Exp) (xs : List Derivation) (v : Bool) → length xs ≡ 0 → leaf v ≡ parts_of r aim e → labels_of_parts r (leaf v) (derivations xs) ≡ cond (has_call e) 1 0
 leaf_labels r aim e [] v h i = ap (λ z. cond z 1 0) (leaf_calls r aim e v i)
 leaf_labels r aim e (x ∷ xs) v h i = absurd (omega arith)
@@ -132,7 +132,7 @@ count_args (e ∷ es) = omega (arith, count_args es)
 pub cells_next : (es : List CoreExp) (i s : ℕ) (e : CoreExp) → i < length es → cells_of_all (args (drop i es)) s ≡ max (cells (exp (get_or es i e)) s) (cells_of_all (args (drop (i + 1) es)) (s + 1))
 cells_next es i s e h = ap (λ more. cells_of_all more s) (next_argument es i e h)
 
--- those of one argument
+-- the cells of one argument
 pub argument_cells : (es : List CoreExp) (i s k : ℕ) (e : CoreExp) → i < length es → k ≡ s + i → cells (exp (get_or es i e)) k ≤ cells_of_all (args es) s
 argument_cells [] i s k e h j = absurd (omega arith)
 argument_cells (x ∷ es) zero s k e h j = let here : cells (exp x) k ≡ cells (exp x) s = ap (cells (exp x)) (omega arith) in omega arith
@@ -148,7 +148,7 @@ one_side_labels xs d m a h = ap (labels_of_sides (single m a)) (one_tree xs d h)
 pub two_sides_labels : (xs : List Derivation) (d : Derivation) (m n : Aim) (a b : Exp) → length xs ≡ 2 → labels_of_sides (pair m a n b) (derivations xs) ≡ labels_by (derivation (get_or xs 0 d)) m a + labels_by (derivation (get_or xs 1 d)) n b
 two_sides_labels xs d m n a b h = ap (labels_of_sides (pair m a n b)) (two_trees xs d h)
 
--- none of an assignment's rules has labels of its own
+-- no rule of assignments has labels of its own
 sides_are : (r : Rule) (v a : Exp) (xs : List Derivation) → labels_of_sides (assignment_parts r v a) (derivations xs) ≡ labels_of_parts r (assignment_parts r v a) (derivations xs)
 sides_are A1 v a xs = one_side (operand_of a) xs where
   one_side : (x : Option Operand) (xs : List Derivation) → labels_of_sides (where_some x (single (Gets Any) v)) (derivations xs) ≡ labels_of_parts A1 (where_some x (single (Gets Any) v)) (derivations xs)

@@ -1,4 +1,4 @@
--- Whether trees fit, over lists of derivations as the program walks them.
+-- `fits` over lists of derivations, as the program walks them.
 use Rattle.std.proofs.Common.{◌≡◌, ℕ, ◌+◌, ◌<◌, ◌≤◌, Bool, true, false, not, ◌&&◌, ◌||◌, Option, Some, None, is_some, List, [], ◌∷◌, length, get_or, drop, refl, sym, ap, ◌∙◌, arith, ⊎_elim, length-drop}
 use Rattle.std.proofs.lemmas.List.{drop_all}
 use Rattle.std.proofs.lemmas.Bool.{cases_lt}
@@ -162,7 +162,7 @@ call_long T xs es f n h k =
     ap (λ more. parts_fit T (called n (args more) f) (derivations (drop n xs))) end
     ∙ two_more T n (drop n xs) f (omega (arith, length-drop n xs))
 
--- a rule, its table, and operands that may be turned round
+-- a rule, its table, and its order of evaluation
 rule_view : (T : Table) (d : Derivation) (aim : Aim) (e : Exp) → fits T (derivation d) aim e ≡ fits T (by (out-Derivation d).rule (derivations (out-Derivation d).parts.items)) aim e
 rule_view T d aim e = ap (λ x. fits T x aim e) (tree_view d)
 
@@ -189,7 +189,7 @@ pub derives_it : (T : Table) (d : Derivation) (aim : Aim) (e : Exp) (c : Bool) �
 derives_it T d aim e c h i j =
     sym (some_by _ (has_call e) c (rule_view T d aim e ∙ both_true _ _ h (both_true _ _ (ap (λ z. turns_freely (out-Derivation d).rule z e) (whole T d aim e c i) ∙ j) (found_true _ _ c i).0)) (whole T d aim e c i))
 
--- a call, where the walk over its arguments has ended
+-- a call, after the walk over its arguments
 misfit_at_end : (T : Table) (xs : List Derivation) (es : List CoreExp) (f : Exp) (n : ℕ) → n ≡ length es → (length xs ≡ n + 1 → ⊥) → parts_fit T (called n (args (drop n es)) f) (derivations (drop n xs)) ≡ false
 misfit_at_end T xs es f n h k =
     ⊎_elim (λ long. call_long T xs es f n h (over (length xs) n long k)) (λ short. call_short T xs es f n short) (cases_lt n (length xs)) where
@@ -219,7 +219,7 @@ assignment_view T d v a = ap (λ x. assignment_fits T x v a) (tree_view d)
 pub not_assigned : (T : Table) (d : Derivation) (v a : Exp) (c : Bool) → found (parts_fit T (assignment_parts (out-Derivation d).rule v a) (derivations (out-Derivation d).parts.items)) c ≡ None → false ≡ assignment_fits T (derivation d) v a
 not_assigned T d v a c h = sym (assignment_view T d v a ∙ right_false (sides_free (out-Derivation d).rule v a) _ (found_false _ c h))
 
--- the two ways to ask for free sides
+-- the two forms of the condition that the sides are free
 swapped : (x y : Bool) → (y || x) ≡ (x || y)
 swapped true true = refl
 swapped true false = refl

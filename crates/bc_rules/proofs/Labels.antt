@@ -1,4 +1,4 @@
--- The next label.
+-- The next free label, and what NoRoom says about it.
 use Rattle.std.proofs.Common.{◌≡◌, ℕ, List, ◌+◌, ◌≤◌, ◌<◌, min, max, Some, None, ap, ◌∙◌, arith}
 use Rattle.bc_core.specs.Tree.{Root}
 use Rattle.bc_rules_defs.specs.declared.rule.Table.{Table}
@@ -22,11 +22,11 @@ next_some r x first n h k = record { exact = λ T d e. let l = labels_by_shape r
 pub next_none : (r : Root) (x : Tree) (first n : ℕ) → n ≡ min (root_labels_by r x) 65537 → 65536 < first + n → IsNextLabel r x first None
 next_none r x first n h k = record { exact = λ T d e. λ small. let l = labels_by_shape r x T d e in absurd (omega arith) }
 
--- that of a writer after the root's code
+-- the next label of a writer after the root's code
 pub next_is_written : (r : Root) (x : Tree) (f : ℕ) (ps : List Piece) (u w : Writer) → u.next ≡ f → Writes u w ps (root_labels_by r x) → w.next ≤ 65536 → IsNextLabel r x f (Some w.next)
 next_is_written r x f ps u w k i b = record { exact = λ T d e. let l = labels_by_shape r x T d e in let n = i.next in (omega arith, omega arith) }
 
--- where the labels or the cells pass 65,536
+-- the labels or the cells exceed 65,536
 pub lacks_room : (r : Root) (x : Tree) (f : ℕ) → 65537 ≤ max (f + root_labels_by r x) (cells_of_root r) → LacksRoom r x f
 lacks_room r x f h = record { exact = λ T d e k c. let l = labels_by_shape r x T d e in omega arith }
 

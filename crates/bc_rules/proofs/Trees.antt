@@ -1,4 +1,4 @@
--- Trees of rules as they lie in memory, and their parts.
+-- Trees of rule names as the program has them, and their parts.
 use Rattle.std.proofs.Common.{◌≡◌, ℕ, ◌+◌, ◌<◌, refl, ap, ◌∙◌, sym, arith, rules, Vec, Box, Global, Bool, true, false, cond, Some, None, List, [], ◌∷◌, length, get_or, drop, add-one, drop-cons}
 use Rattle.bc_core.specs.declared.expression.CoreExp.{CoreExp}
 use Rattle.bc_core.specs.declared.expression.CoreExp as expressions
@@ -22,7 +22,7 @@ rows_seen : {n : _} (r : Row_of-Derivation n) → derivations_of_row r ≡ deriv
 rows_seen end_of-Derivation = refl
 rows_seen (more_of-Derivation d ds) = ap (part (derivation d)) (rows_seen ds)
 
--- a tree is seen with the list of its parts
+-- the view of a tree, from the list of its parts
 pub tree_view : (d : Derivation) → derivation d ≡ by (out-Derivation d).rule (derivations (out-Derivation d).parts.items)
 tree_view (Derivation' r shape ps) = let h = rows_seen ps in search (rules, the_lemmas)
 
@@ -55,7 +55,7 @@ next_tree xs i d h = ap derivations (drop-cons xs i d h ∙ ap (λ n. get_or xs 
 pub next_argument : (es : List CoreExp) (i : ℕ) (e : CoreExp) → i < length es → args (drop i es) ≡ argument (exp (get_or es i e)) (args (drop (i + 1) es))
 next_argument es i e h = ap args (drop-cons es i e h ∙ ap (λ n. get_or es i e ∷ drop n es) (sym (add-one i)))
 
--- what stands beside a 0 is the part that is taken
+-- the operand beside a 0 is the part that the table takes
 beside_at : (aim : Aim) (a b c : Exp) (y z : Bool) → Some c ≡ cond z (Some a) (cond y (Some b) None) → of_two (beside aim z) a b ≡ single_if aim (cond z (Some a) (cond y (Some b) None))
 beside_at aim a b c y true h = refl
 beside_at aim a b c true false h = refl

@@ -1,4 +1,4 @@
--- What the steps of writing add up to.
+-- The steps of writing together append the code of each form.
 use Rattle.std.proofs.Common.{◌≡◌, ◌==◌, Option, Result, Ok, Err, ℕ, zero, suc, ◌+◌, ◌<◌, ◌≤◌, max, Bool, true, false, cond, List, [], ◌∷◌, ◌++◌, length, get_or, drop, refl, sym, ap, subst, ◌∙◌, arith, append_assoc, append-nil, add-zero, length-drop}
 use Rattle.std.proofs.lemmas.List.{drop_all}
 use Rattle.bc_core.specs.declared.expression.CoreExp.{CoreExp}
@@ -156,11 +156,11 @@ triple_writes_not r aim e m n l a b c s t (x ∷ y ∷ []) u h = nothing u
 triple_writes_not r aim e m n l a b c s t (x ∷ y ∷ z ∷ []) u h = absurd (h (omega arith))
 triple_writes_not r aim e m n l a b c s t (x ∷ y ∷ z ∷ k ∷ xs) u h = nothing u
 
--- the labels and the cells of a part are no more than the whole's
+-- a part has no more labels and cells than the whole
 within : (y : CodeFault) (next n m c k : ℕ) → least_for y ≤ max (next + n) c → n ≡ m → c ≤ k → least_for y ≤ max (next + m) k
 within y next n m c k h i j = omega arith
 
--- a derivation as it lies in memory
+-- a derivation as the program has it
 pub tree_writes : {X : Type 0} (z : Result X CodeFault) (d : Derivation) (xs : List Derivation) (aim : Aim) (e : Exp) (s t : ℕ) (p : Parts) (u w : Writer) → xs ≡ (out-Derivation d).parts.items → p ≡ parts_of (out-Derivation d).rule aim e
     → WritesOrLacks z u w (code_of_parts (out-Derivation d).rule aim e p (derivations xs) s t u.next) (labels_of_parts (out-Derivation d).rule p (derivations xs)) (cells_of_parts (out-Derivation d).rule p s)
     → WritesOrLacks z u w (code_by (derivation d) aim e s t u.next) (labels_by (derivation d) aim e) (cells e s)
@@ -178,7 +178,7 @@ tree_writes (Err y) d xs aim e s t p u w k h i =
 pub none_writes : (r : Rule) (aim : Aim) (e : Exp) (s t : ℕ) (ds : Trees) (u : Writer) → Writes u u (code_of_parts r aim e no_rule ds s t u.next) (labels_of_parts r no_rule ds)
 none_writes r aim e s t ds u = nothing u
 
--- the end of a call: what was written, and what the rest would be, make the whole
+-- the end of a call: what was written and the rest make the whole
 ends_as : (u v : Writer) (C D : List Piece) (L M : ℕ) → D ≡ [] → M ≡ 0 → v.next + M ≡ u.next + L → v.pieces.items ++ D ≡ u.pieces.items ++ C → Writes u v C L
 ends_as u v C D L M h k i j = record { pieces = sym (append-nil v.pieces.items) ∙ ap (λ z. v.pieces.items ++ z) (sym h) ∙ j; next = omega arith }
 
@@ -200,7 +200,7 @@ call_stops r aim e xs es g i s t u v C L h j k =
     ends_as u v C _ L _ (ap (λ ds. code_of_parts r aim e (called i (args (drop i es)) g) ds s t v.next) is ∙ none_code r aim e i (args (drop i es)) g s t v.next)
     (ap (labels_of_parts r (called i (args (drop i es)) g)) is ∙ none_labels r i (args (drop i es)) g) j k
 
--- no argument left, and not one tree
+-- no argument remains, and the number of trees isn't one
 other_code : (r : Rule) (aim : Aim) (e : Exp) (i : ℕ) (g : Exp) (xs : List Derivation) (s t f : ℕ) → (length xs ≡ 1 → ⊥) → code_of_parts r aim e (called i no_argument g) (derivations xs) s t f ≡ []
 other_code r aim e i g [] s t f h = refl
 other_code r aim e i g (x ∷ []) s t f h = absurd (h (omega arith))

@@ -1,4 +1,4 @@
--- Worked examples: the last label and the last offset that have room, and one more of each.
+-- Worked examples: the last label and the last offset that fit into a word, and one more of each.
 use Rattle.std.specs.Prelude.{◌≡◌, ℕ, ◌≤◌, refl}
 use Rattle.std.proofs.Common.{arith}
 use Rattle.bc_word.specs.declared.operator.Op.TheVariants.{Multiply}
@@ -20,7 +20,7 @@ at k = Load (Frame k)
 abbrev get : {T : _} {k : ℕ} → Derives T (at k) (Gets Any)
 get = v0 (v1 refl)
 
--- v -> w, x, by V20, which takes two labels
+-- v -> w, x by V20, which takes two labels
 abbrev choice : Root
 choice = Value 5 (Cond (at 2) (at 3) (at 4))
 
@@ -31,21 +31,21 @@ two_labels : {T : Table} (d : RootDerives T choice) → root_shape d ≡ root_sh
 two_labels (value (v20 c x y)) e = omega arith
 two_labels (value _) e = cc
 
--- from 65,534 on they are the last two, and from 65,535 on the second one is no word
+-- numbered from 65,534 they are the last two labels; numbered from 65,535 the second is no word
 labels_fit : ¬ LacksRoom choice (root_shape by_choice) 65534
 labels_fit h = h.exact One by_choice refl (omega arith) (omega arith)
 
 one_label_more : LacksRoom choice (root_shape by_choice) 65535
 one_label_more = record { exact = λ T d e labels cells. let two = two_labels d e in omega arith }
 
--- v * w, by V17, which holds two values: at a level, and at the one after it
+-- v * w by V17, which stores two values: at its level and at the next one
 abbrev product : ℕ → Root
 product s = Value s (Bin Multiply (at 2) (at 3))
 
 abbrev held : {s : ℕ} → RootDerives One (product s)
 held = value (v17 get get)
 
--- at the level 65,534 these are the last two offsets, and at 65,535 the second one is no word
+-- at level 65,534 these are the last two offsets; at 65,535 the second is no word
 offsets_fit : ¬ LacksRoom (product 65534) (root_shape (held {s = 65534})) 1
 offsets_fit h = h.exact One held refl (omega arith) (omega arith)
 

@@ -1,3 +1,8 @@
+//! Which rules apply to an expression or assignment, and which parts they have there.
+//!
+//! Each function tests a rule's conditions; the parts then come from the table `Rule::takes`. Whether operands are free and
+//! whether a rule table has the rule is decided in `check.rt`.
+
 ghost use Rattle.std.specs.Prelude.{◌≡◌};
 ghost use Rattle.bc_core.specs.View.{exp};
 ghost use Rattle.bc_rules_defs.specs.Free.{is_plain, beside_zero, without_zero as without_zero_of};
@@ -10,7 +15,7 @@ use bc_core::{CoreExp, constant, operand};
 use bc_rules_defs::{Aim, Mode, Rule, Takes, is_plain_operator, is_zero};
 use bc_word::{Op, mirror};
 
-/// Whether the test of an expression is made of its value: neither NOT nor `&` nor the bar is on top.
+/// Whether a test of an expression may test its value (rule J6): neither NOT nor `&` nor `|` is on top.
 fn plain(e: &CoreExp) -> bool
     ensures { result ≡ is_plain (exp e.now) }
 {
@@ -20,7 +25,7 @@ fn plain(e: &CoreExp) -> bool
         CoreExp::Num(_)
         | CoreExp::Frame(_)
         | CoreExp::Glob(_)
-        | CoreExp::Place(_)
+        | CoreExp::CodeContext(_)
         | CoreExp::Load(_)
         | CoreExp::Neg(_)
         | CoreExp::Cond(_, _, _)
@@ -29,7 +34,7 @@ fn plain(e: &CoreExp) -> bool
     }
 }
 
-/// What stands beside a 0; of two 0s the right one is dropped.
+/// The other operand, if one of the two is 0. Of two zeros the right one is dropped.
 fn beside<'a>(a: &'a CoreExp, b: &'a CoreExp) -> Option<&'a CoreExp>
     ensures { expression result ≡ beside_zero (exp a.now) (exp b.now) }
 {
@@ -42,7 +47,7 @@ fn beside<'a>(a: &'a CoreExp, b: &'a CoreExp) -> Option<&'a CoreExp>
     }
 }
 
-/// The operand that a sum or difference with 0 is.
+/// The operand to which `a + 0`, `0 + a` or `a - 0` reduces (rule V8).
 fn without_zero<'a>(op: Op, a: &'a CoreExp, b: &'a CoreExp) -> Option<&'a CoreExp>
     ensures { expression result ≡ without_zero_of op (exp a.now) (exp b.now) }
 {
@@ -53,6 +58,7 @@ fn without_zero<'a>(op: Op, a: &'a CoreExp, b: &'a CoreExp) -> Option<&'a CoreEx
     }
 }
 
+/// A part with its aim.
 fn part<'a>(aim: Aim, of: &'a CoreExp) -> Part<'a>
     ensures which { result.aim ≡ aim }
     ensures whose { exp result.of.now ≡ exp of.now }
@@ -60,7 +66,7 @@ fn part<'a>(aim: Aim, of: &'a CoreExp) -> Part<'a>
     Part { aim, of }
 }
 
-/// The one part, if it is taken.
+/// The part of a node with one part, if the rule takes it.
 fn of_one<'a>(takes: Takes, a: &'a CoreExp) -> Parts<'a>
     ensures { parts result ≡ one_taken takes (exp a.now) }
 {
@@ -75,7 +81,7 @@ fn of_one<'a>(takes: Takes, a: &'a CoreExp) -> Parts<'a>
     }
 }
 
-/// Those of two parts that are taken, in the order of the code.
+/// The parts that the rule takes of a node with two parts, in the order of the code.
 fn of_two<'a>(takes: Takes, a: &'a CoreExp, b: &'a CoreExp) -> Parts<'a>
     ensures { parts result ≡ two_taken takes (exp a.now) (exp b.now) }
 {
@@ -88,7 +94,7 @@ fn of_two<'a>(takes: Takes, a: &'a CoreExp, b: &'a CoreExp) -> Parts<'a>
     }
 }
 
-/// A condition and two values, in the order of the code.
+/// The condition and the two values of `c -> x, y`, in the order of the code.
 fn of_choice<'a>(takes: Takes, c: &'a CoreExp, x: &'a CoreExp, y: &'a CoreExp) -> Parts<'a>
     ensures { parts result ≡ choice_taken takes (exp c.now) (exp x.now) (exp y.now) }
 {
@@ -110,7 +116,7 @@ fn of_choice<'a>(takes: Takes, c: &'a CoreExp, x: &'a CoreExp, y: &'a CoreExp) -
 }
 
 /// The parts of a rule at an expression, for this aim. Whether operands are free and whether a table
-/// has the rule is asked apart.
+/// has the rule isn't decided here.
 pub fn parts_of<'a>(rule: Rule, aim: Aim, e: &'a CoreExp) -> Parts<'a>
     ensures { parts result ≡ parts_by rule aim (exp e.now) }
 {
@@ -137,6 +143,7 @@ pub fn parts_of<'a>(rule: Rule, aim: Aim, e: &'a CoreExp) -> Parts<'a>
     }
 }
 
+/// The parts of a rule other than V0, V1 and J6, by the form of the expression.
 #[tactic(auto, using(crate::proofs::Trees::call_parts_seen))]
 fn node_parts<'a>(rule: Rule, aim: Aim, e: &'a CoreExp) -> Parts<'a>
     ensures { parts result ≡ node_parts_of rule aim (exp e.now) }
@@ -147,7 +154,7 @@ fn node_parts<'a>(rule: Rule, aim: Aim, e: &'a CoreExp) -> Parts<'a>
             (Rule::J7, Aim::Jumps(_)) => Parts::Leaf(false),
             _ => Parts::NoRule,
         },
-        CoreExp::Frame(_) | CoreExp::Glob(_) | CoreExp::Place(_) => Parts::NoRule,
+        CoreExp::Frame(_) | CoreExp::Glob(_) | CoreExp::CodeContext(_) => Parts::NoRule,
         CoreExp::Load(a) => match (rule, aim) {
             (Rule::V2, Aim::Gets(_)) => of_one(takes, a),
             _ => Parts::NoRule,
@@ -181,7 +188,7 @@ fn node_parts<'a>(rule: Rule, aim: Aim, e: &'a CoreExp) -> Parts<'a>
     }
 }
 
-/// These parts, for the mode Any.
+/// These parts in mode Any; in mode Push the rule doesn't apply.
 fn in_any<'a>(mode: Mode, found: Parts<'a>) -> Parts<'a>
     ensures { parts result ≡ in_any_of mode (parts found.entry) }
 {
@@ -191,14 +198,14 @@ fn in_any<'a>(mode: Mode, found: Parts<'a>) -> Parts<'a>
     }
 }
 
-/// These parts, where it is so.
+/// These parts if the condition holds; otherwise the rule doesn't apply.
 fn given<'a>(holds: bool, found: Parts<'a>) -> Parts<'a>
     ensures { parts result ≡ where_true holds (parts found.entry) }
 {
     if holds { found } else { Parts::NoRule }
 }
 
-/// The rules of a value at an operator.
+/// The parts of a rule for the value of an operator.
 #[tactic(auto, using(crate::proofs::Trees::without_taken))]
 fn value_parts<'a>(rule: Rule, mode: Mode, op: Op, a: &'a CoreExp, b: &'a CoreExp) -> Parts<'a>
     ensures { parts result ≡ value_parts_of rule mode op (exp a.now) (exp b.now) }
@@ -247,7 +254,7 @@ fn value_parts<'a>(rule: Rule, mode: Mode, op: Op, a: &'a CoreExp, b: &'a CoreEx
     }
 }
 
-/// The rules of a test at an operator.
+/// The parts of a rule for a test of an operator.
 #[tactic(auto, using(crate::proofs::Trees::beside_taken))]
 fn test_parts<'a>(rule: Rule, sense: bool, op: Op, a: &'a CoreExp, b: &'a CoreExp) -> Parts<'a>
     ensures { parts result ≡ test_parts_of rule sense op (exp a.now) (exp b.now) }

@@ -1,3 +1,5 @@
+//! The recursive check that trees of rule names are derivations.
+
 ghost use Rattle.std.specs.Prelude.{◌≡◌, ◌||◌, true};
 ghost use Rattle.bc_core.specs.View.{exp, args};
 ghost use Rattle.bc_core.specs.Value.{has_call};
@@ -12,7 +14,7 @@ use crate::parts::{Part, Parts};
 use bc_core::CoreExp;
 use bc_rules_defs::{Aim, Derivation, Mode, Rule, Table};
 
-/// Whether the table has a rule.
+/// Whether the table has this rule.
 fn in_table(table: Table, rule: Rule) -> bool
     ensures { result ≡ in_table_of table rule }
 {
@@ -25,7 +27,7 @@ fn in_table(table: Table, rule: Rule) -> bool
     }
 }
 
-/// Whether a rule computes the right operand first.
+/// Whether the code of a rule evaluates the right operand first, or the address of an assignment before its value.
 pub fn turns(rule: Rule) -> bool
     ensures { result ≡ turns_of rule }
 {
@@ -35,6 +37,7 @@ pub fn turns(rule: Rule) -> bool
     }
 }
 
+/// Whether an operator has a direct operand.
 fn direct_side(e: &CoreExp) -> bool
     ensures { result ≡ has_direct_side (exp e.now) }
 {
@@ -43,7 +46,7 @@ fn direct_side(e: &CoreExp) -> bool
         CoreExp::Num(_)
         | CoreExp::Frame(_)
         | CoreExp::Glob(_)
-        | CoreExp::Place(_)
+        | CoreExp::CodeContext(_)
         | CoreExp::Load(_)
         | CoreExp::Neg(_)
         | CoreExp::Not(_)
@@ -53,16 +56,18 @@ fn direct_side(e: &CoreExp) -> bool
     }
 }
 
-/// Whether a rule may compute the right operand first, where it does.
+/// Whether the rule's order of evaluation is allowed: it keeps the order of the operands, or they are free. `calls` says whether
+/// the parts contain a call or a VALOF.
 fn turns_freely(rule: Rule, calls: bool, e: &CoreExp) -> bool
     ensures { result ≡ turns_freely_of rule calls (exp e.now) }
 {
     !(turns(rule) && calls) || direct_side(e)
 }
 
-/// If this is a derivation of the expression by the table, whether a call or a VALOF stands in it.
+/// Checks that this is a derivation of the expression for the aim, by the table. Returns None if it isn't, else whether the
+/// expression contains a call or a VALOF.
 ///
-/// So no part is walked again to see whether operands are free.
+/// Returning this saves a second walk over the operands to see whether they are free.
 #[cycle(deriving)]
 #[tactic(auto, using(crate::proofs::Fitting::no_table, crate::proofs::Fitting::no_parts, crate::proofs::Fitting::not_free, crate::proofs::Fitting::derives_it))]
 pub fn derives(table: Table, d: &Derivation, aim: Aim, e: &CoreExp) -> Option<bool>
@@ -79,7 +84,7 @@ pub fn derives(table: Table, d: &Derivation, aim: Aim, e: &CoreExp) -> Option<bo
     }
 }
 
-/// If these are derivations of the parts, whether a call or a VALOF stands in one.
+/// Checks that these are derivations of the parts. Returns None if they aren't, else whether a part contains a call or a VALOF.
 #[cycle(deriving)]
 #[tactic(auto, using(crate::proofs::Fitting::leaf_misfit))]
 pub fn parts_derive(table: Table, trees: &[Derivation], of: Parts) -> Option<bool>
@@ -95,12 +100,14 @@ pub fn parts_derive(table: Table, trees: &[Derivation], of: Parts) -> Option<boo
     }
 }
 
+/// Whether `a` or `b` holds. It is a call so that its callers have no branch.
 fn either(a: bool, b: bool) -> bool
     ensures { result ≡ (a || b) }
 {
     a || b
 }
 
+/// Checks one part.
 #[cycle(deriving)]
 fn part(table: Table, d: &Derivation, a: Part) -> Option<bool>
     ensures { result ≡ found (fits table (derivation d.now) a.entry.aim (exp a.entry.of.now)) (has_call (exp a.entry.of.now)) }
@@ -108,6 +115,7 @@ fn part(table: Table, d: &Derivation, a: Part) -> Option<bool>
     derives(table, d, a.aim, a.of)
 }
 
+/// Checks the part of a rule with one part.
 #[cycle(deriving)]
 #[tactic(auto, using(crate::proofs::Fitting::misfit_one, crate::proofs::Fitting::fit_one))]
 fn single(table: Table, trees: &[Derivation], a: Part) -> Option<bool>
@@ -119,6 +127,7 @@ fn single(table: Table, trees: &[Derivation], a: Part) -> Option<bool>
     part(table, &trees[0], a)
 }
 
+/// Checks the parts of a rule with two parts.
 #[cycle(deriving)]
 #[tactic(auto, using(crate::proofs::Fitting::misfit_two, crate::proofs::Fitting::pair_no_first, crate::proofs::Fitting::pair_no_second, crate::proofs::Fitting::pair_both))]
 fn pair(table: Table, trees: &[Derivation], a: Part, b: Part) -> Option<bool>
@@ -133,6 +142,7 @@ fn pair(table: Table, trees: &[Derivation], a: Part, b: Part) -> Option<bool>
     Some(either(first, second))
 }
 
+/// Checks the parts of a rule with three parts.
 #[cycle(deriving)]
 #[tactic(auto, using(crate::proofs::Fitting::misfit_three, crate::proofs::Fitting::triple_no_first, crate::proofs::Fitting::triple_no_second, crate::proofs::Fitting::triple_no_third, crate::proofs::Fitting::triple_all))]
 fn triple(table: Table, trees: &[Derivation], a: Part, b: Part, c: Part) -> Option<bool>
@@ -149,6 +159,7 @@ fn triple(table: Table, trees: &[Derivation], a: Part, b: Part, c: Part) -> Opti
     Some(either(either(first, second), third))
 }
 
+/// Checks the arguments and the routine of a call.
 #[cycle(deriving)]
 #[tactic(auto, using(crate::proofs::Fitting::call_next, crate::proofs::Fitting::call_stops, crate::proofs::Fitting::call_short))]
 fn call(

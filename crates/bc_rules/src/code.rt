@@ -1,3 +1,5 @@
+//! The code of a root's derivation, and the next free label.
+
 ghost use Rattle.std.specs.Prelude.{◌≡◌, IfOk, IfErr, Some};
 ghost use Rattle.bc_core.specs.Tree.{Assign};
 ghost use Rattle.bc_core.specs.View.{exp, root as root_of};
@@ -16,18 +18,18 @@ use crate::counting::root_labels;
 use crate::emission::{after_sides, operate};
 use crate::parts::{Part, Parts};
 use crate::writer::{Writer, more};
-use crate::writing::{Place, Sides, write};
+use crate::writing::{CodeContext, Sides, write};
 use bc_core::{CoreExp, Root, operand};
 use bc_rules_defs::{Aim, Derivation, Mode, Piece, Rule};
 use bc_text_items::Function;
 use bc_word::Memory;
 use std::alloc::Global;
 
-/// The label after those of a derivation of the root, which takes its labels from `first` on: from
-/// `first` to 65,536.
+/// The first label after those of a derivation of the root whose labels are numbered from `first` on. It is between
+/// `first` and 65,536.
 ///
-/// None comes where a label of the derivation's would be over 65,535. Of a tree that is no derivation of
-/// the root nothing is said.
+/// Returns None if a label of the derivation would be over 65,535. For a tree that is no derivation of the root, the result
+/// is unspecified.
 #[tactic(auto, using(crate::proofs::Labels::next_some, crate::proofs::Labels::next_none))]
 pub fn next_label(root: &Root, derivation: &Derivation, first: u16) -> Option<u32>
     ensures { IsNextLabel (root_of root.now) (tree derivation.now) first result }
@@ -36,12 +38,12 @@ pub fn next_label(root: &Root, derivation: &Derivation, first: u16) -> Option<u3
     if next <= 65_536 { Some(next) } else { None }
 }
 
-/// The code of a derivation of the root, by either table, which jumps to the label `target` and has its
-/// own labels from `first` on, a rule's before those of its parts; the body of a VALOF is one piece. Of a
-/// tree that is no derivation of the root nothing is said.
+/// The code of a derivation of the root, by either table. The code of a test jumps to the label `target`. The derivation's own
+/// labels are numbered from `first` on, a rule's before those of its parts. The body of a VALOF is one piece. For a tree that is no
+/// derivation of the root, the result is unspecified.
 ///
-/// `Memory` comes where an allocation was refused, or where a label or an offset of the frame would be
-/// over 65,535: `code_with_labels` tells the two apart.
+/// Returns `Memory` if an allocation failed, or if a label or an offset of the frame would be over 65,535. Use
+/// `code_with_labels` to distinguish the two.
 pub fn code_of(
     alloc: Global,
     root: &Root,
@@ -55,19 +57,19 @@ pub fn code_of(
     Ok(coded.pieces)
 }
 
-/// The code of a derivation, and the label after its own.
+/// The code of a derivation and the first label after its own.
 #[derive(Debug, Drop)]
 pub struct Coded {
-    /// The code, as `code_of` gives it.
+    /// The code, as `code_of` returns it.
     pub pieces: Vec<Piece>,
-    /// The label after those of the derivation, as `next_label` gives it.
+    /// The first label after those of the derivation, as `next_label` returns it.
     pub next: u32,
 }
 
-/// What `code_of` and `next_label` give, by one walk over the derivation.
+/// The results of `code_of` and `next_label`, in one walk over the derivation.
 ///
-/// `Memory` comes where an allocation was refused, and `NoRoom` only where a label of the derivation or
-/// an offset of the frame that the work on the root uses would be over 65,535.
+/// Returns `Memory` if an allocation failed. Returns `NoRoom` only if a label of the derivation, or an offset of the frame that the
+/// evaluation of the root uses, would be over 65,535.
 #[tactic(auto, using(crate::proofs::Labels::fault_lacks, crate::proofs::Labels::label_lacks))]
 pub fn code_with_labels(
     alloc: Global,
@@ -107,7 +109,7 @@ fn write_root(w: &mut Writer, root: &Root, d: &Derivation, target: u16) -> Resul
                     aim,
                     of: expression,
                 },
-                Place { level, target },
+                CodeContext { level, target },
             )
         }
         Root::Test {
@@ -124,7 +126,7 @@ fn write_root(w: &mut Writer, root: &Root, d: &Derivation, target: u16) -> Resul
                     aim,
                     of: expression,
                 },
-                Place { level, target },
+                CodeContext { level, target },
             )
         }
         Root::Assign {
@@ -133,12 +135,17 @@ fn write_root(w: &mut Writer, root: &Root, d: &Derivation, target: u16) -> Resul
             address,
         } => {
             let level = *level as u32;
-            assign(w, d, Assignment { value, address }, Place { level, target })
+            assign(
+                w,
+                d,
+                Assignment { value, address },
+                CodeContext { level, target },
+            )
         }
     }
 }
 
-/// What is assigned, and to what.
+/// The two sides of an assignment.
 #[derive(Clone, Copy)]
 struct Assignment<'a> {
     value: &'a CoreExp,
@@ -147,7 +154,12 @@ struct Assignment<'a> {
 
 /// Writes the code of an assignment's derivation.
 #[tactic(auto, using(crate::proofs::Written::assignment_writes))]
-fn assign(w: &mut Writer, d: &Derivation, of: Assignment, place: Place) -> Result<(), CodeFault>
+fn assign(
+    w: &mut Writer,
+    d: &Derivation,
+    of: Assignment,
+    place: CodeContext,
+) -> Result<(), CodeFault>
     ensures { WritesOrLacks result w.old w.new
         (root_code_by (Assign place.level (exp of.entry.value.now) (exp of.entry.address.now)) (tree d.now) place.target w.old.next)
         (root_labels_by (Assign place.level (exp of.entry.value.now) (exp of.entry.address.now)) (tree d.now))
@@ -166,15 +178,15 @@ fn assign(w: &mut Writer, d: &Derivation, of: Assignment, place: Place) -> Resul
     )
 }
 
-/// What is assigned to, by a rule.
+/// The target of an assignment, with the rule of its code.
 #[derive(Clone, Copy)]
 struct To<'a> {
     rule: Rule,
     address: &'a CoreExp,
-    place: Place,
+    place: CodeContext,
 }
 
-/// Writes the code of an assignment's rule over its parts.
+/// Writes the code of an assignment whose rule has these parts.
 #[tactic(auto, using(crate::proofs::Written::nothing))]
 fn write_sides(w: &mut Writer, trees: &[Derivation], to: To, of: Parts) -> Result<(), CodeFault>
     ensures { WritesOrLacks result w.old w.new
@@ -189,6 +201,7 @@ fn write_sides(w: &mut Writer, trees: &[Derivation], to: To, of: Parts) -> Resul
     }
 }
 
+/// Writes the code of A1.
 #[tactic(auto, using(crate::proofs::Written::side_writes, crate::proofs::Counts::one_side_labels))]
 fn one_side(w: &mut Writer, trees: &[Derivation], to: To, a: Part) -> Result<(), CodeFault>
     ensures { WritesOrLacks result w.old w.new
@@ -205,6 +218,7 @@ fn one_side(w: &mut Writer, trees: &[Derivation], to: To, a: Part) -> Result<(),
     Ok(())
 }
 
+/// Writes the code of A2 or A3.
 #[tactic(auto, using(crate::proofs::Written::sides_write, crate::proofs::Counts::two_sides_labels))]
 fn two_sides(w: &mut Writer, trees: &[Derivation], to: To, of: Sides) -> Result<(), CodeFault>
     ensures { WritesOrLacks result w.old w.new
@@ -217,7 +231,7 @@ fn two_sides(w: &mut Writer, trees: &[Derivation], to: To, of: Sides) -> Result<
         return Ok(());
     }
     let level = more(to.place.level, 1)?;
-    let above = Place {
+    let above = CodeContext {
         level,
         target: to.place.target,
     };

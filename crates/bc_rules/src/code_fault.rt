@@ -1,10 +1,12 @@
+//! The error of `code_with_labels`.
+
 use bc_word::Memory;
 use thiserror::Error;
 
-/// Why a derivation got no code.
+/// Why the code of a derivation couldn't be written.
 #[derive(Clone, Copy, Debug, PartialEq, Eq, Hash, Error)]
 pub enum CodeFault {
-    /// An allocation was refused.
+    /// An allocation failed.
     #[error("out of memory")]
     Memory,
     /// An offset of the frame or a label of the code would be over 65,535.

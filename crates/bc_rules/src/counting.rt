@@ -1,3 +1,5 @@
+//! The number of labels of a derivation. Counts stop at 65,537, so sums can't overflow, however large the root is.
+
 ghost use Rattle.std.specs.Prelude.{◌≡◌, ◌≤◌, ◌+◌, min};
 ghost use Rattle.bc_core.specs.Tree.{Assign};
 ghost use Rattle.bc_core.specs.View.{exp, args, root as root_of};
@@ -11,7 +13,7 @@ use crate::parts::{Part, Parts};
 use bc_core::{CoreExp, Root};
 use bc_rules_defs::{Aim, Derivation, Mode, Rule};
 
-/// A sum of labels; past 65,536 always 65,537.
+/// A sum of labels, capped at 65,537.
 fn sum(a: u32, b: u32) -> u32
     requires first { a ≤ 65537 }
     requires second { b ≤ 65537 }
@@ -20,7 +22,7 @@ fn sum(a: u32, b: u32) -> u32
     (a + b).min(65_537)
 }
 
-/// The labels of a rule's own, where it has two or three parts.
+/// The number of a rule's own labels, for rules with two or three parts.
 pub fn own_labels(rule: Rule) -> u32
     ensures { result ≡ own_labels_of rule }
 {
@@ -31,7 +33,7 @@ pub fn own_labels(rule: Rule) -> u32
     }
 }
 
-/// The labels that a derivation's code takes; past 65,536 always 65,537.
+/// The number of labels that a derivation's code takes, capped at 65,537.
 #[cycle(counting)]
 #[tactic(auto, using(crate::proofs::Counts::labels_seen))]
 fn labels(d: &Derivation, aim: Aim, e: &CoreExp) -> u32
@@ -40,6 +42,7 @@ fn labels(d: &Derivation, aim: Aim, e: &CoreExp) -> u32
     labels_of(d.rule, &d.parts, parts_of(d.rule, aim, e))
 }
 
+/// The number of labels of a rule with these parts: its own and those of the parts, capped at 65,537.
 #[cycle(counting)]
 #[tactic(auto, using(crate::proofs::Counts::one_labels, crate::proofs::Counts::no_one_labels, crate::proofs::Counts::two_labels, crate::proofs::Counts::no_two_labels, crate::proofs::Counts::three_labels, crate::proofs::Counts::no_three_labels, crate::proofs::Counts::no_leaf_labels))]
 fn labels_of(rule: Rule, trees: &[Derivation], of: Parts) -> u32
@@ -75,6 +78,7 @@ fn labels_of(rule: Rule, trees: &[Derivation], of: Parts) -> u32
     }
 }
 
+/// The number of labels of one part, capped at 65,537.
 #[cycle(counting)]
 fn part(d: &Derivation, a: Part) -> u32
     ensures { result ≡ min (labels_by (derivation d.now) a.entry.aim (exp a.entry.of.now)) 65537 }
@@ -82,6 +86,7 @@ fn part(d: &Derivation, a: Part) -> u32
     labels(d, a.aim, a.of)
 }
 
+/// The number of labels of a call's arguments and routine, capped at 65,537.
 #[cycle(counting)]
 #[tactic(auto, using(crate::proofs::Counts::call_labels_next, crate::proofs::Counts::call_labels_short))]
 fn call(rule: Rule, trees: &[Derivation], arguments: &[CoreExp], routine: &CoreExp) -> u32
@@ -102,7 +107,7 @@ fn call(rule: Rule, trees: &[Derivation], arguments: &[CoreExp], routine: &CoreE
     sum(total, labels(&trees[n], any, routine))
 }
 
-/// The labels of a root's derivation; past 65,536 always 65,537.
+/// The number of labels of a root's derivation, capped at 65,537.
 pub fn root_labels(root: &Root, d: &Derivation) -> u32
     ensures { result ≡ min (root_labels_by (root_of root.now) (derivation d.now)) 65537 }
 {
@@ -117,7 +122,7 @@ pub fn root_labels(root: &Root, d: &Derivation) -> u32
     }
 }
 
-/// The labels of an assignment's derivation.
+/// The number of labels of an assignment's derivation.
 #[tactic(auto, using(crate::proofs::Counts::sides_labels))]
 fn sides(d: &Derivation, value: &CoreExp, address: &CoreExp) -> u32
     ensures { result ≡ min (root_labels_by (Assign 0 (exp value.now) (exp address.now)) (derivation d.now)) 65537 }

@@ -1,3 +1,5 @@
+//! Whether a tree of rule names is a derivation of a root.
+
 ghost use Rattle.std.specs.Prelude.{◌≡◌, ◌↔◌, IsTrue};
 ghost use Rattle.bc_core.specs.View.{exp, root as root_of};
 ghost use Rattle.bc_rules_defs.specs.View.{derivation as tree};
@@ -11,7 +13,7 @@ use crate::exchange::direct;
 use bc_core::{CoreExp, Root};
 use bc_rules_defs::{Aim, Derivation, Mode, Rule, Table};
 
-/// Whether this is a derivation of the root by table 2.
+/// Whether this is a derivation of the root by table 2. Allocates nothing; takes time in proportion to the root.
 #[tactic(auto, using(crate::proofs::Bridge::decides))]
 pub fn is_derivation(root: &Root, derivation: &Derivation) -> bool
     ensures { IsTrue result ↔ IsDerivation Two (root_of root.now) (tree derivation.now) }
@@ -19,7 +21,7 @@ pub fn is_derivation(root: &Root, derivation: &Derivation) -> bool
     root_derives(Table::Two, root, derivation)
 }
 
-/// Whether this is a derivation of the root by the table.
+/// Whether this is a derivation of the root by the given table. Allocates nothing; takes time in proportion to the root.
 #[tactic(auto, using(crate::proofs::Bridge::decides))]
 pub fn is_derivation_by(table: Table, root: &Root, derivation: &Derivation) -> bool
     ensures { IsTrue result ↔ IsDerivation table (root_of root.now) (tree derivation.now) }
@@ -27,6 +29,7 @@ pub fn is_derivation_by(table: Table, root: &Root, derivation: &Derivation) -> b
     root_derives(table, root, derivation)
 }
 
+/// The check for both public calls.
 #[tactic(auto, using(crate::proofs::Fitting::is_found))]
 fn root_derives(table: Table, root: &Root, derivation: &Derivation) -> bool
     ensures { result ≡ root_fits table (root_of root.now) (tree derivation.now) }
@@ -59,7 +62,7 @@ fn assigns(table: Table, derivation: &Derivation, value: &CoreExp, address: &Cor
     }
 }
 
-/// Whether the sides of an assignment may be computed in the order of its rule.
+/// Whether the sides of an assignment may be evaluated in the order of its rule.
 fn sides_turn(rule: Rule, calls: bool, value: &CoreExp, address: &CoreExp) -> bool
     ensures { result ≡ sides_turn_of rule calls (exp value.now) (exp address.now) }
 {

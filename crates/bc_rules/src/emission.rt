@@ -1,4 +1,4 @@
-//! What stands between the parts of a rule, and after them.
+//! A rule's own pieces of code: those between its parts and after them, and the code of rules without parts.
 
 ghost use Rattle.std.specs.Prelude.{◌≡◌, ◌+◌, max, cond, [], OnOk};
 ghost use Rattle.bc_core.specs.View.{exp};
@@ -15,6 +15,7 @@ use bc_rules_defs::{Aim, Piece, Rule, jumps};
 use bc_text_items::Function;
 use bc_word::{Memory, Word, mirror};
 
+/// The left side of a binary operator, if it is an operand.
 fn left_operand(e: &CoreExp) -> Option<Operand>
     ensures { result ≡ left_operand_of (exp e.now) }
 {
@@ -24,6 +25,7 @@ fn left_operand(e: &CoreExp) -> Option<Operand>
     }
 }
 
+/// The right side of a binary operator, if it is an operand.
 fn right_operand(e: &CoreExp) -> Option<Operand>
     ensures { result ≡ right_operand_of (exp e.now) }
 {
@@ -33,6 +35,7 @@ fn right_operand(e: &CoreExp) -> Option<Operand>
     }
 }
 
+/// The right side of a binary operator, if it is a number.
 fn right_constant(e: &CoreExp) -> Option<Word>
     ensures { result ≡ right_constant_of (exp e.now) }
 {
@@ -42,7 +45,7 @@ fn right_constant(e: &CoreExp) -> Option<Word>
     }
 }
 
-/// An operation on an operand, if there is one.
+/// Writes an operation on an operand, or nothing if there is no operand.
 pub fn operate(w: &mut Writer, function: Function, operand: Option<Operand>) -> Result<(), Memory>
     ensures { OnOk result (Adds w.old w.new (with_operand (on function) operand [])) }
 {
@@ -52,7 +55,7 @@ pub fn operate(w: &mut Writer, function: Function, operand: Option<Operand>) -> 
     }
 }
 
-/// `A` of the negation of a number, if there is one.
+/// Writes `A` with the negation of a number, or nothing if there is no number.
 fn less(w: &mut Writer, constant: Option<Word>) -> Result<(), Memory>
     ensures { OnOk result (Adds w.old w.new (less_constant constant)) }
 {
@@ -62,7 +65,7 @@ fn less(w: &mut Writer, constant: Option<Word>) -> Result<(), Memory>
     }
 }
 
-/// The operation of an operator.
+/// Writes the operation of the expression's operator.
 fn apply(w: &mut Writer, e: &CoreExp) -> Result<(), Memory>
     ensures { OnOk result (Adds w.old w.new (operator_number (exp e.now))) }
 {
@@ -72,7 +75,7 @@ fn apply(w: &mut Writer, e: &CoreExp) -> Result<(), Memory>
     }
 }
 
-/// The operation of an operator's mirror.
+/// Writes the operation of the mirror of the expression's operator.
 fn apply_mirror(w: &mut Writer, e: &CoreExp) -> Result<(), Memory>
     ensures { OnOk result (Adds w.old w.new (operator_mirror (exp e.now))) }
 {
@@ -85,9 +88,7 @@ fn apply_mirror(w: &mut Writer, e: &CoreExp) -> Result<(), Memory>
     }
 }
 
-/// The code of a rule without parts.
-///
-/// `first` is the label of a VALOF.
+/// Writes the code of a rule without parts. `first` is the label after the body of a VALOF.
 pub fn leaf(
     w: &mut Writer,
     rule: Rule,
@@ -120,7 +121,7 @@ pub fn leaf(
     }
 }
 
-/// What stands after a rule's only part.
+/// Writes what follows the part of a rule with one part.
 pub fn after_single(w: &mut Writer, rule: Rule, node: Part, target: u16) -> Result<(), Memory>
     ensures { OnOk result (Adds w.old w.new (after_single_of rule node.entry.aim (exp node.entry.of.now) target)) }
 {
@@ -152,7 +153,7 @@ pub fn after_single(w: &mut Writer, rule: Rule, node: Part, target: u16) -> Resu
     }
 }
 
-/// What stands between two parts.
+/// Writes what comes between the parts of a rule with two parts.
 pub fn between(w: &mut Writer, rule: Rule, level: u32) -> Result<(), CodeFault>
     ensures { OkOrLacks result (λ _. Adds w.old w.new (between_of rule level)) (level + 1) }
 {
@@ -164,7 +165,7 @@ pub fn between(w: &mut Writer, rule: Rule, level: u32) -> Result<(), CodeFault>
     }
 }
 
-/// What stands after two parts.
+/// Writes what follows the parts of a rule with two parts.
 pub fn after_pair(
     w: &mut Writer,
     rule: Rule,
@@ -206,7 +207,7 @@ pub fn after_pair(
     }
 }
 
-/// What stands after the two sides of an assignment.
+/// Writes what follows the two sides of an assignment.
 pub fn after_sides(w: &mut Writer, rule: Rule, level: u32) -> Result<(), CodeFault>
     ensures { OkOrLacks result (λ _. Adds w.old w.new (after_sides_of rule level)) (level + 2) }
 {

@@ -1,3 +1,5 @@
+//! Whether two expressions may be evaluated in either order.
+
 ghost use Rattle.std.specs.Prelude.{◌≡◌};
 ghost use Rattle.bc_core.specs.View.{exp, args};
 ghost use Rattle.bc_core.specs.Value.{has_call};
@@ -5,7 +7,7 @@ ghost use Rattle.bc_rules_defs.specs.Free.{are_free, is_direct};
 
 use bc_core::{CoreExp, operand};
 
-/// Whether an expression is an operand that is a number or an address itself.
+/// Whether an expression is a direct operand: a number or an address rather than the content of a cell.
 pub fn direct(e: &CoreExp) -> bool
     ensures { result ≡ is_direct (exp e.now) }
 {
@@ -15,6 +17,7 @@ pub fn direct(e: &CoreExp) -> bool
     }
 }
 
+/// Whether an expression contains a call or a VALOF.
 fn calls(e: &CoreExp) -> bool
     ensures { result ≡ has_call (exp e.now) }
 {
@@ -25,12 +28,12 @@ fn calls(e: &CoreExp) -> bool
         CoreExp::Bin(_, a, b) => calls(a) || calls(b),
         CoreExp::Cond(c, x, y) => calls(c) || calls(x) || calls(y),
         CoreExp::Call(_, _) | CoreExp::Valof(_) => true,
-        CoreExp::Num(_) | CoreExp::Frame(_) | CoreExp::Glob(_) | CoreExp::Place(_) => false,
+        CoreExp::Num(_) | CoreExp::Frame(_) | CoreExp::Glob(_) | CoreExp::CodeContext(_) => false,
     }
 }
 
-/// Whether two expressions may be computed in either order: no call or VALOF stands in them, or
-/// one of them is a number or an address, known without work.
+/// Whether two expressions are free, that is, may be evaluated in either order: neither contains a call or a VALOF, or
+/// one of them is a direct operand. Walks both expressions.
 pub fn free(a: &CoreExp, b: &CoreExp) -> bool
     ensures { result ≡ are_free (exp a.now) (exp b.now) }
 {

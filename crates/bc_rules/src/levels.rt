@@ -1,3 +1,5 @@
+//! How many cells of the frame the evaluation of a root uses, and whether their offsets fit into a word.
+
 ghost use Rattle.std.specs.Prelude.{◌≡◌, ◌≤◌, ◌+◌, min, nat_le, length};
 ghost use Rattle.std.specs.Option.{SomeIff};
 ghost use Rattle.bc_core.specs.Tree.{Assign};
@@ -7,11 +9,11 @@ ghost use Rattle.bc_rules.specs.Levels.{cells as cells_of, cells_of_all};
 
 use bc_core::{CoreExp, Root, operand};
 
-/// More cells than there are words.
+/// The cap of all counts: more cells than a word can address.
 const TOO_MANY: u32 = 65_537;
 
-/// The cells of the frame up to the greatest offset that an expression at a level uses, VALOFs' bodies
-/// aside; past 65,536 always 65,537.
+/// The number of cells of the frame, up to the greatest offset that the evaluation of an expression at this level uses. The bodies
+/// of VALOFs don't count. Capped at 65,537.
 #[cycle(cells)]
 #[tactic(auto, using(crate::proofs::Counts::call_cells, crate::proofs::Counts::count_args))]
 fn cells(e: &CoreExp, level: u32) -> u32
@@ -40,12 +42,12 @@ fn cells(e: &CoreExp, level: u32) -> u32
         CoreExp::Num(_)
         | CoreExp::Frame(_)
         | CoreExp::Glob(_)
-        | CoreExp::Place(_)
+        | CoreExp::CodeContext(_)
         | CoreExp::Valof(_) => 0,
     }
 }
 
-/// The level after so many arguments of a call; none past 65,536.
+/// The level after `count` arguments of a call; None if it is over 65,536.
 fn after_arguments(level: u32, count: usize) -> Option<u32>
     requires { level ≤ 65536 }
     ensures { SomeIff result (level + 2 + count ≤ 65536) (level + 2 + count) }
@@ -56,6 +58,7 @@ fn after_arguments(level: u32, count: usize) -> Option<u32>
     Some(level + 2 + count as u32)
 }
 
+/// The number of cells that the arguments of a call use, where the first one is at this level. Capped at 65,537.
 #[cycle(cells)]
 #[tactic(auto, using(crate::proofs::Counts::cells_next, crate::proofs::Counts::cells_end))]
 fn cells_of_arguments(arguments: &[CoreExp], level: u32) -> u32
@@ -71,7 +74,7 @@ fn cells_of_arguments(arguments: &[CoreExp], level: u32) -> u32
     most
 }
 
-/// Whether each offset that the work on a root uses is a word, the bodies of its VALOFs aside.
+/// Whether each offset of the frame that the evaluation of a root uses is at most 65,535. The bodies of its VALOFs don't count.
 pub fn offsets_are_words(root: &Root) -> bool
     ensures { result ≡ nat_le (cells_of_root (root_of root.now)) 65536 }
 {
@@ -90,6 +93,7 @@ pub fn offsets_are_words(root: &Root) -> bool
     }
 }
 
+/// The number of cells that the sides of an assignment use. Capped at 65,537.
 fn sides(level: u32, value: &CoreExp, address: &CoreExp) -> u32
     requires { level ≤ 65535 }
     ensures { result ≡ min (cells_of_root (Assign level (exp value.now) (exp address.now))) 65537 }

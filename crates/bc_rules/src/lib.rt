@@ -1,4 +1,6 @@
-//! The rule table: whether a tree of rules is a derivation of a root, and the code of a derivation.
+//! Decides whether a tree of rule names is a derivation of a root, and writes the code of a derivation.
+//!
+//! The rules themselves are defined in `bc_rules_defs`.
 #![tactic(auto)]
 
 mod applying;

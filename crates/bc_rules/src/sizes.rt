@@ -1,3 +1,5 @@
+//! The words that pieces of code take.
+
 ghost use Rattle.std.specs.Prelude.{◌≡◌};
 ghost use Rattle.bc_text_items.specs.Sizes.{size};
 ghost use Rattle.bc_rules_defs.specs.Piece.{words as words_of};
@@ -6,7 +8,7 @@ ghost use Rattle.bc_rules.specs.Words.{added_words, half_left};
 use bc_rules_defs::Piece;
 use bc_text_items::{Base, Item};
 
-/// The words of an item that stands alone.
+/// The words of a single item.
 fn item_words(item: &Item) -> u64
     ensures exact { result ≡ size item.now }
 {
@@ -20,7 +22,7 @@ fn item_words(item: &Item) -> u64
     }
 }
 
-/// The words that a piece adds to those before it, where the last of these has half a word left or not.
+/// The words that a piece adds to those before it. `half` says whether the last word before it has room for one more byte.
 fn added(half: bool, piece: &Piece) -> u64
     ensures { result ≡ added_words half piece.now }
 {
@@ -31,7 +33,7 @@ fn added(half: bool, piece: &Piece) -> u64
     }
 }
 
-/// Whether a piece leaves half a word for a byte.
+/// Whether there is room for one more byte in the last word after this piece.
 fn leaves_half(half: bool, piece: &Piece) -> bool
     ensures { result ≡ half_left half piece.now }
 {
@@ -41,8 +43,8 @@ fn leaves_half(half: bool, piece: &Piece) -> bool
     }
 }
 
-/// The words that pieces of code take: an operation one, or two in the long form; data one;
-/// neighbouring bytes share a word in pairs; labels, settings of globals and bodies take none.
+/// The number of words that pieces of code take. An operation takes one, or two in its long form; data takes one;
+/// adjacent bytes share a word in pairs; labels, settings of globals and bodies of VALOFs take none.
 #[tactic(auto, using(crate::proofs::Bytes::words_next, crate::proofs::Bytes::added_small))]
 pub fn words(pieces: &[Piece]) -> u64
     ensures { result ≡ words_of pieces.now }

@@ -1,3 +1,5 @@
+//! The writer of code: the pieces written and the next free label, with one method for each kind of instruction.
+
 ghost use Rattle.std.specs.Prelude.{◌≡◌, [], ◌∷◌, ◌++◌, ◌+◌, true, false, OnOk};
 ghost use Rattle.bc_text_items.specs.declared.item.Item.TheVariants.{Operation};
 ghost use Rattle.bc_rules_defs.specs.Piece.{on, X, jump_if as jump_if_of, label as label_of};
@@ -12,6 +14,7 @@ use bc_text_items::{Base, Function, Item};
 use bc_word::{Memory, Word};
 use std::alloc::Global;
 
+/// Appends a piece. The match is needed: without it the borrow checker can't tell where the `Item` in a piece lives.
 fn push(pieces: &mut Vec<Piece>, piece: Piece) -> Result<(), Memory>
     ensures { OnOk result (pieces.new.items ≡ pieces.old.items ++ piece ∷ []) }
 {
@@ -22,7 +25,7 @@ fn push(pieces: &mut Vec<Piece>, piece: Piece) -> Result<(), Memory>
     Ok(())
 }
 
-/// A number as a word; `NoRoom` where it is over 65,535.
+/// A number as a word; `NoRoom` if it is over 65,535.
 pub fn as_word(n: u32) -> Result<u16, CodeFault>
     ensures { OkOrLacks result (λ word. word ≡ n) (n + 1) }
 {
@@ -33,7 +36,7 @@ pub fn as_word(n: u32) -> Result<u16, CodeFault>
     }
 }
 
-/// So much more than a number; `NoRoom` where that is over 65,536.
+/// The sum of two numbers; `NoRoom` if it is over 65,536.
 pub fn more(n: u32, by: u32) -> Result<u32, CodeFault>
     ensures { OkOrLacks result (λ sum. sum ≡ n + by) (n + by) }
 {
@@ -45,19 +48,21 @@ pub fn more(n: u32, by: u32) -> Result<u32, CodeFault>
     }
 }
 
-/// Code as it is written, and the next free label.
+/// The code written up to now, and the next free label.
 ///
-/// What would be an offset or a label over 65,535 is answered by `NoRoom`.
+/// Its methods return `NoRoom` if an offset or a label would be over 65,535, and `Memory` if an allocation failed.
 #[derive(Drop)]
 pub struct Writer {
+    /// The code.
     pub pieces: Vec<Piece>,
+    /// The next free label, at most 65,536.
     pub next: u32,
 }
 
 impl Writer {
     ghost use Rattle.bc_rules.specs.Adds.{Adds, Takes, OkOrLacks};
 
-    /// No code yet, with the labels from this one on.
+    /// A writer with no code, whose labels begin at `first`.
     pub fn new(alloc: Global, first: u16) -> Writer
         ensures empty { result.pieces.items ≡ [] }
         ensures next { result.next ≡ first }
@@ -68,7 +73,7 @@ impl Writer {
         }
     }
 
-    /// Takes so many labels, and gives the first of them.
+    /// Takes `count` labels and returns the first of them. `NoRoom` if the next free label would be over 65,536.
     pub fn take(&mut self, count: u32) -> Result<u32, CodeFault>
         ensures first { OkOrLacks result (λ first. first ≡ self.old.next) (self.old.next + count) }
         ensures takes { OnOk result (Takes self.old self.new count) }
@@ -78,13 +83,14 @@ impl Writer {
         Ok(first)
     }
 
+    /// Appends a piece.
     pub fn add(&mut self, piece: Piece) -> Result<(), Memory>
         ensures { OnOk result (Adds self.old self.new (piece ∷ [])) }
     {
         push(&mut self.pieces, piece)
     }
 
-    /// An operation on an operand.
+    /// Appends an operation on an operand.
     pub fn operate(&mut self, function: Function, operand: Operand) -> Result<(), Memory>
         ensures { OnOk result (Adds self.old self.new (on function operand ∷ [])) }
     {
@@ -96,7 +102,7 @@ impl Writer {
         }))
     }
 
-    /// An operation on the frame's cell at an offset, or with `indirect` on that which it holds.
+    /// Appends an operation on the address of the frame's cell at an offset, or with `indirect` on the cell itself.
     pub fn cell(&mut self, function: Function, indirect: bool, offset: u32) -> Result<(), CodeFault>
         ensures { OkOrLacks result (λ _. Adds self.old self.new (item (Operation function indirect P offset) ∷ [])) (offset + 1) }
     {
@@ -109,7 +115,7 @@ impl Writer {
         }))?)
     }
 
-    /// An operation with a number.
+    /// Appends an operation with a number.
     pub fn number(&mut self, function: Function, number: Word) -> Result<(), Memory>
         ensures { OnOk result (Adds self.old self.new (item (Operation function false Base.Number number) ∷ [])) }
     {
@@ -121,14 +127,14 @@ impl Writer {
         }))
     }
 
-    /// `Xn`.
+    /// Appends `Xn`, an operation of the machine.
     pub fn execute(&mut self, n: u16) -> Result<(), Memory>
         ensures { OnOk result (Adds self.old self.new (X n ∷ [])) }
     {
         self.number(Function::Execute, Word::new(n))
     }
 
-    /// A jump to a label.
+    /// Appends a jump to a label. `function` is one of the three jumps.
     pub fn jump(&mut self, function: Function, target: u16) -> Result<(), Memory>
         ensures { OnOk result (Adds self.old self.new (item (Operation function false Base.Label target) ∷ [])) }
     {
@@ -140,7 +146,7 @@ impl Writer {
         }))
     }
 
-    /// A jump to a label where A is true, or where it is false.
+    /// Appends a jump to a label that is taken if A is true, or with `sense` false if A is false.
     pub fn jump_if(&mut self, sense: bool, target: u16) -> Result<(), Memory>
         ensures { OnOk result (Adds self.old self.new (jump_if_of sense target ∷ [])) }
     {
@@ -151,7 +157,7 @@ impl Writer {
         }
     }
 
-    /// A label.
+    /// Appends a label.
     pub fn label(&mut self, n: u32) -> Result<(), CodeFault>
         ensures { OkOrLacks result (λ _. Adds self.old self.new (label_of n ∷ [])) (n + 1) }
     {

@@ -1,4 +1,6 @@
-//! The code of a derivation, rule by rule.
+//! Writes the code of an expression's or test's derivation, by the number of parts of each rule.
+//!
+//! The rules' own pieces are written by `emission.rt`.
 
 ghost use Rattle.std.specs.Prelude.{◌≡◌, ◌+◌};
 ghost use Rattle.bc_core.specs.View.{exp, args};
@@ -20,14 +22,16 @@ use bc_rules_defs::{Aim, Derivation, Mode, Rule};
 use bc_text_items::Function;
 use bc_word::Word;
 
-/// Where the code of a part stands: its level, and the label that it jumps to.
+/// The level of a part, and the label to which its code jumps.
 #[derive(Clone, Copy)]
-pub struct Place {
+pub struct CodeContext {
+    /// The first free offset of the frame.
     pub level: u32,
+    /// The target of a test; values don't use it.
     pub target: u16,
 }
 
-/// The level of a rule's only part.
+/// The level of the part of a rule with one part.
 fn part_level(rule: Rule, level: u32) -> Result<u32, CodeFault>
     ensures { OkOrLacks result (λ it. it ≡ part_level_of rule level) (held_cells rule level) }
 {
@@ -37,7 +41,7 @@ fn part_level(rule: Rule, level: u32) -> Result<u32, CodeFault>
     }
 }
 
-/// The label that the first of two parts jumps to.
+/// The label to which the first of two parts jumps.
 fn first_target(rule: Rule, target: u16, first: u32) -> Result<u16, CodeFault>
     ensures { OkOrLacks result (λ it. it ≡ first_target_of rule target first) (first + own_labels_of rule) }
 {
@@ -47,7 +51,7 @@ fn first_target(rule: Rule, target: u16, first: u32) -> Result<u16, CodeFault>
     }
 }
 
-/// What gets code: an expression for an aim by a rule, at a level, and the label that it jumps to.
+/// An expression for which code is written, with its aim, rule, level and target.
 #[derive(Clone, Copy)]
 struct Node<'a> {
     rule: Rule,
@@ -57,14 +61,16 @@ struct Node<'a> {
     target: u16,
 }
 
-/// Two parts.
+/// Two parts, in the order of the code.
 #[derive(Clone, Copy)]
 pub struct Sides<'a> {
+    /// The first part.
     pub a: Part<'a>,
+    /// The second part.
     pub b: Part<'a>,
 }
 
-/// Three parts.
+/// Three parts, in the order of the code.
 #[derive(Clone, Copy)]
 struct Three<'a> {
     a: Part<'a>,
@@ -72,17 +78,23 @@ struct Three<'a> {
     c: Part<'a>,
 }
 
-/// The arguments of a call, and the routine.
+/// The arguments of a call and the routine.
 #[derive(Clone, Copy)]
 struct CallOf<'a> {
     arguments: &'a [CoreExp],
     routine: &'a CoreExp,
 }
 
-/// Writes the code of a derivation.
+/// Writes the code of a derivation `d` of the part, at this level and with this target. Trees that are no derivation give
+/// incomplete code, as `code_by` defines it.
 #[cycle(writing)]
 #[tactic(auto, using(crate::proofs::Written::tree_writes))]
-pub fn write(w: &mut Writer, d: &Derivation, part: Part, place: Place) -> Result<(), CodeFault>
+pub fn write(
+    w: &mut Writer,
+    d: &Derivation,
+    part: Part,
+    place: CodeContext,
+) -> Result<(), CodeFault>
     ensures { WritesOrLacks result w.old w.new
         (code_by (derivation d.now) part.entry.aim (exp part.entry.of.now) place.level place.target w.old.next)
         (labels_by (derivation d.now) part.entry.aim (exp part.entry.of.now)) (cells (exp part.entry.of.now) place.level) }
@@ -97,7 +109,7 @@ pub fn write(w: &mut Writer, d: &Derivation, part: Part, place: Place) -> Result
     write_parts(w, &d.parts, node, parts_of(d.rule, part.aim, part.of))
 }
 
-/// Writes the code of a rule over its parts.
+/// Writes the code of a rule, given its parts at the node.
 #[cycle(writing)]
 #[tactic(auto, using(crate::proofs::Written::none_writes))]
 fn write_parts(w: &mut Writer, trees: &[Derivation], node: Node, of: Parts) -> Result<(), CodeFault>
@@ -117,6 +129,7 @@ fn write_parts(w: &mut Writer, trees: &[Derivation], node: Node, of: Parts) -> R
     }
 }
 
+/// Writes the code of a rule without parts.
 #[tactic(auto, using(crate::proofs::Written::leaf_writes, crate::proofs::Counts::leaf_labels))]
 fn no_parts(w: &mut Writer, trees: &[Derivation], node: Node, valof: bool) -> Result<(), CodeFault>
     requires { leaf_of valof ≡ parts_by node.rule node.aim (exp node.of.now) }
@@ -137,6 +150,7 @@ fn no_parts(w: &mut Writer, trees: &[Derivation], node: Node, valof: bool) -> Re
     Ok(())
 }
 
+/// Writes the code of a rule with one part.
 #[cycle(writing)]
 #[tactic(auto, using(crate::proofs::Counts::one_labels))]
 fn one_part(w: &mut Writer, trees: &[Derivation], node: Node, a: Part) -> Result<(), CodeFault>
@@ -154,7 +168,7 @@ fn one_part(w: &mut Writer, trees: &[Derivation], node: Node, a: Part) -> Result
         w,
         &trees[0],
         a,
-        Place {
+        CodeContext {
             level,
             target: node.target,
         },
@@ -167,6 +181,7 @@ fn one_part(w: &mut Writer, trees: &[Derivation], node: Node, a: Part) -> Result
     Ok(())
 }
 
+/// Writes the code of a rule with two parts.
 #[cycle(writing)]
 #[tactic(auto, using(crate::proofs::Counts::two_own, crate::proofs::Counts::two_labels))]
 fn two_parts(w: &mut Writer, trees: &[Derivation], node: Node, of: Sides) -> Result<(), CodeFault>
@@ -183,13 +198,13 @@ fn two_parts(w: &mut Writer, trees: &[Derivation], node: Node, of: Sides) -> Res
     let first = w.take(own_labels(node.rule))?;
     let level = more(node.level, 1)?;
     let target = first_target(node.rule, node.target, first)?;
-    write(w, &trees[0], of.a, Place { level, target })?;
+    write(w, &trees[0], of.a, CodeContext { level, target })?;
     between(w, node.rule, node.level)?;
     write(
         w,
         &trees[1],
         of.b,
-        Place {
+        CodeContext {
             level,
             target: node.target,
         },
@@ -198,6 +213,7 @@ fn two_parts(w: &mut Writer, trees: &[Derivation], node: Node, of: Sides) -> Res
     Ok(())
 }
 
+/// Writes the code of a rule with three parts, V20 or V21.
 #[cycle(writing)]
 #[tactic(auto, using(crate::proofs::Counts::three_own, crate::proofs::Counts::three_labels))]
 fn three_parts(w: &mut Writer, trees: &[Derivation], node: Node, of: Three) -> Result<(), CodeFault>
@@ -214,13 +230,13 @@ fn three_parts(w: &mut Writer, trees: &[Derivation], node: Node, of: Three) -> R
         return Ok(());
     }
     let first = w.take(2)?;
-    let here = Place {
+    let here = CodeContext {
         level: node.level,
         target: node.target,
     };
     let level = node.level;
     let target = as_word(first)?;
-    write(w, &trees[0], of.a, Place { level, target })?;
+    write(w, &trees[0], of.a, CodeContext { level, target })?;
     write(w, &trees[1], of.b, here)?;
     let second = more(first, 1)?;
     w.jump(Function::Jump, as_word(second)?)?;
@@ -230,6 +246,7 @@ fn three_parts(w: &mut Writer, trees: &[Derivation], node: Node, of: Three) -> R
     Ok(())
 }
 
+/// Writes the code of a call.
 #[cycle(writing)]
 #[tactic(auto, using(crate::proofs::Counts::count_args, crate::proofs::Counts::call_labels_next, crate::proofs::Counts::call_labels_last, crate::proofs::Counts::argument_cells))]
 fn call(w: &mut Writer, trees: &[Derivation], node: Node, of: CallOf) -> Result<(), CodeFault>
@@ -245,7 +262,7 @@ fn call(w: &mut Writer, trees: &[Derivation], node: Node, of: CallOf) -> Result<
         if i >= trees.len() {
             return Ok(());
         }
-        let here = Place {
+        let here = CodeContext {
             level,
             target: node.target,
         };
@@ -257,7 +274,7 @@ fn call(w: &mut Writer, trees: &[Derivation], node: Node, of: CallOf) -> Result<
     if trees.len() <= n || trees.len() - n != 1 {
         return Ok(());
     }
-    let here = Place {
+    let here = CodeContext {
         level,
         target: node.target,
     };

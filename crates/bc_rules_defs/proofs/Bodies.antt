@@ -1,5 +1,4 @@
--- The bodies of VALOFs in the code of a derivation: wherever the code stands they are the same, and they are those in its
--- expression.
+-- The bodies of VALOFs in the code of a derivation are those of the VALOFs in its expression, wherever the code is placed.
 use Rattle.std.proofs.Common.{◌≡◌, ◌∙◌, ℕ, ◌+◌, Bool, true, false, cond, Some, List, [], ◌∷◌, ◌++◌, refl, ap, sym, arith}
 use Rattle.bc_word.specs.declared.operator.Op.{Op}
 use Rattle.bc_word.specs.declared.operator.Op.TheVariants.{Add, Subtract, Equal, NotEqual}
@@ -34,9 +33,9 @@ no_body : {H : Here} {p : Piece} → Own H p → (ps : List Piece) → bodies (p
 no_body (number h) ps = refl
 no_body o ps = refl
 
--- ---- Wherever the code stands
+-- ---- The bodies don't depend on where the code is placed
 
--- the bodies that layers put, those of a part as they are in its code at level 0
+-- the bodies in layers; for a part, those in its code at level 0
 abbrev put_by : {T : Table} → List (Layer T) → List ℕ
 put_by [] = []
 put_by (own p ∷ ls) = put_by ls
@@ -83,9 +82,9 @@ pub same_bodies : {T : Table} {r : Root} (d : RootDerives T r) (t f : ℕ) → b
 same_bodies {T = T} d t f =
     ap bodies (root_code_is d t f) ∙ puts (root_stands (Same T) same d t f) ∙ root_alike d t f ∙ sym (puts (root_stands (Same T) same d 0 0)) ∙ sym (ap bodies (root_code_is d 0 0))
 
--- ---- They are those of the expression
+-- ---- The bodies are those of the expression
 
--- A weight of expressions that is the sum of those of the VALOFs in them.
+-- A weight of expressions that is the sum of the weights of the VALOFs in them.
 pub record Weighing : Type 0 where
   pub of : Exp → ℕ
   pub of_all : Args → ℕ
@@ -107,7 +106,7 @@ of_root W (Value s e) = W.of e
 of_root W (Test s sense e) = W.of e
 of_root W (Assign s v a) = W.of v + W.of a
 
--- the weight of the VALOFs whose bodies stand among pieces, and that of layers
+-- the weight of the VALOFs whose bodies are among these pieces, and the same for layers
 abbrev pub of_bodies : Weighing → List Piece → ℕ
 of_bodies W [] = 0
 of_bodies W (Item i ∷ ps) = of_bodies W ps

@@ -1,4 +1,4 @@
--- The tree of rule names tells a derivation's labels and its code.
+-- The tree of rule names determines a derivation's labels and code.
 use Rattle.std.proofs.Common.{◌≡◌, ℕ, ◌+◌, Bool, true, false, not, Option, Some, None, List, [], ◌∷◌, ◌++◌, refl, sym, ap, ◌∙◌, arith, append-nil, append_assoc, add-zero, zero-add}
 use Rattle.bc_word.specs.declared.operator.Op.TheVariants.{Add, Subtract, Equal, NotEqual, And, Or}
 use Rattle.bc_word.specs.Mirror.{mirror_of}
@@ -18,7 +18,7 @@ use Rattle.bc_rules_defs.specs.Code.{labels, all_labels, code, all_code, root_la
 use Rattle.bc_rules_defs.specs.Parts.{Parts, leaf, single, pair, triple, called, parts_of, where_some, where_true, where_none, single_if}
 use Rattle.bc_rules_defs.specs.ByShape.{own_labels, part_level, first_target, between, after_single, after_pair, with_operand, mirror_number, labels_by, labels_of_parts, labels_of_sides, code_by, code_of_parts, code_of_sides, root_labels_by, root_code_by}
 
--- the parts of each rule, at the derivation's own expression
+-- the parts of each rule at the derivation's own expression
 some_of : {A : Type 0} (x : Option A) (y : A) (p : Parts) → x ≡ Some y → where_some x p ≡ p
 some_of x y p h = ap (λ z. where_some z p) h
 

@@ -1,4 +1,4 @@
--- The code of a derivation is that of its layers.
+-- The code of a derivation is the code of its layers.
 use Rattle.std.proofs.Common.{◌≡◌, ℕ, ◌+◌, Bool, true, false, cond, List, [], ◌∷◌, ◌++◌, refl, sym, ap, ◌∙◌, append_assoc, append-nil}
 use Rattle.bc_core.specs.Tree.{Exp, Args, count, Root}
 use Rattle.bc_rules_defs.specs.declared.rule.Table.{Table}

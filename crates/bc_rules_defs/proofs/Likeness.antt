@@ -1,4 +1,4 @@
--- Derivations with the same rules are alike.
+-- Derivations with the same tree of rule names have the same labels, cost and code.
 use Rattle.std.proofs.Common.{◌≡◌, ℕ, sym, ap, ◌∙◌}
 use Rattle.bc_core.specs.Tree.{Root}
 use Rattle.bc_rules_defs.specs.declared.rule.Table.{Table}

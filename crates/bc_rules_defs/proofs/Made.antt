@@ -1,4 +1,4 @@
--- The layers of each derivation stand as `Made` says: one line a rule.
+-- The layers of each derivation are as `Made` says, with one line for each rule.
 use Rattle.std.proofs.Common.{◌≡◌, ℕ, ◌+◌, ◌≤◌, Bool, true, false, not, cond, Some, None, List, [], ◌∷◌, ◌++◌, refl, ap, subst, arith}
 use Rattle.bc_word.specs.declared.operator.Op.{Op}
 use Rattle.bc_word.specs.declared.operator.Op.TheVariants as operators
@@ -22,7 +22,7 @@ operator_small : (op : Op) → number_of op ≤ 65535
 operator_small operators.Multiply = omega arith
 operator_small op = omega arith
 
--- what stands beside a 0 is one of the two operands
+-- the operand that remains when a 0 is dropped is one of the two
 beside : (op : Op) (a b c : Exp) (s : ℕ) (here there : Bool) → cond here (Some a) (cond there (Some b) None) ≡ Some c → Within (Bin op a b) s c (s + 1)
 beside op a b c s true y h = let same : a ≡ c = cc in subst (λ e. Within (Bin op a b) s e (s + 1)) same left
 beside op a b c s false true h = let same : b ≡ c = cc in subst (λ e. Within (Bin op a b) s e (s + 1)) same right
@@ -45,7 +45,7 @@ module _ {T : Table} (C : Claim T) where
   jumps_or_not true H h i j = piece (to_target h) (done i j)
   jumps_or_not false H h i j = done i j
 
-  -- what follows from the parts holds of the whole
+  -- if the claim holds of a derivation's parts, it holds of the derivation
   abbrev pub Step : Type 0
   Step = (e : Exp) (aim : Aim) (d : Derives T e aim) → ((s t f : ℕ) → Made C e aim d s t f) → (s t f : ℕ) → C e aim d s t f
 
@@ -124,7 +124,7 @@ module _ {T : Table} (C : Claim T) where
       a_part (assigned at) a_value (all _ _ v (s + 1) t f)
       (piece cell (a_part (address at) a_value (all _ _ x (s + 1) t (f + labels v)) (piece next_cell (piece cell (piece next_cell (done refl (omega arith)))))))
 
--- labels that come next lie before their ends
+-- the next labels don't exceed their ends
 pub in_bounds : {T : Table} {C : Claim T} {H : Here} {k m : ℕ} {ls : List (Layer T)} → Stand C H k m ls → (k ≤ H.parts) × (m ≤ H.end)
 in_bounds (done h i) = (omega arith, omega arith)
 in_bounds (piece o h) = in_bounds h

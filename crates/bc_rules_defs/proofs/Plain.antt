@@ -1,4 +1,4 @@
--- The code of derivations is made of operations, labels and bodies: it has no bytes, no data, and sets no global.
+-- The code of derivations consists of operations, labels and bodies. It has no bytes and no data, and sets no global.
 use Rattle.std.proofs.Common.{ℕ, List, [], ◌∷◌, ◌++◌, sym, subst}
 use Rattle.bc_text_items.specs.declared.item.Item.TheVariants as items
 use Rattle.bc_core.specs.Tree.{Exp, Root}

@@ -1,4 +1,4 @@
--- The table has the parts that a rule has. One line a rule.
+-- The table `takes` gives the parts that `Parts` gives, with one line for each rule.
 use Rattle.std.proofs.Common.{Bool, true, false, Option, Some, None, cond}
 use Rattle.bc_word.specs.declared.operator.Op.{Op}
 use Rattle.bc_word.specs.declared.operator.Op.TheVariants as operators
@@ -15,7 +15,7 @@ use Rattle.bc_rules_defs.specs.Free.{is_zero, is_plain, without_zero}
 use Rattle.bc_rules_defs.specs.Parts.{Parts, leaf, where_true, where_some, where_none, in_any, for_sum, for_difference, for_and, for_or, for_equal, for_not_equal, single_if, value_parts, test_parts, node_parts, parts_of, assignment_parts}
 use Rattle.bc_rules_defs.specs.Takes.{takes, beside, of_two, own_by_table, by_table, Agrees, elsewhere, alike, TableHasParts}
 
--- what a rule asks beside changes no parts
+-- a further condition of a rule changes no parts
 so : (b : Bool) (p q : Parts) → Agrees p q → Agrees (where_true b p) q
 so true p q h = h
 so false p q h = elsewhere
@@ -56,7 +56,7 @@ not_equal : (op : Op) (p q : Parts) → Agrees p q → Agrees (for_not_equal op 
 not_equal operators.NotEqual p q h = h
 not_equal op p q h = elsewhere
 
--- the part beside a 0
+-- the part that remains when a 0 is dropped
 kept : (aim : Aim) (a b : Exp) (y z : Bool) → Agrees (single_if aim (cond z (Some a) (cond y (Some b) None))) (of_two (beside aim z) a b)
 kept aim a b y true = alike
 kept aim a b true false = alike

@@ -1,4 +1,4 @@
--- A derivation by either table is one by table 2, with the same rules.
+-- Each derivation by either table is also one by table 2, with the same rules.
 use Rattle.std.proofs.Common.{◌≡◌, refl, ap, ◌∙◌}
 use Rattle.bc_core.specs.Tree.{Exp, Args, Root}
 use Rattle.bc_rules_defs.specs.declared.rule.Table.{Table}

@@ -1,4 +1,4 @@
--- The words of a derivation's code are its cost.
+-- The code of a derivation takes as many words as its cost says.
 use Rattle.std.proofs.Common.{◌≡◌, ℕ, ◌+◌, Bool, true, false, not, cond, List, [], ◌∷◌, ◌++◌, refl, sym, ap, ◌∙◌, arith, append_assoc, append-nil, add-zero}
 use Rattle.bc_word.specs.declared.operator.Op.{Op}
 use Rattle.bc_word.specs.declared.operator.Op.TheVariants.{Multiply, Divide, Remainder, Add, Subtract, Equal, NotEqual, Less, GreaterEqual, Greater, LessEqual, ShiftLeft, ShiftRight, And, Or, NotEquivalent, Equivalent}
@@ -20,7 +20,7 @@ use Rattle.bc_rules_defs.specs.Piece.{on, SP, LIP, X, J, jump_if, label, w, oper
 use Rattle.bc_rules_defs.specs.Rules.{Derives, v0, v1, v2, v3, v4, v6, v7, v8, v9, v10, v11, v12, v13, v14, v15, v16, v17, v18, v19, v20, v21, v22, v22_valof, j1, j2, j3, j4, j5, j6, j7, j8, j9, DerivesAll, no_more, one_more, RootDerives, value, test, a1, a2, a3}
 use Rattle.bc_rules_defs.specs.Code.{labels, all_labels, code, all_code, cost, all_cost, root_code, root_cost}
 
--- pieces that take so many words, whatever stands after them
+-- pieces that take n words, whatever follows them
 record Weighs (ps : List Piece) (n : ℕ) : Type 0 where
   all : (rest : List Piece) → words (ps ++ rest) ≡ n + words rest
 
@@ -33,7 +33,7 @@ weighs_both {xs = xs} {ys = ys} {m = m} {n = n} h i = record { all = λ rest. ap
 weighs_as : {xs : List Piece} {m n : ℕ} → Weighs xs m → m ≡ n → Weighs xs n
 weighs_as {xs = xs} {m = m} {n = n} h e = record { all = λ rest. h.all rest ∙ ap (λ k. k + words rest) e }
 
--- an operation, a label and a body in front
+-- an operation, a label and a body put before such pieces
 weighs_operation : (f : Function) (i : Bool) (b : Base) (k : ℕ) {ps : List Piece} {n : ℕ} → Weighs ps n → Weighs (Item (Operation f i b k) ∷ ps) (operation_size b k + n)
 weighs_operation f i b k {ps = ps} {n = n} h = record { all = λ rest. ap (λ z. operation_size b k + z) (h.all rest) ∙ omega arith }
 
@@ -46,7 +46,7 @@ weighs_label k {ps = ps} {n = n} h = record { all = λ rest. ap (λ z. 0 + z) (h
 weighs_body : (k : ℕ) {ps : List Piece} {n : ℕ} → Weighs ps n → Weighs (Body k ∷ ps) n
 weighs_body k {ps = ps} {n = n} h = record { all = λ rest. h.all rest }
 
--- by the names of the operations
+-- the same for the operations that have names
 on_end : (f : Function) (o : Operand) → Weighs (on f o ∷ []) (operand_words o)
 on_end f o = op f (cond o.direct false true) o.base o.n
 

@@ -1,4 +1,4 @@
--- The code of a derivation, and its words.
+-- The code of a derivation, its labels and its words, rule by rule.
 use Rattle.std.specs.Prelude.{ℕ, ◌+◌, ◌*◌, not, cond, List, [], ◌∷◌, ◌++◌}
 use Rattle.bc_word.specs.Words.{number_of, negated}
 use Rattle.bc_core.specs.Tree.{Exp, Args, count, Root}
@@ -10,7 +10,7 @@ use Rattle.bc_rules_defs.specs.Free.{jumps_at}
 use Rattle.bc_rules_defs.specs.Piece.{L, S, A, A_number, SP, LIP, AIP, SIP, X, K, J, jump_if, label, w, operand_words}
 use Rattle.bc_rules_defs.specs.Rules.{Derives, v0, v1, v2, v3, v4, v6, v7, v8, v9, v10, v11, v12, v13, v14, v15, v16, v17, v18, v19, v20, v21, v22, v22_valof, j1, j2, j3, j4, j5, j6, j7, j8, j9, DerivesAll, no_more, one_more, RootDerives, value, test, a1, a2, a3}
 
--- how many labels a derivation has of its own
+-- the number of a derivation's own labels
 abbrev mutual
   pub labels : {T : Table} {e : Exp} {aim : Aim} → Derives T e aim → ℕ
   labels (v0 d) = labels d
@@ -50,9 +50,9 @@ abbrev mutual
   all_labels no_more = 0
   all_labels (one_more d ds) = labels d + all_labels ds
 
--- The code at level s, with target t, and with the labels from f on: a rule's own come before those of its parts.
--- Both operands of an operator stand a level higher; the arguments of a call from s + 2 on, each a level higher
--- than the one before, and the routine's value after them.
+-- The code at level s, with target t, and with labels numbered from f on: a rule's own labels come before those of its parts.
+-- Both operands of an operator are one level higher. The arguments of a call are at the levels from s + 2 on, each one higher
+-- than the one before, followed by the routine's value.
 abbrev mutual
   pub code : {T : Table} {e : Exp} {aim : Aim} → Derives T e aim → (s t f : ℕ) → List Piece
   code (v0 d) s t f = code d s t f
@@ -90,12 +90,12 @@ abbrev mutual
   code (j8 {sense = sense} h k c) s t f = code c (s + 1) t f ++ jump_if (not sense) t ∷ []
   code (j9 {sense = sense} h k c) s t f = code c (s + 1) t f ++ jump_if sense t ∷ []
 
-  -- the arguments from level s on, each held in its cell of the new frame
+  -- the arguments from level s on, each stored into its cell of the new frame
   pub all_code : {T : Table} {es : Args} → DerivesAll T es → (s t f : ℕ) → List Piece
   all_code no_more s t f = []
   all_code (one_more d ds) s t f = code d s t f ++ SP s ∷ all_code ds (s + 1) t (f + labels d)
 
--- the words of that code, rule by rule
+-- The cost of a derivation at level s: the words of its code, rule by rule. `Laws` says that this is what the code takes.
 abbrev mutual
   pub cost : {T : Table} {e : Exp} {aim : Aim} → Derives T e aim → (s : ℕ) → ℕ
   cost (v0 d) s = cost d s
@@ -135,8 +135,8 @@ abbrev mutual
   all_cost no_more s = 0
   all_cost (one_more d ds) s = cost d s + w s + all_cost ds (s + 1)
 
--- The same of a root, whose level it has itself. The sides of an assignment stand at its level if the address is
--- an operand, else a level higher.
+-- The labels, the code and the cost of a root's derivation. A root contains its level. The sides of an assignment are at this
+-- level if the address is an operand, else one level higher.
 abbrev pub root_labels : {T : Table} {r : Root} → RootDerives T r → ℕ
 root_labels (value d) = labels d
 root_labels (test d) = labels d
@@ -144,6 +144,7 @@ root_labels (a1 h v) = labels v
 root_labels (a2 h free a v) = labels a + labels v
 root_labels (a3 h v a) = labels v + labels a
 
+-- the code, with target t and labels from f on
 abbrev pub root_code : {T : Table} {r : Root} → RootDerives T r → (t f : ℕ) → List Piece
 root_code (value {s = s} d) t f = code d s t f
 root_code (test {s = s} d) t f = code d s t f
@@ -151,6 +152,7 @@ root_code (a1 {s = s} {o = o} h v) t f = code v s t f ++ S o ∷ []
 root_code (a2 {s = s} h free a v) t f = code a (s + 1) t f ++ SP s ∷ code v (s + 1) t (f + labels a) ++ SIP s ∷ []
 root_code (a3 {s = s} h v a) t f = code v (s + 1) t f ++ SP s ∷ code a (s + 1) t (f + labels v) ++ SP (s + 1) ∷ LIP s ∷ SIP (s + 1) ∷ []
 
+-- the words of the code
 abbrev pub root_cost : {T : Table} {r : Root} → RootDerives T r → ℕ
 root_cost (value {s = s} d) = cost d s
 root_cost (test {s = s} d) = cost d s

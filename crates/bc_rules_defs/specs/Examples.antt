@@ -1,4 +1,4 @@
--- Worked examples: a derivation by hand, its code, its words and its labels.
+-- Worked examples: derivations written by hand, with their code, words and labels. The prover computes each.
 use Rattle.std.specs.Prelude.{ℕ, ◌≡◌, true, false, [], ◌∷◌, refl}
 use Rattle.bc_word.specs.declared.operator.Op.TheVariants.{Add, Subtract, Multiply, Divide, Equal, Or}
 use Rattle.bc_core.specs.Tree.{Exp, Num, Frame, Glob, Load, Bin, Cond, Call, Valof, no_argument, argument, Root, Value, Test, Assign}
@@ -15,7 +15,7 @@ use Rattle.bc_rules_defs.specs.Piece.{SP, LIP, AIP, SIP, X, K, J, jump_if, label
 use Rattle.bc_rules_defs.specs.Rules.{Derives, v0, v1, v6, v8, v9, v11, v12, v16, v17, v18, v20, v22, v22_valof, j5, j6, j8, no_more, one_more, RootDerives, value, test, a2}
 use Rattle.bc_rules_defs.specs.Code.{root_code, root_cost, root_labels}
 
--- the variable at an offset of the frame, and the call of the global 100 without arguments
+-- the variable at an offset of the frame, and calls of the globals 100 and 101
 abbrev at : ℕ → Exp
 at k = Load (Frame k)
 
@@ -37,7 +37,7 @@ push = v1 refl
 abbrev get : {T : _} {k : ℕ} → Derives T (at k) (Gets Any)
 get = v0 (v1 refl)
 
--- (a + b) * (c - d): two of its derivations, of 6 and of 10 words
+-- (a + b) * (c - d): two of its derivations, with 6 and with 10 words
 abbrev product : Root
 product = Value 6 (Bin Multiply (Bin Add (at 2) (at 3)) (Bin Subtract (at 4) (at 5)))
 
@@ -77,7 +77,7 @@ sum_of_calls =
 pub calls_code : root_code sum_of_calls 0 1 ≡ L_number 1 ∷ SP 5 ∷ LIG 100 ∷ K 3 ∷ SP 2 ∷ L_number 2 ∷ SP 5 ∷ LIG 101 ∷ K 3 ∷ AIP 2 ∷ []
 calls_code = refl
 
--- (a * b) / (c * d), the right operand first
+-- (a * b) / (c * d), the right operand evaluated first
 abbrev quotient : RootDerives One (Value 6 (Bin Divide (Bin Multiply (at 2) (at 3)) (Bin Multiply (at 4) (at 5))))
 quotient = value (v16 refl (v12 get push) (v12 get push))
 
@@ -91,7 +91,7 @@ assignment = a2 refl refl (v0 (v6 refl push)) get
 pub assignment_code : root_code assignment 0 1 ≡ LIP 2 ∷ AIP 3 ∷ SP 5 ∷ LIP 4 ∷ SIP 5 ∷ []
 assignment_code = refl
 
--- a jump to 9 unless x = 0, by the two tables
+-- a jump to the label 9 unless x = 0, by each table
 abbrev is_zero_test : Root
 is_zero_test = Test 3 false (Bin Equal (at 2) (Num 0))
 
@@ -120,7 +120,7 @@ sum_of_zeros = value (v8 {c = Num 0} refl (v0 (v1 refl)))
 pub zeros_code : root_code sum_of_zeros 0 1 ≡ L_number 0 ∷ []
 zeros_code = refl
 
--- x | (y -> VALOF, z), a jump to 9 on false: the labels 1 of the bar, 2 and 3 of the condition, 4 of the VALOF
+-- x | (y -> VALOF, z), a jump to the label 9 on false: label 1 is of the `|`, 2 and 3 are of the condition, 4 is of the VALOF
 abbrev labelled : RootDerives One (Test 5 false (Bin Or (at 2) (Cond (at 3) (Valof 0) (at 4))))
 labelled = test (j5 (j6 refl get) (j6 refl (v20 (j6 refl get) v22_valof get)))
 

@@ -1,4 +1,4 @@
--- Worked examples of layers; each is proved by computing.
+-- Worked examples of layers. The prover computes each.
 use Rattle.std.specs.Prelude.{◌≡◌, refl, true, false, [], ◌∷◌}
 use Rattle.bc_word.specs.declared.operator.Op.TheVariants.{Multiply, Or}
 use Rattle.bc_core.specs.Tree.{Num, Frame, Load, Bin, Valof}
@@ -16,7 +16,7 @@ number = v1 refl
 abbrev content : Derives One (Load (Frame 2)) (Gets Push)
 content = v1 refl
 
--- the content of cell 2 by 7: both parts a level higher, and `X5` after them
+-- the content of cell 2 times 7: both parts are one level higher, followed by `X5`
 abbrev product : Derives One (Bin Multiply (Load (Frame 2)) (Num 7)) (Gets Any)
 product = v12 (v0 content) number
 
@@ -26,7 +26,7 @@ product_layers = refl
 pub product_code : code product 5 0 1 ≡ code_of (layers product 5 0 1)
 product_code = refl
 
--- the content of cell 2, and a VALOF, as tests
+-- the content of cell 2 as a test, and a VALOF as a test
 abbrev first_test : Derives One (Load (Frame 2)) (Jumps true)
 first_test = j6 refl (v0 content)
 
@@ -36,7 +36,7 @@ value = v22_valof
 abbrev second_test : Derives One (Valof 3) (Jumps false)
 second_test = j6 refl value
 
--- of both, a jump to 9 on false: the first one jumps to the bar's own label, 4, and the labels of the parts begin after it
+-- `|` of both, a jump to 9 on false: the first one jumps to the rule's own label, 4, and the labels of the parts begin after it
 abbrev either : Derives One (Bin Or (Load (Frame 2)) (Valof 3)) (Jumps false)
 either = j5 first_test second_test
 
@@ -49,7 +49,7 @@ test_layers = refl
 pub body_layers : layers value 6 9 5 ≡ body 3 5 ∷ []
 body_layers = refl
 
--- a jump on true at a 0 has no layer, and at a 1 it has one
+-- a jump on true has no layer at a 0, and one at a 1
 abbrev at_zero : Derives One (Num 0) (Jumps true)
 at_zero = j7
 

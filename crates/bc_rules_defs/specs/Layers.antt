@@ -1,5 +1,4 @@
--- Of what the code of each derivation is made, in the order of the code: pieces of its rule's own, bodies of VALOFs, and
--- the code of its parts.
+-- The layers of each derivation's code, in the order of the code: its rule's own pieces, bodies of VALOFs, and its parts.
 use Rattle.std.specs.Prelude.{ℕ, ◌+◌, not, cond, List, [], ◌∷◌, ◌++◌}
 use Rattle.bc_word.specs.Words.{number_of, negated}
 use Rattle.bc_core.specs.Tree.{Exp, Args, count, Root}
@@ -13,17 +12,19 @@ use Rattle.bc_rules_defs.specs.Rules.{Derives, v0, v1, v2, v3, v4, v6, v7, v8, v
 use Rattle.bc_rules_defs.specs.Code.{labels, all_labels, code}
 
 pub data Layer : Table → Type 0 where
+  -- a piece that the rule itself has
   own : {T : Table} → Piece → Layer T
-  -- the body of a VALOF, by its number, and the label after it
+  -- the body of the VALOF with the number n, and the label f after it
   body : {T : Table} → (n f : ℕ) → Layer T
-  -- a part at level s, with target t, and with the labels from f on
+  -- a part at level s, with target t, and with labels from f on
   part : {T : Table} {e : Exp} {aim : Aim} → Derives T e aim → (s t f : ℕ) → Layer T
 
--- the arguments of a call from level s on, each held in its cell of the new frame
+-- the arguments of a call from level s on, each stored into its cell of the new frame
 abbrev pub argument_layers : {T : Table} {es : Args} → DerivesAll T es → (s t f : ℕ) → List (Layer T)
 argument_layers no_more s t f = []
 argument_layers (one_more d ds) s t f = part d s t f ∷ own (SP s) ∷ argument_layers ds (s + 1) t (f + labels d)
 
+-- the layers of a derivation at level s, with target t, and with labels from f on
 abbrev pub layers : {T : Table} {e : Exp} {aim : Aim} → Derives T e aim → (s t f : ℕ) → List (Layer T)
 layers (v0 d) s t f = part d s t f ∷ []
 layers (v1 {o = o} h) s t f = own (L o) ∷ []
@@ -61,6 +62,7 @@ layers (j7 {n = n} {sense = sense}) s t f = cond (jumps_at sense n) (own (J t) �
 layers (j8 {sense = sense} h k c) s t f = part c (s + 1) t f ∷ own (jump_if (not sense) t) ∷ []
 layers (j9 {sense = sense} h k c) s t f = part c (s + 1) t f ∷ own (jump_if sense t) ∷ []
 
+-- the layers of a root's derivation
 abbrev pub root_layers : {T : Table} {r : Root} → RootDerives T r → (t f : ℕ) → List (Layer T)
 root_layers (value {s = s} d) t f = part d s t f ∷ []
 root_layers (test {s = s} d) t f = part d s t f ∷ []
@@ -68,7 +70,7 @@ root_layers (a1 {s = s} {o = o} h v) t f = part v s t f ∷ own (S o) ∷ []
 root_layers (a2 {s = s} h free a v) t f = part a (s + 1) t f ∷ own (SP s) ∷ part v (s + 1) t (f + labels a) ∷ own (SIP s) ∷ []
 root_layers (a3 {s = s} h v a) t f = part v (s + 1) t f ∷ own (SP s) ∷ part a (s + 1) t (f + labels v) ∷ own (SP (s + 1)) ∷ own (LIP s) ∷ own (SIP (s + 1)) ∷ []
 
--- the code that they make
+-- the code that layers make
 abbrev pub code_of : {T : Table} → List (Layer T) → List Piece
 code_of [] = []
 code_of (own p ∷ ls) = p ∷ code_of ls

@@ -1,5 +1,5 @@
--- For proofs: how the layers of a derivation stand in its expression, at its level, with its target and its labels. A law
--- on the code of all derivations goes over these, and names no rule.
+-- For proofs: what holds of the layers of every derivation: which expressions their parts are, at which levels, and with which
+-- targets and labels. A law about the code of all derivations can go by this and needn't name any rule.
 use Rattle.std.specs.Prelude.{◌≡◌, ℕ, ◌+◌, ◌≤◌, Bool, false, Some, List, [], ◌∷◌}
 use Rattle.bc_word.specs.declared.operator.Op.{Op}
 use Rattle.bc_text_items.specs.declared.item.Item.TheVariants.{Operation}
@@ -21,11 +21,12 @@ use Rattle.bc_rules_defs.specs.Rules.{Derives}
 use Rattle.bc_rules_defs.specs.Code.{labels}
 use Rattle.bc_rules_defs.specs.Layers.{Layer, own, body, part, layers}
 
--- an argument with its level, an expression itself or a part of it, and a side of a root
+-- an argument of a list, with its level
 pub data Among : Args → ℕ → Exp → ℕ → Type 0 where
   first : {e : Exp} {es : Args} {s : ℕ} → Among (argument e es) s e s
   later : {a e : Exp} {es : Args} {s k : ℕ} → Among es (s + 1) e k → Among (argument a es) s e k
 
+-- an expression itself or a direct part of it, with its level
 pub data Within : Exp → ℕ → Exp → ℕ → Type 0 where
   itself : {e : Exp} {s : ℕ} → Within e s e s
   loaded : {e : Exp} {s : ℕ} → Within (Load e) s e s
@@ -39,14 +40,15 @@ pub data Within : Exp → ℕ → Exp → ℕ → Type 0 where
   an_argument : {es : Args} {f e : Exp} {s k : ℕ} → Among es (s + 2) e k → Within (Call es f) s e k
   routine : {es : Args} {f : Exp} {s : ℕ} → Within (Call es f) s f (s + 2 + count es)
 
+-- an expression of a root, with its level
 pub data Side : Root → Exp → ℕ → Type 0 where
   the_value : {e : Exp} {s : ℕ} → Side (Value s e) e s
   the_test : {e : Exp} {sense : Bool} {s : ℕ} → Side (Test s sense e) e s
   assigned : {v a : Exp} {s k : ℕ} → side_level a s ≡ k → Side (Assign s v a) v k
   address : {v a : Exp} {s k : ℕ} → side_level a s ≡ k → Side (Assign s v a) a k
 
--- Where layers stand: among which expressions, for which aim, at which level, with which target. Their own labels are those
--- from `first` to `parts` - 1, and those of their parts the ones from `parts` to `end` - 1.
+-- The context of layers: which expressions they may use, and their aim, level and target. Their own labels are those from `first`
+-- to `parts` - 1, and the labels of their parts those from `parts` to `end` - 1.
 pub record Here : Type 1 where
   pub sees : Exp → ℕ → Type 0
   pub aim : Aim
@@ -56,7 +58,7 @@ pub record Here : Type 1 where
   pub parts : ℕ
   pub end : ℕ
 
--- a piece of a rule's own that is no label
+-- a rule's own piece that is no label
 pub data Own (H : Here) : Piece → Type 0 where
   number : {i : Function} {n : ℕ} → n ≤ 65535 → Own H (Item (Operation i false Number n))
   frame : Own H (K H.level)
@@ -68,17 +70,17 @@ pub data Own (H : Here) : Piece → Type 0 where
   to_target : {i : Function} {sense : Bool} → H.aim ≡ Jumps sense → Own H (Item (Operation i false Label H.target))
   to_own : {n : ℕ} → H.first ≤ n → n + 1 ≤ H.parts → Own H (J n)
 
--- the target of a part: any for a value; of a test the derivation's own, if it is a test, or a label of its own
+-- The target of a part: any for a value; for a test either the derivation's own target, if it is a test too, or a label of its own.
 pub data Aimed (H : Here) : Aim → ℕ → Type 0 where
   a_value : {m : Mode} {u : ℕ} → Aimed H (Gets m) u
   same_target : {a b : Bool} → H.aim ≡ Jumps a → Aimed H (Jumps b) H.target
   own_target : {b : Bool} {u : ℕ} → H.first ≤ u → u + 1 ≤ H.parts → Aimed H (Jumps b) u
 
--- what may be said of parts
+-- a claim about the code of a derivation
 abbrev pub Claim : Table → Type 1
 Claim T = (e : Exp) (aim : Aim) → Derives T e aim → (s t f : ℕ) → Type 0
 
--- Layers that stand so, where the next own label is k, the next one of a part is m, and the claim holds of each part.
+-- Layers that fit their context H, where k is their next own label, m the next label of a part, and the claim C holds of each part.
 pub data Stand {T : Table} (C : Claim T) (H : Here) : (k m : ℕ) → List (Layer T) → Type 0 where
   done : {k m : ℕ} → k ≡ H.parts → m ≡ H.end → Stand C H k m []
   piece : {p : Piece} {k m : ℕ} {ls : List (Layer T)} → Own H p → Stand C H k m ls → Stand C H k m (own p ∷ ls)
@@ -87,7 +89,7 @@ pub data Stand {T : Table} (C : Claim T) (H : Here) : (k m : ℕ) → List (Laye
   a_part : {e : Exp} {aim : Aim} {d : Derives T e aim} {u v k m : ℕ} {ls : List (Layer T)} → H.sees e u → Aimed H aim v → C e aim d u v m
       → Stand C H k (m + labels d) ls → Stand C H k m (part d u v m ∷ ls)
 
--- where the layers of a derivation stand, and those of a root's
+-- the context of a derivation's layers
 abbrev pub here : (e : Exp) (aim : Aim) → (s t f parts end : ℕ) → Here
 here e aim s t f parts end = record { sees = Within e s; aim = aim; level = s; target = t; first = f; parts = parts; end = end }
 
@@ -95,6 +97,7 @@ pub record Made {T : Table} (C : Claim T) (e : Exp) (aim : Aim) (d : Derives T e
   pub parts : ℕ
   pub stand : Stand C (here e aim s t f parts (f + labels d)) f parts (layers d s t f)
 
+-- the aim, the level and the context of a root
 abbrev pub aim_of_root : Root → Aim
 aim_of_root (Test s sense e) = Jumps sense
 aim_of_root r = Gets Any

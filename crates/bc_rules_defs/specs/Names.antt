@@ -3,7 +3,7 @@ use Rattle.std.specs.Prelude.{ℕ, ◌==◌, ◌&&◌, cond, List, [], ◌∷◌
 use Rattle.bc_rules_defs.specs.declared.rule.Rule.{Rule}
 use Rattle.bc_rules_defs.specs.declared.rule.Rule.TheVariants.{V0, V1, V2, V3, V4, V6, V7, V8, V9, V10, V11, V12, V13, V14, V15, V16, V17, V18, V19, V20, V21, V22, J1, J2, J3, J4, J5, J6, J7, J8, J9, A1, A2, A3}
 
--- V of values, J of tests, A of assignments
+-- the letter in ASCII: V (86) for values, J (74) for tests, A (65) for assignments
 abbrev pub rule_letter : Rule → ℕ
 rule_letter J1 = 74
 rule_letter J2 = 74
@@ -19,7 +19,7 @@ rule_letter A2 = 65
 rule_letter A3 = 65
 rule_letter _ = 86
 
--- the number in a rule's name; rules of two letters never stand beside each other
+-- the number in a rule's name
 abbrev pub rule_number : Rule → ℕ
 rule_number V0 = 0
 rule_number V1 = 1
@@ -56,16 +56,16 @@ rule_number A1 = 1
 rule_number A2 = 2
 rule_number A3 = 3
 
--- the table, in its order
+-- all rules, in the order of the table
 abbrev pub all_rules : List Rule
 all_rules = V0 ∷ V1 ∷ V2 ∷ V3 ∷ V4 ∷ V6 ∷ V7 ∷ V8 ∷ V9 ∷ V10 ∷ V11 ∷ V12 ∷ V13 ∷ V14 ∷ V15 ∷ V16 ∷ V17 ∷ V18 ∷ V19 ∷ V20 ∷ V21 ∷ V22 ∷ J1 ∷ J2 ∷ J3 ∷ J4
     ∷ J5 ∷ J6 ∷ J7 ∷ J8 ∷ J9 ∷ A1 ∷ A2 ∷ A3 ∷ []
 
--- the first of some rules with this name
+-- the first of these rules that has this letter and number
 abbrev pub found : ℕ → ℕ → List Rule → Option Rule
 found letter n [] = None
 found letter n (r ∷ rs) = cond (rule_letter r == letter && rule_number r == n) (Some r) (found letter n rs)
 
--- the rule with this name, if it is in the table
+-- the rule with this letter and number, if there is one
 abbrev pub rule_named : ℕ → ℕ → Option Rule
 rule_named letter n = found letter n all_rules

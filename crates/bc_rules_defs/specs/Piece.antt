@@ -1,4 +1,4 @@
--- Pieces of code, by the names that INTCODE has for them, and the words that they take.
+-- Pieces of code, with the names that INTCODE gives them, and the number of words that they take.
 use Rattle.std.specs.Prelude.{ℕ, ◌+◌, Bool, true, false, cond, nat_le, List, [], ◌∷◌}
 use Rattle.bc_text_items.specs.declared.item.Item.TheVariants as items
 use Rattle.bc_text_items.specs.declared.item.Item.TheVariants.{Operation, Byte}
@@ -23,11 +23,11 @@ S o = on Store o
 abbrev pub A : Operand → Piece
 A o = on Add o
 
--- `An`
+-- `An`: adds a number
 abbrev pub A_number : ℕ → Piece
 A_number n = Item (Operation Add false Number n)
 
--- on the frame's cell at an offset: `SPs`, `LIPs`, `AIPs`, `SIPs`
+-- operations on the frame's cell at an offset: `SPs`, `LIPs`, `AIPs`, `SIPs`
 abbrev pub SP : ℕ → Piece
 SP s = Item (Operation Store false P s)
 
@@ -40,32 +40,35 @@ AIP s = Item (Operation Add true P s)
 abbrev pub SIP : ℕ → Piece
 SIP s = Item (Operation Store true P s)
 
--- `Xn` and `Ks`
+-- `Xn`, an operation of the machine, and `Ks`, a call with the new frame at s
 abbrev pub X : ℕ → Piece
 X n = Item (Operation Execute false Number n)
 
 abbrev pub K : ℕ → Piece
 K s = Item (Operation Call false Number s)
 
--- a jump to a label: `JLt`; `TLt` on true, `FLt` on false; and the label itself
+-- a jump to a label: `JLt`; if A is true `TLt`, if it is false `FLt`; and the label itself
 abbrev pub J : ℕ → Piece
 J t = Item (Operation Jump false Label t)
 
+-- a jump if A has this truth
 abbrev pub jump_if : (sense : Bool) → ℕ → Piece
 jump_if true t = Item (Operation JumpIfTrue false Label t)
 jump_if false t = Item (Operation JumpIfFalse false Label t)
 
+-- the label itself
 abbrev pub label : ℕ → Piece
 label n = Item (items.Label n)
 
--- the words of a number in an instruction, and of an operand
+-- the words of an instruction with this number, and of one with this operand
 abbrev pub w : ℕ → ℕ
 w n = cond (nat_le n 511) 1 2
 
+-- the words of an instruction with this operand
 abbrev pub operand_words : Operand → ℕ
 operand_words o = operation_size o.base o.n
 
--- the words of pieces: neighbouring bytes share a word in pairs, labels and bodies take none
+-- the words of pieces: adjacent bytes share a word in pairs; labels and bodies take none
 abbrev pub words : List Piece → ℕ
 words [] = 0
 words (Item (Byte high) ∷ Item (Byte low) ∷ ps) = 1 + words ps

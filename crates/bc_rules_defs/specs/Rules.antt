@@ -1,5 +1,5 @@
--- The rule table: which derivations an expression, a test or an assignment has. Each constructor is a rule, with
--- its premises, and the derivations of its parts in the order of its code. `Code` has the code of each rule.
+-- The rule table: which derivations an expression, a test or an assignment has. Each constructor is a rule with its premises
+-- and the derivations of its parts, in the order of its code. `Code` has the code of each rule, `docs/rules.md` explains them.
 use Rattle.std.specs.Prelude.{◌≡◌, ℕ, Bool, true, false, not, Some, None, IsTrue}
 use Rattle.bc_word.specs.declared.operator.Op.{Op}
 use Rattle.bc_word.specs.declared.operator.Op.TheVariants.{Add, Subtract, Equal, NotEqual, And, Or}
@@ -18,10 +18,11 @@ use Rattle.bc_rules_defs.specs.declared.rule.Rule.TheVariants as rule
 use Rattle.bc_rules_defs.specs.Free.{are_free, is_plain, beside_zero, without_zero}
 
 mutual
+  -- the derivations of an expression for an aim, by a table
   pub data Derives : Table → Exp → Aim → Type 0 where
-    -- any expression, in mode Any
+    -- any expression in mode Any
     v0 : {T : Table} {e : Exp} → Derives T e (Gets Push) → Derives T e (Gets Any)
-    -- an operand
+    -- an operand in mode Push
     v1 : {T : Table} {e : Exp} {o : Operand} → operand_of e ≡ Some o → Derives T e (Gets Push)
     -- !e, -e, NOT e
     v2 : {T : Table} {e : Exp} {m : Mode} → Derives T e (Gets m) → Derives T (Load e) (Gets m)
@@ -39,26 +40,26 @@ mutual
     v10 : {T : Table} {a b : Exp} {m : Mode} {o : Operand} → operand_of b ≡ Some o → Derives T a (Gets m) → Derives T (Bin Subtract a b) (Gets m)
     v11 : {T : Table} {a b : Exp} {m : Mode} {o : Operand} → operand_of a ≡ Some o → IsTrue (are_free a b) → Derives T b (Gets m)
         → Derives T (Bin Subtract a b) (Gets m)
-    -- a op b, the second part pushed
+    -- a op b, the part that comes second in mode Push
     v12 : {T : Table} {op : Op} {a b : Exp} → Derives T a (Gets Any) → Derives T b (Gets Push) → Derives T (Bin op a b) (Gets Any)
     v13 : {T : Table} {op q : Op} {a b : Exp} → mirror_of op ≡ Some q → IsTrue (are_free a b) → Derives T b (Gets Any) → Derives T a (Gets Push)
         → Derives T (Bin op a b) (Gets Any)
     v14 : {T : Table} {a b : Exp} → IsTrue (are_free a b) → Derives T b (Gets Any) → Derives T a (Gets Push) → Derives T (Bin Subtract a b) (Gets Any)
-    -- a op b, the first part held in a cell
+    -- a op b, the part that comes first stored in a cell
     v15 : {T : Table} {op q : Op} {a b : Exp} → mirror_of op ≡ Some q → Derives T a (Gets Any) → Derives T b (Gets Any) → Derives T (Bin op a b) (Gets Any)
     v16 : {T : Table} {op : Op} {a b : Exp} → IsTrue (are_free a b) → Derives T b (Gets Any) → Derives T a (Gets Any) → Derives T (Bin op a b) (Gets Any)
-    -- a op b, both parts held
+    -- a op b, both parts stored
     v17 : {T : Table} {op : Op} {a b : Exp} → Derives T a (Gets Any) → Derives T b (Gets Any) → Derives T (Bin op a b) (Gets Any)
-    -- a + b and a - b, the first part held and added
+    -- a + b and a - b, the first part stored and then added from its cell
     v18 : {T : Table} {a b : Exp} → Derives T a (Gets Any) → Derives T b (Gets Any) → Derives T (Bin Add a b) (Gets Any)
     v19 : {T : Table} {a b : Exp} → Derives T a (Gets Any) → Derives T b (Gets Any) → Derives T (Bin Subtract a b) (Gets Any)
     -- c -> x, y
     v20 : {T : Table} {c x y : Exp} → Derives T c (Jumps false) → Derives T x (Gets Any) → Derives T y (Gets Any) → Derives T (Cond c x y) (Gets Any)
     v21 : {T : Table} {c x y : Exp} → Derives T c (Jumps true) → Derives T y (Gets Any) → Derives T x (Gets Any) → Derives T (Cond c x y) (Gets Any)
-    -- a call, and a VALOF
+    -- a call; a VALOF
     v22 : {T : Table} {es : Args} {f : Exp} → DerivesAll T es → Derives T f (Gets Any) → Derives T (Call es f) (Gets Any)
     v22_valof : {T : Table} {n : ℕ} → Derives T (Valof n) (Gets Any)
-    -- NOT e
+    -- NOT e, as a test
     j1 : {T : Table} {e : Exp} {sense : Bool} → Derives T e (Jumps (not sense)) → Derives T (Not e) (Jumps sense)
     -- a & b
     j2 : {T : Table} {a b : Exp} → Derives T a (Jumps false) → Derives T b (Jumps false) → Derives T (Bin And a b) (Jumps false)
@@ -66,7 +67,7 @@ mutual
     -- a | b
     j4 : {T : Table} {a b : Exp} → Derives T a (Jumps true) → Derives T b (Jumps true) → Derives T (Bin Or a b) (Jumps true)
     j5 : {T : Table} {a b : Exp} → Derives T a (Jumps true) → Derives T b (Jumps false) → Derives T (Bin Or a b) (Jumps false)
-    -- any expression but those
+    -- any expression without NOT, `&` or `|` on top
     j6 : {T : Table} {e : Exp} {sense : Bool} → IsTrue (is_plain e) → Derives T e (Gets Any) → Derives T e (Jumps sense)
     -- a number
     j7 : {T : Table} {n : ℕ} {sense : Bool} → Derives T (Num n) (Jumps sense)
@@ -79,24 +80,27 @@ mutual
     no_more : {T : Table} → DerivesAll T no_argument
     one_more : {T : Table} {e : Exp} {es : Args} → Derives T e (Gets Any) → DerivesAll T es → DerivesAll T (argument e es)
 
+-- the derivations of a root by a table
 pub data RootDerives : Table → Root → Type 0 where
   value : {T : Table} {s : ℕ} {e : Exp} → Derives T e (Gets Any) → RootDerives T (Value s e)
   test : {T : Table} {s : ℕ} {sense : Bool} {e : Exp} → Derives T e (Jumps sense) → RootDerives T (Test s sense e)
-  -- an assignment of v to the cell at a: where a is an operand, and where it is none
+  -- an assignment of v to the cell at a, where a is an operand (A1) or isn't (A2, A3)
   a1 : {T : Table} {s : ℕ} {v a : Exp} {o : Operand} → operand_of a ≡ Some o → Derives T v (Gets Any) → RootDerives T (Assign s v a)
   a2 : {T : Table} {s : ℕ} {v a : Exp} → operand_of a ≡ None → IsTrue (are_free v a) → Derives T a (Gets Any) → Derives T v (Gets Any)
       → RootDerives T (Assign s v a)
   a3 : {T : Table} {s : ℕ} {v a : Exp} → operand_of a ≡ None → Derives T v (Gets Any) → Derives T a (Gets Any) → RootDerives T (Assign s v a)
 
--- Trees of rule names: a rule, and the trees of its parts.
+-- Trees of rule names: a rule and the trees of its parts.
 mutual
   pub data Tree : Type 0 where
     by : Rule → Trees → Tree
 
+  -- a list of trees
   pub data Trees : Type 0 where
     no_part : Trees
     part : Tree → Trees → Trees
 
+-- lists of one, two and three trees
 abbrev pub one : Tree → Trees
 one x = part x no_part
 
@@ -106,6 +110,7 @@ two x y = part x (one y)
 abbrev pub three : Tree → Tree → Tree → Trees
 three x y z = part x (two y z)
 
+-- a tree appended to a list
 abbrev pub end_with : Trees → Tree → Trees
 end_with no_part y = one y
 end_with (part x xs) y = part x (end_with xs y)
@@ -150,6 +155,7 @@ abbrev mutual
   shapes no_more = no_part
   shapes (one_more d ds) = part (shape d) (shapes ds)
 
+-- the rule names of a root's derivation
 abbrev pub root_shape : {T : Table} {r : Root} → RootDerives T r → Tree
 root_shape (value d) = shape d
 root_shape (test d) = shape d

@@ -1,4 +1,4 @@
--- For proofs: which parts a rule takes of a node's, in which order and for which aim.
+-- For proofs: which of a node's parts a rule takes, in which order and for which aim. `src/takes.rt` has the same table.
 use Rattle.std.specs.Prelude.{ℕ, ◌==◌, Bool, true, false, not, cond, Option, Some, None}
 use Rattle.bc_core.specs.Tree.{Exp, Load, Neg, Not, Bin, Cond, Call, Valof, Args}
 use Rattle.bc_rules_defs.specs.declared.rule.Mode.TheVariants.{Any, Push}
@@ -12,16 +12,17 @@ use Rattle.bc_rules_defs.specs.declared.takes.Takes.TheVariants.{Nothing, First,
 use Rattle.bc_rules_defs.specs.Free.{is_zero}
 use Rattle.bc_rules_defs.specs.Parts.{Parts, no_rule, leaf, single, pair, triple, called, parts_of, assignment_parts}
 
--- the part beside a 0, where the second one is it or isn't
+-- the part that remains when a 0 is dropped; `zero` says whether the second part is 0
 abbrev pub beside : Aim → (zero : Bool) → Takes
 beside aim true = First aim
 beside aim false = Second aim
 
+-- the aim of the part of NOT
 abbrev pub turned : Aim → Aim
 turned (Gets m) = Gets m
 turned (Jumps sense) = Jumps (not sense)
 
--- V0 and J6 go on from the node itself. Whether the rule applies is asked apart
+-- The parts that a rule takes. V0 and J6 continue with the node itself. Whether the rule applies isn't decided here.
 abbrev pub takes : Rule → Aim → (zero : Bool) → Takes
 takes V0 aim zero = Nothing
 takes V1 aim zero = Nothing
@@ -61,7 +62,7 @@ takes A3 aim zero = InOrder (Gets Any) (Gets Any)
 abbrev pub first_or : {A : Type 0} → ℕ → A → A → A
 first_or part x y = cond (part == 0) x y
 
--- the aim for which a part is taken
+-- the aim of the part with this number, if the rule takes it
 abbrev pub aim_at : Takes → ℕ → Option Aim
 aim_at Nothing part = None
 aim_at (First aim) part = first_or part (Some aim) None
@@ -71,11 +72,12 @@ aim_at (Turned a b) part = first_or part (Some a) (Some b)
 aim_at (Choice sense) part = first_or part (Some (Jumps sense)) (Some (Gets Any))
 aim_at all.Call part = Some (Gets Any)
 
--- the parts that are taken, in the order of the code: of one part, of two, of a condition and two values, of a call
+-- the parts taken, in the order of the code: at a node with one part, with two, at a condition with two values, at a call
 abbrev pub of_one : Takes → Exp → Parts
 of_one (First aim) e = single aim e
 of_one t e = leaf false
 
+-- at a node with two parts
 abbrev pub of_two : Takes → Exp → Exp → Parts
 of_two (First aim) a b = single aim a
 of_two (Second aim) a b = single aim b
@@ -83,16 +85,18 @@ of_two (InOrder f g) a b = pair f a g b
 of_two (Turned f g) a b = pair g b f a
 of_two t a b = leaf false
 
+-- at a condition with two values
 abbrev pub of_choice : Takes → (condition this that : Exp) → Parts
 of_choice (Choice false) c x y = triple (Jumps false) c (Gets Any) x (Gets Any) y
 of_choice (Choice true) c x y = triple (Jumps true) c (Gets Any) y (Gets Any) x
 of_choice t c x y = leaf false
 
+-- at a call
 abbrev pub of_call : Takes → Args → Exp → Parts
 of_call all.Call es f = called 0 es f
 of_call t es f = leaf false
 
--- what a rule derives at an expression by the table, where it applies
+-- the parts that a rule has at an expression according to the table, if it applies
 abbrev pub own_by_table : Rule → Aim → Exp → Parts
 own_by_table r aim (Load e) = of_one (takes r aim false) e
 own_by_table r aim (Neg e) = of_one (takes r aim false) e
@@ -103,17 +107,18 @@ own_by_table r aim (Call es f) = of_call (takes r aim false) es f
 own_by_table r aim (Valof n) = leaf true
 own_by_table r aim _ = leaf false
 
+-- the same with V0 and J6
 abbrev pub by_table : Rule → Aim → Exp → Parts
 by_table V0 aim e = single (Gets Push) e
 by_table J6 aim e = single (Gets Any) e
 by_table r aim e = own_by_table r aim e
 
--- the same parts, where the rule applies
+-- the parts are equal, or the rule doesn't apply
 pub data Agrees : Parts → Parts → Type 0 where
   elsewhere : {q : Parts} → Agrees no_rule q
   alike : {p : Parts} → Agrees p p
 
--- the table has the parts that a rule has at an expression, and at an assignment
+-- At each expression and each assignment to which a rule applies, the table gives the rule's parts.
 pub record TableHasParts : Type 0 where
   pub expressions : (r : Rule) (aim : Aim) (e : Exp) → Agrees (parts_of r aim e) (by_table r aim e)
   pub assignments : (r : Rule) (value address : Exp) → Agrees (assignment_parts r value address) (of_two (takes r (Gets Any) false) value address)

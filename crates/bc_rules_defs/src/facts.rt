@@ -1,4 +1,4 @@
-// What the rules ask of numbers, operands and expressions.
+//! The conditions of the rules on numbers, operands and expressions, and the words of an instruction.
 
 ghost use Rattle.std.specs.Prelude.{◌≡◌, ◌≤◌};
 ghost use Rattle.bc_core.specs.View.{exp};
@@ -8,7 +8,7 @@ ghost use Rattle.bc_rules_defs.specs.Free.{direct_operand, is_plain_operator as 
 use bc_core::{Base, CoreExp, Operand};
 use bc_word::{Op, Word};
 
-/// The words of an instruction with this number: one word up to 511, two words from 512 on.
+/// The number of words of an instruction with this number: one up to 511, two from 512 on.
 #[inline(always)]
 pub fn number_words(number: u64) -> u64
     ensures words { result ≡ w number }
@@ -17,7 +17,7 @@ pub fn number_words(number: u64) -> u64
     if number <= 511 { 1 } else { 2 }
 }
 
-/// The words of an instruction with this operand.
+/// The number of words of an instruction with this operand: one or two. With a label it is always two.
 pub fn operand_words(operand: Operand) -> u64
     ensures words { result ≡ words_of_operand operand }
     ensures few { result ≤ 2 }
@@ -28,7 +28,7 @@ pub fn operand_words(operand: Operand) -> u64
     }
 }
 
-/// Whether there is such an operand, and it is a number or an address, and not the content of a cell.
+/// Whether there is an operand and it is direct: a number or an address rather than the content of a cell.
 pub fn is_direct(operand: Option<Operand>) -> bool
     ensures { result ≡ direct_operand operand }
 {
@@ -38,7 +38,7 @@ pub fn is_direct(operand: Option<Operand>) -> bool
     }
 }
 
-/// Whether a number in the position of a test jumps, where the test is to jump on this truth.
+/// Whether a test that jumps on the truth `sense` jumps if the tested expression is this number.
 #[inline(always)]
 pub fn jumps(sense: bool, number: Word) -> bool
     ensures { result ≡ jumps_at sense number }
@@ -46,7 +46,7 @@ pub fn jumps(sense: bool, number: Word) -> bool
     (number.get() != 0) == sense
 }
 
-/// Whether a test of an operator may be made of its value: neither `&` nor the bar.
+/// Whether a test of an expression with this operator on top may test its value (rule J6). True of all operators but `&` and `|`.
 #[inline(always)]
 pub fn is_plain_operator(op: Op) -> bool
     ensures { result ≡ is_plain_of op }

@@ -1,6 +1,8 @@
-//! Derivations: which code an expression, a test or an assignment may have, by the rule table.
+//! The rule table: which code an expression, a test or an assignment may have.
 //!
-//! Of what the code of each derivation is made, and what holds of all such code because of it.
+//! A derivation is a tree of rules of the table that gives one such code. This crate has the types of rules and derivations, the
+//! definitions of their code and its words, and laws about all derivations. It has no code that looks for derivations:
+//! `bc_rules` checks them, `bc_select` finds the shortest.
 #![tactic(auto)]
 
 mod derivation;

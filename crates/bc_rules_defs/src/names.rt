@@ -1,11 +1,11 @@
-// The names of rules.
+//! The names of rules: a letter and a number.
 
 ghost use Rattle.std.specs.Prelude.{◌≡◌};
 ghost use Rattle.bc_rules_defs.specs.Names.{rule_letter, rule_number, found, rule_named};
 
 use crate::rule::Rule;
 
-/// All rules, in the order of the table.
+/// All rules, in the order of the rule table.
 pub const RULES: [Rule; 34] = [
     Rule::V0,
     Rule::V1,
@@ -44,7 +44,7 @@ pub const RULES: [Rule; 34] = [
 ];
 
 impl Rule {
-    /// The letter of its name: V of values, J of tests, A of assignments.
+    /// The letter of the rule's name, in ASCII: V for values, J for tests, A for assignments.
     pub fn letter(self) -> u8
         ensures { result ≡ rule_letter self }
     {
@@ -84,7 +84,7 @@ impl Rule {
         }
     }
 
-    /// The number of its name.
+    /// The number in the rule's name.
     pub fn number(self) -> u16
         ensures { result ≡ rule_number self }
     {
@@ -115,7 +115,7 @@ impl Rule {
         }
     }
 
-    /// The rule with this name, if it is in the table.
+    /// The rule with this letter and number, or None if no rule has this name.
     pub fn named(letter: u8, number: u16) -> Option<Rule>
         ensures { result ≡ rule_named letter number }
     {
@@ -123,7 +123,7 @@ impl Rule {
     }
 }
 
-/// The first of some rules with this name.
+/// The first of these rules that has this name.
 fn among(rules: &[Rule], letter: u8, number: u16) -> Option<Rule>
     ensures { result ≡ found letter number rules.now }
 {

@@ -1,10 +1,12 @@
+//! Pieces of code.
+
 use bc_text_items::Item;
 
-/// A piece of a root's code.
+/// A piece of a root's code: an item, or the whole body of a VALOF.
 #[derive(Clone, Copy, Debug, PartialEq, Eq)]
 pub enum Piece {
+    /// An item of INTCODE.
     Item(Item),
-    /// The body of a VALOF. In the code of a derivation it has the VALOF's number, in a verdict the number of
-    /// the body's items.
+    /// The body of a VALOF. In the code of a derivation the number is the VALOF's; in a verdict it is how many items the body has.
     Body(u64),
 }

@@ -1,5 +1,7 @@
-// Which parts a rule takes, in which order and for which aim. The table stands here once: who writes code, selects, certifies
-// and checks reads it here, and adds what its own work wants (words, conditions on operands, the pieces of the code).
+//! Which parts each rule has, in which order and for which aim.
+//!
+//! This table is shared by the code writer, the selector, the writer of certificates and the checker. Each adds what it
+//! needs beyond it: words, conditions on operands, or the pieces of the code.
 
 ghost use Rattle.std.specs.Prelude.{◌≡◌};
 ghost use Rattle.bc_rules_defs.specs.Takes.{takes as takes_by, beside as beside_by, turned as turned_of, aim_at};
@@ -14,29 +16,31 @@ const ON_FALSE: Aim = Aim::Jumps(false);
 
 const ON_TRUE: Aim = Aim::Jumps(true);
 
-/// The parts of a node that a rule derives, each with its aim. The parts stand in the order of the tree: the left operand
-/// before the right one, a condition before the two values, arguments before the routine, the value of an assignment
+/// The parts of a node that a rule derives, each with its aim. The parts are numbered in the order of the tree: the left operand
+/// before the right one, a condition before its two values, arguments before the routine, the value of an assignment
 /// before its address.
 #[derive(Clone, Copy, Debug, PartialEq, Eq)]
 pub enum Takes {
+    /// No part.
     Nothing,
-    /// The first part alone.
+    /// Only the first part.
     First(Aim),
-    /// The second part alone.
+    /// Only the second part.
     Second(Aim),
-    /// Two parts, the first one first in the code.
+    /// Two parts, in the same order in the code.
     InOrder(Aim, Aim),
-    /// Two parts, the second one first in the code; the first one's aim stands first here.
+    /// Two parts whose order is reversed in the code. The aims are still in the order of the parts.
     Turned(Aim, Aim),
-    /// A condition for this sense, and two values; where it is true, the last one stands before the other in the code.
+    /// A condition that jumps on this sense, and two values. If the sense is true, the code has the second value before the first.
     Choice(bool),
-    /// All the parts of a call, each with its value. A VALOF has none.
+    /// All parts of a call, each as a value. A VALOF has no part.
     Call,
 }
 
 impl Rule {
-    /// The parts that it takes for an aim, where the second one is a 0 or isn't. V0 and J6, which go on from the node
-    /// itself, take none. Whether the rule applies is asked apart.
+    /// The parts that the rule takes for this aim. `zero` says whether the node's second part is the number 0; V8, J8 and J9 need
+    /// it. V0 and J6 continue with the node itself and take no part. The answer is meaningful only if the rule applies, which
+    /// isn't checked here.
     #[inline(always)]
     pub fn takes(self, aim: Aim, zero: bool) -> Takes
         ensures { result ≡ takes_by self aim zero }
@@ -64,7 +68,7 @@ impl Rule {
     }
 }
 
-/// The part beside a 0; of two 0s the second one is dropped.
+/// The part that remains when a 0 is dropped. Of two zeros the second one is dropped.
 #[inline(always)]
 fn beside(aim: Aim, zero: bool) -> Takes
     ensures { result ≡ beside_by aim zero }
@@ -76,7 +80,7 @@ fn beside(aim: Aim, zero: bool) -> Takes
     }
 }
 
-/// What the part of NOT is for.
+/// The aim of the part of NOT: a test's sense is inverted.
 #[inline(always)]
 fn turned(aim: Aim) -> Aim
     ensures { result ≡ turned_of aim }
@@ -88,7 +92,7 @@ fn turned(aim: Aim) -> Aim
 }
 
 impl Takes {
-    /// The aim for which a part is taken, if it is.
+    /// The aim of the part with this number, counted from 0 in the order of the tree; None if the rule doesn't take the part.
     #[inline(always)]
     pub fn aim_of(self, part: usize) -> Option<Aim>
         ensures { result ≡ aim_at self part }

@@ -1,4 +1,4 @@
--- What a reader that tells its bytes has given.
+-- What a reader that says which bytes it holds has returned.
 use Rattle.std.proofs.Common.{◌≡◌, ◌≤◌, ◌∙◌, ℕ, List, [], ◌++◌, length, take, drop, Option, Some, None, append_assoc, append-nil, ap, sym, inl, inr}
 use Rattle.std.specs.Option.{IfSome}
 use Rattle.std.specs.Io.KnownBytes.{Consumes, IsAtEnd}
@@ -7,13 +7,13 @@ use Rattle.bc_text.specs.Faults.{IsFaultOf}
 use Rattle.bc_text.specs.declared.text_error.TextError.{TextError}
 use Rattle.bc_run.specs.Runs.{BeginsWith, IsTextFault, text_limit}
 
--- what was consumed stands in front
+-- its bytes begin with what was consumed
 pub begins : (known left : Option (List ℕ)) (bytes : List ℕ) → Consumes known left bytes → IfSome known (BeginsWith bytes)
 begins None left bytes h = tt
 begins (Some xs) (Some ys) bytes h = (ys, h)
 begins (Some xs) None bytes h = absurd h
 
--- and so does what was consumed before, with a part of what is consumed now
+-- and with what was consumed before and a part of what is consumed now
 pub begins-part : (known between left : Option (List ℕ)) (bytes now : List ℕ) (kept count : ℕ) → kept ≤ count → Consumes known between bytes → Consumes between left (take count now) → IfSome known (BeginsWith (bytes ++ take kept now))
 begins-part None between left bytes now kept count small h e = tt
 begins-part (Some xs) None left bytes now kept count small h e = absurd h
@@ -36,7 +36,7 @@ all-begin : (known : Option (List ℕ)) (bytes : List ℕ) → IfSome known (λ 
 all-begin None bytes h = tt
 all-begin (Some xs) bytes h = ([], h ∙ sym (append-nil bytes))
 
--- what is wrong with all of the bytes
+-- the fault of all of the bytes
 pub wrong-in-all : (known : Option (List ℕ)) (bytes : List ℕ) (fault : TextError) → IfSome known (λ xs. xs ≡ bytes) → length bytes ≤ text_limit → IsFaultOf bytes fault → IsTextFault known fault
 wrong-in-all known bytes fault all short (inl first) = inr (inl (bytes, all-begin known bytes all, first))
 wrong-in-all known bytes fault all short (inr unended) = inr (inr (unended.0, (bytes, all, short, unended.1)))

@@ -1,4 +1,4 @@
--- What reading, linking and running a text answers.
+-- The result of reading, linking and running a text.
 use Rattle.std.specs.Prelude.{ℕ, ◌≡◌, ◌≤◌, ◌⊎◌, List, ◌∷◌, ◌++◌, length, Option, None, IfSome}
 use Rattle.bc_text_items.specs.declared.item.Item.{Item}
 use Rattle.bc_machine_defs.specs.Streams.{Content}
@@ -15,47 +15,45 @@ use Rattle.bc_run.specs.Primitives.{primitive_items}
 use Rattle.bc_run.specs.declared.running.RunFault.{RunFault}
 use Rattle.bc_run.specs.declared.running.RunFault.TheVariants as faults
 
--- the most bytes that a text may have
+-- the greatest length of a text, in bytes
 abbrev pub text_limit : ℕ
 text_limit = 16777216
 
--- The segments of the text that a reader gives to its end, which isn't longer than a text may be. Where the reader tells its bytes, they are these.
+-- These are the segments of the text that a reader returns up to its end, which has at most `text_limit` bytes. If the reader says which
+-- bytes it holds, they are this text.
 abbrev pub IsTextOf : Option (List ℕ) → List (List Item) → Type 0
 IsTextOf known segments = (bytes : List ℕ) × IfSome known (λ xs. xs ≡ bytes) × (length bytes ≤ text_limit) × IsText bytes segments
 
--- the first of these bytes are those
+-- all begins with these bytes
 abbrev pub BeginsWith : List ℕ → List ℕ → Type 0
 BeginsWith bytes all = (rest : List ℕ) × (all ≡ bytes ++ rest)
 
--- The bytes that a reader gave first have this fault, which stays whatever comes after them. Where the reader tells its
--- bytes, they begin with these.
+-- The first bytes that a reader returns have this fault, whatever follows them. If the reader says which bytes it holds, they begin with
+-- these.
 abbrev pub HasFaultInFront : Option (List ℕ) → TextError → Type 0
 HasFaultInFront known fault = (bytes : List ℕ) × IfSome known (BeginsWith bytes) × HasFault bytes fault
 
--- The bytes that a reader gives to its end are no text, go on to one, and aren't more than a text may have. Where the reader tells its bytes,
--- they are these.
+-- The bytes that a reader returns up to its end aren't a text but could be continued to one, and there are at most `text_limit` of them. If
+-- the reader says which bytes it holds, they are these.
 abbrev pub IsUnendedInAll : Option (List ℕ) → Type 0
 IsUnendedInAll known = (bytes : List ℕ) × IfSome known (λ xs. xs ≡ bytes) × (length bytes ≤ text_limit) × IsUnended bytes
 
--- What is wrong with the bytes that a reader gives, or memory was refused. That they are unended is said of all of them,
--- and any other fault of a front.
+-- The fault of the bytes that a reader returns, or Memory. Unended is a fault of all of the bytes, any other one of the first of them.
 abbrev pub IsTextFault : Option (List ℕ) → TextError → Type 0
 IsTextFault known fault = (fault ≡ texts.Memory) ⊎ (HasFaultInFront known fault ⊎ ((fault ≡ texts.Unended) × IsUnendedInAll known))
 
--- the segments with the primitives before them
+-- the segments, preceded by the primitives
 abbrev pub with_primitives : List (List Item) → List (List Item)
 with_primitives segments = primitive_items ∷ segments
 
--- A fault of a run is that of the text, else that of linking its segments after the primitives; nothing is said of a
--- reader that failed and of memory.
+-- The error is the fault of the text, or else the error of linking its segments after the primitives. Nothing is said of Read and Memory.
 abbrev pub IsRunFault : Option (List ℕ) → RunFault → Type 0
 IsRunFault known faults.Read = Unit {0}
 IsRunFault known faults.Memory = Unit {0}
 IsRunFault known (faults.Text fault) = IsTextFault known fault
 IsRunFault known (faults.Link fault) = (segments : List (List Item)) × IsTextOf known segments × IsRefusal (refusal_of (with_primitives segments)) fault
 
--- The end of a run: the machine started from the image of the text's segments after the primitives, and did at most
--- `steps` instructions.
+-- The end is that of the machine's run of at most `steps` instructions, from the image of the primitives followed by the text's segments.
 abbrev pub IsRunOf : Option (List ℕ) → ℕ → Type 0 → Type 0 → Content → Content → ℕ → ℕ → End → Type 0
 IsRunOf known steps told tells old new before after end =
     (segments : List (List Item)) × (last : State) × IsTextOf known segments × (refusal_of (with_primitives segments) ≡ None) × (last.streams ≡ new)

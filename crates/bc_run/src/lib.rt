@@ -1,5 +1,5 @@
-//! Runs of INTCODE text: the primitives, and a text that is read, linked after them and run. Beside them the library
-//! of the language, as source.
+//! The primitives as a segment, and a call that reads an INTCODE text, links it after the primitives, and runs it. Also re-exports the
+//! source of the library.
 #![tactic(auto)]
 
 mod primitive;

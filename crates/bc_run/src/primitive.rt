@@ -1,3 +1,5 @@
+//! The segment of the primitives: the library routines on streams, which can't be written in BCPL.
+
 ghost use Rattle.std.specs.Prelude.{◌≡◌, ◌<◌, ◌++◌, IfOk, OnOk};
 ghost use Rattle.bc_text_items.specs.declared.item.Item.TheVariants.{Label, Global};
 ghost use Rattle.bc_run.specs.Primitives.{argument, nought, execute, primitive_items};
@@ -6,14 +8,14 @@ use bc_text_items::{Base, Function, GlobalNumber, Item, Segment};
 use bc_word::{Memory, Word};
 use std::alloc;
 
-/// `n`: the label n stands here.
+/// `n`: sets the label n.
 fn label(number: u16) -> Item
     ensures { result ≡ Label number }
 {
     Item::Label(Word::new(number))
 }
 
-/// `Xn`.
+/// `Xn`: executes operation n.
 fn execute(number: u16) -> Item
     ensures { result ≡ execute number }
 {
@@ -25,7 +27,7 @@ fn execute(number: u16) -> Item
     }
 }
 
-/// `LIP2`: the first argument.
+/// `LIP2`: loads the first argument.
 fn argument() -> Item
     ensures { result ≡ argument }
 {
@@ -37,7 +39,7 @@ fn argument() -> Item
     }
 }
 
-/// `L0`.
+/// `L0`: loads 0, the value of a routine that returns nothing.
 fn nought() -> Item
     ensures { result ≡ nought }
 {
@@ -49,7 +51,7 @@ fn nought() -> Item
     }
 }
 
-/// `GnLm`.
+/// `GnLm`: sets the global n to the address of the label m.
 fn setting(number: u16, label: u16) -> Item
     requires { number < 512 }
     ensures { result ≡ Global number label }
@@ -60,8 +62,10 @@ fn setting(number: u16, label: u16) -> Item
     }
 }
 
-/// The segment of the primitives, 26 words: the routines SELECTINPUT, SELECTOUTPUT, RDCH, WRCH, FINDINPUT, FINDOUTPUT,
-/// ENDREAD and ENDWRITE, in the globals 11 to 18. Each has a frame of 3 cells.
+/// The segment of the primitives, 26 words: the routines SELECTINPUT, SELECTOUTPUT, RDCH, WRCH, FINDINPUT, FINDOUTPUT, ENDREAD and
+/// ENDWRITE, in the globals 11 to 18. Each has a frame of 3 cells.
+///
+/// `Memory` if an allocation fails.
 pub fn primitives(alloc: alloc::Global) -> Result<Segment, Memory>
     ensures { IfOk result (λ segment. segment ≡ primitive_items) }
 {

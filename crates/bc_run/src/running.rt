@@ -1,3 +1,5 @@
+//! Running an INTCODE text: reading, linking and running it in one call.
+
 ghost use Rattle.std.specs.Prelude.{◌≡◌, IfOk, IfErr, OnErr};
 ghost use Rattle.bc_run.specs.Runs.{IsTextOf, IsTextFault, IsRunFault, IsRunOf, with_primitives};
 
@@ -12,19 +14,19 @@ use std::alloc::Global;
 use std::io::Read;
 use thiserror::Error;
 
-/// Why a text was not run.
+/// Why a text wasn't run.
 #[derive(Clone, Copy, Debug, PartialEq, Eq, Error)]
 pub enum RunFault {
-    /// The text was refused.
+    /// The text has a fault, or memory ran out in reading it.
     #[error("the text was refused: {0}")]
     Text(TextError),
-    /// The segments were not linked.
+    /// The segments can't be linked.
     #[error("the text was not linked: {0}")]
     Link(LinkError),
-    /// The reader failed, or gave more than 16,777,216 bytes.
+    /// The reader failed, or returned more than 16,777,216 bytes.
     #[error("the text could not be read")]
     Read,
-    /// An allocation was refused.
+    /// An allocation failed.
     #[error("out of memory")]
     Memory,
 }
@@ -51,10 +53,10 @@ impl From<LinkError> for RunFault {
     }
 }
 
-/// The most bytes that a text may have.
+/// The greatest length of a text, in bytes.
 const TEXT_LIMIT: usize = 16_777_216;
 
-/// Takes a text to its end, in pieces.
+/// Reads a text to its end, in pieces. `Text` for a fault of the text, `Read` if the reader fails or the text is too long.
 fn read_text<R: Read + Drop>(alloc: Global, mut text: R) -> Result<Vec<Segment>, RunFault>
     ensures read { IfOk result (λ v. IsTextOf (R.Read.remaining text) v.items) }
     ensures fault { IfErr result (IsRunFault (R.Read.remaining text)) }
@@ -84,7 +86,7 @@ fn read_text<R: Read + Drop>(alloc: Global, mut text: R) -> Result<Vec<Segment>,
     Err(RunFault::Read)
 }
 
-/// The segments with the primitives before them.
+/// The segments, preceded by the primitives. `Memory` if an allocation fails.
 pub fn after_primitives(alloc: Global, mut segments: Vec<Segment>) -> Result<Vec<Segment>, Memory>
     ensures { IfOk result (λ all. all.items ≡ with_primitives segments.items) }
 {
@@ -92,12 +94,12 @@ pub fn after_primitives(alloc: Global, mut segments: Vec<Segment>) -> Result<Vec
     Ok(segments)
 }
 
-/// Reads a text of INTCODE to its end, links its segments after the primitives, and runs the image for at most
-/// `steps` instructions over the streams.
+/// Reads a text of INTCODE to its end, links its segments after the primitives, and runs the image for at most `steps` instructions over
+/// the streams.
 ///
-/// `Text` is the refusal of the text's reader, before a failure of `text` that comes later; `Link` that of the
-/// linker. `Read` comes where `text` failed, or gave more than 16,777,216 bytes, and `Memory` where an allocation was
-/// refused. The streams stay as they were then. Of more bytes no text is linked, none is run, and none is called unended.
+/// `Text` is the fault of the text, which takes precedence over a later failure of the reader; `Link` is the error of the linker. `Read`
+/// if the reader fails or returns more than 16,777,216 bytes. `Memory` if an allocation fails. After an error the streams are as they were.
+/// A text that is longer is never linked or run, and isn't reported as unended.
 pub fn run_text<R: Read + Drop, S: Streams>(
     alloc: Global,
     text: R,

@@ -1,4 +1,4 @@
--- From the first fault and the translation to what resolving answers.
+-- From the first fault and the translation to the contract of `resolve`.
 use Rattle.std.proofs.Common.{◌≡◌, ℕ, ◌+◌, ◌≤◌, ◌<◌, refl, ap, sym, ◌∙◌, suc, List, [], ◌∷◌, length, nat_le, IsTrue, Option, Some, None, arith}
 use Rattle.std.proofs.lemmas.List.{length-map}
 use Rattle.bc_core.specs.View.{section, place_of}
@@ -19,7 +19,7 @@ use Rattle.bc_scope_defs.specs.FaultsAlong.{declarations_fault, frames_fault}
 use Rattle.bc_scope_laws.proofs.AlikeFaults.{same_section_fault}
 use Rattle.bc_scope_laws.proofs.Fitting.{sections_fit}
 
--- the first fault but for the number of places, as it is found
+-- the first fault apart from too many places, as `judge` finds it
 abbrev pub judged : Declarations → Option Fault
 judged ds = or_else (declarations_fault nothing_known section_start ds 0) (frames_fault (found_in_section ds))
 
@@ -39,7 +39,7 @@ then_places ds h = places_last ds ∙ ap (λ x. or_else x (places_fault (found_i
 one_more : (a b : ℕ) → a ≡ b → suc a ≡ 1 + b
 one_more a b h = omega (arith, h)
 
--- as many places as were found
+-- the number of places is the number of those translated
 each_place : (things : List Thing) → length (places_of things) ≡ places_among things
 each_place [] = refl
 each_place (AValof f ∷ things) = each_place things

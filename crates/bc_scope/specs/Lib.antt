@@ -1,1 +1,2 @@
+-- The definitions that the contract of `resolve` cites.
 pub mod Resolving

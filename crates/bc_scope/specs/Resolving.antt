@@ -1,4 +1,4 @@
--- What resolving a section answers.
+-- The contract of `resolve`.
 use Rattle.std.specs.Prelude.{◌≡◌, List, None, Result, Ok, Err}
 use Rattle.bc_core.specs.View.{section}
 use Rattle.bc_core.specs.declared.command.Place.{Place}
@@ -9,7 +9,7 @@ use Rattle.bc_scope_faults.specs.Judged.{IsFault}
 use Rattle.bc_scope_defs.specs.Translation.{core_of}
 use Rattle.bc_scope_defs.specs.Faults.{section_fault}
 
--- a section without fault is resolved to its translation; of another the answer is its first fault; or memory ran out
+-- a result means that the section has no fault, and the result is its translation; an error is the section's first fault, or Memory
 abbrev pub Resolves : Result (List Place × List Valof) ScopeError → Declarations → Type 0
 Resolves (Ok core) ds = (section_fault ds ≡ None) × (section core ≡ core_of ds)
 Resolves (Err e) ds = IsFault e (section_fault ds)

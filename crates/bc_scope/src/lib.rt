@@ -1,4 +1,4 @@
-//! Scopes: names become offsets, labels and numbers.
+//! Resolves a section: checks its names, and translates it to a `Core`, where names are offsets, global numbers and labels.
 #![tactic(auto)]
 
 mod resolving;

@@ -1,3 +1,4 @@
+//! The public call `resolve`.
 ghost use Rattle.std.specs.Prelude.{◌≡◌, ◌≤◌};
 ghost use Rattle.bc_parse_tree.specs.View.{section_view};
 ghost use Rattle.bc_parse_tree.specs.Size.{declarations_size};
@@ -10,11 +11,10 @@ use bc_scope_names::{Scope, ScopeError};
 use bc_scope_translate::translate;
 use std::alloc::Global;
 
-/// The resolved section: its translation, where it has no fault.
+/// Resolves a section of at most 60,000 definitions, commands and expressions, and returns its translation.
 ///
-/// The caller hands in a section of at most 60,000 definitions, commands and expressions. The first fault
-/// in text order is answered, a construct's own after those of its parts; `FrameTooLarge`, then
-/// `TooManyPlaces`, only where no other stands. `Memory` comes where an allocation was refused.
+/// Fails with the first fault in text order, where the parts of a construct come before the construct itself; with
+/// `FrameTooLarge` and then `TooManyPlaces` only if there is no other fault; or with `Memory` when an allocation fails.
 pub fn resolve<'s>(alloc: Global, section: &Section<'s>) -> Result<Core, ScopeError<'s>>
     requires { declarations_size (section_view section.now) ≤ 60000 }
     ensures { Resolves result (section_view section.now) }

@@ -1,4 +1,4 @@
--- Whether frames fit doesn't depend on what a routine's name meant before.
+-- Whether frames fit doesn't depend on the meaning that a routine's name had before its LET.
 use Rattle.std.proofs.Common.{◌≡◌, ℕ, refl, ap, ◌∙◌, sym, Bool}
 use Rattle.bc_parse_tree.specs.Tree.{Definition, Definitions, no_definitions, definition}
 use Rattle.bc_parse_tree.specs.Tree as tree

@@ -1,4 +1,4 @@
--- Frames of parts, one after another.
+-- Whether the frames of two parts fit, one part after the other.
 use Rattle.std.proofs.Common.{◌≡◌, ℕ, max, arith, refl, ap, ◌∙◌, sym, nat_le, ◌&&◌, Bool, true, false, List, [], ◌∷◌, ◌++◌}
 use Rattle.bc_scope_defs.specs.Found.{Thing, AValof, ARoutine, Data}
 use Rattle.bc_scope_defs.specs.FramesAlong.{frame_of}
@@ -26,7 +26,7 @@ and_true : (b : Bool) → (b && true) ≡ b
 and_true true = refl
 and_true false = refl
 
--- a routine's own frame may be looked at after those in it
+-- a routine's own frame may be checked after those of the routines in it
 pub frames_last : (b c : Bool) (xs : List Thing) → frames_fit (b && c) xs ≡ frames_fit b xs && c
 frames_last b true xs = ap (λ d. frames_fit d xs) (and_true b) ∙ sym (and_true (frames_fit b xs))
 frames_last b false xs = ap (λ d. frames_fit d xs) (and_false b) ∙ none_fits xs ∙ sym (and_false (frames_fit b xs))
@@ -35,7 +35,7 @@ first_frame : (c : Bool) (xs : List Thing) → frames_fault xs ≡ unless (frame
 first_frame true xs h = h
 first_frame false xs h = rw (none_fits xs) refl
 
--- a frame is too large where they don't all fit
+-- if not all frames fit, the fault is that one is too large
 pub frames_judged : (xs : List Thing) → frames_fault xs ≡ unless (frames_fit true xs) AFrameTooLarge
 frames_judged [] = refl
 frames_judged (AValof f ∷ xs) = frames_judged xs

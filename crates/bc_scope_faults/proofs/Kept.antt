@@ -1,4 +1,4 @@
--- What a scope knows after a part.
+-- How the clauses `kept` of parts combine.
 use Rattle.std.proofs.Common.{◌≡◌, List, sym, subst}
 use Rattle.bc_scope_names.specs.declared.scope.Entry.{Entry}
 use Rattle.bc_scope_names.specs.View.{Extends}

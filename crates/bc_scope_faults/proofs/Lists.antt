@@ -1,4 +1,4 @@
--- A list from one of its elements on.
+-- A list from some element on is this element followed by the rest.
 use Rattle.std.specs.Borrow.{Bor}
 use Rattle.bc_scope_faults.specs.Seen.{names_view}
 use Rattle.std.proofs.Common.{◌≡◌, ℕ, ◌+◌, ◌<◌, refl, suc, [], ◌∷◌, ap, ◌∙◌, sym, List, length, drop, get_or}

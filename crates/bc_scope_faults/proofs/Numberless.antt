@@ -1,4 +1,4 @@
--- What is found in a list, how wide it is and its faults don't depend on the number of its first label.
+-- The number of a list's first label doesn't change what is found in the list, its width or its faults.
 use Rattle.std.proofs.Common.{◌≡◌, ℕ, ◌+◌, max, refl, ap, ◌∙◌, sym, ◌++◌}
 use Rattle.bc_parse_tree.specs.Tree.{Items, no_items, item, Labelled, Labels_alone}
 use Rattle.bc_scope_defs.specs.Scope.{Env, Numbers}

@@ -1,4 +1,4 @@
--- Names and values that are kept as sets, as the lists that the definitions speak of.
+-- Names and values kept as sets have the lists of the definitions as their views.
 use Rattle.std.proofs.Common.{◌≡◌, ℕ, List, [], ◌∷◌, ◌++◌, Bool, true, false, not, ◌||◌, ◌&&◌, Some, None, refl, sym, ap, ◌∙◌, true≢false, nat_eq}
 use Rattle.std.specs.Prelude.{if◌then◌else◌}
 use Rattle.std.specs.Borrow.{Bor}
@@ -24,7 +24,7 @@ among : (ks : List (Bor (List ℕ))) (n : Bor (List ℕ)) → list_any (is_key n
 among [] n = refl
 among (k ∷ ks) n = λ i. same_name n.now k.now i || among ks n i
 
--- a name that was not there stands last from now on
+-- a new name becomes the last of the list
 pub fresh_name : (ks ks1 : List (Bor (List ℕ))) (n : Bor (List ℕ)) (fresh : Bool) → fresh ≡ not (list_any (is_key n) ks) → ks1 ≡ insert_key is_key ks n → fresh ≡ true → (twice_fault (names_view ks) n.now ≡ None) × (names_view ks1 ≡ names_view ks ++ n.now ∷ [])
 fresh_name ks ks1 n fresh added after new = by (list_any (is_key n) ks) (among ks n) (sym new ∙ added) after
   where
@@ -43,7 +43,7 @@ valued : (ws : List ℕ) (w : ℕ) → list_any (nat_eq w) ws ≡ has_value ws w
 valued [] w = refl
 valued (v ∷ ws) w = λ i. nat_eq_equiv.symm w v i || valued ws w i
 
--- a value that was not there stands last from now on
+-- a new value becomes the last of the list
 pub fresh_value : (ws ws1 : List ℕ) (w : ℕ) (fresh : Bool) → fresh ≡ not (list_any (nat_eq w) ws) → ws1 ≡ insert_key nat_eq ws w → fresh ≡ true → (unless (not (has_value ws w)) ACaseTwice ≡ None) × (ws1 ≡ ws ++ w ∷ [])
 fresh_value ws ws1 w fresh added after new = by (list_any (nat_eq w) ws) (valued ws w) (sym new ∙ added) after
   where

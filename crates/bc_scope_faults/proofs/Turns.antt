@@ -1,4 +1,4 @@
--- One item or one pair more.
+-- Lists whose definition has several cases: the first item or pair, and the rest.
 use Rattle.std.proofs.Common.{◌≡◌, ℕ, ◌+◌, max, Bool, false, refl, ap, ◌∙◌, sym, List, [], ◌∷◌, ◌++◌, drop, Option, Some, None, subst, arith}
 use Rattle.bc_scope_names.specs.declared.error.ScopeError.{ScopeError}
 use Rattle.bc_scope_names.specs.declared.error.ScopeError.TheVariants as code
@@ -65,7 +65,7 @@ entry_fits b storage.Global at w ts = refl
 first : (a b : Option Fault) (f : Fault) → a ≡ Some f → or_else a b ≡ Some f
 first a b f h = ap (λ x. or_else x b) h
 
--- a fault that comes first
+-- the fault of two parts, if the first has one
 pub stays : (e : ScopeError) (a b : Option Fault) → IsFault e a → IsFault e (or_else a b)
 stays (code.Undeclared n) a b h = first a b _ h
 stays (code.DeclaredTwice n) a b h = first a b _ h
@@ -79,6 +79,6 @@ stays code.CaseTwice a b h = first a b _ h
 stays code.TooManyPlaces a b h = first a b _ h
 stays code.Memory a b h = h
 
--- the first part's fault is the whole's
+-- a fault of the first part is the fault of the whole
 pub fault_whole : (e : ScopeError) (a b some whole : Option Fault) → some ≡ or_else a b → some ≡ whole → IsFault e a → IsFault e whole
 fault_whole e a b some whole p q h = subst (λ x. IsFault e x) (sym p ∙ q) (stays e a b h)

@@ -1,4 +1,4 @@
--- The widest pair of lists of which one is at its end.
+-- The widest pair, when one of the lists is at its end.
 use Rattle.std.proofs.Common.{◌≡◌, ℕ, ◌≤◌, refl, ap, ◌∙◌, List, [], ◌∷◌, length, drop}
 use Rattle.std.proofs.lemmas.List.{drop_all}
 use Rattle.bc_scope_defs.specs.FramesAlong.{widest}

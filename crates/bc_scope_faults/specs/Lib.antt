@@ -1,3 +1,4 @@
+-- The definitions that the contracts of this crate cite.
 pub mod Judged
 pub mod Kept
 pub mod Seen

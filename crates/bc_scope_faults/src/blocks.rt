@@ -1,4 +1,9 @@
-//! The first fault of a block or a list of commands, and how many cells of the frame it takes.
+//! The first fault of a block or a command list, and the frame size that it needs.
+//!
+//! `blocks.rt`, `commands.rt`, `declarations.rt` and `expressions.rt` hold one cycle of functions, one for each kind of part. Each
+//! takes the level at which the part is executed, moves `progress` past the part, and returns the frame size that the part
+//! needs, in cells; or it fails with the part's first fault, or with `Memory` when an allocation fails or a number exceeds 64
+//! bits. The scope is then the same as before, or has the names that declarations added; after an error it is unspecified.
 ghost use Rattle.std.specs.Prelude.{◌≡◌};
 ghost use Rattle.bc_parse_tree.specs.View.{block_view, declarations_view, label_view, labels_view, item_view, items_view};
 ghost use Rattle.bc_scope_defs.specs.Faults.{met_label, met_labels};
@@ -20,14 +25,16 @@ use crate::progress::Progress;
 use bc_parse_tree::{Block, Declaration, Item, Label};
 use bc_scope_names::{Scope, ScopeError, constant, declare_list, labels_in};
 
-/// Whose list items stand in: a SWITCHON's or not, and what its commands may do.
+/// The kind of a command list.
 #[derive(Clone, Copy)]
 pub struct List {
+    /// Whether it is the list of a SWITCHON, which may have CASEs and a DEFAULT.
     pub cases: bool,
+    /// Which commands are allowed in it.
     pub allowed: Allowed,
 }
 
-/// A block.
+/// Walks a block. `allowed` says which commands may be in it.
 #[cycle(faults)]
 #[tactic(auto, using(crate::proofs::Kept::keeping))]
 pub fn block<'s>(
@@ -50,7 +57,7 @@ pub fn block<'s>(
     )
 }
 
-/// Declarations, and the items after them.
+/// The declarations of a block, and the items after them.
 #[cycle(faults)]
 #[tactic(auto, using(crate::proofs::Numberless::numberless, bc_scope_names::proofs::Extends::left, crate::proofs::Kept::keeping))]
 fn declared_then_done<'s>(
@@ -78,7 +85,7 @@ fn declared_then_done<'s>(
     Ok(extent.width.max(width))
 }
 
-/// A label, after those of its list that were met.
+/// One label, checked against those of its list in `met`, to which it is added.
 #[inline(never)]
 #[cycle(faults)]
 #[tactic(auto, using(crate::proofs::Frames::along, crate::proofs::Kept::keeping))]
@@ -103,7 +110,7 @@ fn label<'s>(
     }
 }
 
-/// The labels of an item.
+/// All labels of an item.
 #[cycle(faults)]
 #[tactic(auto, using(crate::proofs::Frames::along, crate::proofs::Kept::keeping))]
 fn labels<'s>(
@@ -123,7 +130,7 @@ fn labels<'s>(
     Ok(())
 }
 
-/// The items of a command list.
+/// Walks the items of a command list, whose labels are already in scope and numbered.
 #[cycle(faults)]
 #[tactic(auto, using(crate::proofs::Kept::keeping))]
 pub fn items<'s>(
@@ -145,7 +152,7 @@ pub fn items<'s>(
     Ok(width)
 }
 
-/// One item: its labels, and its command.
+/// One item: its labels, then its command if it has one.
 #[cycle(faults)]
 #[tactic(auto, using(crate::proofs::Kept::keeping))]
 fn one_item<'s>(

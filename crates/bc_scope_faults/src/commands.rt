@@ -1,4 +1,6 @@
-//! The first fault of a command, and how many cells of the frame it takes.
+//! The first fault of a command, and the frame size that it needs. `blocks.rt` says what these functions take and return.
+//!
+//! Commands with several parts have one function each, whose contract names the parts: then a lemma puts them together.
 ghost use Rattle.bc_parse_tree.specs.View.{exp_view, exps_view, command_view, block_view, items_view};
 ghost use Rattle.bc_scope_faults.specs.Kept.{Keeps};
 ghost use Rattle.bc_scope_faults.specs.Seen.{allowed_view};
@@ -13,7 +15,7 @@ use crate::progress::Progress;
 use bc_parse_tree::{Block, Command, Exp, Item};
 use bc_scope_names::{Meant, Scope, ScopeError, declare_list, labels_in, side_levels, sum};
 
-/// A body after an expression.
+/// An expression and then a block: IF, UNLESS, WHILE, UNTIL.
 #[cycle(faults)]
 #[tactic(auto, using(crate::proofs::Frames::along, crate::proofs::Kept::keeping))]
 fn guarded<'s>(
@@ -33,7 +35,7 @@ fn guarded<'s>(
     Ok(test.max(body))
 }
 
-/// A loop that tests after its command.
+/// A loop that tests after its command: REPEATWHILE, REPEATUNTIL.
 #[cycle(faults)]
 #[tactic(auto, using(crate::proofs::Frames::along, crate::proofs::Kept::keeping))]
 fn repeated<'s>(
@@ -53,7 +55,7 @@ fn repeated<'s>(
     Ok(body.max(test))
 }
 
-/// An assignment: its addresses, its values, and that each address has a cell.
+/// An assignment: its addresses, then its values, then that each address has a cell.
 #[inline(never)]
 #[cycle(faults)]
 #[tactic(auto, using(crate::proofs::Frames::along, crate::proofs::Kept::keeping))]
@@ -155,7 +157,7 @@ fn stepped_for<'s>(
     Ok(sum(above, 2)?.max(start.max(limit.max(body))))
 }
 
-/// The body of a FOR over this variable, at the level after its two cells.
+/// The body of a FOR with this variable, which is at `level`. The limit is in the next cell, so the body is at `level` + 2.
 #[cycle(faults)]
 #[tactic(auto, using(crate::proofs::Frames::along, bc_scope_names::proofs::Extends::left, crate::proofs::Kept::keeping))]
 fn counted<'s>(
@@ -207,7 +209,7 @@ fn switch<'s>(
     Ok(value.max(list))
 }
 
-/// A command.
+/// Walks a command. `allowed` says which commands may be here.
 #[cycle(faults)]
 #[tactic(auto, using(crate::proofs::Frames::along, crate::proofs::Kept::keeping))]
 pub fn command<'s>(

@@ -1,4 +1,4 @@
-//! The first fault of declarations, and how many cells of the frame they take.
+//! The first fault of declarations, and the frame cells that they take. `blocks.rt` says what these functions take and return.
 ghost use Rattle.std.specs.Prelude.{◌++◌};
 ghost use Rattle.bc_parse_tree.specs.View.{exp_view, block_view, declaration_view, declarations_view, definition_view, definitions_view, entries_view};
 ghost use Rattle.bc_scope_defs.specs.Scoping.{names_of};
@@ -22,7 +22,7 @@ use bc_scope_names::{
 };
 use indexmap::IndexSet;
 
-/// Declarations of constants.
+/// The entries of a MANIFEST, STATIC or GLOBAL, each with the names of those before it.
 #[inline(never)]
 #[cycle(faults)]
 #[tactic(auto, using(crate::proofs::Frames::along, bc_scope_names::proofs::Extends::left, crate::proofs::Kept::keeping))]
@@ -46,7 +46,7 @@ fn entries<'s>(
     Ok(())
 }
 
-/// A definition of a LET, after the names of those before it.
+/// One definition of a LET, whose names must differ from those in `before`, to which they are added.
 #[cycle(faults)]
 #[tactic(auto, using(crate::proofs::Frames::along, crate::proofs::Kept::keeping))]
 fn definition<'s>(
@@ -88,7 +88,7 @@ fn definition<'s>(
     }
 }
 
-/// A routine that gives a value, after its name.
+/// A routine that is an expression: its parameters, then its value. Its own frame is checked after those of routines inside it.
 #[inline(never)]
 #[cycle(faults)]
 #[tactic(auto, using(crate::proofs::Frames::frames_last, bc_scope_names::proofs::Extends::left, crate::proofs::Kept::keeping))]
@@ -112,7 +112,7 @@ fn function<'s>(
     Ok(())
 }
 
-/// A routine that does commands, after its name.
+/// A routine that is a block: its parameters, then its body. Its own frame is checked after those of routines inside it.
 #[cycle(faults)]
 #[tactic(auto, using(crate::proofs::Frames::frames_last, bc_scope_names::proofs::Extends::left, crate::proofs::Kept::keeping))]
 fn routine<'s>(
@@ -135,7 +135,7 @@ fn routine<'s>(
     Ok(())
 }
 
-/// The definitions of a LET, all at the level after its cells.
+/// The definitions of a LET whose names are already in scope, all at the level after its cells.
 #[cycle(faults)]
 #[tactic(auto, using(crate::proofs::Frames::along, crate::proofs::Kept::keeping))]
 fn definitions<'s>(
@@ -155,7 +155,8 @@ fn definitions<'s>(
     Ok(width)
 }
 
-/// The definitions of a LET, among the names that it makes known: to its constants, too, they are what they will be.
+/// A LET: adds its names, and walks its definitions with them in scope. The constants of its vectors may see the final names,
+/// because only the kind of a name matters in a constant, not its number.
 #[cycle(faults)]
 #[tactic(auto, using(crate::proofs::Anywhere::frames_of_own, bc_scope_names::proofs::Extends::left, crate::proofs::Kept::keeping))]
 fn definitions_of_let<'s>(
@@ -176,7 +177,7 @@ fn definitions_of_let<'s>(
     })
 }
 
-/// A declaration.
+/// One declaration.
 #[cycle(faults)]
 #[tactic(auto, using(bc_scope_names::proofs::Extends::left, crate::proofs::Kept::keeping))]
 fn declaration<'s>(
@@ -199,7 +200,7 @@ fn declaration<'s>(
     }
 }
 
-/// Declarations, each after those before it.
+/// Walks declarations, each with the names of those before it, and adds their names to the scope.
 #[inline(never)]
 #[cycle(faults)]
 #[tactic(auto, using(crate::proofs::Frames::along, bc_scope_names::proofs::Extends::left, crate::proofs::Kept::keeping))]

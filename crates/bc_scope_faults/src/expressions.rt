@@ -1,4 +1,4 @@
-//! The first fault of an expression, and how many cells of the frame it takes.
+//! The first fault of an expression, and the frame size that it needs. `blocks.rt` says what these functions take and return.
 ghost use Rattle.bc_parse_tree.specs.View.{exp_view, exps_view};
 ghost use Rattle.bc_scope_defs.specs.FaultsAlong.{constants_fault};
 ghost use Rattle.bc_scope_names.specs.View.{scope_view, numbers_view};
@@ -14,7 +14,7 @@ use crate::progress::Progress;
 use bc_parse_tree::Exp;
 use bc_scope_names::{Scope, ScopeError, constant_in, count, sum};
 
-/// An expression; in a constant, a name whose value is not known yet is no fault of its own.
+/// Walks an expression. `in_constant` says that it is part of a constant: a label's name is then no fault by itself.
 #[cycle(faults)]
 #[tactic(auto, using(crate::proofs::Frames::along, bc_scope_names::proofs::Extends::left, crate::proofs::Kept::keeping))]
 pub fn expression<'s>(
@@ -86,7 +86,7 @@ fn operands<'s>(
     Ok(sum(level, 2)?.max(left.max(right)))
 }
 
-/// `test -> this, that`.
+/// `test -> this, that`, all at the same level.
 #[cycle(faults)]
 #[tactic(auto, using(crate::proofs::Frames::frames_along, crate::proofs::Kept::keeping))]
 fn choice<'s>(
@@ -108,7 +108,8 @@ fn choice<'s>(
     Ok(test.max(this.max(that)))
 }
 
-/// A call, of a routine with arguments.
+/// Walks a call, in an expression or as a command. Arguments begin two cells above the level, and the routine's value is
+/// computed above them.
 #[cycle(faults)]
 #[tactic(auto, using(crate::proofs::Frames::along, crate::proofs::Kept::keeping))]
 pub fn call<'s>(
@@ -152,7 +153,8 @@ fn arguments<'s>(
     Ok(width)
 }
 
-/// A constant: what is in it, and then that it is one. It has no numbers.
+/// Walks a constant: first the faults inside it, then `NotConstant`. It takes no numbers, so it is walked with a copy of the
+/// progress.
 #[cycle(faults)]
 #[tactic(auto, using(crate::proofs::Frames::along, crate::proofs::Kept::keeping))]
 pub fn constant_fault<'s>(
@@ -189,7 +191,7 @@ fn constants<'s>(
     Ok(())
 }
 
-/// One side of an assignment, each expression at its level.
+/// Walks one side of an assignment, each expression at its level in `levels`. Returns the frame size that each needs.
 #[cycle(faults)]
 #[tactic(auto, using(crate::proofs::Kept::keeping))]
 pub fn sides<'s>(
@@ -211,7 +213,7 @@ pub fn sides<'s>(
     Ok(widths)
 }
 
-/// Initialisers, all at one level.
+/// Walks the initial values of variables, all at the same level.
 #[cycle(faults)]
 #[tactic(auto, using(crate::proofs::Frames::along, crate::proofs::Kept::keeping))]
 pub fn initials<'s>(

@@ -1,4 +1,4 @@
-//! The faults that a part has by itself.
+//! Faults that a part has by itself, whatever is inside it. None of these functions walks into a part.
 ghost use Rattle.std.specs.Prelude.{◌≡◌, true, None, length, drop, [], ◌∷◌, ◌++◌, IfOk};
 ghost use Rattle.bc_parse_tree.specs.View.{exp_view, exps_view};
 ghost use Rattle.bc_scope_defs.specs.FramesAlong.{all_held, widest};
@@ -15,16 +15,21 @@ use bc_word::{Memory, Word};
 use indexmap::IndexSet;
 use std::alloc::Global;
 
-/// What a command may do where it stands.
+/// The commands that are allowed at one point of a routine or VALOF, of those that aren't allowed everywhere.
 #[derive(Clone, Copy, Debug, PartialEq, Eq)]
 pub struct Allowed {
+    /// BREAK and LOOP are allowed.
     pub in_loop: bool,
+    /// ENDCASE is allowed.
     pub in_cases: bool,
+    /// RESULTIS is allowed.
     pub in_valof: bool,
+    /// RETURN is allowed.
     pub may_return: bool,
 }
 
 impl Allowed {
+    /// The commands allowed in the body of a routine: RETURN.
     pub fn routine() -> Allowed
         ensures { allowed_view result ≡ allowed_in_routine }
     {
@@ -36,6 +41,7 @@ impl Allowed {
         }
     }
 
+    /// The commands allowed in the body of a VALOF: RESULTIS.
     pub fn valof() -> Allowed
         ensures { allowed_view result ≡ allowed_in_valof }
     {
@@ -47,6 +53,7 @@ impl Allowed {
         }
     }
 
+    /// Also allows BREAK and LOOP, for the body of a loop.
     pub fn in_a_loop(self) -> Allowed
         ensures { allowed_view result ≡ in_a_loop (allowed_view self) }
     {
@@ -58,6 +65,7 @@ impl Allowed {
         }
     }
 
+    /// Also allows ENDCASE, for the list of a SWITCHON.
     pub fn in_a_switch(self) -> Allowed
         ensures { allowed_view result ≡ in_a_switch (allowed_view self) }
     {
@@ -70,7 +78,7 @@ impl Allowed {
     }
 }
 
-/// Misplaced, unless this is allowed.
+/// Fails with `Misplaced` unless `allowed`.
 pub fn unless_misplaced<'s>(allowed: bool) -> Result<(), ScopeError<'s>>
     ensures { Passes result (unless allowed AMisplaced) }
 {
@@ -81,7 +89,9 @@ pub fn unless_misplaced<'s>(allowed: bool) -> Result<(), ScopeError<'s>>
     }
 }
 
-/// A name in an expression.
+/// Checks a name in an expression, by its meaning there. Fails with `Undeclared`, with `DynamicFree` for a variable or label of
+/// an enclosing routine, or with `Misplaced` for a label that isn't in a constant. A label in a constant passes here, because
+/// the constant as a whole is then at fault.
 pub fn name_fault<'s>(in_constant: bool, name: &'s [u8], meant: Meant) -> Result<(), ScopeError<'s>>
     ensures { Passes result (name_fault in_constant name.entry.now (meant_view meant)) }
 {
@@ -101,7 +111,8 @@ pub fn name_fault<'s>(in_constant: bool, name: &'s [u8], meant: Meant) -> Result
     }
 }
 
-/// The name after a GOTO.
+/// Checks the name after a GOTO, by its meaning there. Fails with `Undeclared`, with `DynamicFree` for a label of an enclosing
+/// routine, or with `Misplaced` for a name that isn't a label and for a label outside the VALOF or outside all routines.
 pub fn jump_fault<'s>(name: &'s [u8], meant: Meant) -> Result<(), ScopeError<'s>>
     ensures { Passes result (jump_fault name.entry.now (meant_view meant)) }
 {
@@ -122,6 +133,7 @@ pub fn jump_fault<'s>(name: &'s [u8], meant: Meant) -> Result<(), ScopeError<'s>
     }
 }
 
+/// Whether a name with this meaning has a cell.
 fn is_cell(meant: Meant) -> bool
     ensures { result ≡ is_cell (meant_view meant) }
 {
@@ -139,6 +151,7 @@ fn is_cell(meant: Meant) -> bool
     }
 }
 
+/// Whether a name with this meaning is a label that isn't in an enclosing routine.
 fn is_label(meant: Meant) -> bool
     ensures { result ≡ is_label (meant_view meant) }
 {
@@ -157,6 +170,7 @@ fn is_label(meant: Meant) -> bool
     }
 }
 
+/// Whether an expression is the name of such a label.
 fn names_label(scope: &Scope<'_>, e: &Exp<'_>) -> bool
     ensures { result ≡ names_label (scope_view scope.now) (exp_view e.now) }
 {
@@ -176,7 +190,7 @@ fn names_label(scope: &Scope<'_>, e: &Exp<'_>) -> bool
     }
 }
 
-/// Whether an expression is a variable, `!E` or `E1!E2`.
+/// Whether an expression has a cell: it is a variable, static or global, `!E` or `E1!E2`.
 pub fn has_cell(scope: &Scope<'_>, e: &Exp<'_>) -> bool
     ensures { result ≡ has_cell (scope_view scope.now) (exp_view e.now) }
 {
@@ -197,14 +211,15 @@ pub fn has_cell(scope: &Scope<'_>, e: &Exp<'_>) -> bool
     }
 }
 
-/// Whether `@` may take an expression: what has a cell, and in a constant a label's name, which is at no fault there.
+/// Whether `@` may be applied to an expression. In a constant a label's name passes too, because the constant as a whole is then
+/// at fault.
 fn has_address(scope: &Scope<'_>, in_constant: bool, e: &Exp<'_>) -> bool
     ensures { result ≡ has_address in_constant (scope_view scope.now) (exp_view e.now) }
 {
     has_cell(scope, e) || (in_constant && names_label(scope, e))
 }
 
-/// `@` wants a cell.
+/// Checks the operand of a monadic operator. Fails with `NotAssignable` for `@` of an expression without a cell.
 pub fn address_fault<'s>(
     scope: &Scope<'s>,
     in_constant: bool,
@@ -225,6 +240,7 @@ pub fn address_fault<'s>(
     }
 }
 
+/// Whether all these expressions have cells.
 pub fn all_have_cells(scope: &Scope<'_>, places: &[Exp<'_>]) -> bool
     ensures { result ≡ all_have_cells (scope_view scope.now) (exps_view places.now) }
 {
@@ -236,7 +252,8 @@ pub fn all_have_cells(scope: &Scope<'_>, places: &[Exp<'_>]) -> bool
     true
 }
 
-/// One name more, after those that it must differ from.
+/// Adds a name to those that must differ. Fails with `DeclaredTwice` if it is already there, or with `Memory` when an allocation
+/// fails.
 pub fn declare_once<'s>(
     before: &mut IndexSet<&'s [u8]>,
     name: &'s [u8],
@@ -251,7 +268,8 @@ pub fn declare_once<'s>(
     }
 }
 
-/// Names, after those that they must differ from.
+/// Adds names to those that must differ. Fails with `DeclaredTwice` at the first that is already there, or with `Memory` when an
+/// allocation fails.
 pub fn declare_all_once<'s>(
     before: &mut IndexSet<&'s [u8]>,
     names: &[&'s [u8]],
@@ -265,7 +283,7 @@ pub fn declare_all_once<'s>(
     Ok(())
 }
 
-/// How many names a LET declares, or the greatest `usize` where there are more. Room is asked for by it.
+/// The number of names that a LET declares, at most the greatest `usize`. It is only used to reserve room.
 pub fn names_in(list: &[Definition<'_>]) -> usize {
     let mut names = 0usize;
     for tree in list {
@@ -279,7 +297,8 @@ pub fn names_in(list: &[Definition<'_>]) -> usize {
     names
 }
 
-/// The parameters of a routine.
+/// Checks the parameters of a routine. Fails with `DeclaredTwice` at the first repeated one, or with `Memory` when an allocation
+/// fails.
 pub fn parameters_fault<'s>(alloc: Global, names: &[&'s [u8]]) -> Result<(), ScopeError<'s>>
     ensures { Passes result (all_twice_fault [] (names_view names.now)) }
 {
@@ -287,15 +306,19 @@ pub fn parameters_fault<'s>(alloc: Global, names: &[&'s [u8]]) -> Result<(), Sco
     declare_all_once(&mut before, names)
 }
 
-/// The labels of a list that were met so far.
+/// The labels of a command list up to here.
 #[derive(Debug, Drop)]
 pub struct Met<'s> {
+    /// The named labels.
     pub names: IndexSet<&'s [u8]>,
+    /// The values of its CASEs.
     pub values: IndexSet<u16>,
+    /// Whether it has a DEFAULT.
     pub default: bool,
 }
 
 impl<'s> Met<'s> {
+    /// No labels yet. Allocates nothing.
     pub fn new(alloc: Global) -> Met<'s>
         ensures { met_view result ≡ none_met }
     {
@@ -306,7 +329,8 @@ impl<'s> Met<'s> {
         }
     }
 
-    /// CASE with its value.
+    /// Adds a CASE with its value. Fails with `Misplaced` if the list isn't that of a SWITCHON, with `CaseTwice` if the value is
+    /// already there, or with `Memory` when an allocation fails.
     pub fn case(&mut self, in_cases: bool, value: Word) -> Result<(), ScopeError<'s>>
         ensures { Judges result (case_fault in_cases (met_view self.old) value)
             (λ _. met_view self.new ≡
@@ -320,7 +344,7 @@ impl<'s> Met<'s> {
         }
     }
 
-    /// DEFAULT.
+    /// Adds a DEFAULT. Fails with `Misplaced` if the list isn't that of a SWITCHON, or with `CaseTwice` if it already has one.
     pub fn default(&mut self, in_cases: bool) -> Result<(), ScopeError<'s>>
         ensures { Judges result (default_fault in_cases (met_view self.old))
             (λ _. met_view self.new ≡ record { names = (met_view self.old).names; values = (met_view self.old).values; default = true }) }
@@ -333,7 +357,7 @@ impl<'s> Met<'s> {
         Ok(())
     }
 
-    /// A label with a name.
+    /// Adds a named label. Fails with `DeclaredTwice` if the name is already there, or with `Memory` when an allocation fails.
     pub fn name(&mut self, name: &'s [u8]) -> Result<(), ScopeError<'s>>
         ensures { Judges result (twice_fault (met_view self.old).names name.entry.now)
             (λ _. met_view self.new ≡
@@ -343,7 +367,7 @@ impl<'s> Met<'s> {
     }
 }
 
-/// The number of a global is at most 511.
+/// Checks the constant of an entry. Fails with `GlobalNumber` if the number of a global exceeds 511.
 pub fn entry_fault<'s>(
     scope: &Scope<'s>,
     storage: Storage,
@@ -364,7 +388,8 @@ pub fn entry_fault<'s>(
     }
 }
 
-/// For each pair of an assignment at this level, where it holds its value.
+/// For each pair of an assignment at `level`, the frame size that holding its address and value needs: 0 if the address is an
+/// operand, else `level` + 2. Fails with `Memory` when an allocation fails or a number exceeds 64 bits.
 pub fn all_held(
     alloc: Global,
     scope: &Scope<'_>,
@@ -381,7 +406,7 @@ pub fn all_held(
     Ok(held)
 }
 
-/// The widest pair of an assignment.
+/// The frame size that an assignment needs, by those of its pairs: for holding them, and for their addresses and values.
 #[tactic(auto, using(crate::proofs::WidestPair::widest_places, crate::proofs::WidestPair::widest_values))]
 pub fn widest(held: &[u64], places: &[u64], values: &[u64]) -> u64
     ensures { result ≡ widest held.now places.now values.now }
@@ -395,7 +420,7 @@ pub fn widest(held: &[u64], places: &[u64], values: &[u64]) -> u64
     widest
 }
 
-/// The level of this pair; a pair too many has level 0.
+/// The level of pair `i`, counted from 0; 0 if there are no more than `i` levels.
 #[tactic(auto, using(std::proofs::lemmas::List::drop_more, std::proofs::lemmas::List::drop_all))]
 pub fn level_at(levels: &[u64], i: u64) -> u64
     ensures { result ≡ head_level (drop i levels.now) }
@@ -404,7 +429,7 @@ pub fn level_at(levels: &[u64], i: u64) -> u64
     if i < levels.len() { levels[i] } else { 0 }
 }
 
-/// The width of an expression of this pair, where there is such a pair.
+/// Adds the frame size of an expression of pair `i`, if there is a pair `i`. Fails with `Memory` when an allocation fails.
 #[tactic(auto, using(std::proofs::lemmas::List::drop_more, std::proofs::lemmas::List::drop_all))]
 pub fn push_width<'s>(
     widths: &mut Vec<u64>,
@@ -421,7 +446,7 @@ pub fn push_width<'s>(
     Ok(())
 }
 
-/// The first level after the parameters of a routine.
+/// The first level after the parameters of a routine, which begin at offset 2. Fails with `Memory` if it exceeds 64 bits.
 #[tactic(auto, using(crate::proofs::Lists::names_counted))]
 pub fn level_of<'s>(parameters: &[&'s [u8]]) -> Result<u64, Memory>
     ensures { IfOk result (λ n. n ≡ level_after_parameters (length (names_view parameters.now))) }

@@ -1,4 +1,5 @@
-//! The first fault of a section, in text order.
+//! Finds the first fault of a section in text order: undeclared and repeated names, misplaced commands, bad constants, and frames
+//! that are too large.
 #![tactic(auto)]
 
 mod blocks;

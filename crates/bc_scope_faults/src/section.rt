@@ -1,11 +1,4 @@
-//! The first fault of a part, in text order; and how many cells of a frame a part without fault takes.
-//!
-//! Each function walks one kind of part, at the names and numbers of the place where it stands. It answers the
-//! part's first fault, or `Memory` where an allocation was refused or a number would pass 64 bits; without either
-//! it gives the part's width, and the progress is the one after it.
-//!
-//! A scope serves all places in turn. What an inner place makes known is taken back after it; after a fault the scope
-//! may know more than before, and the names that were known stand below.
+//! The public call `judge`.
 ghost use Rattle.std.specs.Prelude.{◌≡◌, [], OnOk};
 ghost use Rattle.bc_scope_defs.specs.Scope.{nothing_known};
 ghost use Rattle.bc_parse_tree.specs.View.{declarations_view};
@@ -19,10 +12,11 @@ use crate::progress::Progress;
 use bc_parse_tree::Declaration;
 use bc_scope_names::{Numbers, Scope, ScopeError};
 
-/// The first fault of a section: of its declarations, in text order, and then that a frame is too large.
+/// Finds the first fault of a section: first the faults of its declarations in text order, then `FrameTooLarge` if a frame has
+/// more than 32,768 cells.
 ///
-/// The scope is one in which nothing is known, and is so again where no fault was found. `Memory` comes where an
-/// allocation was refused or a number would pass 64 bits.
+/// `scope` must be empty. Without a fault it is empty again after the call. Fails with the fault, or with `Memory` when an
+/// allocation fails or a number exceeds 64 bits. Doesn't check the number of places.
 #[tactic(auto, using(crate::proofs::Frames::frames_judged, crate::proofs::Scopes::nothing_known, crate::proofs::Scopes::nothing_left))]
 pub fn judge<'s>(scope: &mut Scope<'s>, list: &[Declaration<'s>]) -> Result<(), ScopeError<'s>>
     requires { scope.old ≡ [] }

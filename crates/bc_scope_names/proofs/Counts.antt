@@ -1,4 +1,4 @@
--- Lists are as long as what they are seen as.
+-- A list of the code and its view have the same length.
 use Rattle.std.proofs.Common.{◌≡◌, refl, List, [], ◌∷◌, length, arith}
 use Rattle.bc_parse_tree.specs.declared.tree.Exp.{Exp}
 use Rattle.bc_parse_tree.specs.View.{exps_view}

@@ -1,4 +1,4 @@
--- Scopes in which more is known than in others.
+-- Scopes that extend others: composition, and the return to the state at a mark.
 use Rattle.std.proofs.Common.{◌≡◌, ℕ, refl, ap, ◌∙◌, List, [], ◌∷◌, length, take, arith}
 use Rattle.std.proofs.Math.Seq.{take-length}
 use Rattle.bc_scope_names.specs.declared.scope.Entry.{Entry}
@@ -18,7 +18,7 @@ pub extends_on : (a b c : List Entry) → Extends a b → Extends b c → Extend
 unfolding Extends
 extends_on a b c p q = fronts a b c p q
 
--- taken back, a scope is as it was
+-- after `leave`, a scope is as it was at the mark
 pub left : (a b : List Entry) (n : ℕ) → Extends a b → n ≡ length a → take n b ≡ a
 unfolding Extends
 left a b n p e = ap (λ k. take k b) e ∙ p

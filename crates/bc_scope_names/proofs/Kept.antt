@@ -1,4 +1,4 @@
--- What a scope keeps beside its entries, with one entry more, and with the last one taken off.
+-- The invariant of a scope holds after one more entry, and after the last one is taken off.
 use Rattle.std.proofs.Common.{◌≡◌, ℕ, ◌+◌, ◌<◌, refl, ap, ◌∙◌, sym, subst, List, [], ◌∷◌, ◌++◌, length, get_or, take, ◌==◌, ◌&&◌, Bool, true, false, true≢false, cond, Option, Some, None, arith, ⊎_elim, map, slice_get, not, zero, suc, if◌then◌else◌}
 use Rattle.std.proofs.lemmas.Bool.{cases_lt}
 use Rattle.std.proofs.lemmas.Cmp.{nat_list_eq_equiv, on_equiv}
@@ -29,7 +29,7 @@ is_name-bytes_eq [] (y ∷ b) = refl
 is_name-bytes_eq (x ∷ a) [] = refl
 is_name-bytes_eq (x ∷ a) (y ∷ b) = ap (λ t. (x == y) && t) (is_name-bytes_eq a b)
 
--- what is declared is known, and nothing else changes
+-- a declared name is found, and nothing else changes
 pub declares_push : (es : List Entry) (e : Entry) → Declares es (es ++ e ∷ []) (after_one e (scope_view es))
 unfolding scope_view Extends
 declares_push es e = (after_push es e nothing_known, take-append_seam es (e ∷ []))
@@ -91,7 +91,7 @@ routine_border es b o n e l = ap (λ k. after_routine k b) (l ∙ length_push es
 pub valof_border : (es : List Entry) (b o : Borders) (n : ℕ) → b ≡ borders_of 0 es no_borders → n ≡ length (es ++ entry.Valof o ∷ []) → record b { valof = n } ≡ borders_of 0 (es ++ entry.Valof o ∷ []) no_borders
 valof_border es b o n e l = ap (λ k. record b { valof = k }) (l ∙ length_push es (entry.Valof o)) ∙ ap (λ (x : Borders). record x { valof = length es + 1 }) e ∙ sym (borders_last es (entry.Valof o) no_borders)
 
--- what an entry that is taken off kept
+-- what the entry that is taken off had kept
 pub back_name : (es before : List Entry) (n : Named) (p : ℕ) (h : Option Bound) (b : Borders) → es ≡ before ++ entry.Name n p h ∷ [] → b ≡ borders_of 0 es no_borders → CanUndo es → (b ≡ borders_of 0 before no_borders) × CanUndo before × (h ≡ newest 0 before n.name.now None)
 back_name es before n p h b e i can =
     let all = subst (λ l. CanUndo l) e can in (
@@ -118,7 +118,7 @@ stays (e ∷ es) k v (suc i) q h = by (is_key k e.0) (stays es k v i q h)
     by true following = h
     by false following = following
 
--- the name that is put in has the position that is answered
+-- the inserted name is at the returned position
 stands : (es : List (Bor Name × Option Bound)) (k : Bor Name) (v : Option Bound) → slice_get (spelled (insert_entry is_key es k v)) (position_or_len (is_key k) (keys_of es)) ≡ Some k.now
 stands [] k v = refl
 stands (e ∷ es) k v = by (is_key k e.0) (λ h. sym (same_name k.now e.0.now (is_name-bytes_eq k.now e.0.now ∙ h))) (stands es k v)
@@ -145,11 +145,11 @@ module _ {S : Type 0} (m : IndexMap (Bor Name) (Option Bound) S) where
       still (entry.Routine b) at_i = tt
       still (entry.Valof b) at_i = tt
 
-  -- a position that is kept lies within the index
+  -- a kept position is within the index
   pub position_within : (i : ℕ) (q : Name) → slice_get (names m) i ≡ Some q → i < index_map_len m
   position_within i q h = omega (arith, slice_get_within (names m) i q h, length-map (keys m) (λ k. k.now), length-map m.entries (λ e. e.0))
 
-  -- what is written at a name's position is what the index has of it, and nothing else changes
+  -- a write at a name's position changes what the index has of this name, and nothing else
   pub written : (i : ℕ) (q : Name) (k : Bor Name) (v w : Option Bound) → IsUnique is_key m → slice_get m.entries i ≡ Some (k, v) → slice_get (names m) i ≡ Some q → (x : Bor Name) → get is_key (with_value_at m i w) x ≡ cond (bytes_eq q x.now) (Some w) (get is_key m x)
   written i q k v w unique at named x =
       (updates-with_value_at m i w (on_equiv (λ (b : Bor Name). b.now) nat_list_eq_equiv) unique k v at).0 x ∙ ap (λ n. cond (bytes_eq n x.now) (Some w) (get is_key m x)) spells
@@ -157,6 +157,6 @@ module _ {S : Type 0} (m : IndexMap (Bor Name) (Option Bound) S) where
       spells : k.now ≡ q
       spells = same_Some k.now q (sym (slice_get-map (λ (b : Bor Name). b.now) (keys m) i ∙ ap (option_map (λ (b : Bor Name). b.now)) (slice_get-map (λ (e : Bor Name × Option Bound). e.0) m.entries i ∙ ap (option_map (λ (e : Bor Name × Option Bound). e.0)) at)) ∙ named)
 
-  -- and the names stay
+  -- and no name changes
   pub names_written : (i : ℕ) (w : Option Bound) → names (with_value_at m i w) ≡ names m
   names_written i w = ap (map (λ k. k.now)) (keys-with_value_at m i w)

@@ -1,4 +1,4 @@
--- What the names before a LET say of its definitions gives what they take and make known.
+-- A LET as `declare_let` computes it is the LET of the definitions.
 use Rattle.std.proofs.Common.{◌≡◌, ℕ, ◌+◌, ◌<◌, ◌≤◌, refl, ap, ◌∙◌, sym, true≢false, false, List, [], ◌∷◌, length, drop, get_or, Option}
 use Rattle.std.proofs.lemmas.List.{at_drop_more, drop-drop, drop_all}
 use Rattle.bc_parse_tree.specs.declared.tree.Definition as code
@@ -63,7 +63,7 @@ all_own_is B (definition d ds) E = ap (λ F. own_by (globals_before B ds) ds F) 
 pub own_is : (gs : List (Option ℕ)) (B : Env) (ds : Definitions) → gs ≡ globals_before B ds → own_by gs ds B ≡ own_names B ds B
 own_is gs B ds e = ap (λ x. own_by x ds B) e ∙ all_own_is B ds B
 
--- without a vector nobody asks what the names of a LET mean
+-- without a vector, the greatest indexes are the same by any names
 pub greatest_anywhere : (K L : Env) (ds : Definitions) → has_vector ds ≡ false → all_greatest_of K ds ≡ all_greatest_of L ds
 greatest_anywhere K L no_definitions h = refl
 greatest_anywhere K L (definition (tree.Variables ns es) ds) h = ap (λ ws. 0 ∷ ws) (greatest_anywhere K L ds h)
@@ -71,12 +71,12 @@ greatest_anywhere K L (definition (tree.Vector n k) ds) h = absurd (true≢false
 greatest_anywhere K L (definition (tree.Function n ps e) ds) h = ap (λ ws. 0 ∷ ws) (greatest_anywhere K L ds h)
 greatest_anywhere K L (definition (tree.Routine n ps b) ds) h = ap (λ ws. 0 ∷ ws) (greatest_anywhere K L ds h)
 
--- one definition of a list, by what stands there
+-- the priors of one definition, at its number in the list
 
 definitions_on : (ds : List code.Definition) (i : ℕ) (d : code.Definition) → i < length ds → d ≡ get_or ds i d → definitions_view (drop i ds) ≡ definition (definition_view d) (definitions_view (drop (i + 1) ds))
 definitions_on ds i d h q = at_drop_more definitions_view ds i d h ∙ ap (λ x. definition (definition_view x) (definitions_view (drop (i + 1) ds))) (sym q)
 
--- what a definition takes, before the rest
+-- the cells of a definition, and those of the rest
 pub cells_on : (gs : List (Option ℕ)) (ws : List ℕ) (ds : List code.Definition) (n j i : ℕ) (d : code.Definition) → i < length ds → d ≡ get_or ds i d → j ≡ n + 1
     → all_cells_by (drop n gs) (drop n ws) (definitions_view (drop i ds)) ≡ cells_by (prior_at (drop n gs) (drop n ws)) (definition_view d) + all_cells_by (drop j gs) (drop j ws) (definitions_view (drop (i + 1) ds))
 cells_on gs ws ds n j i d h q e =
@@ -86,7 +86,7 @@ cells_on gs ws ds n j i d h q e =
     ∙ ap (λ x. own + all_cells_by x (drop 1 (drop n ws)) rest) (drop-drop 1 n gs ∙ ap (λ k. drop k gs) (sym e))
     ∙ ap (λ x. own + all_cells_by (drop j gs) x rest) (drop-drop 1 n ws ∙ ap (λ k. drop k ws) (sym e))
 
--- what it makes known, before the rest
+-- the names that it adds, and then the rest
 pub declared_on : (gs : List (Option ℕ)) (ws : List ℕ) (at : Numbers) (k : ℕ) (ds : List code.Definition) (n j i : ℕ) (d : code.Definition) (E : Env) → i < length ds → d ≡ get_or ds i d → j ≡ n + 1
     → all_declared_by (drop n gs) (drop n ws) at k (definitions_view (drop i ds)) E
     ≡ all_declared_by (drop j gs) (drop j ws) (after_definition at (definition_view d)) (k + cells_by (prior_at (drop n gs) (drop n ws)) (definition_view d)) (definitions_view (drop (i + 1) ds)) (declared_by (prior_at (drop n gs) (drop n ws)) at k (definition_view d) E)
@@ -100,7 +100,7 @@ declared_on gs ws at k ds n j i d E h q e =
     ∙ ap (λ x. all_declared_by x (drop 1 (drop n ws)) following level rest known) (drop-drop 1 n gs ∙ ap (λ m. drop m gs) (sym e))
     ∙ ap (λ x. all_declared_by (drop j gs) x following level rest known) (drop-drop 1 n ws ∙ ap (λ m. drop m ws) (sym e))
 
--- an own name, before the rest
+-- the same for the names as constants see them
 pub own_on : (gs : List (Option ℕ)) (ds : List code.Definition) (n j i : ℕ) (d : code.Definition) (E : Env) → i < length ds → d ≡ get_or ds i d → j ≡ n + 1
     → own_by (drop n gs) (definitions_view (drop i ds)) E ≡ own_by (drop j gs) (definitions_view (drop (i + 1) ds)) (declared_by (prior_at (drop n gs) []) any_numbers 0 (definition_view d) E)
 own_on gs ds n j i d E h q e =
@@ -110,13 +110,13 @@ own_on gs ds n j i d E h q e =
 pub own_after : (gs : List (Option ℕ)) (ds : List code.Definition) (i : ℕ) (E : Env) → length ds ≤ i → own_by gs (definitions_view (drop i ds)) E ≡ E
 own_after gs ds i E h = ap (λ x. own_by gs (definitions_view x) E) (drop_all i ds h)
 
--- where nothing is left, nobody asks for the numbers
+-- without a definition left, the numbers don't matter
 pub declared_last : (gs : List (Option ℕ)) (ws : List ℕ) (at at1 : Numbers) (k : ℕ) (ds : List code.Definition) (i : ℕ) (E : Env) → length ds ≤ i
     → all_declared_by gs ws at k (definitions_view (drop i ds)) E ≡ all_declared_by gs ws at1 k (definitions_view (drop i ds)) E
 declared_last gs ws at at1 k ds i E h =
     ap (λ x. all_declared_by gs ws at k (definitions_view x) E) (drop_all i ds h) ∙ ap (λ x. all_declared_by gs ws at1 k (definitions_view x) E) (sym (drop_all i ds h))
 
--- where nothing is left, nothing more is taken or made known
+-- without a definition left, no cell is taken and no name added
 pub cells_after : (gs : List (Option ℕ)) (ws : List ℕ) (ds : List code.Definition) (i : ℕ) → length ds ≤ i → all_cells_by gs ws (definitions_view (drop i ds)) ≡ 0
 cells_after gs ws ds i h = ap (λ x. all_cells_by gs ws (definitions_view x)) (drop_all i ds h)
 

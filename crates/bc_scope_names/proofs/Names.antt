@@ -1,4 +1,4 @@
--- What a name means by the entries of a scope, and by what a scope keeps beside them.
+-- The index and the borders of a scope lead to the same meanings as the walk over its entries in the definitions.
 use Rattle.std.proofs.Common.{◌≡◌, ℕ, ◌+◌, ◌<◌, ◌≤◌, refl, ap, ◌∙◌, sym, List, [], ◌∷◌, ◌++◌, length, Bool, true, false, not, ◌==◌, true≢false, cond, ltb, Option, Some, None, arith, rules}
 use Rattle.bc_scope_names.specs.declared.scope.Borders.{Borders}
 use Rattle.bc_scope_names.specs.declared.scope.Bound.{Bound}
@@ -10,7 +10,7 @@ use Rattle.bc_scope_names.specs.View.{meant_view, after_one, after_entries}
 use Rattle.bc_scope_defs.specs.Scope.{Env, Names, Name, nothing_known, with_name, is_name, meant_among, meant_by, Meant, Constant, Pending, Static, Global, Routine, Variable, Label, OuterVariable, OuterLabel, StrayVariable, StrayLabel, LabelOutside, Undeclared}
 use Rattle.bc_scope_defs.specs.Scoping.{around_routine, around_valof, seen_through, in_routine, in_valof}
 
--- one entry more
+-- after one more entry
 
 pub after_push : (es : List Entry) (e : Entry) (E : Env) → after_entries (es ++ e ∷ []) E ≡ after_one e (after_entries es E)
 after_push [] e E = refl
@@ -30,9 +30,9 @@ newest_last es e q k = newest_push 0 es e q k ∙ ap (λ j. newest_one j e q (ne
 pub borders_last : (es : List Entry) (e : Entry) (b : Borders) → borders_of 0 (es ++ e ∷ []) b ≡ after_border (length es) e (borders_of 0 es b)
 borders_last es e b = borders_push 0 es e b ∙ ap (λ j. after_border j e (borders_of 0 es b)) (omega arith)
 
--- the meanings of a routine's and a VALOF's surroundings, twice over
+-- Crossing two borders, one after the other
 
--- what is another routine's, or stands outside routines, stays so
+-- a name of an outer routine, or from outside all routines, stays one through more borders
 routed_again : (i j : Bool) (m : Meant) → around_routine i (around_routine j m) ≡ around_routine j m
 routed_again true true (Constant w) = refl
 routed_again true true Pending = refl
@@ -162,7 +162,7 @@ nothing_routed : (i : Bool) → around_routine i Undeclared ≡ Undeclared
 nothing_routed true = refl
 nothing_routed false = refl
 
--- what is undeclared stays so, and all else goes name by name
+-- crossing a border changes each name by itself, and leaves undeclared names undeclared
 meant_through : (f : Meant → Meant) → f Undeclared ≡ Undeclared → (es : Names) (q : Name) → meant_among (seen_through f es) q ≡ f (meant_among es q)
 meant_through f u [] q = sym u
 meant_through f u (e ∷ es) q = by (is_name e.0 q) (meant_through f u es q)
@@ -177,12 +177,12 @@ meant_in_routine E q = meant_through (around_routine E.inside) (nothing_routed E
 meant_in_valof : (E : Env) (q : Name) → meant_by (in_valof E) q ≡ around_valof (meant_by E q)
 meant_in_valof E q = meant_through around_valof refl E.names q
 
--- what a scope answers where this was found
+-- the meaning that a scope returns for what its index found
 abbrev pub answered : Borders → Option Bound → Meant
 answered b None = Undeclared
 answered b (Some k) = seen b k
 
--- what was found stands before this place
+-- what was found is an entry before this number
 abbrev pub Stands : ℕ → Option Bound → Type 0
 Stands i None = Unit
 Stands i (Some k) = k.place < i
@@ -201,11 +201,11 @@ not_below a b h = search rules
 seen_now : (b : Borders) (k : Bound) → b.outermost ≤ k.place → b.routine ≤ k.place → b.valof ≤ k.place → seen b k ≡ meant_view k.meant
 seen_now b k o r v = rw (not_below k.place b.outermost o) (rw (not_below k.place b.routine r) (rw (not_below k.place b.valof v) refl))
 
--- whether a place with these borders is inside a routine
+-- whether these borders are those of a point inside a routine
 abbrev is_within : Borders → Bool
 is_within b = not (b.outermost == 0)
 
--- no border, no routine
+-- without a border there is no routine
 abbrev IsFirst : Borders → Type 0
 IsFirst b = b.outermost ≡ 0 → b.routine ≡ 0
 
@@ -218,7 +218,7 @@ zero_is n h = grind arith
 not_zero : (n : ℕ) → 1 ≤ n → (n == 0) ≡ false
 not_zero n h = grind arith
 
--- after a routine's beginning all that was found stands before it
+-- after entering a routine, all that was found before is before its border
 routine_now : (i : ℕ) (b : Borders) (k : Option Bound) → Stands i k → IsFirst b → answered (after_routine (i + 1) b) k ≡ around_routine (is_within b) (answered b k)
 routine_now i b None s f = sym (nothing_routed (is_within b))
 routine_now i b (Some k) s f = by (b.outermost == 0) refl
@@ -260,7 +260,7 @@ valof_now i b (Some k) s = rw (below k.place (i + 1) (omega arith)) (by (ltb k.p
     by false false true = sym (valof_again m)
     by false false false = refl
 
--- after a routine's beginning there is a border
+-- after entering a routine there is a border
 first_stays : (i : ℕ) (b : Borders) → b.outermost ≤ i → (not (cond (b.outermost == 0) (i + 1) b.outermost == 0) ≡ true) × (cond (b.outermost == 0) (i + 1) b.outermost ≤ i + 1) × IsFirst (after_routine (i + 1) b)
 first_stays i b h = by (b.outermost == 0) refl
   where
@@ -271,7 +271,7 @@ first_stays i b h = by (b.outermost == 0) refl
     by true e = (ap not (not_zero (i + 1) (omega arith)), omega arith, λ n. n)
     by false e = (ap not e, omega arith, λ n. absurd (true≢false (sym (zero_not n) ∙ e)))
 
--- what is found and what the borders are give what a name means after more entries
+-- by induction over the entries: index and borders give what a name means
 means : (es : List Entry) (i : ℕ) (E : Env) (q : Name) (b : Borders) (k : Option Bound) → E.inside ≡ is_within b → IsFirst b → meant_by E q ≡ answered b k → Stands i k → b.outermost ≤ i → b.routine ≤ i → b.valof ≤ i
     → meant_by (after_entries es E) q ≡ answered (borders_of i es b) (newest i es q k)
 means [] i E q b k n f h s o r v = h
@@ -300,6 +300,6 @@ within (entry.Name x p y ∷ es) i E b n o = within es (i + 1) (with_name x.name
 within (entry.Routine x ∷ es) i E b n o = let g = first_stays i b o in within es (i + 1) (in_routine E) (after_routine (i + 1) b) (sym g.0) g.1
 within (entry.Valof x ∷ es) i E b n o = within es (i + 1) (in_valof E) (record b { valof = i + 1 }) n (omega arith)
 
--- and whether the place is inside a routine
+-- and whether this point is inside a routine
 pub inside_is : (es : List Entry) → (after_entries es nothing_known).inside ≡ is_within (borders_of 0 es no_borders)
 inside_is es = within es 0 nothing_known no_borders refl (omega arith)

@@ -1,4 +1,4 @@
--- For proofs: what a meaning becomes in a routine and in a VALOF.
+-- For proofs: what a name means when it is seen from inside a routine or a VALOF.
 use Rattle.std.specs.Prelude.{nat_lt, cond, true, false}
 use Rattle.bc_scope_defs.specs.Scope.{Meant}
 use Rattle.bc_scope_defs.specs.Scoping.{around_routine, around_valof}
@@ -6,7 +6,7 @@ use Rattle.bc_scope_names.specs.declared.scope.Borders.{Borders}
 use Rattle.bc_scope_names.specs.declared.scope.Bound.{Bound}
 use Rattle.bc_scope_names.specs.Known.{meant_view}
 
--- inside of these borders
+-- what a name's newest entry means inside these borders
 abbrev pub seen : Borders → Bound → Meant
 seen b k =
     let m = meant_view k.meant in

@@ -1,8 +1,9 @@
--- What names and meanings of the code mean.
+-- Meanings of names in the code as those of the definitions.
 use Rattle.bc_scope_names.specs.declared.scope.Meant.{Meant}
 use Rattle.bc_scope_names.specs.declared.scope.Meant.TheVariants as code
 use Rattle.bc_scope_defs.specs.Scope as scoping
 
+-- a meaning of the code, as the definitions have it
 abbrev pub meant_view : Meant → scoping.Meant
 meant_view (code.Constant w) = scoping.Constant w
 meant_view code.Pending = scoping.Pending

@@ -1,3 +1,4 @@
+-- The definitions of scopes, and what their proofs need.
 pub mod Known
 pub mod View
 pub mod Crossing

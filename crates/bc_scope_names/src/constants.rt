@@ -1,4 +1,4 @@
-//! The values of constants.
+//! The values of constant expressions.
 ghost use Rattle.std.specs.Prelude.{◌≡◌};
 ghost use Rattle.bc_parse_tree.specs.View.{exp_view};
 ghost use Rattle.bc_scope_defs.specs.Scoping.{operator, constant_name, constant_monadic, constant_dyadic, constant_in, constant};
@@ -8,7 +8,7 @@ use crate::scope::{Meant, Scope};
 use bc_parse_tree::{Dyadic, Exp, Monadic};
 use bc_word::{Op, Word, apply};
 
-/// The operator of a word for each but `!`.
+/// The operator on words that a dyadic operator of the source computes; `None` for `!`, which reads a cell.
 pub fn operator(sign: Dyadic) -> Option<Op>
     ensures { result ≡ operator sign }
 {
@@ -34,6 +34,7 @@ pub fn operator(sign: Dyadic) -> Option<Op>
     }
 }
 
+/// The value of a name in a constant expression: only a manifest has one.
 fn of_name(meant: Meant) -> Option<Word>
     ensures { result ≡ constant_name (meant_view meant) }
 {
@@ -43,6 +44,7 @@ fn of_name(meant: Meant) -> Option<Word>
     }
 }
 
+/// The value of a monadic operator's constant; `None` where the operand has none, and for `!` and `@`.
 fn of_monadic(sign: Monadic, operand: Option<Word>) -> Option<Word>
     ensures { result ≡ constant_monadic sign operand }
 {
@@ -54,13 +56,14 @@ fn of_monadic(sign: Monadic, operand: Option<Word>) -> Option<Word>
     }
 }
 
+/// The value of a dyadic operator's constant; `None` where an operand has none, or on division by zero.
 fn of_dyadic(sign: Option<Op>, left: Option<Word>, right: Option<Word>) -> Option<Word>
     ensures { result ≡ constant_dyadic sign left right }
 {
     apply(sign?, left?, right?)
 }
 
-/// The value of a constant, or `None` for an expression that is none.
+/// The value of a constant expression, by the names in `scope`; `None` if the expression isn't constant.
 pub fn constant_in(scope: &Scope<'_>, e: &Exp<'_>) -> Option<Word>
     ensures { result ≡ constant_in (scope_view scope.now) (exp_view e.now) }
 {
@@ -81,7 +84,7 @@ pub fn constant_in(scope: &Scope<'_>, e: &Exp<'_>) -> Option<Word>
     }
 }
 
-/// The value of a constant; what is no constant counts as 0.
+/// The value of a constant expression; an expression that isn't constant counts as 0.
 pub fn constant(scope: &Scope<'_>, e: &Exp<'_>) -> Word
     ensures { result ≡ constant (scope_view scope.now) (exp_view e.now) }
 {

@@ -1,4 +1,4 @@
-//! What declarations make known.
+//! The names that declarations add to a scope. Each call fails with `Memory` when an allocation fails or a number exceeds 64 bits.
 ghost use Rattle.std.specs.Prelude.{◌≡◌, ◌+◌, [], drop, map, None, IfOk};
 ghost use Rattle.bc_scope_defs.specs.Scope.{with_name};
 ghost use Rattle.bc_parse_tree.specs.View.{exps_view, definition_view, definitions_view, label_view, labels_view, item_view, items_view, constant_view, entries_view};
@@ -15,6 +15,7 @@ use crate::scope::{Meant, Scope};
 use bc_parse_tree::{Constant, Definition, Exp, Item, Label, Storage};
 use bc_word::{Memory, Word};
 
+/// Adds one name of a constant declaration, as it is before its value is known.
 fn declare_pending_entry<'s>(
     scope: &mut Scope<'s>,
     storage: Storage,
@@ -26,7 +27,8 @@ fn declare_pending_entry<'s>(
     scope.declare(entry.name, meant_as(storage, Numbers::start(), None))
 }
 
-/// The names of a declaration of constants, as what they will be; none of them is a constant yet.
+/// Adds all names of a MANIFEST, STATIC or GLOBAL declaration before any value is known: each name gets its kind, but no
+/// manifest has a value, statics have the first label and globals the number 0.
 #[tactic(auto, using(crate::proofs::Extends::extends_on, crate::proofs::Extends::extends_self))]
 pub fn declare_pending<'s>(
     scope: &mut Scope<'s>,
@@ -41,7 +43,8 @@ pub fn declare_pending<'s>(
     Ok(())
 }
 
-/// What a name of a declaration of constants means, by its value.
+/// The meaning of a name of a MANIFEST, STATIC or GLOBAL declaration. `at` has the label of a static. `value` is the constant
+/// after the name; without one, a manifest is pending and a global has the number 0.
 pub fn meant_as(storage: Storage, at: Numbers, value: Option<Word>) -> Meant
     ensures { meant_view result ≡ meant_as storage (numbers_view at) value }
 {
@@ -58,7 +61,7 @@ pub fn meant_as(storage: Storage, at: Numbers, value: Option<Word>) -> Meant
     }
 }
 
-/// The name of one entry, with its meaning.
+/// Adds the name of one entry with its final meaning. Its constant is evaluated in `scope` as it was before the call.
 pub fn declare_entry<'s>(
     scope: &mut Scope<'s>,
     storage: Storage,
@@ -72,7 +75,7 @@ pub fn declare_entry<'s>(
     scope.declare(entry.name, meant_as(storage, at, value))
 }
 
-/// How many expressions there are.
+/// The number of expressions in a list.
 #[tactic(auto, using(crate::proofs::Counts::count_seen))]
 pub fn count(list: &[Exp<'_>]) -> u64
     ensures { result ≡ count (exps_view list.now) }
@@ -80,24 +83,26 @@ pub fn count(list: &[Exp<'_>]) -> u64
     list.len() as u64
 }
 
-/// What the names before a LET say of its definitions.
+/// The facts about a LET's definitions that must be found before the LET adds its names.
 #[derive(Debug, Drop)]
 pub struct Priors {
-    /// For each the global that it sets: a routine does, whose name means one.
+    /// For each definition the number of the global that it sets. Only a routine whose name already means a global sets one.
     pub globals: Vec<Option<u16>>,
-    /// For each the constant of a vector, else 0.
+    /// For each definition the greatest index of its vector; 0 for definitions other than vectors.
     pub greatest: Vec<u16>,
 }
 
-/// What the names before a LET say of one of its definitions.
+/// The facts about one definition that must be found before its LET adds its names.
 #[derive(Clone, Copy, Debug, PartialEq, Eq)]
 pub struct Prior {
+    /// The number of the global that it sets, if it is a routine whose name already means a global.
     pub global: Option<u16>,
+    /// The greatest index of its vector; 0 for a definition other than a vector.
     pub greatest: u16,
 }
 
 impl Priors {
-    /// Of this definition; nothing where there are not as many.
+    /// The values for definition `i`, counted from 0; no global and 0 where there are no more than `i`.
     #[tactic(auto, using(std::proofs::lemmas::List::drop_more, std::proofs::lemmas::List::drop_all))]
     pub fn at(&self, i: u64) -> Prior
         ensures { result ≡ prior_at (drop i self.now.globals.items) (drop i self.now.greatest.items) }
@@ -118,7 +123,7 @@ impl Priors {
     }
 }
 
-/// The global that a name means.
+/// The number of the global that a name means.
 fn global_of(meant: Meant) -> Option<u16>
     ensures { result ≡ global_of (meant_view meant) }
 {
@@ -128,6 +133,7 @@ fn global_of(meant: Meant) -> Option<u16>
     }
 }
 
+/// The global that a definition sets, if it is a routine whose name means a global in `scope`.
 fn global_before(scope: &Scope<'_>, definition: &Definition<'_>) -> Option<u16>
     ensures { result ≡ global_before (scope_view scope.now) (definition_view definition.now) }
 {
@@ -139,6 +145,7 @@ fn global_before(scope: &Scope<'_>, definition: &Definition<'_>) -> Option<u16>
     }
 }
 
+/// The global that each definition sets.
 fn globals_before(
     scope: &Scope<'_>,
     definitions: &[Definition<'_>],
@@ -152,6 +159,7 @@ fn globals_before(
     Ok(globals)
 }
 
+/// The greatest index of a vector, by the names in `constants`; 0 for other definitions.
 fn greatest_of(constants: &Scope<'_>, definition: &Definition<'_>) -> u16
     ensures { result ≡ greatest_of (scope_view constants.now) (definition_view definition.now) }
 {
@@ -163,6 +171,7 @@ fn greatest_of(constants: &Scope<'_>, definition: &Definition<'_>) -> u16
     }
 }
 
+/// The greatest index of each definition that is a vector, else 0.
 fn all_greatest_of(
     constants: &Scope<'_>,
     definitions: &[Definition<'_>],
@@ -176,6 +185,7 @@ fn all_greatest_of(
     Ok(greatest)
 }
 
+/// Whether a definition is a vector.
 fn is_vector(definition: &Definition<'_>) -> bool
     ensures { result ≡ is_vector (definition_view definition.now) }
 {
@@ -187,7 +197,7 @@ fn is_vector(definition: &Definition<'_>) -> bool
     }
 }
 
-/// Whether a LET declares a vector. Nothing else has constants that see its names.
+/// Whether a LET declares a vector. Only vectors have constants, so only they look up the LET's own names.
 pub fn has_vector(definitions: &[Definition<'_>]) -> bool
     ensures { result ≡ has_vector (definitions_view definitions.now) }
 {
@@ -199,7 +209,7 @@ pub fn has_vector(definitions: &[Definition<'_>]) -> bool
     false
 }
 
-/// The global that a definition sets; none where there are not as many.
+/// The global that definition `i` sets, counted from 0; `None` where there are no more than `i`.
 #[tactic(auto, using(std::proofs::lemmas::List::drop_more, std::proofs::lemmas::List::drop_all))]
 fn global_at(globals: &[Option<u16>], i: u64) -> Option<u16>
     ensures { result ≡ first_global (drop i globals.now) }
@@ -208,7 +218,7 @@ fn global_at(globals: &[Option<u16>], i: u64) -> Option<u16>
     if i < globals.len() { globals[i] } else { None }
 }
 
-/// The names of this definition of a LET, as its constants see them.
+/// Adds the names of definition `i` of a LET as constants see them: only their kind matters, so numbers and offsets are 0.
 fn declare_own_definition<'s>(
     scope: &mut Scope<'s>,
     globals: &[Option<u16>],
@@ -225,6 +235,7 @@ fn declare_own_definition<'s>(
     declare_definition(scope, prior, Numbers::start(), 0, definition)
 }
 
+/// Adds the names of all definitions of a LET as its constants see them.
 fn declare_own<'s>(
     scope: &mut Scope<'s>,
     globals: &[Option<u16>],
@@ -240,7 +251,7 @@ fn declare_own<'s>(
     Ok(())
 }
 
-/// The names of a LET, as its constants see them: what they will be, and none of them is a constant.
+/// Adds the names of a LET as the constants of its vectors see them: as variables and routines, none of them a constant.
 #[tactic(auto, using(crate::proofs::Lets::own_is))]
 pub fn declare_let_pending<'s>(
     scope: &mut Scope<'s>,
@@ -252,7 +263,7 @@ pub fn declare_let_pending<'s>(
     declare_own(scope, &globals, definitions)
 }
 
-/// For each definition of a LET the constant of a vector, else 0. The scope is then as it was.
+/// The greatest index of each vector of a LET, and 0 for other definitions. Leaves `scope` as it was.
 #[tactic(auto, using(crate::proofs::Extends::left, crate::proofs::Lets::greatest_anywhere))]
 fn greatest_of_let<'s>(
     scope: &mut Scope<'s>,
@@ -272,7 +283,7 @@ fn greatest_of_let<'s>(
     Ok(greatest)
 }
 
-/// What the names before a LET say of its definitions. The scope is then as it was.
+/// Finds what `declare_let` needs, with the names that are in scope before the LET. Leaves `scope` as it was.
 pub fn priors_of_let<'s>(
     scope: &mut Scope<'s>,
     definitions: &[Definition<'s>],
@@ -284,7 +295,7 @@ pub fn priors_of_let<'s>(
     Ok(Priors { globals, greatest })
 }
 
-/// How many cells a definition takes.
+/// The number of frame cells that a definition takes. A vector with greatest index n takes n + 2: its variable, and n + 1 cells.
 fn cells_by(prior: Prior, definition: &Definition<'_>) -> Result<u64, Memory>
     ensures { IfOk result (λ n. n ≡ cells_by prior (definition_view definition.now)) }
 {
@@ -295,7 +306,7 @@ fn cells_by(prior: Prior, definition: &Definition<'_>) -> Result<u64, Memory>
     }
 }
 
-/// Variables from this offset on.
+/// Adds variables with consecutive offsets in the frame, beginning at `offset`.
 #[tactic(auto, using(crate::proofs::Extends::extends_on, crate::proofs::Extends::extends_self))]
 pub fn declare_variables<'s>(
     scope: &mut Scope<'s>,
@@ -312,7 +323,7 @@ pub fn declare_variables<'s>(
     Ok(())
 }
 
-/// A routine; one whose name means a global before the LET makes no new name.
+/// Adds a routine with this label. A routine whose name already means a global sets that global, and adds no name.
 #[tactic(auto, using(crate::proofs::Extends::extends_on, crate::proofs::Extends::extends_self))]
 fn declare_routine<'s>(
     scope: &mut Scope<'s>,
@@ -328,6 +339,7 @@ fn declare_routine<'s>(
     }
 }
 
+/// Adds the names of one definition, whose numbers begin at `at` and whose cells begin at `offset`.
 #[tactic(auto, using(crate::proofs::Extends::extends_on, crate::proofs::Extends::extends_self))]
 fn declare_definition<'s>(
     scope: &mut Scope<'s>,
@@ -348,7 +360,8 @@ fn declare_definition<'s>(
     }
 }
 
-/// The names that a LET makes known, at this next free offset; given is the next free offset after it.
+/// Adds the names of a LET whose numbers begin at `at` and whose first free frame offset is `level`. `priors` must be what
+/// `priors_of_let` found for it. Returns the first free offset after it.
 #[tactic(auto, using(crate::proofs::Extends::extends_on, crate::proofs::Extends::extends_self, crate::proofs::Lets::all_cells_are, crate::proofs::Lets::all_declared_is))]
 pub fn declare_let<'s>(
     scope: &mut Scope<'s>,
@@ -370,7 +383,7 @@ pub fn declare_let<'s>(
         declare_definition(scope, prior, at, offset, definition)?;
         offset = sum(offset, cells_by(prior, definition)?)?;
         i = sum(i, 1)?;
-        // Nothing asks for the numbers after the last definition, which may be a walk over a large body.
+        // The numbers after the last definition aren't needed, and finding them may walk over a large body.
         if i < definitions.len() as u64 {
             after_definition(&mut at, definition)?;
         }
@@ -378,8 +391,8 @@ pub fn declare_let<'s>(
     Ok(offset)
 }
 
-/// A routine with these parameters begins: the variables and labels around it are another's, and its parameters stand
-/// from offset 2 on.
+/// Enters a routine and adds its parameters, whose offsets begin at 2. Variables and labels around the routine can't be used
+/// in it.
 #[tactic(auto, using(crate::proofs::Extends::extends_on, crate::proofs::Extends::extends_self))]
 pub fn declare_parameters<'s>(scope: &mut Scope<'s>, parameters: &[&'s [u8]]) -> Result<(), Memory>
     ensures { IfOk result (λ _. Declares scope.old scope.new (in_parameters (map (λ n. n.now) parameters.now) (scope_view scope.old))) }
@@ -388,7 +401,7 @@ pub fn declare_parameters<'s>(scope: &mut Scope<'s>, parameters: &[&'s [u8]]) ->
     declare_variables(scope, parameters, 2)
 }
 
-/// A label; one without a name makes no new name.
+/// Adds a label with this number. CASE and DEFAULT add no name.
 #[tactic(auto, using(crate::proofs::Extends::extends_self))]
 fn declare_label<'s>(scope: &mut Scope<'s>, number: u64, label: &Label<'s>) -> Result<(), Memory>
     ensures known { IfOk result (λ _. scope_view scope.new ≡ in_label number (label_view label.now) (scope_view scope.old)) }
@@ -401,7 +414,7 @@ fn declare_label<'s>(scope: &mut Scope<'s>, number: u64, label: &Label<'s>) -> R
     }
 }
 
-/// The labels before a command, the first of which has this number; given is the number after them.
+/// Adds the labels before a command, numbered from `number`, and returns the next number.
 #[tactic(auto, using(crate::proofs::Extends::extends_on, crate::proofs::Extends::extends_self))]
 fn declare_labels<'s>(
     scope: &mut Scope<'s>,
@@ -420,7 +433,7 @@ fn declare_labels<'s>(
     Ok(number)
 }
 
-/// The labels before the command of an item, the first of which has this number; given is the number after them.
+/// Adds the labels before an item's command, numbered from `number`, and returns the next number.
 fn declare_item<'s>(scope: &mut Scope<'s>, number: u64, item: &Item<'s>) -> Result<u64, Memory>
     ensures { IfOk result (λ n.
         Declares scope.old scope.new (in_item number (item_view item.now) (scope_view scope.old))
@@ -429,7 +442,7 @@ fn declare_item<'s>(scope: &mut Scope<'s>, number: u64, item: &Item<'s>) -> Resu
     declare_labels(scope, number, &item.labels)
 }
 
-/// The labels of a command list, the first of which has this number.
+/// Adds all labels of a command list, numbered from `number`.
 #[tactic(auto, using(crate::proofs::Extends::extends_self))]
 pub fn declare_list<'s>(
     scope: &mut Scope<'s>,

@@ -1,40 +1,42 @@
+//! The error of resolving a section.
 use std::alloc::{AllocError, AllocFailed};
 use thiserror::Error;
 
-/// Why a section can't be resolved. A name is a slice of its source.
+/// Why a section can't be resolved. A name in it is a slice of the source.
 #[derive(Clone, Copy, Debug, PartialEq, Eq, Error)]
 pub enum ScopeError<'s> {
-    /// The name is not declared here.
+    /// The name isn't declared where it is used.
     #[error("a name is not declared")]
     Undeclared(&'s [u8]),
-    /// The name stands twice in one declaration, command list or parameter list.
+    /// The name occurs twice in one declaration, command list or parameter list.
     #[error("a name is declared twice")]
     DeclaredTwice(&'s [u8]),
-    /// The name is that of a variable or label of an enclosing routine.
+    /// The name is a variable or label of an enclosing routine.
     #[error("a name belongs to an enclosing routine")]
     DynamicFree(&'s [u8]),
-    /// Here a constant is wanted.
+    /// An expression isn't constant where a constant is required.
     #[error("a constant is wanted")]
     NotConstant,
     /// The number of this global is over 511.
     #[error("the number of a global is over 511")]
     GlobalNumber(&'s [u8]),
-    /// Only a variable, a static, a global, `!E` and `E1!E2` have a cell.
+    /// An expression without a cell is assigned to, or its address is taken. Only a variable, a static, a global, `!E` and
+    /// `E1!E2` have a cell.
     #[error("an expression has no cell")]
     NotAssignable,
-    /// A command, a label or a declaration of variables that may not stand here.
+    /// A command, a label or a declaration of variables isn't allowed where it occurs.
     #[error("a command, a label or a variable may not stand here")]
     Misplaced,
     /// A frame has more than 32,768 cells.
     #[error("a frame has more than 32,768 cells")]
     FrameTooLarge,
-    /// Two cases of one SWITCHON have the same value, or it has two defaults.
+    /// Two cases of one SWITCHON have the same value, or it has two DEFAULTs.
     #[error("a case stands twice")]
     CaseTwice,
-    /// There are more than 8,000 routines, statics, tables and strings.
+    /// The section has more than 8,000 routines, statics, tables and strings together.
     #[error("more than 8,000 routines, statics, tables and strings")]
     TooManyPlaces,
-    /// An allocation was refused.
+    /// An allocation failed.
     #[error("out of memory")]
     Memory,
 }

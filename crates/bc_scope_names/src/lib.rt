@@ -1,4 +1,5 @@
-//! What names mean where they stand, and what is declared.
+//! Scopes: what each name means at each point of a section, what declarations add, and how a section's routines, data, VALOFs
+//! and labels are numbered.
 #![tactic(auto)]
 
 mod constants;
@@ -18,5 +19,5 @@ pub use declaring::{
 pub use error::ScopeError;
 pub use numbering::{after_block, after_definition, after_entry, labels_in};
 pub use numbers::{Numbers, short, sum};
-pub use scope::{Mark, Meant, Scope};
+pub use scope::{Meant, Scope, ScopeMark};
 pub use sides::{is_operand, side_levels};

@@ -1,4 +1,5 @@
-//! The numbers after a tree, in text order.
+//! Moves a section's numbers past trees, in text order: each tree takes as many numbers as it contains places, VALOFs and labels.
+//! All calls fail with `Memory` if a number exceeds 64 bits.
 ghost use Rattle.std.specs.Prelude.{◌≡◌, IfOk};
 ghost use Rattle.bc_parse_tree.specs.View.{exp_view, exps_view, command_view, block_view, declaration_view, declarations_view, definition_view, definitions_view, label_view, labels_view, item_view, items_view, entries_view};
 ghost use Rattle.bc_scope_defs.specs.Numbering.{labels_named, labels_of, labels_in, after_entry, after_entries, following, after_all, after_block, after_declarations, after_declaration, after_definitions, after_definition, after_items, after_item, after_command};
@@ -8,7 +9,7 @@ use crate::numbers::{Numbers, sum};
 use bc_parse_tree::{Block, Command, Constant, Declaration, Definition, Exp, Item, Label, Storage};
 use bc_word::Memory;
 
-/// How many labels with a name stand before the command of an item.
+/// The number of named labels before an item's command. Fails with `Memory` where it exceeds 64 bits.
 pub fn labels_of(labels: &[Label<'_>]) -> Result<u64, Memory>
     ensures { IfOk result (λ n. n ≡ labels_of (labels_view labels.now)) }
 {
@@ -19,7 +20,7 @@ pub fn labels_of(labels: &[Label<'_>]) -> Result<u64, Memory>
     Ok(count)
 }
 
-/// Whether this is a label with a name, as a count.
+/// 1 for a named label, 0 for CASE and DEFAULT.
 pub fn labels_named(label: &Label<'_>) -> u64
     ensures { result ≡ labels_named (label_view label.now) }
 {
@@ -29,7 +30,8 @@ pub fn labels_named(label: &Label<'_>) -> u64
     }
 }
 
-/// How many labels with a name a command list has.
+/// The number of named labels of a command list, without those of lists inside it. Fails with `Memory` where it exceeds 64
+/// bits.
 pub fn labels_in(items: &[Item<'_>]) -> Result<u64, Memory>
     ensures { IfOk result (λ n. n ≡ labels_in (items_view items.now)) }
 {
@@ -40,6 +42,8 @@ pub fn labels_in(items: &[Item<'_>]) -> Result<u64, Memory>
     Ok(count)
 }
 
+/// The numbers after one entry of a MANIFEST, STATIC or GLOBAL declaration: a static takes a place. Fails with `Memory` where
+/// a number exceeds 64 bits.
 pub fn after_entry(storage: Storage, at: Numbers) -> Result<Numbers, Memory>
     ensures { IfOk result (λ n. numbers_view n ≡ after_entry storage (numbers_view at)) }
 {
@@ -49,6 +53,7 @@ pub fn after_entry(storage: Storage, at: Numbers) -> Result<Numbers, Memory>
     }
 }
 
+/// Moves the numbers past the entries of one declaration.
 fn after_entries(storage: Storage, at: &mut Numbers, entries: &[Constant<'_>]) -> Result<(), Memory>
     ensures { IfOk result (λ _. numbers_view at.new ≡ after_entries storage (numbers_view at.old) (entries_view entries.now)) }
 {
@@ -58,6 +63,7 @@ fn after_entries(storage: Storage, at: &mut Numbers, entries: &[Constant<'_>]) -
     Ok(())
 }
 
+/// Moves the numbers past an expression.
 #[cycle(numbering)]
 fn following(at: &mut Numbers, e: &Exp<'_>) -> Result<(), Memory>
     ensures { IfOk result (λ _. numbers_view at.new ≡ following (numbers_view at.old) (exp_view e.now)) }
@@ -89,6 +95,7 @@ fn following(at: &mut Numbers, e: &Exp<'_>) -> Result<(), Memory>
     }
 }
 
+/// Moves the numbers past a list of expressions.
 #[cycle(numbering)]
 fn after_all(at: &mut Numbers, list: &[Exp<'_>]) -> Result<(), Memory>
     ensures { IfOk result (λ _. numbers_view at.new ≡ after_all (numbers_view at.old) (exps_view list.now)) }
@@ -99,9 +106,7 @@ fn after_all(at: &mut Numbers, list: &[Exp<'_>]) -> Result<(), Memory>
     Ok(())
 }
 
-/// The numbers after a block.
-///
-/// `Memory` comes where one would pass what 64 bits hold.
+/// Moves the numbers past a block. Fails with `Memory` where a number exceeds 64 bits.
 #[cycle(numbering)]
 pub fn after_block(at: &mut Numbers, block: &Block<'_>) -> Result<(), Memory>
     ensures { IfOk result (λ _. numbers_view at.new ≡ after_block (numbers_view at.old) (block_view block.now)) }
@@ -111,6 +116,7 @@ pub fn after_block(at: &mut Numbers, block: &Block<'_>) -> Result<(), Memory>
     after_items(at, &block.items)
 }
 
+/// Moves the numbers past declarations.
 #[cycle(numbering)]
 fn after_declarations(at: &mut Numbers, list: &[Declaration<'_>]) -> Result<(), Memory>
     ensures { IfOk result (λ _. numbers_view at.new ≡ after_declarations (numbers_view at.old) (declarations_view list.now)) }
@@ -121,6 +127,7 @@ fn after_declarations(at: &mut Numbers, list: &[Declaration<'_>]) -> Result<(), 
     Ok(())
 }
 
+/// Moves the numbers past one declaration.
 #[cycle(numbering)]
 fn after_declaration(at: &mut Numbers, declaration: &Declaration<'_>) -> Result<(), Memory>
     ensures { IfOk result (λ _. numbers_view at.new ≡ after_declaration (numbers_view at.old) (declaration_view declaration.now)) }
@@ -131,6 +138,7 @@ fn after_declaration(at: &mut Numbers, declaration: &Declaration<'_>) -> Result<
     }
 }
 
+/// Moves the numbers past the definitions of a LET.
 #[cycle(numbering)]
 fn after_definitions(at: &mut Numbers, list: &[Definition<'_>]) -> Result<(), Memory>
     ensures { IfOk result (λ _. numbers_view at.new ≡ after_definitions (numbers_view at.old) (definitions_view list.now)) }
@@ -141,9 +149,7 @@ fn after_definitions(at: &mut Numbers, list: &[Definition<'_>]) -> Result<(), Me
     Ok(())
 }
 
-/// The numbers after one definition.
-///
-/// `Memory` comes where one would pass what 64 bits hold.
+/// Moves the numbers past one definition. Fails with `Memory` where a number exceeds 64 bits.
 #[cycle(numbering)]
 pub fn after_definition(at: &mut Numbers, definition: &Definition<'_>) -> Result<(), Memory>
     ensures { IfOk result (λ _. numbers_view at.new ≡ after_definition (numbers_view at.old) (definition_view definition.now)) }
@@ -162,6 +168,7 @@ pub fn after_definition(at: &mut Numbers, definition: &Definition<'_>) -> Result
     }
 }
 
+/// Moves the numbers past the items of a list, whose labels are already counted.
 #[cycle(numbering)]
 fn after_items(at: &mut Numbers, list: &[Item<'_>]) -> Result<(), Memory>
     ensures { IfOk result (λ _. numbers_view at.new ≡ after_items (numbers_view at.old) (items_view list.now)) }
@@ -172,6 +179,7 @@ fn after_items(at: &mut Numbers, list: &[Item<'_>]) -> Result<(), Memory>
     Ok(())
 }
 
+/// Moves the numbers past the command of an item.
 #[cycle(numbering)]
 fn after_item(at: &mut Numbers, item: &Item<'_>) -> Result<(), Memory>
     ensures { IfOk result (λ _. numbers_view at.new ≡ after_item (numbers_view at.old) (item_view item.now)) }
@@ -182,6 +190,7 @@ fn after_item(at: &mut Numbers, item: &Item<'_>) -> Result<(), Memory>
     }
 }
 
+/// Moves the numbers past a command.
 #[cycle(numbering)]
 fn after_command(at: &mut Numbers, command: &Command<'_>) -> Result<(), Memory>
     ensures { IfOk result (λ _. numbers_view at.new ≡ after_command (numbers_view at.old) (command_view command.now)) }

@@ -1,3 +1,4 @@
+//! Failed allocations as the error `Memory`.
 ghost use Rattle.std.specs.Prelude.{◌≡◌};
 ghost use Rattle.bc_scope_names.specs.declared.error.ScopeError.TheVariants as faults;
 

@@ -1,3 +1,5 @@
+//! The scope of a section. There is only one: the walk adds names as it enters a block, LET or routine, and takes them back as it
+//! leaves.
 ghost use Rattle.std.specs.Prelude.{◌≡◌, ◌-◌, ◌≤◌, [], None, IfOk, take, length};
 ghost use Rattle.bc_scope_defs.specs.Scope.{meant_by, with_name};
 ghost use Rattle.bc_scope_defs.specs.Scoping.{around_routine, around_valof, in_routine, in_valof};
@@ -10,11 +12,12 @@ use indexmap::IndexMap;
 use std::alloc::Global;
 use std::marker::Model;
 
-/// What a name means where it stands.
+/// The meaning of a name at one point of a section.
 #[derive(Clone, Copy, Debug, PartialEq, Eq)]
 pub enum Meant {
+    /// A manifest, by its value.
     Constant(u16),
-    /// A manifest of the declaration at work, whose constant isn't known yet.
+    /// A manifest of the current declaration, whose value isn't known yet.
     Pending,
     /// A static, by its label.
     Static(u64),
@@ -26,35 +29,38 @@ pub enum Meant {
     Variable(u64),
     /// A label of a command list, by its number.
     Label(u64),
-    /// A variable of an enclosing routine.
+    /// A variable of an enclosing routine, which can't be used here.
     OuterVariable,
-    /// A label of an enclosing routine.
+    /// A label of an enclosing routine, which can't be used here.
     OuterLabel,
-    /// In a routine, a variable that stands outside routines.
+    /// In a routine: a variable declared outside all routines.
     StrayVariable,
-    /// In a routine, a label that stands outside routines.
+    /// In a routine: a label outside all routines.
     StrayLabel,
-    /// A label outside of the VALOF at work.
+    /// A label outside the innermost VALOF. A GOTO can't jump to it.
     LabelOutside,
+    /// No declaration is in scope.
     Undeclared,
 }
 
 /// A name with its meaning.
 #[derive(Clone, Copy, Debug, PartialEq, Eq)]
 pub struct Named<'s> {
+    /// The name as it is spelled in the source.
     pub name: &'s [u8],
+    /// Its meaning where it was declared.
     pub meant: Meant,
 }
 
-/// What a name means by its newest entry, and how many entries stand before that.
+/// The meaning by a name's newest entry, and the number of entries before that one.
 #[derive(Clone, Copy, Debug, PartialEq, Eq)]
 struct Bound {
     meant: Meant,
     place: usize,
 }
 
-/// How many entries stand outside of all routines, none where there is no routine; outside of the innermost routine, and
-/// outside of the innermost VALOF.
+/// How many entries, counted from the oldest, lie outside all routines (0 where there is no routine), outside the innermost
+/// routine, and outside the innermost VALOF. An entry before a border is seen through that routine or VALOF.
 #[derive(Clone, Copy, Debug, PartialEq, Eq)]
 struct Borders {
     outermost: usize,
@@ -62,37 +68,37 @@ struct Borders {
     valof: usize,
 }
 
-/// What made known what is known at a place, with what was known of it before.
+/// One change of a scope, with what it replaced, so that it can be undone without a search.
 #[derive(Clone, Copy, Debug, PartialEq, Eq)]
 enum Entry<'s> {
-    /// A declared name, its position in the index, and what it meant before.
+    /// A name was declared: with its position in the index, and what it meant before.
     Name {
         named: Named<'s>,
         position: usize,
         hidden: Option<Bound>,
     },
-    /// A routine begins.
+    /// A routine began, inside these borders.
     Routine(Borders),
-    /// A VALOF begins.
+    /// A VALOF began, inside these borders.
     Valof(Borders),
 }
 
-/// How much a scope knows at a place, to which it may be taken back.
+/// A state of a scope to which `leave` can return.
 #[derive(Clone, Copy, Debug, PartialEq, Eq)]
-pub struct Mark {
+pub struct ScopeMark {
     entries: usize,
 }
 
-/// The names that are known at a place; a later one hides an earlier one.
+/// The names in scope at one point of a section; a later one hides an earlier one.
 ///
-/// Contracts see a scope as its entries, oldest first. It serves all places of a section in turn: what an inner place
-/// makes known is taken back after it.
+/// Contracts see a scope as its entries, oldest first. One scope serves a whole section: what a block, LET or routine adds is
+/// taken back at its end, which costs as much as adding it did.
 #[derive(Drop)]
 pub struct Scope<'s> {
     alloc: Global,
     entries: Vec<Entry<'s>>,
-    /// What each name means by its newest entry; none where it has no entry any more. No name is taken out, so each
-    /// keeps its position.
+    /// The newest entry of each name; `None` after its last entry was taken back. No name is ever removed, so each keeps its
+    /// position.
     index: IndexMap<&'s [u8], Option<Bound>>,
     borders: Borders,
 }
@@ -114,7 +120,7 @@ impl<'s> Model for Scope<'s> {
 }
 
 impl<'s> Scope<'s> {
-    /// The scope in which no name is known.
+    /// A scope without names. Allocates nothing yet.
     pub fn new(alloc: Global) -> Scope<'s>
         ensures { result ≡ [] }
     {
@@ -130,7 +136,7 @@ impl<'s> Scope<'s> {
         }
     }
 
-    /// Where memory for what belongs to the section comes from.
+    /// The allocator that the scope was made with.
     pub fn alloc(&self) -> Global {
         self.alloc
     }
@@ -145,7 +151,7 @@ impl<'s> Scope<'s> {
         }
     }
 
-    /// What a name means.
+    /// The meaning of a name here; `Undeclared` if no declaration of it is in scope.
     #[tactic(auto, unfolding(crate::specs::View::scope_view), using(crate::proofs::Names::meant_is))]
     pub fn meant_by(&self, name: &[u8]) -> Meant
         ensures { meant_view result ≡ meant_by (scope_view self.now) name.now }
@@ -156,7 +162,7 @@ impl<'s> Scope<'s> {
         }
     }
 
-    /// Whether the place is inside a routine.
+    /// Whether this point of the section is inside a routine.
     #[tactic(auto, unfolding(crate::specs::View::scope_view), using(crate::proofs::Names::inside_is))]
     pub fn is_inside(&self) -> bool
         ensures { result ≡ (scope_view self.now).inside }
@@ -164,13 +170,11 @@ impl<'s> Scope<'s> {
         self.borders.outermost != 0
     }
 
-    /// One name more.
-    ///
-    /// `Memory` comes where a vector could not grow.
+    /// Adds a name. Fails with `Memory` when an allocation fails.
     pub fn declare(&mut self, name: &'s [u8], meant: Meant) -> Result<(), Memory>
         ensures { IfOk result (λ _. Declares self.old self.new (with_name name.entry.now (meant_view meant) (scope_view self.old))) }
     {
-        // After this an entry more can't be refused, when the index has changed already.
+        // Reserved first, so that the push can't fail after the index has changed.
         self.entries.reserve(1)?;
         let place = self.entries.len();
         let (position, hidden) = self.index.insert_full(name, Some(Bound { meant, place }))?;
@@ -185,9 +189,8 @@ impl<'s> Scope<'s> {
         }
     }
 
-    /// A routine begins: the variables and labels that are known are another's in it, or stand outside routines.
-    ///
-    /// `Memory` comes where a vector could not grow.
+    /// Enters a routine: in it, the variables and labels known up to here can't be used. Fails with `Memory` when an allocation
+    /// fails.
     pub fn enter_routine(&mut self) -> Result<(), Memory>
         ensures { IfOk result (λ _. Declares self.old self.new (in_routine (scope_view self.old))) }
     {
@@ -196,9 +199,7 @@ impl<'s> Scope<'s> {
         Ok(())
     }
 
-    /// A VALOF begins: the labels that are known stand outside of it.
-    ///
-    /// `Memory` comes where a vector could not grow.
+    /// Enters a VALOF: in it, no GOTO can jump to the labels known up to here. Fails with `Memory` when an allocation fails.
     pub fn enter_valof(&mut self) -> Result<(), Memory>
         ensures { IfOk result (λ _. Declares self.old self.new (in_valof (scope_view self.old))) }
     {
@@ -207,16 +208,16 @@ impl<'s> Scope<'s> {
         Ok(())
     }
 
-    /// How much is known now.
-    pub fn mark(&self) -> Mark
+    /// The current state, to which `leave` can return.
+    pub fn mark(&self) -> ScopeMark
         ensures { result.entries ≡ length self.now }
     {
-        Mark {
+        ScopeMark {
             entries: self.entries.len(),
         }
     }
 
-    /// What was made known last is known no more, and what it hid is known again.
+    /// Takes back the last entry, and restores what it hid.
     fn leave_last(&mut self)
         ensures { self.new ≡ take (length self.old - 1) self.old }
     {
@@ -237,8 +238,8 @@ impl<'s> Scope<'s> {
         }
     }
 
-    /// What was made known since the mark is known no more, and what it hid is known again.
-    pub fn leave(&mut self, mark: Mark)
+    /// Takes back everything added since the mark, and restores what it hid. Allocates nothing, so it can't fail.
+    pub fn leave(&mut self, mark: ScopeMark)
         ensures { self.new ≡ take mark.entries self.old }
     {
         while self.entries.len() > mark.entries {
@@ -247,7 +248,7 @@ impl<'s> Scope<'s> {
     }
 }
 
-/// The borders after the beginning of a routine, which is the last of this many entries.
+/// The borders after entering a routine, whose entry is the last of `entries`.
 fn after_routine(entries: usize, borders: Borders) -> Borders
     ensures { result ≡ after_routine entries borders }
 {
@@ -262,7 +263,7 @@ fn after_routine(entries: usize, borders: Borders) -> Borders
     }
 }
 
-/// What a name means inside of these borders.
+/// The meaning of a name inside these borders.
 fn seen(borders: Borders, bound: Bound) -> Meant
     ensures { meant_view result ≡ seen borders bound }
 {
@@ -277,7 +278,7 @@ fn seen(borders: Borders, bound: Bound) -> Meant
     }
 }
 
-/// What stands around a routine is another routine's in it, or stands outside routines.
+/// The meaning inside a routine of a name from around it. `inside` says whether the routine is itself inside another routine.
 fn meant_in_routine(inside: bool, meant: Meant) -> Meant
     ensures { meant_view result ≡ around_routine inside (meant_view meant) }
 {
@@ -309,6 +310,7 @@ fn meant_in_routine(inside: bool, meant: Meant) -> Meant
     }
 }
 
+/// The meaning inside a VALOF of a name from around it.
 fn meant_in_valof(meant: Meant) -> Meant
     ensures { meant_view result ≡ around_valof (meant_view meant) }
 {

@@ -1,4 +1,4 @@
-//! The level of both sides of an assignment, by the form of its address.
+//! The level at which each pair of an assignment is computed, which depends on the form of the address on the left.
 ghost use Rattle.std.specs.Prelude.{◌≡◌, IfOk};
 ghost use Rattle.bc_parse_tree.specs.View.{exp_view, exps_view};
 ghost use Rattle.bc_scope_defs.specs.Sides.{kind_of_content, kind_of_sum, kinds_of_cell, kinds_of_plain, kinds_of_name, kinds_of_monadic, kinds_of_dyadic, kinds, is_operand_kind, side_levels};
@@ -11,46 +11,56 @@ use bc_parse_tree::{Dyadic, Exp, Monadic};
 use bc_word::Memory;
 use std::alloc::Global;
 
-/// What one instruction takes as its operand.
+/// The form of an expression, as far as one instruction can take it as its operand.
 #[derive(Clone, Copy, Debug, PartialEq, Eq)]
-pub enum Kind {
+pub enum OperandKind {
+    /// A constant.
     Number,
     /// The address of a variable or a global.
     Cell,
-    /// The address of a place.
+    /// The address of a place: a routine, static, table or string.
     Place,
     /// The sum of a cell's address and a number.
     Sum,
     /// The content of the cell at one of these.
     Content,
+    /// No operand: the expression needs its own code.
     NoOperand,
 }
 
+/// Both kinds of an expression.
 #[derive(Clone, Copy, Debug, PartialEq, Eq)]
 pub struct Kinds {
-    pub address: Kind,
-    pub content: Kind,
+    /// The kind of the address of its cell; of its value, if it has no cell.
+    pub address: OperandKind,
+    /// The kind of its value.
+    pub content: OperandKind,
 }
 
-fn kind_of_content(address: Kind) -> Kind
+/// The kind of a cell's content, by the kind of the cell's address.
+fn kind_of_content(address: OperandKind) -> OperandKind
     ensures { kind_view result ≡ kind_of_content (kind_view address) }
 {
     match address {
-        Kind::Content | Kind::NoOperand => Kind::NoOperand,
-        Kind::Number | Kind::Cell | Kind::Place | Kind::Sum => Kind::Content,
+        OperandKind::Content | OperandKind::NoOperand => OperandKind::NoOperand,
+        OperandKind::Number | OperandKind::Cell | OperandKind::Place | OperandKind::Sum =>
+            OperandKind::Content,
     }
 }
 
-fn kind_of_sum(left: Kind, right: Kind) -> Kind
+/// The kind of a sum: one instruction can only add a number to a cell's address.
+fn kind_of_sum(left: OperandKind, right: OperandKind) -> OperandKind
     ensures { kind_view result ≡ kind_of_sum (kind_view left) (kind_view right) }
 {
     match (left, right) {
-        (Kind::Cell, Kind::Number) | (Kind::Number, Kind::Cell) => Kind::Sum,
-        _ => Kind::NoOperand,
+        (OperandKind::Cell, OperandKind::Number) | (OperandKind::Number, OperandKind::Cell) =>
+            OperandKind::Sum,
+        _ => OperandKind::NoOperand,
     }
 }
 
-fn kinds_of_cell(address: Kind) -> Kinds
+/// The kinds of an expression with a cell, by the kind of the cell's address.
+fn kinds_of_cell(address: OperandKind) -> Kinds
     ensures { kinds_view result ≡ kinds_of_cell (kind_view address) }
 {
     Kinds {
@@ -59,7 +69,8 @@ fn kinds_of_cell(address: Kind) -> Kinds
     }
 }
 
-fn kinds_of_plain(value: Kind) -> Kinds
+/// The kinds of an expression without a cell, by the kind of its value.
+fn kinds_of_plain(value: OperandKind) -> Kinds
     ensures { kinds_view result ≡ kinds_of_plain (kind_view value) }
 {
     Kinds {
@@ -68,13 +79,14 @@ fn kinds_of_plain(value: Kind) -> Kinds
     }
 }
 
+/// The kinds of a name. A name that is at fault counts as a number.
 fn kinds_of_name(meant: Meant) -> Kinds
     ensures { kinds_view result ≡ kinds_of_name (meant_view meant) }
 {
     match meant {
-        Meant::Static(_) => kinds_of_cell(Kind::Place),
-        Meant::Global(_) | Meant::Variable(_) => kinds_of_cell(Kind::Cell),
-        Meant::Routine(_) => kinds_of_plain(Kind::Place),
+        Meant::Static(_) => kinds_of_cell(OperandKind::Place),
+        Meant::Global(_) | Meant::Variable(_) => kinds_of_cell(OperandKind::Cell),
+        Meant::Routine(_) => kinds_of_plain(OperandKind::Place),
         Meant::Constant(_)
         | Meant::Pending
         | Meant::Label(_)
@@ -83,39 +95,42 @@ fn kinds_of_name(meant: Meant) -> Kinds
         | Meant::StrayLabel
         | Meant::OuterLabel
         | Meant::LabelOutside
-        | Meant::Undeclared => kinds_of_plain(Kind::Number),
+        | Meant::Undeclared => kinds_of_plain(OperandKind::Number),
     }
 }
 
+/// The kinds of a monadic operator's result, by the kinds of its operand.
 fn kinds_of_monadic(sign: Monadic, operand: Kinds) -> Kinds
     ensures { kinds_view result ≡ kinds_of_monadic sign (kinds_view operand) }
 {
     match sign {
         Monadic::Load => kinds_of_cell(operand.content),
         Monadic::Address => kinds_of_plain(operand.address),
-        Monadic::Not | Monadic::Negate => kinds_of_plain(Kind::NoOperand),
+        Monadic::Not | Monadic::Negate => kinds_of_plain(OperandKind::NoOperand),
     }
 }
 
-fn kinds_of_dyadic(sign: Dyadic, left: Kind, right: Kind) -> Kinds
+/// The kinds of a dyadic operator's result, by the kinds of its operands' values.
+fn kinds_of_dyadic(sign: Dyadic, left: OperandKind, right: OperandKind) -> Kinds
     ensures { kinds_view result ≡ kinds_of_dyadic sign (kind_view left) (kind_view right) }
 {
     match sign {
         Dyadic::Index => kinds_of_cell(kind_of_sum(left, right)),
         Dyadic::Add => kinds_of_plain(kind_of_sum(left, right)),
-        _ => kinds_of_plain(Kind::NoOperand),
+        _ => kinds_of_plain(OperandKind::NoOperand),
     }
 }
 
+/// The kinds of an expression.
 fn make_kinds(scope: &Scope<'_>, e: &Exp<'_>) -> Kinds
     ensures { kinds_view result ≡ kinds (scope_view scope.now) (exp_view e.now) }
 {
     match e {
         Exp::Name(name) => kinds_of_name(scope.meant_by(name)),
         Exp::Number(_) | Exp::Character(_) | Exp::True | Exp::False => {
-            kinds_of_plain(Kind::Number)
+            kinds_of_plain(OperandKind::Number)
         }
-        Exp::String(_) | Exp::Table(_) => kinds_of_plain(Kind::Place),
+        Exp::String(_) | Exp::Table(_) => kinds_of_plain(OperandKind::Place),
         Exp::Monadic(sign, operand) => kinds_of_monadic(*sign, make_kinds(scope, operand)),
         Exp::Dyadic(sign, left, right) => {
             let left = make_kinds(scope, left);
@@ -123,22 +138,27 @@ fn make_kinds(scope: &Scope<'_>, e: &Exp<'_>) -> Kinds
             kinds_of_dyadic(*sign, left.content, right.content)
         }
         Exp::Valof(_) | Exp::Condition { .. } | Exp::Call(_, _) => {
-            kinds_of_plain(Kind::NoOperand)
+            kinds_of_plain(OperandKind::NoOperand)
         }
     }
 }
 
-/// Whether the address of an expression is an operand.
+/// Whether one instruction can take the address of an expression as its operand.
 pub fn is_operand(scope: &Scope<'_>, e: &Exp<'_>) -> bool
     ensures { result ≡ is_operand_kind (kinds (scope_view scope.now) (exp_view e.now)).address }
 {
     match make_kinds(scope, e).address {
-        Kind::NoOperand => false,
-        Kind::Number | Kind::Cell | Kind::Place | Kind::Sum | Kind::Content => true,
+        OperandKind::NoOperand => false,
+        OperandKind::Number
+        | OperandKind::Cell
+        | OperandKind::Place
+        | OperandKind::Sum
+        | OperandKind::Content => true,
     }
 }
 
-/// The levels of the pairs of an assignment to these addresses.
+/// For each address on the left of an assignment, the level of its pair: `level`, or one more where the address is no operand
+/// and so takes a cell. Fails with `Memory` when an allocation fails or a level exceeds 64 bits.
 pub fn side_levels(
     alloc: Global,
     scope: &Scope<'_>,

@@ -1,4 +1,4 @@
--- Bytes that are found equal.
+-- Lists of bytes that compare equal are equal.
 use Rattle.std.proofs.Common.{◌≡◌, ℕ, List, true}
 use Rattle.std.specs.Str.{bytes_eq}
 use Rattle.std.proofs.lemmas.Slice.Eq.{bytes_eq-Decides}

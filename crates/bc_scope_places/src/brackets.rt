@@ -1,16 +1,16 @@
-//! The signs and brackets of an expression around its leaves.
+//! Extends the tokens between the first and last leaf of an expression by the operators and brackets around them.
 ghost use Rattle.std.specs.Prelude.{◌≤◌, ◌<◌, length};
 
 use crate::leaves::Leaves;
 use crate::span::Span;
 use bc_lex_tokens::{Symbol, Token, TokenKind};
 
-/// Whether this token is this symbol; none stands after the last token.
+/// Whether there is a token `i`, and it is this symbol.
 fn is_symbol(tokens: &[Token<'_>], i: usize, symbol: Symbol) -> bool {
     i < tokens.len() && tokens[i].kind == TokenKind::Symbol(symbol)
 }
 
-/// Whether this token is an operator that may have one operand.
+/// Whether token `i` is a monadic operator.
 fn is_sign(tokens: &[Token<'_>], i: usize) -> bool {
     is_symbol(tokens, i, Symbol::Minus)
         || is_symbol(tokens, i, Symbol::Not)
@@ -18,17 +18,17 @@ fn is_sign(tokens: &[Token<'_>], i: usize) -> bool {
         || is_symbol(tokens, i, Symbol::AddressOf)
 }
 
-/// Whether this token opens a bracket.
+/// Whether token `i` is an opening bracket.
 fn opens(tokens: &[Token<'_>], i: usize) -> bool {
     is_symbol(tokens, i, Symbol::OpenBracket) || is_symbol(tokens, i, Symbol::OpenSection)
 }
 
-/// Whether this token closes a bracket.
+/// Whether token `i` is a closing bracket.
 fn closes(tokens: &[Token<'_>], i: usize) -> bool {
     is_symbol(tokens, i, Symbol::CloseBracket) || is_symbol(tokens, i, Symbol::CloseSection)
 }
 
-/// Where these signs begin before a token: brackets may stand between them.
+/// The first of the `signs` operators before token `first`, with opening brackets allowed between them.
 fn after_signs(tokens: &[Token<'_>], first: usize, signs: u64) -> usize
     ensures { result ≤ first }
 {
@@ -49,13 +49,14 @@ fn after_signs(tokens: &[Token<'_>], first: usize, signs: u64) -> usize
     begin.min(first)
 }
 
-/// How many brackets are closed between two tokens and not opened there, and how many are open after them.
+/// In a range of tokens, the number of closing brackets that are opened before it, and of opening ones that are closed after it.
 #[derive(Clone, Copy)]
 struct Unmatched {
     closed: usize,
     open: usize,
 }
 
+/// Counts the unmatched brackets of the tokens from `first` to `last`.
 fn count_unmatched(tokens: &[Token<'_>], first: usize, last: usize) -> Unmatched {
     let mut closed = 0usize;
     let mut open = 0usize;
@@ -76,7 +77,7 @@ fn count_unmatched(tokens: &[Token<'_>], first: usize, last: usize) -> Unmatched
     Unmatched { closed, open }
 }
 
-/// Where a bracket begins that is opened for each of these, directly before a token.
+/// The first of up to `closed` opening brackets directly before token `first`.
 fn after_open(tokens: &[Token<'_>], first: usize, closed: usize) -> usize
     ensures { result ≤ first }
 {
@@ -89,7 +90,8 @@ fn after_open(tokens: &[Token<'_>], first: usize, closed: usize) -> usize
     begin.min(first)
 }
 
-/// The last token of the calls without arguments, and of the brackets to be closed, that stand after a token.
+/// The last token of the empty argument lists and the closing brackets after token `last`: `calls` and `open` say how many of
+/// each belong to the expression.
 fn after_calls(tokens: &[Token<'_>], last: usize, calls: u64, open: usize) -> usize
     requires { last < length tokens.now }
     ensures { (last ≤ result) × (result < length tokens.now) }
@@ -114,7 +116,7 @@ fn after_calls(tokens: &[Token<'_>], last: usize, calls: u64, open: usize) -> us
     end.max(last).min(greatest)
 }
 
-/// The tokens of an expression, of which the first and the last leaf are these.
+/// The tokens of an expression, by its leaves and the tokens of its first and last leaf.
 pub fn around(tokens: &[Token<'_>], at: Leaves, first: usize, last: usize) -> Span
     requires in_order { first ≤ last }
     requires within { last < length tokens.now }

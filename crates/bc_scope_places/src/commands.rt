@@ -1,12 +1,13 @@
+//! The walk over commands. Each function returns the frame size that a command needs, in cells, and fails with `End` if the walk ends.
 use crate::expressions::Side;
 use crate::leaves::Leaves;
-use crate::walk::{Beside, End, Walk};
+use crate::walk::{Beside, End, PlaceWalk};
 use bc_parse_tree::{Block, Command, Exp, Item};
 use bc_scope_faults::{Allowed, all_held, has_cell, jump_fault, widest};
 use bc_scope_names::{Meant, ScopeError, side_levels};
 
-/// The commands of a walk. Each function gives how many cells of the frame a command takes.
-impl<'s> Walk<'s> {
+impl<'s> PlaceWalk<'s> {
+    /// Walks a command at `level`. `allowed` says which commands may be here.
     #[cycle(places)]
     pub fn command(
         &mut self,
@@ -40,14 +41,14 @@ impl<'s> Walk<'s> {
         }
     }
 
-    /// A call of a routine.
+    /// A call as a command, which is a root.
     #[cycle(places)]
     fn called(&mut self, routine: &Exp<'s>, values: &[Exp<'s>], level: u64) -> Result<u64, End> {
         self.record.root(self.leaves)?;
         self.call(false, routine, values, level)
     }
 
-    /// A command that is done again as a test after it says.
+    /// A loop that tests after its command.
     #[cycle(places)]
     fn repeated(
         &mut self,
@@ -60,7 +61,7 @@ impl<'s> Walk<'s> {
         Ok(body.max(self.rooted(test, level)?))
     }
 
-    /// A TEST with its two bodies.
+    /// A TEST with its two blocks.
     #[cycle(places)]
     fn chosen(
         &mut self,
@@ -74,7 +75,7 @@ impl<'s> Walk<'s> {
         Ok(this.max(self.block(allowed, that, level)?))
     }
 
-    /// A FOR; nothing for another command.
+    /// A FOR. Takes the whole command, to have few parameters; another command is ignored.
     #[cycle(places)]
     fn turns(&mut self, allowed: Allowed, tree: &Command<'s>, level: u64) -> Result<u64, End> {
         let Command::For {
@@ -96,13 +97,14 @@ impl<'s> Walk<'s> {
         Ok(ends.max(body))
     }
 
-    /// A command that is one word, where it is allowed.
+    /// A command of one word, which is at fault unless `allowed`.
     fn word(&mut self, allowed: bool) -> Result<u64, End> {
         let leaf = self.leaf();
         self.allowed(allowed, leaf)?;
         Ok(0)
     }
 
+    /// Reports `Misplaced` at this leaf unless `allowed`.
     fn allowed(&mut self, allowed: bool, leaf: u64) -> Result<(), End> {
         if allowed {
             Ok(())
@@ -111,6 +113,7 @@ impl<'s> Walk<'s> {
         }
     }
 
+    /// RESULTIS.
     #[cycle(places)]
     fn result_is(&mut self, allowed: bool, value: &Exp<'s>, level: u64) -> Result<u64, End> {
         let leaf = self.leaf();
@@ -120,6 +123,7 @@ impl<'s> Walk<'s> {
         Ok(width)
     }
 
+    /// GOTO and its label.
     fn goto(&mut self, name: &'s [u8]) -> Result<u64, End> {
         let _word = self.leaf();
         let leaf = self.leaf();
@@ -128,7 +132,7 @@ impl<'s> Walk<'s> {
         Ok(0)
     }
 
-    /// A body after an expression.
+    /// An expression and then a block.
     #[cycle(places)]
     fn guarded(
         &mut self,
@@ -141,7 +145,7 @@ impl<'s> Walk<'s> {
         Ok(test.max(self.block(allowed, body, level)?))
     }
 
-    /// An assignment: its addresses, its values, and that each address has a cell.
+    /// An assignment: its addresses, then its values, then that each address has a cell.
     #[cycle(places)]
     fn assignment(
         &mut self,
@@ -154,7 +158,7 @@ impl<'s> Walk<'s> {
         self.sides(places, values, &levels, &held)
     }
 
-    /// The two sides of an assignment at these levels, whose addresses take so many cells.
+    /// The two sides of an assignment; `levels` and `held` have the level of each pair, and the frame size that holding it needs.
     #[cycle(places)]
     fn sides(
         &mut self,
@@ -169,7 +173,8 @@ impl<'s> Walk<'s> {
         Ok(widest(held, &addresses.widths, &contents))
     }
 
-    /// The values of an assignment at these levels, whose places stand at these leaves: how many cells each takes.
+    /// The values of an assignment, and then the check of `places`, which are at `leaves`. Returns the frame size that each value
+    /// needs.
     #[cycle(places)]
     fn contents(
         &mut self,
@@ -183,7 +188,7 @@ impl<'s> Walk<'s> {
         Ok(widths)
     }
 
-    /// Roots, at the first of these leaves each.
+    /// Records a root at the first leaf of each of these.
     fn note_roots(&mut self, leaves: &[Leaves]) -> Result<(), End> {
         for at in leaves {
             self.record.root(at.first)?;
@@ -191,7 +196,7 @@ impl<'s> Walk<'s> {
         Ok(())
     }
 
-    /// Each of these expressions, at its leaves, has a cell.
+    /// Reports `NotAssignable` at the first of these expressions that has no cell.
     fn assignable(&mut self, places: &[Exp<'s>], leaves: &[Leaves]) -> Result<(), End> {
         for (place, at) in places.iter().zip(leaves.iter()) {
             if !has_cell(&self.scope, place) {
@@ -201,7 +206,7 @@ impl<'s> Walk<'s> {
         Ok(())
     }
 
-    /// The start and the limit of a FOR, which stand after its two cells, as its own test and sum do.
+    /// The start and the limit of a FOR. They are computed above its two cells, and so are its own test and its step.
     #[cycle(places)]
     fn ends(&mut self, start: &Exp<'s>, limit: &Exp<'s>, level: u64) -> Result<u64, End> {
         let above = level.saturating_add(2);
@@ -210,7 +215,7 @@ impl<'s> Walk<'s> {
         Ok(above.saturating_add(2).max(start.max(limit)))
     }
 
-    /// The body of a FOR over this variable.
+    /// The body of a FOR with this variable, which is declared at `leaf`.
     #[cycle(places)]
     fn counted(
         &mut self,
@@ -228,6 +233,7 @@ impl<'s> Walk<'s> {
         Ok(width)
     }
 
+    /// SWITCHON and its list.
     #[cycle(places)]
     fn switch(
         &mut self,

@@ -1,6 +1,8 @@
+//! The walk over declarations. Functions that return a number return the frame size that a part needs, in cells, unless they say
+//! otherwise; all fail with `End` if the walk ends.
 use crate::leaves::Leaves;
 use crate::record::GlobalSite;
-use crate::walk::{Beside, End, Walk};
+use crate::walk::{Beside, End, PlaceWalk};
 use bc_parse_tree::{Block, Constant, Declaration, Definition, Exp, Storage};
 use bc_scope_faults::{Allowed, Extent, entry_fault};
 use bc_scope_names::{
@@ -10,17 +12,16 @@ use bc_scope_names::{
 use bc_word::Memory;
 use indexmap::IndexMap;
 
-/// A LET at work: the names before the definition at work with their leaves, and the place of its next variable among
-/// what is known.
+/// The state of a walk in a LET: the names up to here with their leaves, and the index in `Walk::known` of its next variable.
 #[derive(Drop)]
 struct OfLet<'s> {
     before: IndexMap<&'s [u8], u64>,
     next: usize,
 }
 
-/// The declarations of a walk.
-impl<'s> Walk<'s> {
-    /// Declarations, each after those before it.
+impl<'s> PlaceWalk<'s> {
+    /// Walks declarations, each with the names of those before it in scope, and adds their names. Returns what they take of their
+    /// frame.
     #[cycle(places)]
     pub fn declarations(&mut self, list: &[Declaration<'s>], level: u64) -> Result<Extent, End> {
         let mut all = Extent { level, width: 0 };
@@ -34,7 +35,7 @@ impl<'s> Walk<'s> {
         Ok(all)
     }
 
-    /// A declaration.
+    /// One declaration.
     #[cycle(places)]
     fn declaration(&mut self, tree: &Declaration<'s>, level: u64) -> Result<Extent, End> {
         match tree {
@@ -46,7 +47,7 @@ impl<'s> Walk<'s> {
         }
     }
 
-    /// Declarations of constants.
+    /// A MANIFEST, STATIC or GLOBAL.
     #[cycle(places)]
     fn entries(&mut self, storage: Storage, list: &[Constant<'s>]) -> Result<(), End> {
         declare_pending(&mut self.scope, storage, list)?;
@@ -54,7 +55,7 @@ impl<'s> Walk<'s> {
         self.listed_entries(&mut before, storage, list)
     }
 
-    /// The entries of a list, one by one, after these names.
+    /// The entries of a MANIFEST, STATIC or GLOBAL, whose names must differ from those in `before`.
     #[cycle(places)]
     fn listed_entries(
         &mut self,
@@ -71,7 +72,7 @@ impl<'s> Walk<'s> {
         Ok(())
     }
 
-    /// A constant, a static or a global at this leaf, after its value.
+    /// Checks an entry whose value was walked, and adds its name, which is at this leaf.
     fn declared(&mut self, storage: Storage, entry: &Constant<'s>, leaf: u64) -> Result<(), End> {
         let answer = entry_fault(&self.scope, storage, entry.name, &entry.value);
         if let Err(fault) = answer {
@@ -82,7 +83,7 @@ impl<'s> Walk<'s> {
         Ok(self.note_entry(storage, &entry.value, leaf)?)
     }
 
-    /// Notes where a static or a global is declared.
+    /// Records a static or a global.
     fn note_entry(&mut self, storage: Storage, value: &Exp<'s>, leaf: u64) -> Result<(), Memory> {
         match storage {
             Storage::Static => self.place(leaf),
@@ -94,7 +95,7 @@ impl<'s> Walk<'s> {
         }
     }
 
-    /// The definitions of a LET.
+    /// A LET.
     #[cycle(places)]
     fn definitions(&mut self, list: &[Definition<'s>], level: u64) -> Result<Extent, End> {
         let level = self.declared_let(list, level)?;
@@ -108,13 +109,13 @@ impl<'s> Walk<'s> {
         Ok(Extent { level, width })
     }
 
-    /// Declares the names of a LET; gives the level after its cells.
+    /// Adds the names of a LET to the scope. Returns the level after its cells.
     fn declared_let(&mut self, list: &[Definition<'s>], level: u64) -> Result<u64, End> {
         let priors = priors_of_let(&mut self.scope, list)?;
         Ok(declare_let(&mut self.scope, &priors, Numbers::start(), level, list)?)
     }
 
-    /// The definitions of a LET, one by one: how many cells of the frame they take.
+    /// The definitions of a LET whose names are already in scope.
     #[cycle(places)]
     fn defined(
         &mut self,
@@ -129,7 +130,7 @@ impl<'s> Walk<'s> {
         Ok(width)
     }
 
-    /// The variables of a LET are known before their leaves are met.
+    /// Adds the variables of a LET to `Walk::known`, before the walk has met their declarations.
     fn know_variables(&mut self, list: &[Definition<'s>]) -> Result<(), End> {
         for tree in list {
             match tree {
@@ -141,6 +142,7 @@ impl<'s> Walk<'s> {
         Ok(())
     }
 
+    /// Adds variables of one definition.
     fn know_all(&mut self, names: &[&'s [u8]]) -> Result<(), Memory> {
         for name in names {
             self.know(name)?;
@@ -148,7 +150,7 @@ impl<'s> Walk<'s> {
         Ok(())
     }
 
-    /// A variable of a LET.
+    /// Meets the declaration of a variable. Returns its leaf.
     fn variable(&mut self, of_let: &mut OfLet<'s>, name: &'s [u8]) -> Result<u64, End> {
         let leaf = self.leaf();
         self.once(&mut of_let.before, name, leaf)?;
@@ -157,7 +159,7 @@ impl<'s> Walk<'s> {
         Ok(leaf)
     }
 
-    /// A variable's cells are noted.
+    /// Records a variable with this number of cells.
     fn note(&mut self, name: &'s [u8], cells: u64, leaf: u64) -> Result<(), End> {
         if let Meant::Variable(offset) = self.scope.meant_by(name) {
             self.record.variable(offset, cells, leaf)?;
@@ -165,7 +167,7 @@ impl<'s> Walk<'s> {
         Ok(())
     }
 
-    /// The name of a routine of a LET.
+    /// Meets the name of a routine. Returns its leaf.
     fn routine_name(&mut self, of_let: &mut OfLet<'s>, name: &'s [u8]) -> Result<u64, End> {
         let leaf = self.leaf();
         self.once(&mut of_let.before, name, leaf)?;
@@ -173,7 +175,7 @@ impl<'s> Walk<'s> {
         Ok(leaf)
     }
 
-    /// Variables may not stand outside of routines.
+    /// Reports `Misplaced` for variables outside routines.
     fn inside(&mut self, at: Leaves) -> Result<(), End> {
         if self.scope.is_inside() {
             Ok(())
@@ -182,7 +184,7 @@ impl<'s> Walk<'s> {
         }
     }
 
-    /// A definition of a LET, at the level after its cells.
+    /// One definition of a LET, at the level after the LET's cells.
     #[cycle(places)]
     fn definition(
         &mut self,
@@ -204,7 +206,7 @@ impl<'s> Walk<'s> {
         }
     }
 
-    /// Variables with their starting values.
+    /// Variables with their initial values.
     #[cycle(places)]
     fn variables(
         &mut self,
@@ -221,7 +223,7 @@ impl<'s> Walk<'s> {
         Ok(width)
     }
 
-    /// The cells of these variables, one each.
+    /// Meets the declarations of these variables, which have one cell each.
     fn cells(&mut self, of_let: &mut OfLet<'s>, names: &[&'s [u8]]) -> Result<(), End> {
         for name in names {
             let leaf = self.variable(of_let, name)?;
@@ -230,7 +232,7 @@ impl<'s> Walk<'s> {
         Ok(())
     }
 
-    /// A variable that points to cells of its own.
+    /// A vector.
     #[cycle(places)]
     fn vector(
         &mut self,
@@ -245,14 +247,14 @@ impl<'s> Walk<'s> {
         Ok(0)
     }
 
-    /// Notes the cells of a vector, which may not stand outside of routines.
+    /// Records the cells of a vector, and reports one outside routines.
     fn note_vector(&mut self, name: &'s [u8], greatest: &Exp<'s>, leaf: u64) -> Result<(), End> {
         let cells = u64::from(constant(&self.scope, greatest).get()).saturating_add(2);
         self.note(name, cells, leaf)?;
         self.inside(Leaves::one(leaf))
     }
 
-    /// The parameters of a routine, after which is this level.
+    /// Adds the parameters of a routine. Returns the level after them.
     fn parameters(&mut self, names: &[&'s [u8]]) -> Result<u64, End> {
         declare_parameters(&mut self.scope, names)?;
         let mut before = IndexMap::new(self.alloc);
@@ -266,13 +268,13 @@ impl<'s> Walk<'s> {
         Ok((names.len() as u64).saturating_add(2))
     }
 
-    /// A variable that is declared at this leaf, with its cell at this offset.
+    /// Adds and records a variable of one cell, declared at this leaf.
     pub fn known_cell(&mut self, name: &'s [u8], leaf: u64, offset: u64) -> Result<(), Memory> {
         self.know_at(name, leaf)?;
         self.record.variable(offset, 1, leaf)
     }
 
-    /// A routine that gives a value, after its name. It takes no cells of the frame in which it stands.
+    /// A routine that is an expression, after its name at `leaf`. It takes no cells of the frame around it.
     #[cycle(places)]
     fn function(
         &mut self,
@@ -290,7 +292,7 @@ impl<'s> Walk<'s> {
         Ok(0)
     }
 
-    /// A routine that does commands, after its name. It takes no cells of the frame in which it stands.
+    /// A routine that is a block, after its name at `leaf`. It takes no cells of the frame around it.
     #[cycle(places)]
     fn routine(
         &mut self,

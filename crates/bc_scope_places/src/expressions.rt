@@ -1,13 +1,14 @@
+//! The walk over expressions. Functions that return a number return the frame size that an expression needs, in cells; all fail with
+//! `End` if the walk ends.
 use crate::leaves::Leaves;
-use crate::walk::{Beside, End, Walk};
+use crate::walk::{Beside, End, PlaceWalk};
 use bc_parse_tree::{Block, Exp, Monadic};
 use bc_scope_faults::{Allowed, address_fault, level_at, name_fault};
 use bc_scope_names::{ScopeError, constant_in};
 use bc_word::Memory;
 
-/// The expressions of a walk. Each function gives how many cells of the frame an expression takes.
-impl<'s> Walk<'s> {
-    /// An expression at a level; or a part of a constant.
+impl<'s> PlaceWalk<'s> {
+    /// Walks an expression at `level`. `in_constant` says that it is part of a constant.
     #[cycle(places)]
     pub fn expression(&mut self, in_constant: bool, e: &Exp<'s>, level: u64) -> Result<u64, End> {
         match e {
@@ -31,12 +32,14 @@ impl<'s> Walk<'s> {
         0
     }
 
+    /// A string, which is a place.
     fn string(&mut self) -> Result<u64, End> {
         let leaf = self.leaf();
         self.place(leaf)?;
         Ok(0)
     }
 
+    /// A TABLE, which is a place, and its constants.
     #[cycle(places)]
     fn table(&mut self, values: &[Exp<'s>]) -> Result<u64, End> {
         let leaf = self.leaf();
@@ -45,7 +48,7 @@ impl<'s> Walk<'s> {
         Ok(0)
     }
 
-    /// An operator with its two operands.
+    /// A dyadic operator, with its operands one level above.
     #[cycle(places)]
     fn dyadic(
         &mut self,
@@ -60,7 +63,7 @@ impl<'s> Walk<'s> {
         Ok(level.saturating_add(2).max(left.max(right)))
     }
 
-    /// `->` with its test and its two parts.
+    /// `test -> this, that`, all at the same level.
     #[cycle(places)]
     fn condition(
         &mut self,
@@ -76,7 +79,7 @@ impl<'s> Walk<'s> {
         Ok(test.max(this.max(that)))
     }
 
-    /// An expression that is a root.
+    /// Walks an expression that is a root.
     #[cycle(places)]
     pub fn rooted(&mut self, e: &Exp<'s>, level: u64) -> Result<u64, End> {
         self.record.root(self.leaves)?;
@@ -91,6 +94,7 @@ impl<'s> Walk<'s> {
         Ok(0)
     }
 
+    /// A VALOF.
     #[cycle(places)]
     fn valof(&mut self, body: &Block<'s>, level: u64) -> Result<u64, End> {
         let _word = self.leaf();
@@ -103,7 +107,7 @@ impl<'s> Walk<'s> {
         Ok(width)
     }
 
-    /// An operator with its operand; `@` wants a cell.
+    /// A monadic operator with its operand. The operand of `@` must have a cell.
     #[cycle(places)]
     fn monadic(
         &mut self,
@@ -124,7 +128,7 @@ impl<'s> Walk<'s> {
         Ok(width)
     }
 
-    /// A call, of a routine with arguments.
+    /// Walks a call, in an expression or as a command.
     #[cycle(places)]
     pub fn call(
         &mut self,
@@ -152,7 +156,7 @@ impl<'s> Walk<'s> {
         Ok(width)
     }
 
-    /// A constant: what is in it, and then that it is one.
+    /// Walks a constant: first the faults inside it, then `NotConstant`. Returns its leaves.
     #[cycle(places)]
     pub fn constant(&mut self, e: &Exp<'s>) -> Result<Leaves, End> {
         let first = self.leaves;
@@ -173,7 +177,7 @@ impl<'s> Walk<'s> {
         Ok(())
     }
 
-    /// Initialisers, all at one level.
+    /// Walks the initial values of variables, all at the same level.
     #[cycle(places)]
     pub fn initials(&mut self, list: &[Exp<'s>], level: u64) -> Result<u64, End> {
         let mut width = 0u64;
@@ -183,7 +187,7 @@ impl<'s> Walk<'s> {
         Ok(width)
     }
 
-    /// One side of an assignment, each expression at its level: their widths, and the leaves of each.
+    /// Walks one side of an assignment, each expression at its level in `levels`.
     #[cycle(places)]
     pub fn side(&mut self, list: &[Exp<'s>], levels: &[u64]) -> Result<Side, End> {
         let mut side = Side {
@@ -200,15 +204,17 @@ impl<'s> Walk<'s> {
     }
 }
 
-/// The widths and the leaves of the expressions on one side of an assignment.
+/// The expressions on one side of an assignment.
 #[derive(Drop)]
 pub struct Side {
+    /// The frame size that each needs.
     pub widths: Vec<u64>,
+    /// The leaves of each.
     pub leaves: Vec<Leaves>,
 }
 
 impl Side {
-    /// One expression more.
+    /// Adds an expression. Fails with `Memory` when an allocation fails.
     fn add(&mut self, width: u64, leaves: Leaves) -> Result<(), Memory> {
         self.widths.push(width)?;
         Ok(self.leaves.push(leaves)?)

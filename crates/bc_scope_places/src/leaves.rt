@@ -1,15 +1,18 @@
-//! Leaves: what stands in a tree as it stands among the tokens, so that one can be counted by the other.
+//! Ranges of leaves. Leaves are the names, numbers, characters, strings and certain words, which trees and tokens have in the same
+//! order; so counting them relates a tree to its tokens.
 
 use bc_parse_tree::Exp;
 
-/// The leaves of a construct, from the first to the last. They are counted in text order, from 0 on.
+/// The leaves of a construct, numbered from 0 in text order.
 #[derive(Clone, Copy)]
 pub struct Leaves {
+    /// The first leaf.
     pub first: u64,
+    /// The last leaf.
     pub last: u64,
-    /// How many operators of one operand the construct has before its first leaf.
+    /// The number of monadic operators before its first leaf.
     pub signs: u64,
-    /// How many pairs of brackets with nothing in them it has after its last leaf: calls without arguments.
+    /// The number of empty argument lists after its last leaf.
     pub calls: u64,
 }
 
@@ -19,7 +22,7 @@ impl Leaves {
         Leaves::words(leaf, leaf)
     }
 
-    /// Leaves with nothing around them.
+    /// Leaves without operators before them and argument lists after them.
     pub fn words(first: u64, last: u64) -> Leaves {
         Leaves {
             first,
@@ -40,7 +43,7 @@ impl Leaves {
     }
 }
 
-/// How many operators of one operand an expression has before its first leaf.
+/// The number of monadic operators before the first leaf of an expression.
 fn signs_before(e: &Exp<'_>) -> u64 {
     match e {
         Exp::Monadic(_, operand) => signs_before(operand).saturating_add(1),
@@ -58,7 +61,7 @@ fn signs_before(e: &Exp<'_>) -> u64 {
     }
 }
 
-/// How many calls without arguments end after the last leaf of an expression.
+/// The number of empty argument lists after the last leaf of an expression.
 fn calls_after(e: &Exp<'_>) -> u64 {
     match e {
         Exp::Monadic(_, operand) => calls_after(operand),

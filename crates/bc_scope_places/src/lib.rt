@@ -1,4 +1,7 @@
-//! Where the fault of a section stands among its tokens.
+//! Finds where in a section's tokens a fault is, and where its expressions, variables, globals and labels are.
+//!
+//! Trees have no positions. So a walk over the trees in text order counts their leaves (`bc_parse_tree::token_at` finds the token of
+//! a leaf), and checks the section again as `bc_scope_faults` does, with the same checks of single parts.
 #![tactic(auto)]
 
 mod brackets;

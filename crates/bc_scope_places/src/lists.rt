@@ -1,13 +1,15 @@
+//! The walk over blocks and command lists. Functions that return a number return the frame size that a part needs, in cells; all fail
+//! with `End` if the walk ends.
 use crate::leaves::Leaves;
-use crate::walk::{Beside, End, Walk};
+use crate::walk::{Beside, End, PlaceWalk};
 use bc_parse_tree::{Block, Item, Label};
 use bc_scope_faults::Allowed;
 use bc_scope_names::{ScopeError, constant, declare_list};
 use indexmap::IndexMap;
 use std::alloc::Global;
 
-/// A list of commands at work: whether it is a SWITCHON's, its labels that were met with their leaves, and the place of
-/// its next label with a name among what is known.
+/// The state of a walk in a command list: whether it is that of a SWITCHON, its labels up to here with their leaves, and the index in
+/// `Walk::known` of its next named label.
 #[derive(Drop)]
 struct OfList<'s> {
     cases: bool,
@@ -18,6 +20,7 @@ struct OfList<'s> {
 }
 
 impl<'s> OfList<'s> {
+    /// The state at the start of a list.
     fn new(alloc: Global, cases: bool, next: usize) -> OfList<'s> {
         OfList {
             cases,
@@ -29,9 +32,8 @@ impl<'s> OfList<'s> {
     }
 }
 
-/// The lists of commands of a walk.
-impl<'s> Walk<'s> {
-    /// A block.
+impl<'s> PlaceWalk<'s> {
+    /// Walks a block at `level`. `allowed` says which commands may be in it.
     #[cycle(places)]
     pub fn block(&mut self, allowed: Allowed, tree: &Block<'s>, level: u64) -> Result<u64, End> {
         let mark = self.mark();
@@ -41,7 +43,8 @@ impl<'s> Walk<'s> {
         Ok(extent.width.max(width))
     }
 
-    /// A list of commands, whose labels are known in all of it; in a SWITCHON's own list cases may stand.
+    /// Walks a command list, with its labels in scope. `cases` says that it is the list of a SWITCHON, which may have CASE and
+    /// DEFAULT.
     #[cycle(places)]
     pub fn list(
         &mut self,
@@ -57,7 +60,7 @@ impl<'s> Walk<'s> {
         self.listed(&mut of_list, allowed, items, level)
     }
 
-    /// The items of a list, one by one.
+    /// The items of a list whose labels are already in scope.
     #[cycle(places)]
     fn listed(
         &mut self,
@@ -73,7 +76,7 @@ impl<'s> Walk<'s> {
         Ok(width)
     }
 
-    /// Labels with a name are known in all of a list.
+    /// Adds the named labels of a list to `Walk::known`, before the walk has met them.
     fn know_all_labels(&mut self, items: &[Item<'s>]) -> Result<(), End> {
         for item in items {
             self.know_labels(&item.labels)?;
@@ -81,7 +84,7 @@ impl<'s> Walk<'s> {
         Ok(())
     }
 
-    /// One item: its labels, and its command.
+    /// One item: its labels, then its command if it has one.
     #[cycle(places)]
     fn item(
         &mut self,
@@ -102,7 +105,7 @@ impl<'s> Walk<'s> {
         }
     }
 
-    /// Labels with a name are known before their leaves are met.
+    /// Adds the named labels of one item.
     fn know_labels(&mut self, labels: &[Label<'s>]) -> Result<(), End> {
         for label in labels {
             match label {
@@ -122,7 +125,7 @@ impl<'s> Walk<'s> {
         Ok(())
     }
 
-    /// A label.
+    /// One label.
     #[cycle(places)]
     fn label(&mut self, of_list: &mut OfList<'s>, tree: &Label<'s>) -> Result<(), End> {
         let leaf = self.leaf();
@@ -143,7 +146,7 @@ impl<'s> Walk<'s> {
         }
     }
 
-    /// CASE and DEFAULT stand in a SWITCHON's own list.
+    /// Reports `Misplaced` for a CASE or DEFAULT outside the list of a SWITCHON.
     fn in_switch(&mut self, cases: bool, at: Leaves) -> Result<(), End> {
         if cases {
             Ok(())
@@ -152,7 +155,7 @@ impl<'s> Walk<'s> {
         }
     }
 
-    /// CASE with its value. One that may not stand here is at fault by its word alone.
+    /// A CASE with its value. If it is misplaced, the fault covers only the word CASE.
     fn case(&mut self, of_list: &mut OfList<'s>, value: u16, at: Leaves) -> Result<(), End> {
         self.in_switch(of_list.cases, Leaves::one(at.first))?;
         match of_list.values.insert(value, at)? {
@@ -161,7 +164,7 @@ impl<'s> Walk<'s> {
         }
     }
 
-    /// DEFAULT.
+    /// A DEFAULT.
     fn default(&mut self, of_list: &mut OfList<'s>, at: Leaves) -> Result<(), End> {
         self.in_switch(of_list.cases, at)?;
         if let Some(first) = of_list.default {
@@ -171,7 +174,7 @@ impl<'s> Walk<'s> {
         Ok(())
     }
 
-    /// A label with a name.
+    /// A named label.
     fn name_label(
         &mut self,
         of_list: &mut OfList<'s>,

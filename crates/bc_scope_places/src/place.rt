@@ -1,4 +1,4 @@
-//! Where a fault stands among the tokens of its section.
+//! The public calls: where the fault of a section is among its tokens, and where its parts are among its leaves.
 ghost use Rattle.std.specs.Prelude.{◌≡◌, ◌<◌, ◌≤◌, length, true, Some, IfOk, IfSome};
 ghost use Rattle.bc_scope_places.specs.Named.{name_of, named, spelled, HasName};
 
@@ -6,38 +6,40 @@ use crate::brackets::around;
 use crate::leaves::Leaves;
 use crate::record::Sites;
 use crate::span::Span;
-use crate::walk::{Beside, End, Found, Walk};
+use crate::walk::{Beside, End, Found, PlaceWalk};
 use bc_lex_tokens::{Token, TokenKind};
 use bc_parse_tree::{Section, token_at};
 use bc_scope_names::ScopeError;
 use bc_word::Memory;
 use std::alloc::Global;
 
-/// What belongs to a fault beside the construct that has it.
+/// Further information on a fault.
 #[derive(Clone, Copy)]
 pub enum Also {
     /// Nothing more.
     Nothing,
-    /// Of `DeclaredTwice` the first declaration, of `CaseTwice` the first CASE with its value, or the first DEFAULT.
+    /// For `DeclaredTwice` the first declaration; for `CaseTwice` the first CASE with this value, or the first DEFAULT.
     First(Span),
-    /// Of `DynamicFree` where the variable, the parameter or the label is declared.
+    /// For `DynamicFree` the declaration of the variable, parameter or label.
     Declared(Span),
-    /// Of `GlobalNumber` the number, 512 to 65,535.
+    /// For `GlobalNumber` the number, 512 to 65,535.
     Number(u16),
-    /// Of `FrameTooLarge` how many cells the routine's frame has.
+    /// For `FrameTooLarge` the number of cells in the routine's frame.
     Cells(u64),
-    /// Of `TooManyPlaces` how many routines, statics, tables and strings the section has.
+    /// For `TooManyPlaces` the number of routines, statics, tables and strings in the section.
     Places(u64),
 }
 
-/// Where the fault of a section stands, and what belongs to it.
+/// Where the fault of a section is, with further information.
 #[derive(Clone, Copy)]
 pub struct FaultPlace {
+    /// The tokens of the construct that has the fault.
     pub at: Span,
+    /// Further information.
     pub also: Also,
 }
 
-/// The name that a fault is about.
+/// The name in a fault, if it has one.
 fn name_of<'s>(fault: ScopeError<'s>) -> Option<&'s [u8]>
     ensures { named result ≡ name_of fault.entry }
 {
@@ -70,7 +72,7 @@ fn is_name(kind: TokenKind<'_>, name: &[u8]) -> bool
     }
 }
 
-/// Whether the token at this place has this name, if a name is wanted.
+/// Whether token `i` is this name; true if there is no name.
 fn has_name(tokens: &[Token<'_>], i: usize, name: Option<&[u8]>) -> bool
     ensures { result ≡ true → HasName tokens.now i (named name.entry) }
 {
@@ -83,7 +85,8 @@ fn has_name(tokens: &[Token<'_>], i: usize, name: Option<&[u8]>) -> bool
     }
 }
 
-/// The tokens of these leaves, with the signs and brackets that belong to them.
+/// The tokens of these leaves, with the monadic operators and brackets that belong to them. `None` if the tokens have no such
+/// leaves.
 fn span_of(tokens: &[Token<'_>], at: Leaves) -> Option<Span>
     ensures { IfSome result (λ s. (s.first ≤ s.last) × (s.last < length tokens.now)) }
 {
@@ -96,7 +99,7 @@ fn span_of(tokens: &[Token<'_>], at: Leaves) -> Option<Span>
     }
 }
 
-/// What belongs to a fault, by its tokens.
+/// Further information on a fault, in tokens. `None` if the tokens have no such leaves, or not this name.
 fn also_of(tokens: &[Token<'_>], name: Option<&[u8]>, beside: Beside) -> Option<Also> {
     match beside {
         Beside::Nothing => Some(Also::Nothing),
@@ -122,9 +125,9 @@ fn also_of(tokens: &[Token<'_>], name: Option<&[u8]>, beside: Beside) -> Option<
     }
 }
 
-/// The first fault of a section, by its leaves.
+/// The first fault of a section, by its leaves. Fails with `Memory` when an allocation fails.
 fn found<'s>(alloc: Global, section: &Section<'s>) -> Result<Option<Found<'s>>, Memory> {
-    let mut walk = Walk::new(alloc);
+    let mut walk = PlaceWalk::new(alloc);
     match walk.declarations(&section.declarations, 0) {
         Ok(_extent) => Ok(walk.of_whole()),
         Err(End::Found) => Ok(walk.found()),
@@ -132,12 +135,12 @@ fn found<'s>(alloc: Global, section: &Section<'s>) -> Result<Option<Found<'s>>, 
     }
 }
 
-/// Where the parts of a section stand that `bc_scope::resolve` accepts, by leaves: the expressions, tests and assignments,
-/// the variables, the names of globals, and what has a label.
+/// Finds the parts of a section that `bc_scope::resolve` accepts, by leaves: expressions, tests and assignments, variables,
+/// names of globals, and places.
 ///
-/// None is given of a section that has a fault. `Memory` comes where an allocation was refused.
+/// Returns `None` if the walk finds a fault. Fails with `Memory` when an allocation fails.
 pub fn sites_of(alloc: Global, section: &Section<'_>) -> Result<Option<Sites>, Memory> {
-    let mut walk = Walk::new(alloc);
+    let mut walk = PlaceWalk::new(alloc);
     match walk.declarations(&section.declarations, 0) {
         Ok(_extent) => Ok(Some(walk.into_sites())),
         Err(End::Found) => Ok(None),
@@ -145,26 +148,30 @@ pub fn sites_of(alloc: Global, section: &Section<'_>) -> Result<Option<Sites>, M
     }
 }
 
-/// Where the fault of a section stands among its tokens.
+/// Finds where the fault of a section is among its tokens.
 ///
-/// The section is the one that `bc_parse` reads from these tokens, and the fault is the one that `bc_scope::resolve`
-/// refuses it by. The place is that of the construct: a name; the expression of `NotConstant` and `NotAssignable`; the
-/// word BREAK, LOOP, ENDCASE, RETURN, RESULTIS, CASE or DEFAULT, the name after a GOTO, a label that is used as a
-/// value, or the names that are declared as variables outside of routines; the second declaration, CASE or DEFAULT;
-/// the name of the first routine whose frame is too large; and the name, TABLE or string of the one with which the
-/// places are more than 8,000.
+/// `section` must be what `bc_parse` reads from `tokens`, and `fault` the one with which `bc_scope::resolve` fails for it.
+/// The result covers:
 ///
-/// None is given where the walk over the section meets another fault, or none, or where the tokens are another
-/// section's, as none that were read are. `Memory` comes where an allocation was refused.
+/// - for a fault with a name, that name; for `DeclaredTwice` the second one;
+/// - for `NotConstant` and `NotAssignable`, the expression;
+/// - for `Misplaced`, the word BREAK, LOOP, ENDCASE, RETURN, RESULTIS, CASE or DEFAULT, the name after a GOTO, the label that is
+///   used as a value, or the names declared as variables outside routines;
+/// - for `CaseTwice`, the second CASE or DEFAULT;
+/// - for `FrameTooLarge`, the name of the first routine whose frame is too large;
+/// - for `TooManyPlaces`, the name, TABLE or string of place number 8,001.
+///
+/// Returns `None` if the walk finds another fault or none, or if the tokens are not those of the section. Fails with `Memory`
+/// when an allocation fails.
 pub fn fault_place<'s>(
     alloc: Global,
     tokens: &[Token<'s>],
     section: &Section<'s>,
     fault: ScopeError<'s>,
 ) -> Result<Option<FaultPlace>, Memory>
-    // The place lies among the tokens, in their order.
+    // The result is a nonempty range of the tokens.
     ensures within { IfOk result (λ p. IfSome p (λ p. (p.at.first ≤ p.at.last) × (p.at.last < length tokens.now))) }
-    // The token there has the fault's name, where it has one.
+    // Its first token is the name in the fault, if it has one.
     ensures named { IfOk result (λ p. IfSome p (λ p. HasName tokens.now p.at.first (name_of fault.entry))) }
 {
     let Some(found) = found(alloc, section)? else {
@@ -176,7 +183,7 @@ pub fn fault_place<'s>(
     Ok(placed(tokens, fault, found.at, found.beside))
 }
 
-/// The place of a fault, by its leaves.
+/// The tokens of a fault, by its leaves.
 fn placed<'s>(
     tokens: &[Token<'s>],
     fault: ScopeError<'s>,

@@ -1,42 +1,49 @@
-//! A walk over a section's trees in text order, which judges as `bc_scope_faults` does and counts the leaves that it meets.
+//! The state of a walk over a section's trees in text order, which checks as `bc_scope_faults` does, and counts leaves. The walk
+//! itself is in `declarations.rt`, `lists.rt`, `commands.rt` and `expressions.rt`.
 
 ghost use Rattle.std.specs.Prelude.{◌<◌, length, IfSome};
 
 use crate::leaves::Leaves;
 use crate::record::{Record, Sites};
-use bc_scope_names::{Mark, Scope, ScopeError};
+use bc_scope_names::{Scope, ScopeError, ScopeMark};
 use bc_word::Memory;
 use indexmap::IndexMap;
 use std::alloc::{AllocError, AllocFailed, Global};
 
-/// What belongs to a fault beside the construct that has it.
+/// Further information on a fault, by leaves.
 #[derive(Clone, Copy)]
 pub enum Beside {
+    /// Nothing more.
     Nothing,
-    /// The first one of two.
+    /// The first of two.
     First(Leaves),
-    /// Where the variable or label is declared.
+    /// The declaration of the variable or label.
     Declared(Leaves),
     /// The number of the global.
     Number(u16),
-    /// How many cells the routine's frame has.
+    /// The number of cells in the routine's frame.
     Cells(u64),
-    /// How many routines, statics, tables and strings there are.
+    /// The number of routines, statics, tables and strings.
     Places(u64),
 }
 
-/// A fault, the leaves of the construct that has it, and what belongs to it.
+/// A fault, and where it is.
 #[derive(Clone, Copy)]
 pub struct Found<'s> {
+    /// The fault.
     pub fault: ScopeError<'s>,
+    /// The construct that has it.
     pub at: Leaves,
+    /// Further information.
     pub beside: Beside,
 }
 
-/// Why a walk ends before the section does: by a fault, which the walk keeps, or because memory ran out.
+/// Why a walk ended before the section did.
 #[derive(Clone, Copy)]
 pub enum End {
+    /// It found a fault, which `Walk::found` returns.
     Found,
+    /// An allocation failed.
     Memory,
 }
 
@@ -58,15 +65,15 @@ impl<T: Drop> From<AllocFailed<T>> for End {
     }
 }
 
-/// A variable or label that is known, and its leaf, once that was met.
+/// A variable or label in scope, and the leaf of its declaration once the walk has met it.
 #[derive(Clone, Copy)]
-struct Known<'s> {
+struct DeclaredName<'s> {
     name: &'s [u8],
     leaf: Option<u64>,
 }
 
-/// A name of an enclosing routine that was met before its declaration: its leaf, and the place of its declaration among
-/// what is known.
+/// A use of an enclosing routine's variable or label before its declaration: the leaf of the use, and the index in `known` of what
+/// is declared.
 #[derive(Clone, Copy)]
 struct Awaited<'s> {
     name: &'s [u8],
@@ -74,45 +81,51 @@ struct Awaited<'s> {
     declared: usize,
 }
 
-/// A routine whose frame is too large: the leaf of its name, and its cells.
+/// A routine whose frame is too large: the leaf of its name, and the number of cells.
 #[derive(Clone, Copy)]
 struct Large {
     leaf: u64,
     cells: u64,
 }
 
-/// How much is known at a place, to which a walk may be taken back.
+/// A state to which `leave` can return.
 #[derive(Clone, Copy)]
 pub struct Back {
-    scope: Mark,
+    scope: ScopeMark,
     known: usize,
     variables: usize,
 }
 
-/// How far a walk is.
+/// A walk over a section.
 #[derive(Drop)]
-pub struct Walk<'s> {
+pub struct PlaceWalk<'s> {
+    /// The allocator.
     pub alloc: Global,
+    /// The names in scope.
     pub scope: Scope<'s>,
-    /// How many leaves were met.
+    /// The number of leaves up to here.
     pub leaves: u64,
-    known: Vec<Known<'s>>,
+    /// The variables and labels in scope, oldest first.
+    known: Vec<DeclaredName<'s>>,
     /// The fault by which the walk ended.
     found: Option<Found<'s>>,
-    /// The first fault, where its variable's declaration is still to come: other faults are then none of the walk's.
+    /// A `DynamicFree` fault whose declaration comes later. While it is set, other faults are ignored: the walk only goes on to find
+    /// the declaration.
     awaited: Option<Awaited<'s>>,
     /// The first routine in text order whose frame is too large.
     large: Option<Large>,
-    /// How many routines, statics, tables and strings were met.
+    /// The number of routines, statics, tables and strings up to here.
     places: u64,
-    /// The leaf of the first one that is too many.
+    /// The leaf of place number 8,001.
     one_too_many: Option<u64>,
+    /// The record of parts.
     pub(crate) record: Record,
 }
 
-impl<'s> Walk<'s> {
-    pub fn new(alloc: Global) -> Walk<'s> {
-        Walk {
+impl<'s> PlaceWalk<'s> {
+    /// A walk at the start of a section.
+    pub fn new(alloc: Global) -> PlaceWalk<'s> {
+        PlaceWalk {
             alloc,
             scope: Scope::new(alloc),
             leaves: 0,
@@ -126,25 +139,26 @@ impl<'s> Walk<'s> {
         }
     }
 
-    /// What was noted.
+    /// The parts that the walk recorded.
     pub(crate) fn into_sites(self) -> Sites {
-        let Walk { record, .. } = self;
+        let PlaceWalk { record, .. } = self;
         let Record { sites, .. } = record;
         sites
     }
 
-    /// The next leaf.
+    /// Counts a leaf, and returns its number.
     pub fn leaf(&mut self) -> u64 {
         let leaf = self.leaves;
         self.leaves = leaf.saturating_add(1);
         leaf
     }
 
-    /// The leaf that was met last, from this one on.
+    /// The last leaf counted, but at least `first`.
     pub fn last(&self, first: u64) -> u64 {
         first.max(self.leaves.saturating_sub(1))
     }
 
+    /// The current state, to which `leave` can return.
     pub fn mark(&self) -> Back {
         Back {
             scope: self.scope.mark(),
@@ -153,24 +167,25 @@ impl<'s> Walk<'s> {
         }
     }
 
+    /// Takes back the names that were added since `back`, and ends the scope of variables that were recorded since.
     pub fn leave(&mut self, back: Back) {
         self.scope.leave(back.scope);
         self.known.truncate(back.known);
         self.record.leave(back.variables);
     }
 
-    /// The fault by which the walk ended, if one did.
+    /// The fault that ended the walk, if one did.
     pub fn found(&self) -> Option<Found<'s>> {
         self.found
     }
 
-    /// The walk ends by this fault.
+    /// Ends the walk with this fault.
     fn end(&mut self, fault: ScopeError<'s>, at: Leaves, beside: Beside) -> Result<(), End> {
         self.found = Some(Found { fault, at, beside });
         Err(End::Found)
     }
 
-    /// A fault ends the walk, unless an earlier one still waits.
+    /// Ends the walk with this fault, unless an earlier fault still waits for a declaration.
     pub fn stop(&mut self, fault: ScopeError<'s>, at: Leaves, beside: Beside) -> Result<(), End> {
         match self.awaited {
             Some(_) => Ok(()),
@@ -178,7 +193,7 @@ impl<'s> Walk<'s> {
         }
     }
 
-    /// What judging a name answered, which stands at this leaf.
+    /// Continues with the result of checking the name at this leaf.
     pub fn judged(&mut self, answer: Result<(), ScopeError<'s>>, leaf: u64) -> Result<(), End> {
         match answer {
             Ok(()) => Ok(()),
@@ -188,7 +203,7 @@ impl<'s> Walk<'s> {
         }
     }
 
-    /// A name of an enclosing routine: the walk ends at its declaration, which may stand before it or after.
+    /// Handles a name of an enclosing routine: the walk ends here if it has met the declaration, and else when it meets it.
     fn of_another(&mut self, name: &'s [u8], leaf: u64) -> Result<(), End> {
         let Some(declared) = self.newest(name) else {
             return self.not_free(name, leaf, Beside::Nothing);
@@ -202,12 +217,12 @@ impl<'s> Walk<'s> {
         }
     }
 
-    /// The name at this leaf is that of an enclosing routine.
+    /// Ends the walk with `DynamicFree` for the name at this leaf.
     fn not_free(&mut self, name: &'s [u8], leaf: u64, beside: Beside) -> Result<(), End> {
         self.stop(ScopeError::DynamicFree(name), Leaves::one(leaf), beside)
     }
 
-    /// The name at this leaf waits for its declaration, unless an earlier one does.
+    /// Makes the name at this leaf wait for its declaration, unless an earlier fault already waits.
     fn wait(&mut self, name: &'s [u8], leaf: u64, declared: usize) {
         if self.awaited.is_none() {
             self.awaited = Some(Awaited {
@@ -218,7 +233,7 @@ impl<'s> Walk<'s> {
         }
     }
 
-    /// The place among what is known of the newest variable or label of this name.
+    /// The index in `known` of the newest variable or label with this name.
     fn newest(&self, name: &[u8]) -> Option<usize>
         ensures { IfSome result (λ i. i < length self.now.known.items) }
     {
@@ -232,27 +247,28 @@ impl<'s> Walk<'s> {
         None
     }
 
-    /// How many variables and labels are known.
+    /// The number of variables and labels in scope.
     pub fn known(&self) -> usize {
         self.known.len()
     }
 
-    /// A variable or label more, whose leaf is still to come.
+    /// Adds a variable or label whose declaration the walk hasn't met yet. Fails with `Memory` when an allocation fails.
     pub fn know(&mut self, name: &'s [u8]) -> Result<(), Memory> {
-        Ok(self.known.push(Known { name, leaf: None })?)
+        Ok(self.known.push(DeclaredName { name, leaf: None })?)
     }
 
-    /// A variable more, at this leaf.
+    /// Adds a variable declared at this leaf. Fails with `Memory` when an allocation fails.
     pub fn know_at(&mut self, name: &'s [u8], leaf: u64) -> Result<(), Memory> {
         Ok(
-            self.known.push(Known {
+            self.known.push(DeclaredName {
                 name,
                 leaf: Some(leaf),
             })?,
         )
     }
 
-    /// This one of what is known is declared at this leaf.
+    /// Records that the variable or label with this index in `known` is declared at this leaf. If a fault waits for it, that ends
+    /// the walk.
     pub fn declared_at(&mut self, place: usize, leaf: u64) -> Result<(), End> {
         if place < self.known.len() {
             self.known[place].leaf = Some(leaf);
@@ -267,7 +283,7 @@ impl<'s> Walk<'s> {
         }
     }
 
-    /// A name may stand once among those that were declared before in one place.
+    /// Adds a name to those that must differ, with its leaf. A name that is already there ends the walk.
     pub fn once(
         &mut self,
         before: &mut IndexMap<&'s [u8], u64>,
@@ -284,7 +300,7 @@ impl<'s> Walk<'s> {
         }
     }
 
-    /// A routine, a static, a table or a string at this leaf.
+    /// Counts and records a place at this leaf. Fails with `Memory` when an allocation fails.
     pub fn place(&mut self, leaf: u64) -> Result<(), Memory> {
         self.record.sites.labels.push(leaf)?;
         self.places = self.places.saturating_add(1);
@@ -294,7 +310,7 @@ impl<'s> Walk<'s> {
         Ok(())
     }
 
-    /// The frame of a routine, whose name is this leaf, has this many cells.
+    /// Checks the frame size of the routine whose name is this leaf.
     pub fn frame(&mut self, leaf: u64, cells: u64) {
         if cells <= 32768 {
             return;
@@ -308,7 +324,7 @@ impl<'s> Walk<'s> {
         }
     }
 
-    /// The fault of a section whose declarations have none.
+    /// The fault of a whole section, after a walk that found none in its parts.
     pub fn of_whole(&self) -> Option<Found<'s>> {
         if let Some(large) = self.large {
             return Some(Found {

@@ -1,4 +1,4 @@
--- A list from one of its elements on.
+-- A list from some element on is this element followed by the rest.
 use Rattle.std.proofs.Common.{◌≡◌, ℕ, ◌+◌, ◌<◌, ap, ◌∙◌, sym, List, length, drop, get_or}
 use Rattle.std.proofs.lemmas.List.{at_drop_more}
 use Rattle.bc_parse_tree.specs.declared.tree.Constant as code_constant

@@ -1,4 +1,4 @@
--- What the names before a LET say of its definitions gives what is made of them.
+-- The definitions of `specs/Definitions` are those of bc_scope_defs.
 use Rattle.std.proofs.Common.{◌≡◌, ℕ, ◌++◌, List, refl, ap, ◌∙◌}
 use Rattle.bc_core.specs.Commands as core
 use Rattle.bc_parse_tree.specs.Tree.{Definition, Definitions, no_definitions, definition}

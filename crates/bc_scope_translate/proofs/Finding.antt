@@ -1,4 +1,4 @@
--- What is found, one part after another.
+-- The things found in several parts, one part after another.
 use Rattle.std.proofs.Common.{◌≡◌, ◌+◌, ℕ, refl, ap, ◌∙◌, sym, List, [], ◌∷◌, ◌++◌, drop, append_assoc, length, take, subst, Result, Ok, Err}
 use Rattle.std.proofs.lemmas.List.{append-nil, drop-drop}
 use Rattle.bc_core.specs.Commands as core
@@ -32,7 +32,7 @@ found_all c (AValof f ∷ xs) = found_all (with_valof c (valof_of f)) xs ∙ ap 
 found_all c (ARoutine r ∷ xs) = found_all (with_place c (core.Code (core_routine r))) xs ∙ ap (λ ps. made ps (c.valofs ++ valofs_of xs)) (append_assoc c.places (core.Code (core_routine r) ∷ []) (places_of xs))
 found_all c (Data q d ∷ xs) = found_all (with_place c (core_datum d)) xs ∙ ap (λ ps. made ps (c.valofs ++ valofs_of xs)) (append_assoc c.places (core_datum d ∷ []) (places_of xs))
 
--- from nothing it is the whole
+-- beginning with nothing, the result is all that is found
 pub found_whole : (xs : List Thing) → found_after nothing xs ≡ record { places = places_of xs; valofs = valofs_of xs }
 found_whole xs = found_all nothing xs
 
@@ -41,7 +41,7 @@ found_items_is E k at no_items s = refl
 found_items_is E k at (item (Labelled ls c) is) s = ap (λ ts. found_in_command E at c s ++ ts) (found_items_is E (k + labels_of ls) (after_command at c) is s)
 found_items_is E k at (item (Labels_alone ls) is) s = found_items_is E (k + labels_of ls) at is s
 
--- what is left, once the first things are found
+-- what remains to be found after the first things
 pub left_over : (c d w : core.Core) (xs ys : List Thing) → d ≡ found_after c xs → found_after c (xs ++ ys) ≡ w → found_after d ys ≡ w
 left_over c d w xs ys p q = ap (λ x. found_after x ys) p ∙ sym (found_along c xs ys) ∙ q
 
@@ -51,13 +51,13 @@ pub then_found : {X F : Type 0} (r : Result X F) (f g h : Gathered) (n : Numbers
 then_found (Ok x) f g h n xs ys k l p q = (q.0 ∙ ap (λ c. found_after c ys) p ∙ sym (found_along (core_view f) xs ys), q.1, q.2)
 then_found (Err e) f g h n xs ys k l p q = q
 
--- two parts that are the whole
+-- two parts that are all of a tree
 pub parts_found : {X F : Type 0} (r : Result X F) (f g h : Gathered) (n m : Numbers) (xs ys all : List Thing) (k l : List Entry)
     → m ≡ n → all ≡ xs ++ ys → core_view g ≡ found_after (core_view f) xs → GathersWithin r g h n ys k l → GathersWithin r f h m all k l
 parts_found r f g h n m xs ys all k l e q p v =
     subst (λ (o : Numbers). GathersWithin r f h o all k l) (sym e) (subst (λ (ts : List Thing). GathersWithin r f h n ts k l) (sym q) (then_found r f g h n xs ys k l p v))
 
--- a command list after other things, which sees the names that these leave
+-- a command list after other parts, with the names after these
 pub list_found : {X F : Type 0} (r : Result X F) (f g h : Gathered) (ts : List Thing) (S E : Env) (B : Numbers) (is : Items) (l s : ℕ) (before after : List Entry)
     → numbers_view g.at ≡ B → S ≡ E → l ≡ s → core_view g ≡ found_after (core_view f) ts
     → GathersWithin r g h (after_items (after_labels (numbers_view g.at) (labels_in is)) is) (found_items (in_list g.at.label is S) (after_labels (numbers_view g.at) (labels_in is)) is l) before after
@@ -80,6 +80,6 @@ side_on E at e es (s ∷ ss) = refl
 pub drop_one : {A : Type 0} (ss : List A) (i : ℕ) → drop 1 (drop i ss) ≡ drop (i + 1) ss
 drop_one ss i = drop-drop 1 i ss
 
--- a scope is as it was before what was made known in it, once that is taken back
+-- after `leave`, a scope is as it was at the mark
 pub taken_back : (a b c d : List Entry) (n : ℕ) → n ≡ length a → Extends a b → c ≡ b → d ≡ take n c → d ≡ a
 taken_back a b c d n e x s p = p ∙ ap (λ es. take n es) s ∙ left a b n x e

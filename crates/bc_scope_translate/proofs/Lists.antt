@@ -1,4 +1,4 @@
--- Arguments and command lists by the lists of what they hold.
+-- Arguments and command lists, compared as lists of what they hold.
 use Rattle.std.proofs.Common.{◌≡◌, ◌+◌, ℕ, refl, ap, ◌∙◌, sym, List, [], ◌∷◌, ◌++◌, map, drop, length, ◌≤◌}
 use Rattle.std.proofs.lemmas.List.{at_drop_all, append-nil}
 use Rattle.bc_core.specs.declared.expression.CoreExp.{CoreExp}
@@ -83,7 +83,7 @@ items_done vs ts i F E k at is s h z e =
     items_seen vs (core_items E k at is s)
     (sym (append-nil (map entry_view vs)) ∙ ap (◌++◌ (map entry_view vs)) (sym z ∙ sym (at_drop_all F ts i h)) ∙ e ∙ sym (entered E k at is s))
 
--- a block, whose list sees the names and numbers that its declarations leave
+-- a block, whose list has the names and numbers after its declarations
 pub block_made : (ps : List (List core.Variable)) (qs : core.Items) (S E : Env) (N at : Numbers) (ds : source.Declarations) (is : source.Items) (l s : ℕ)
     → ps ≡ core_declarations E at s ds → N ≡ after_declarations at ds → S ≡ in_declarations E at s ds → l ≡ level_after E at s ds
     → qs ≡ core_items (in_list N.label is S) N.label (after_labels N (labels_in is)) is l

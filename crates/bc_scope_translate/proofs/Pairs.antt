@@ -1,4 +1,4 @@
--- An assignment of one pair, and of several.
+-- An assignment of one pair, and of several pairs.
 use Rattle.std.proofs.Common.{◌≡◌, ◌≢◌, refl, ap, ◌∙◌, sym, List, [], ◌∷◌, ◌++◌, ◌⊎◌, inl, inr, None, Global, map, length, get_or, arith}
 use Rattle.std.proofs.lemmas.List.{append-nil}
 use Rattle.std.specs.Vec.Iter.{into_iter_items, into_iter_len, into_iter_steps}
@@ -50,14 +50,14 @@ no_values : (xs es : List code.Formed) → length es ≡ 0 → entry_list (assig
 no_values [] es e = refl
 no_values (x ∷ xs) es e = ap (λ ys. entry_list (assignments (formed_list (x ∷ xs)) (formed_list ys))) (empty es e)
 
--- one side has ended
+-- when one side has ended
 ended : (a b : IntoIter code.Formed Global) → ((u : IntoIter code.Formed Global) × into_iter_steps a None u) ⊎ ((u : IntoIter code.Formed Global) × into_iter_steps b None u)
     → into_iter_len a ≡ length (into_iter_items a) → into_iter_len b ≡ length (into_iter_items b)
     → entry_list (assignments (formed_list (into_iter_items a)) (formed_list (into_iter_items b))) ≡ []
 ended a b (inl h) p q = no_addresses (into_iter_items a) (into_iter_items b) (sym p ∙ h.1.0)
 ended a b (inr h) p q = no_values (into_iter_items a) (into_iter_items b) (sym q ∙ h.1.0)
 
--- the list is whole where one side has ended
+-- the list is complete when one side has ended
 pub pairs_done : (vs : List ListItem) (a b : IntoIter code.Formed Global) (ps es : List Forms)
     → ((u : IntoIter code.Formed Global) × into_iter_steps a None u) ⊎ ((u : IntoIter code.Formed Global) × into_iter_steps b None u)
     → into_iter_len a ≡ length (into_iter_items a) → into_iter_len b ≡ length (into_iter_items b)

@@ -1,4 +1,4 @@
--- A list without labels, for which no number matters.
+-- A command list without labels is the same by all numbers of labels.
 use Rattle.std.proofs.Common.{◌≡◌, ◌+◌, ℕ, refl, ap, ◌∙◌, arith}
 use Rattle.bc_core.specs.Commands as core
 use Rattle.bc_parse_tree.specs.Tree.{Item, Items, no_items, item, Labelled, Labels_alone, Case, Default, Named, Labels, no_labels, label}
@@ -46,7 +46,7 @@ items_alike E k m at (item (Labels_alone ls) is) s h =
 none_counted : (at : Numbers) (n : ℕ) → n ≡ 0 → after_labels at n ≡ at
 none_counted at n h = ap (λ (k : ℕ). record { place = at.place; valof = at.valof; label = k }) (omega (arith, h))
 
--- the names, the labels and the numbers of such a list
+-- the names, the labels and the numbers after such a list
 pub unlabelled : (E : Env) (k : ℕ) (at : Numbers) (is : Items) (s : ℕ) → labels_in is ≡ 0 → core_items (in_list k is E) k (after_labels at (labels_in is)) is s ≡ core_items E 0 at is s
 unlabelled E k at is s h =
     ap (λ F. core_items F k (after_labels at (labels_in is)) is s) (no_list_names k is E h)

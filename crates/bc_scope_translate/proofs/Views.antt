@@ -1,4 +1,4 @@
--- What the trees of the code that hold several parts mean.
+-- Views of the trees that hold several parts.
 use Rattle.std.proofs.Common.{◌≡◌, ◌∙◌, ◌++◌, ◌⊎◌, inl, inr, ℕ, List, Option, Some, None, Vec, sym, ap}
 use Rattle.std.specs.Borrow.{Bor}
 use Rattle.std.specs.declared.alloc.Global.{Global}

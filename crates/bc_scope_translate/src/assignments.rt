@@ -1,4 +1,5 @@
-//! The translation of assignments.
+//! The translation of assignments. These functions are outside the cycle of `blocks.rt`: an assignment contains blocks only in
+//! VALOFs, and the bodies of VALOFs are skipped.
 ghost use Rattle.std.specs.Prelude.{◌≡◌, [], IfOk};
 ghost use Rattle.bc_core.specs.Commands.{Assign, Nested, block};
 ghost use Rattle.bc_core.specs.View.{command as command_of, items as items_of};
@@ -19,7 +20,7 @@ use bc_scope_names::Scope;
 use bc_word::Memory;
 use std::alloc::Global;
 
-/// One side of an assignment.
+/// Translates all expressions on one side of an assignment.
 fn side<'t, 's>(
     scope: &Scope<'s>,
     at: &mut NextNumbers<'t, 's>,
@@ -35,7 +36,7 @@ fn side<'t, 's>(
     Ok(formed)
 }
 
-/// The assignments of these values to these places, pair by pair.
+/// The commands that assign `values` to `places`, pair by pair, up to the end of the shorter list.
 fn pairs(alloc: Global, places: Vec<Formed>, values: Vec<Formed>) -> Result<Vec<ListItem>, Memory>
     ensures { IfOk result (λ is. items_of is.items ≡ assignments (formed_list places.items) (formed_list values.items)) }
 {
@@ -49,7 +50,7 @@ fn pairs(alloc: Global, places: Vec<Formed>, values: Vec<Formed>) -> Result<Vec<
     Ok(list)
 }
 
-/// An assignment of one value to one place.
+/// Translates an assignment of one value, to one command.
 fn single<'t, 's>(
     scope: &Scope<'s>,
     at: &mut NextNumbers<'t, 's>,
@@ -68,7 +69,7 @@ fn single<'t, 's>(
     })
 }
 
-/// Several assignments, as a block.
+/// Translates an assignment of several values, to a block of commands.
 #[inline(never)]
 fn several<'t, 's>(
     scope: &Scope<'s>,
@@ -90,7 +91,8 @@ fn several<'t, 's>(
     }))
 }
 
-/// An assignment: one pair is a command, several are a block of assignments.
+/// Translates an assignment, and moves the numbers past it. One pair becomes a command, several become a block of commands.
+/// Fails with `Memory` when an allocation fails or a number is too large.
 #[inline(never)]
 #[tactic(auto, using(crate::proofs::Pairs::single_is, crate::proofs::Pairs::several_addresses, crate::proofs::Pairs::several_values))]
 pub fn assigned<'t, 's>(

@@ -1,7 +1,9 @@
-//! The translation of blocks and commands.
+//! The translation of blocks and commands. Each function moves the numbers `at` past the part that it translates, and fails with
+//! `Memory` when an allocation fails or a number is too large. The scope is the same afterwards, except after `declarations`,
+//! `declaration` and `entries`, which add names, and after an error.
 //!
-//! What puts a command together is a function apart that is never inlined, so that what it needs does not lie on the stack
-//! while the blocks within are translated.
+//! Functions that build one form of command are never inlined. Otherwise their locals would be on the stack of `command` while
+//! inner blocks are translated, and each level of nesting would take about twice as much stack.
 ghost use Rattle.std.specs.Prelude.{◌≡◌, ◌+◌, ◌++◌, ◌∷◌, [], map, IfOk};
 ghost use Rattle.bc_core.specs.Commands.{Call, Goto, If, Nested, ResultIs, Test, While, Repeat, RepeatWhile, For, SwitchOn};
 ghost use Rattle.bc_core.specs.Tree.{Call as call_of};
@@ -34,14 +36,15 @@ use bc_scope_names::{
 };
 use bc_word::{Memory, Word};
 
-/// The test of a TEST, and the branch that is taken where it holds.
+/// The first part of a TEST: its condition, and the branch taken if it holds. TEST is translated by two functions with one block
+/// each, because a function with two trees of the cycle would need a measure to prove that it returns.
 #[derive(Drop)]
 struct Branch {
     test: CoreExp,
     this: CoreBlock,
 }
 
-/// Initialisers.
+/// Translates the initial values of variables.
 fn initials<'t, 's>(
     scope: &Scope<'s>,
     at: &mut NextNumbers<'t, 's>,
@@ -58,7 +61,7 @@ fn initials<'t, 's>(
     Ok(())
 }
 
-/// The variables of a definition; a vector's constant is given.
+/// Translates one definition to variables. `greatest` is the greatest index of a vector.
 fn definition<'t, 's>(
     scope: &Scope<'s>,
     greatest: u16,
@@ -77,7 +80,7 @@ fn definition<'t, 's>(
     }
 }
 
-/// How many variables a LET declares, or the greatest `usize` where there are more. Room is asked for by it.
+/// The number of variables that a LET declares, at most the greatest `usize`. It is only used to reserve room.
 fn variables_in(list: &[Definition<'_>]) -> usize {
     let mut variables = 0usize;
     for tree in list {
@@ -90,7 +93,7 @@ fn variables_in(list: &[Definition<'_>]) -> usize {
     variables
 }
 
-/// The variables of a LET, whose names are known, with what the names before it say of its definitions.
+/// Translates the definitions of a LET whose names are already in scope. `priors` has the sizes of its vectors.
 fn definitions<'t, 's>(
     scope: &Scope<'s>,
     priors: &Priors,
@@ -109,7 +112,7 @@ fn definitions<'t, 's>(
     Ok(variables)
 }
 
-/// The names of a declaration of constants.
+/// Adds the names of the entries of a MANIFEST, STATIC or GLOBAL with their final meanings.
 #[inline(never)]
 fn entries<'t, 's>(
     scope: &mut Scope<'s>,
@@ -128,7 +131,7 @@ fn entries<'t, 's>(
     Ok(())
 }
 
-/// A declaration at this next free offset, whose names are then known; given is the next free offset after it.
+/// Translates a declaration whose first free offset is `level`, and adds its names. Returns the next free offset.
 fn declaration<'t, 's>(
     scope: &mut Scope<'s>,
     at: &mut NextNumbers<'t, 's>,
@@ -159,7 +162,7 @@ fn declaration<'t, 's>(
     }
 }
 
-/// Declarations from this next free offset on, whose names are then known; given is the next free offset after them.
+/// Translates declarations from the free offset `level` on, and adds their names. Returns the next free offset.
 #[inline(never)]
 fn declarations<'t, 's>(
     scope: &mut Scope<'s>,
@@ -181,7 +184,7 @@ fn declarations<'t, 's>(
     Ok(following)
 }
 
-/// The labels before a command, the first of which has this number; given is the number after them.
+/// Adds the labels before a command to `list`, named ones numbered from `number`, and returns the next number.
 #[inline(never)]
 fn labels<'s>(
     scope: &Scope<'s>,
@@ -206,6 +209,7 @@ fn labels<'s>(
     Ok(number)
 }
 
+/// Translates the test of a command; `sense` is the truth value for which the body is executed.
 fn condition<'t, 's>(
     scope: &Scope<'s>,
     at: &mut NextNumbers<'t, 's>,
@@ -219,6 +223,7 @@ fn condition<'t, 's>(
     Ok(Condition { sense, test })
 }
 
+/// The number of a label; 0 for any other meaning.
 fn label_number(meant: Meant) -> u64
     ensures { result ≡ label_number_of (meant_view meant) }
 {
@@ -228,13 +233,14 @@ fn label_number(meant: Meant) -> u64
     }
 }
 
+/// The list item that is this command.
 fn entry(labelled: CoreCommand) -> ListItem
     ensures { entry_view result ≡ ACommand (command_of labelled) }
 {
     ListItem::Command(labelled)
 }
 
-/// Puts a command after the items of a list.
+/// Appends a command to a list.
 #[inline(never)]
 fn push_command(list: &mut Vec<ListItem>, labelled: CoreCommand) -> Result<(), Memory>
     ensures { IfOk result (λ _. map entry_view list.new.items ≡ map entry_view list.old.items ++ ACommand (command_of labelled) ∷ []) }
@@ -242,7 +248,7 @@ fn push_command(list: &mut Vec<ListItem>, labelled: CoreCommand) -> Result<(), M
     Ok(list.push(entry(labelled))?)
 }
 
-/// A block at this level.
+/// Translates a block at `level`, the first free offset of its frame.
 #[cycle(blocks)]
 pub fn block<'t, 's>(
     scope: &mut Scope<'s>,
@@ -264,7 +270,7 @@ pub fn block<'t, 's>(
     })
 }
 
-/// A command list, whose labels are known in it.
+/// Translates a command list, with its labels in scope.
 #[tactic(auto, using(crate::proofs::Unlabelled::unlabelled, crate::proofs::Unlabelled::after_unlabelled))]
 #[cycle(blocks)]
 fn command_list<'t, 's>(
@@ -280,7 +286,7 @@ fn command_list<'t, 's>(
 {
     let labels = labels_in(trees)?;
     if labels == 0 {
-        // Nothing asks for the numbers.
+        // Without labels nothing needs the numbers, so they are not counted.
         return items(scope, at, 0, trees, level);
     }
     let numbers = at.count()?;
@@ -288,7 +294,7 @@ fn command_list<'t, 's>(
     labelled_list(scope, at, numbers.label, trees, level)
 }
 
-/// A list whose labels, the first of which has this number, are known in it.
+/// Translates a command list with its labels in scope, numbered from `number`.
 #[tactic(auto, using(bc_scope_names::proofs::Extends::left))]
 #[cycle(blocks)]
 fn labelled_list<'t, 's>(
@@ -308,7 +314,7 @@ fn labelled_list<'t, 's>(
     Ok(list)
 }
 
-/// The items of a list, the first label of which has this number.
+/// Translates the items of a list whose labels are already in scope, numbered from `number`.
 #[cycle(blocks)]
 fn items<'t, 's>(
     scope: &mut Scope<'s>,
@@ -329,7 +335,7 @@ fn items<'t, 's>(
     Ok(list)
 }
 
-/// An item after those of this list, the first label of which has this number; given is the number after its labels.
+/// Translates an item and appends it to `list`. Its labels are numbered from `number`; returns the next number.
 #[cycle(blocks)]
 fn item<'t, 's>(
     scope: &mut Scope<'s>,
@@ -354,7 +360,7 @@ fn item<'t, 's>(
     }
 }
 
-/// The body of a REPEAT word.
+/// Translates the body of REPEAT, REPEATWHILE or REPEATUNTIL, to a block of one command.
 #[inline(never)]
 #[cycle(blocks)]
 fn body<'t, 's>(
@@ -371,7 +377,7 @@ fn body<'t, 's>(
     block_of(scope.alloc(), repeated)
 }
 
-/// The body of a FOR over this variable.
+/// Translates the body of a FOR with this variable at `level`; the limit is in the next cell.
 #[inline(never)]
 #[tactic(auto, using(bc_scope_names::proofs::Extends::left))]
 #[cycle(blocks)]
@@ -488,7 +494,7 @@ fn switched<'t, 's>(
     Ok(switch(of, list))
 }
 
-/// The test of a TEST, and its first branch.
+/// Translates the condition of a TEST and its first branch.
 #[inline(never)]
 #[cycle(blocks)]
 fn first_branch<'t, 's>(
@@ -509,7 +515,7 @@ fn first_branch<'t, 's>(
     Ok(Branch { test, this })
 }
 
-/// The second branch of a TEST.
+/// Translates the second branch of a TEST, and builds the command.
 #[inline(never)]
 #[cycle(blocks)]
 fn second_branch<'t, 's>(
@@ -528,7 +534,7 @@ fn second_branch<'t, 's>(
     Ok(chosen(test, this, that))
 }
 
-/// FOR.
+/// FOR. Takes the parts one by one: the borrow checker does not accept a record of references in this cycle.
 #[inline(never)]
 #[cycle(blocks)]
 fn counted_loop<'t, 's>(
@@ -553,7 +559,7 @@ fn counted_loop<'t, 's>(
     Ok(counting(start, limit, by, body))
 }
 
-/// A call, whose value is dropped.
+/// A call as a command.
 #[inline(never)]
 fn called<'t, 's>(
     scope: &Scope<'s>,
@@ -605,7 +611,7 @@ fn inner_block<'t, 's>(
     Ok(nested(block(scope, at, tree, level)?))
 }
 
-/// A command.
+/// Translates a command.
 #[cycle(blocks)]
 fn command<'t, 's>(
     scope: &mut Scope<'s>,

@@ -1,11 +1,11 @@
-//! The bytes that a string means.
+//! The bytes that a string literal denotes.
 ghost use Rattle.std.specs.Prelude.{◌≡◌, false, IfOk};
 ghost use Rattle.bc_scope_defs.specs.Characters.{escaped, characters, decoded};
 
 use bc_word::Memory;
 use std::alloc::Global;
 
-/// The byte of an escape, by the letter after `*`; what is no such letter means itself.
+/// The byte that an escape denotes, by the letter after `*`. Any other character after `*` denotes itself.
 fn escaped(letter: u8) -> u8
     ensures { result ≡ escaped letter }
 {
@@ -20,7 +20,7 @@ fn escaped(letter: u8) -> u8
     }
 }
 
-/// The characters up to the closing quote.
+/// The bytes denoted up to the closing quote, or up to the end of `text` if it has no quote.
 fn characters(alloc: Global, text: &[u8]) -> Result<Vec<u8>, Memory>
     ensures { IfOk result (λ bytes. bytes.items ≡ characters false text.now) }
 {
@@ -41,7 +41,8 @@ fn characters(alloc: Global, text: &[u8]) -> Result<Vec<u8>, Memory>
     Ok(bytes)
 }
 
-/// The bytes of a string, at most 255, from its spelling with the quotes.
+/// The bytes that a string denotes, from its spelling with the quotes. Bytes after the first 255 are dropped. Fails with `Memory`
+/// when an allocation fails.
 pub fn decoded(alloc: Global, text: &[u8]) -> Result<Vec<u8>, Memory>
     ensures { IfOk result (λ bytes. bytes.items ≡ decoded text.now) }
 {

@@ -1,4 +1,4 @@
-//! The translation of expressions. What stands in a VALOF is passed by: it is found apart.
+//! The translation of expressions. The bodies of VALOFs are skipped: `places_and_valofs.rt` translates them.
 ghost use Rattle.std.specs.Prelude.{◌≡◌, IfOk};
 ghost use Rattle.bc_core.specs.Tree.{Call, Place, Valof};
 ghost use Rattle.bc_core.specs.View.{exp, args};
@@ -17,14 +17,14 @@ use bc_parse_tree::{Block, Exp};
 use bc_scope_names::{Scope, operator, short};
 use bc_word::{Memory, Word};
 
-/// A call with these arguments.
+/// A call of `routine` with these arguments.
 fn called(values: Vec<CoreExp>, routine: Box<CoreExp>) -> CoreExp
     ensures { exp result ≡ Call (args values.items) (exp routine.value) }
 {
     CoreExp::Call(values, routine)
 }
 
-/// A string or a TABLE, which is a place.
+/// Translates a string or a TABLE, to the address of its place.
 fn place(at: &mut NextNumbers<'_, '_>) -> Result<Formed, Memory>
     ensures { Translates formed_view result (plain (Place (next_numbers at.old).place)) at.new (after_place (next_numbers at.old)) }
 {
@@ -33,7 +33,7 @@ fn place(at: &mut NextNumbers<'_, '_>) -> Result<Formed, Memory>
     Ok(Formed::Plain(CoreExp::Place(short(numbers.place)?)))
 }
 
-/// A VALOF, whose body is passed by.
+/// Translates a VALOF, to its number. Skips its body.
 fn valof<'t, 's>(at: &mut NextNumbers<'t, 's>, body: &'t Block<'s>) -> Result<Formed, Memory>
     ensures { Translates formed_view result (plain (Valof (next_numbers at.old).valof)) at.new
         (after_block (after_valof (next_numbers at.old)) (block_view body.now)) }
@@ -43,7 +43,8 @@ fn valof<'t, 's>(at: &mut NextNumbers<'t, 's>, body: &'t Block<'s>) -> Result<Fo
     Ok(Formed::Plain(CoreExp::Valof(short(numbers.valof)?)))
 }
 
-/// An expression at these numbers, which are then those after it.
+/// Translates an expression, and moves the numbers past it. Fails with `Memory` when an allocation fails or a number exceeds
+/// 65,535.
 #[cycle(expressions)]
 pub fn expression<'t, 's>(
     scope: &Scope<'s>,
@@ -83,7 +84,8 @@ pub fn expression<'t, 's>(
     }
 }
 
-/// The value of an expression.
+/// Translates an expression to its value, and moves the numbers past it. Fails with `Memory` when an allocation fails or a
+/// number exceeds 65,535.
 #[cycle(expressions)]
 pub fn value<'t, 's>(
     scope: &Scope<'s>,
@@ -97,6 +99,7 @@ pub fn value<'t, 's>(
     formed.content(scope.alloc())
 }
 
+/// The same in a box.
 #[cycle(expressions)]
 fn boxed<'t, 's>(
     scope: &Scope<'s>,
@@ -110,6 +113,7 @@ fn boxed<'t, 's>(
     Ok(Box::new(scope.alloc(), value)?)
 }
 
+/// Translates the arguments of a call.
 #[cycle(expressions)]
 fn arguments<'t, 's>(
     scope: &Scope<'s>,
@@ -126,7 +130,8 @@ fn arguments<'t, 's>(
     Ok(values)
 }
 
-/// A call of a routine with arguments.
+/// Translates a call, and moves the numbers past it. The routine is translated before the arguments. Fails with `Memory` when an
+/// allocation fails or a number exceeds 65,535.
 #[inline(never)]
 pub fn call<'t, 's>(
     scope: &Scope<'s>,

@@ -1,4 +1,4 @@
-//! What an expression is translated to.
+//! How a translated expression is represented, and the translation of names and operators by their translated operands.
 ghost use Rattle.std.specs.Prelude.{◌≡◌, IfOk};
 ghost use Rattle.bc_core.specs.View.{exp, command as command_of, block_of as core_block_of};
 ghost use Rattle.bc_scope_defs.specs.Translation.{form_of_name, opposite, negation, form_of_monadic, form_of_dyadic, block_of};
@@ -11,17 +11,17 @@ use bc_scope_names::{Meant, short};
 use bc_word::{Memory, Op, Word};
 use std::alloc::Global;
 
-/// An expression, translated.
+/// A translated expression.
 #[derive(Debug, Drop)]
 pub enum Formed {
-    /// The content of the cell with this address.
+    /// An expression with a cell: the content of the cell at this address.
     Cell(CoreExp),
-    /// What has no cell.
+    /// An expression without a cell: its value.
     Plain(CoreExp),
 }
 
 impl Formed {
-    /// The address; what has no cell means itself.
+    /// The address of the expression's cell; its value if it has no cell.
     pub fn address(self) -> CoreExp
         ensures { exp result ≡ (formed_view self).address }
     {
@@ -31,7 +31,7 @@ impl Formed {
         }
     }
 
-    /// The value.
+    /// The value of the expression. Fails with `Memory` when an allocation fails.
     pub fn content(self, alloc: Global) -> Result<CoreExp, Memory>
         ensures { IfOk result (λ e. exp e ≡ (formed_view self).content) }
     {
@@ -42,7 +42,8 @@ impl Formed {
     }
 }
 
-/// A name.
+/// Translates a name with this meaning. A meaning that is a fault in an expression becomes 0. Fails with `Memory` if a label or
+/// offset exceeds 65,535, which can't happen in a section without fault.
 pub fn of_name(meant: Meant) -> Result<Formed, Memory>
     ensures { IfOk result (λ f. formed_view f ≡ form_of_name (meant_view meant)) }
 {
@@ -63,7 +64,7 @@ pub fn of_name(meant: Meant) -> Result<Formed, Memory>
     }
 }
 
-/// The relation that holds where this one doesn't.
+/// The relation that holds exactly where `op` doesn't; `None` if `op` isn't a relation.
 fn opposite(op: Op) -> Option<Op>
     ensures { result ≡ opposite op }
 {
@@ -78,7 +79,7 @@ fn opposite(op: Op) -> Option<Op>
     }
 }
 
-/// NOT of an expression: of a relation, the opposite one.
+/// NOT of an expression. NOT of a relation is the opposite relation.
 fn negation(alloc: Global, e: CoreExp) -> Result<CoreExp, Memory>
     ensures { IfOk result (λ n. exp n ≡ negation (exp e)) }
 {
@@ -91,6 +92,7 @@ fn negation(alloc: Global, e: CoreExp) -> Result<CoreExp, Memory>
     }
 }
 
+/// Translates a monadic operator with its translated operand. Fails with `Memory` when an allocation fails.
 pub fn of_monadic(alloc: Global, sign: Monadic, operand: Formed) -> Result<Formed, Memory>
     ensures { IfOk result (λ f. formed_view f ≡ form_of_monadic sign (formed_view operand)) }
 {
@@ -105,7 +107,7 @@ pub fn of_monadic(alloc: Global, sign: Monadic, operand: Formed) -> Result<Forme
     }
 }
 
-/// Two operands, without an operator for `l ! r`.
+/// Translates a dyadic operator with its translated operands. Without `op` it is `left!right`, whose address is the sum.
 pub fn of_dyadic(op: Option<Op>, left: Box<CoreExp>, right: Box<CoreExp>) -> Formed
     ensures { formed_view result ≡ form_of_dyadic op (exp left.value) (exp right.value) }
 {
@@ -115,7 +117,7 @@ pub fn of_dyadic(op: Option<Op>, left: Box<CoreExp>, right: Box<CoreExp>) -> For
     }
 }
 
-/// The block of one command.
+/// A block of one command. Fails with `Memory` when an allocation fails.
 pub fn block_of(alloc: Global, command: Command) -> Result<CoreBlock, Memory>
     ensures { IfOk result (λ b. core_block_of b ≡ block_of (command_of command)) }
 {

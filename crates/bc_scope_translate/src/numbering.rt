@@ -1,4 +1,4 @@
-//! The numbers of a translation, counted as far as something asked for them.
+//! The next numbers of a translation, counted only when they are needed.
 ghost use Rattle.std.specs.Prelude.{◌≡◌, IfOk};
 ghost use Rattle.bc_parse_tree.specs.View.{block_view, definition_view};
 ghost use Rattle.bc_scope_defs.specs.Numbering.{after_block as after_block_of, after_definition as after_definition_of};
@@ -9,21 +9,22 @@ use bc_parse_tree::{Block, Definition};
 use bc_scope_names::{Numbers, after_block, after_definition};
 use bc_word::Memory;
 
-/// What was passed by since the numbers were counted last.
+/// The tree that was skipped since the numbers were last counted.
 #[derive(Clone, Copy)]
 enum Passed<'t, 's> {
+    /// No tree.
     Nothing,
-    /// A routine, with what is in it.
+    /// A routine definition.
     Routine(&'t Definition<'s>),
     /// The body of a VALOF.
     Body(&'t Block<'s>),
 }
 
-/// The next numbers.
+/// The next numbers, as numbers that were counted and a tree that was skipped since.
 ///
-/// What stands in a routine or a VALOF is translated apart. The numbers after it are a walk over all of it, and are
-/// counted only where something asks for them: else each of many routines, one within another, would be walked once
-/// for each that it stands in.
+/// The translation of a body skips the routines and VALOFs inside it. Counting the numbers after one walks over all of it, so
+/// they are counted only when a string, TABLE, VALOF, declaration or labelled list needs them. Otherwise a routine would be
+/// walked once for each routine around it.
 #[derive(Clone, Copy)]
 pub struct NextNumbers<'t, 's> {
     counted: Numbers,
@@ -32,7 +33,7 @@ pub struct NextNumbers<'t, 's> {
 
 #[tactic(auto, unfolding(crate::specs::Next::next_numbers))]
 impl<'t, 's> NextNumbers<'t, 's> {
-    /// These numbers.
+    /// These numbers, with nothing skipped since.
     pub fn new(counted: Numbers) -> NextNumbers<'t, 's>
         ensures { next_numbers result ≡ numbers_view counted }
     {
@@ -42,7 +43,7 @@ impl<'t, 's> NextNumbers<'t, 's> {
         }
     }
 
-    /// The numbers after the body of a VALOF at these numbers.
+    /// The numbers after the body of a VALOF that begins at `counted`.
     pub fn after_body(counted: Numbers, body: &'t Block<'s>) -> NextNumbers<'t, 's>
         ensures { next_numbers result ≡ after_block_of (numbers_view counted) (block_view body.now) }
     {
@@ -52,7 +53,7 @@ impl<'t, 's> NextNumbers<'t, 's> {
         }
     }
 
-    /// The numbers after a routine at these numbers.
+    /// The numbers after a routine that begins at `counted`.
     fn after_routine(counted: Numbers, routine: &'t Definition<'s>) -> NextNumbers<'t, 's>
         ensures { next_numbers result ≡ after_definition_of (numbers_view counted) (definition_view routine.now) }
     {
@@ -62,9 +63,7 @@ impl<'t, 's> NextNumbers<'t, 's> {
         }
     }
 
-    /// Counts them.
-    ///
-    /// `Memory` comes where one would pass what 64 bits hold.
+    /// Counts the numbers. Fails with `Memory` if one exceeds 64 bits.
     pub fn count(self) -> Result<Numbers, Memory>
         ensures { IfOk result (λ n. numbers_view n ≡ next_numbers self.entry) }
     {
@@ -77,9 +76,7 @@ impl<'t, 's> NextNumbers<'t, 's> {
         Ok(numbers)
     }
 
-    /// Counts them, once for all that follows.
-    ///
-    /// `Memory` comes where one would pass what 64 bits hold.
+    /// Counts the numbers, and keeps the result. Fails with `Memory` if one exceeds 64 bits.
     pub fn settle(&mut self) -> Result<Numbers, Memory>
         ensures { IfOk result (λ n. (numbers_view n ≡ next_numbers self.old) × (next_numbers self.new ≡ next_numbers self.old)) }
     {
@@ -88,9 +85,7 @@ impl<'t, 's> NextNumbers<'t, 's> {
         Ok(numbers)
     }
 
-    /// Passes a routine by.
-    ///
-    /// `Memory` comes where a number would pass what 64 bits hold.
+    /// Skips a routine. Fails with `Memory` if a number exceeds 64 bits.
     pub fn pass(&mut self, routine: &'t Definition<'s>) -> Result<(), Memory>
         ensures { IfOk result (λ _. next_numbers self.new ≡ after_definition_of (next_numbers self.old) (definition_view routine.now)) }
     {

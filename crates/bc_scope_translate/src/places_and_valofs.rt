@@ -1,4 +1,8 @@
-//! What is found in trees: the places and the bodies of VALOFs, in text order, each translated.
+//! The walk that collects the places and VALOFs of a section in text order, each with its translation, and the public call.
+//!
+//! Each function adds to `found` and moves its numbers past the part. It fails with `Memory` when an allocation fails or a number
+//! is too large. The scope is the same afterwards, except after `declarations`, `declaration` and `entries`, which add names,
+//! and after an error.
 ghost use Rattle.std.specs.Prelude.{◌≡◌, ◌+◌, ◌∷◌, [], map, length, drop, IfOk};
 ghost use Rattle.bc_core.specs.View.{section};
 ghost use Rattle.bc_core.specs.Level.{level_in_for, level_after_parameters};
@@ -28,6 +32,7 @@ use bc_scope_names::{
 use bc_word::{Memory, Word};
 use std::alloc::Global;
 
+/// The words of a TABLE.
 fn words_of_table<'s>(scope: &Scope<'s>, values: &[Exp<'s>]) -> Result<Vec<Word>, Memory>
     ensures { IfOk result (λ ws. ws.items ≡ words_of (scope_view scope.now) (exps_view values.now)) }
 {
@@ -38,7 +43,7 @@ fn words_of_table<'s>(scope: &Scope<'s>, values: &[Exp<'s>]) -> Result<Vec<Word>
     Ok(words)
 }
 
-/// The cell of a static.
+/// Adds the place of an entry if it is a static, whose cell begins with `value`.
 fn entry(found: &mut Gathered, storage: Storage, value: Word) -> Result<(), Memory>
     ensures { Gathers result found.old found.new (after_entry_of storage (numbers_view found.old.at)) (found_entry storage (numbers_view found.old.at) value) }
 {
@@ -48,7 +53,7 @@ fn entry(found: &mut Gathered, storage: Storage, value: Word) -> Result<(), Memo
     }
 }
 
-/// A string.
+/// Adds the place of a string, by its spelling with the quotes.
 #[inline(never)]
 fn text(alloc: Global, found: &mut Gathered, spelling: &[u8]) -> Result<(), Memory>
     ensures { Gathers result found.old found.new (after_place (numbers_view found.old.at)) (Data found.old.at.place (AText (decoded_of spelling.now)) ∷ []) }
@@ -57,7 +62,7 @@ fn text(alloc: Global, found: &mut Gathered, spelling: &[u8]) -> Result<(), Memo
     found.place(Place::Text(bytes))
 }
 
-/// A TABLE.
+/// Adds the place of a TABLE.
 #[inline(never)]
 fn table<'s>(scope: &Scope<'s>, found: &mut Gathered, values: &[Exp<'s>]) -> Result<(), Memory>
     ensures { Gathers result found.old found.new (after_place (numbers_view found.old.at))
@@ -67,7 +72,7 @@ fn table<'s>(scope: &Scope<'s>, found: &mut Gathered, values: &[Exp<'s>]) -> Res
     found.place(Place::Table(words))
 }
 
-/// The level of this pair of an assignment; a pair too many has level 0.
+/// The level of pair `i` of an assignment, counted from 0; 0 if there are no more than `i` levels.
 #[tactic(auto, using(std::proofs::lemmas::List::drop_more, std::proofs::lemmas::List::drop_all))]
 fn level_at(levels: &[u64], i: u64) -> u64
     ensures { result ≡ head_level (drop i levels.now) }
@@ -76,7 +81,7 @@ fn level_at(levels: &[u64], i: u64) -> u64
     if i < levels.len() { levels[i] } else { 0 }
 }
 
-/// Declarations of constants, whose names are then known.
+/// Adds the statics and the names of the entries of a MANIFEST, STATIC or GLOBAL.
 #[inline(never)]
 fn entries<'s>(
     scope: &mut Scope<'s>,
@@ -97,6 +102,7 @@ fn entries<'s>(
     Ok(())
 }
 
+/// Collects from an expression at `level`.
 #[cycle(finding)]
 fn expression<'s>(
     scope: &mut Scope<'s>,
@@ -131,7 +137,7 @@ fn expression<'s>(
     }
 }
 
-/// A VALOF, and what is found in it.
+/// Adds a VALOF with its translation, and then collects from its body.
 #[inline(never)]
 #[tactic(auto, using(bc_scope_names::proofs::Extends::left))]
 #[cycle(finding)]
@@ -159,7 +165,7 @@ fn valof<'s>(
     Ok(())
 }
 
-/// Arguments, each one level above the one before it.
+/// Collects from arguments, each one level above the one before.
 #[cycle(finding)]
 fn arguments<'s>(
     scope: &mut Scope<'s>,
@@ -178,7 +184,7 @@ fn arguments<'s>(
     Ok(())
 }
 
-/// One side of an assignment, each expression at its level.
+/// Collects from one side of an assignment, each expression at its level in `levels`.
 #[cycle(finding)]
 fn sides<'s>(
     scope: &mut Scope<'s>,
@@ -197,7 +203,7 @@ fn sides<'s>(
     Ok(())
 }
 
-/// Initialisers, all at one level.
+/// Collects from the initial values of variables, all at the same level.
 #[cycle(finding)]
 fn initials<'s>(
     scope: &mut Scope<'s>,
@@ -214,7 +220,7 @@ fn initials<'s>(
     Ok(())
 }
 
-/// A definition; the global that a routine sets is given.
+/// Collects from a definition. `global` is the global that it sets, if it is a routine that sets one.
 #[cycle(finding)]
 fn definition<'s>(
     scope: &mut Scope<'s>,
@@ -238,7 +244,7 @@ fn definition<'s>(
     }
 }
 
-/// A function that sets this global, and what is found in it.
+/// Adds a routine that is an expression, and then collects from its value. It sets `global`, if there is one.
 #[inline(never)]
 #[cycle(finding)]
 fn function<'s>(
@@ -268,7 +274,7 @@ fn function<'s>(
     Ok(())
 }
 
-/// A routine that sets this global, and what is found in it.
+/// Adds a routine that is a block, and then collects from its body. It sets `global`, if there is one.
 #[cycle(finding)]
 fn routine<'s>(
     scope: &mut Scope<'s>,
@@ -298,7 +304,7 @@ fn routine<'s>(
     Ok(())
 }
 
-/// The definitions of a LET, whose names are known, with what the names before it say of them.
+/// Collects from the definitions of a LET whose names are already in scope. `priors` has the globals that its routines set.
 #[cycle(finding)]
 fn definitions<'s>(
     scope: &mut Scope<'s>,
@@ -319,7 +325,7 @@ fn definitions<'s>(
     Ok(())
 }
 
-/// A declaration at this next free offset, whose names are then known; given is the next free offset after it.
+/// Collects from a declaration whose first free offset is `level`, and adds its names. Returns the next free offset.
 #[cycle(finding)]
 fn declaration<'s>(
     scope: &mut Scope<'s>,
@@ -348,7 +354,7 @@ fn declaration<'s>(
     }
 }
 
-/// Declarations from this next free offset on, whose names are then known; given is the next free offset after them.
+/// Collects from declarations from the free offset `level` on, and adds their names. Returns the next free offset.
 #[inline(never)]
 #[cycle(finding)]
 fn declarations<'s>(
@@ -370,6 +376,7 @@ fn declarations<'s>(
     Ok(following)
 }
 
+/// Collects from a block.
 #[cycle(finding)]
 fn block<'s>(
     scope: &mut Scope<'s>,
@@ -387,7 +394,7 @@ fn block<'s>(
     Ok(())
 }
 
-/// A command list, whose labels are known in it.
+/// Collects from a command list, with its labels in scope.
 #[tactic(auto, using(bc_scope_names::proofs::Extends::left))]
 #[cycle(finding)]
 fn command_list<'s>(
@@ -409,6 +416,7 @@ fn command_list<'s>(
     Ok(())
 }
 
+/// Collects from the items of a list whose labels are already in scope and numbered.
 #[cycle(finding)]
 fn items<'s>(
     scope: &mut Scope<'s>,
@@ -425,7 +433,7 @@ fn items<'s>(
     Ok(())
 }
 
-/// An item, which may have labels alone.
+/// Collects from the command of an item, if it has one.
 #[cycle(finding)]
 fn one_item<'s>(
     scope: &mut Scope<'s>,
@@ -442,7 +450,7 @@ fn one_item<'s>(
     }
 }
 
-/// The body of a FOR over this variable, at the level after its two cells.
+/// Collects from the body of a FOR with this variable at `level`; the limit is in the next cell.
 #[inline(never)]
 #[tactic(auto, using(bc_scope_names::proofs::Extends::left))]
 #[cycle(finding)]
@@ -464,6 +472,7 @@ fn counted<'s>(
     Ok(())
 }
 
+/// Collects from a command at `level`.
 #[cycle(finding)]
 fn command<'s>(
     scope: &mut Scope<'s>,
@@ -529,19 +538,20 @@ fn command<'s>(
     }
 }
 
-/// What a section's declarations are translated to.
+/// The translation of a section.
 #[derive(Debug, Drop)]
 pub struct Translated {
-    /// The places, which are labelled from 1 on in text order.
+    /// The places, labelled from 1 in text order.
     pub places: Vec<Place>,
-    /// The bodies of the VALOFs, which are numbered from 0 on in text order.
+    /// The VALOFs, numbered from 0 in text order.
     pub valofs: Vec<Valof>,
 }
 
-/// The translation of a section's declarations.
+/// Translates the declarations of a section.
 ///
-/// The scope is one in which nothing is known. `Memory` comes where an allocation was refused, or where a number is
-/// larger than 65,535. In a section without fault none is.
+/// `scope` must be empty. The section should have no fault: otherwise the result is still what the definitions say, but it has no
+/// meaning. Fails with `Memory` when an allocation fails, or when a label, offset or number exceeds 65,535, which can't happen in
+/// a section without fault.
 #[tactic(auto, using(crate::proofs::Finding::found_whole), unfolding(crate::specs::Finding::core_view, bc_scope_names::specs::View::scope_view))]
 pub fn translate<'s>(scope: &mut Scope<'s>, list: &[Declaration<'s>]) -> Result<Translated, Memory>
     requires { scope.old ≡ [] }

@@ -1,4 +1,4 @@
--- The words of a node are at most sixteen times the nodes below it.
+-- The words of a node are at most sixteen times the number of its nodes.
 use Rattle.std.proofs.Common.{◌≡◌, ℕ, ◌+◌, ◌*◌, ◌≤◌, ◌<◌, ◌^◌, List, [], ◌∷◌, ◌++◌, Bool, true, false, not, Option, Some, None, cond, sym, subst, arith}
 use Rattle.std.specs.Prelude.{nat_lt, nat_le}
 use Rattle.std.proofs.lemmas.Bool.{cond_both}
@@ -138,7 +138,7 @@ least_bound best (c ∷ cs) k h i = least_bound (better best c.rule c.words) cs 
 all_bound : (cs : List Candidate) (k : ℕ) → AllBound cs k → Bound (words_of (least_from None cs)) k
 all_bound cs k h = least_bound None cs k (none_bound k) h
 
--- the words of all choices of a node, of which so many stand in it
+-- the words of all choices of an expression with n nodes
 pub record IsUnder (c : Choices) (n : ℕ) : Type 0 where
   pub bound : ℕ
   pub under : bound + 4 ≤ 16 * n
@@ -324,7 +324,7 @@ small_up (Some n) k h i = omega arith
 pub small_bound : (x : Option ℕ) (k : ℕ) → Bound x k → k < 2 ^ 60 → Small x
 small_bound x k h i = small_up x k h.fact i
 
--- so the words of no node are near the bounds of the machine's numbers
+-- hence the words of every node are far below the limit of 64 bits
 pub small : (T : Table) (e : Exp) (s : ℕ) → nodes e ≤ 2 ^ 40 → AreSmall (choices T e s)
 small T e s h =
     let i = under T e s in let b = i.bound in let u = i.under in
@@ -338,7 +338,7 @@ small T e s h =
 pub all_small : (T : Table) (es : Args) (s : ℕ) → nodes_of_args es ≤ 2 ^ 40 → Small (words_of_all T es s)
 all_small T es s h = small_bound _ (16 * nodes_of_args es) (under_all T es s) (omega arith)
 
--- every expression has a node
+-- every expression has at least one node
 pub some_node : (e : Exp) → 1 ≤ nodes e
 some_node (Num n) = omega arith
 some_node (Frame k) = omega arith
@@ -375,7 +375,7 @@ under_small c n i h =
       on_true = small_bound _ (b + 2) i.on_true (omega arith);
     }
 
--- an argument, with what stores it
+-- an argument with the instruction that stores it
 pub stored_small : (T : Table) (x : Option ℕ) (e : Exp) (s : ℕ) → nodes e ≤ 2 ^ 40 → x ≡ plus (words_of (choices T e s).any) (w s) → Small x
 stored_small T x e s h i =
     let k = under T e s in let b = k.bound in let u = k.under in let few = w_few s in

@@ -1,12 +1,12 @@
--- Where the nodes of an expression are cut.
+-- Splitting the nodes of an expression at those of its last part.
 use Rattle.std.proofs.Common.{◌≡◌, ℕ, ◌+◌, List, [], ◌∷◌, ◌++◌, length, take, drop, refl, ap, ◌∙◌, arith, length-append}
 use Rattle.std.proofs.Math.Seq.{take-append_seam, drop-append_seam}
 use Rattle.bc_core.specs.Tree.{Exp, Num, Frame, Glob, Place, Load, Neg, Not, Bin, Cond, Call, Valof, Args, no_argument, argument, count}
 use Rattle.bc_core.specs.WellFormed.{nodes, nodes_of_args}
-use Rattle.bc_select.specs.declared.node.Part.{Part}
+use Rattle.bc_select.specs.declared.node.PartNode.{PartNode}
 use Rattle.bc_select.specs.Vector.{node, before, before_all, vector, ending}
 
-ending_length : (ns : List Part) (e : Exp) (s : ℕ) → length (ending ns e s) ≡ length ns + 1
+ending_length : (ns : List PartNode) (e : Exp) (s : ℕ) → length (ending ns e s) ≡ length ns + 1
 ending_length ns e s = length-append ns (node e s ∷ [])
 
 mutual
@@ -33,8 +33,8 @@ mutual
 pub vector_length : (e : Exp) (s : ℕ) → length (vector e s) ≡ nodes e
 vector_length e s = omega (arith, ending_length (before e s) e s, before_length e s)
 
-pub take_front : (xs ys : List Part) (n : ℕ) → n ≡ length xs → take n (xs ++ ys) ≡ xs
+pub take_front : (xs ys : List PartNode) (n : ℕ) → n ≡ length xs → take n (xs ++ ys) ≡ xs
 take_front xs ys n h = ap (λ k. take k (xs ++ ys)) h ∙ take-append_seam xs ys
 
-pub drop_front : (xs ys : List Part) (n : ℕ) → n ≡ length xs → drop n (xs ++ ys) ≡ ys
+pub drop_front : (xs ys : List PartNode) (n : ℕ) → n ≡ length xs → drop n (xs ++ ys) ≡ ys
 drop_front xs ys n h = ap (λ k. drop k (xs ++ ys)) h ∙ drop-append_seam xs ys

@@ -1,4 +1,4 @@
--- Where the nodes of parts end, and the words of arguments from the last to the first.
+-- Where the nodes of parts end, and the words of arguments, summed from the last to the first.
 use Rattle.std.proofs.Common.{◌≡◌, ◌||◌, ℕ, ◌+◌, ◌*◌, ◌≤◌, ◌^◌, List, [], ◌∷◌, ◌++◌, length, Option, Some, Result, Ok, Err, refl, ap, sym, ◌∙◌, arith, append_assoc}
 use Rattle.std.specs.Prelude.{OnOk}
 use Rattle.bc_word.specs.declared.operator.Op.{Op}
@@ -11,7 +11,7 @@ use Rattle.bc_rules_defs.specs.declared.rule.Table.TheVariants.{Two}
 use Rattle.bc_rules_defs.specs.Piece.{w}
 use Rattle.bc_select_defs.specs.Choices.{choices, words_of_all, cond_choices}
 use Rattle.bc_select_defs.specs.Options.{plus, sum, words_of}
-use Rattle.bc_select.specs.declared.node.Part.{Part}
+use Rattle.bc_select.specs.declared.node.PartNode.{PartNode}
 use Rattle.bc_select.specs.declared.node_of_parts.Arguments.{Arguments}
 use Rattle.bc_select.specs.Cut.{IsCut}
 use Rattle.bc_select.specs.Laid.{EndsInParts, EndsInArguments, AreFew, words_before}
@@ -21,16 +21,16 @@ use Rattle.bc_select.proofs.Bounds.{Bound, under, small_bound, sum_bound, plus_b
 use Rattle.bc_select.proofs.Readings.{before_all-then, nodes-then}
 use Rattle.bc_select.proofs.Wholes.{args_count}
 
-pub right_of : (ns : List Part) (op : Op) (a b : Exp) (s : ℕ) (h : EndsInParts ns (Bin op a b) s) → ns ≡ (h.front ++ vector a (s + 1)) ++ vector b (s + 1)
+pub right_of : (ns : List PartNode) (op : Op) (a b : Exp) (s : ℕ) (h : EndsInParts ns (Bin op a b) s) → ns ≡ (h.front ++ vector a (s + 1)) ++ vector b (s + 1)
 right_of ns op a b s h = h.is ∙ sym (append_assoc h.front (vector a (s + 1)) (vector b (s + 1)))
 
-pub that_of : (ns : List Part) (c x y : Exp) (s : ℕ) (h : EndsInParts ns (Cond c x y) s) → ns ≡ (h.front ++ (vector c s ++ vector x s)) ++ vector y s
+pub that_of : (ns : List PartNode) (c x y : Exp) (s : ℕ) (h : EndsInParts ns (Cond c x y) s) → ns ≡ (h.front ++ (vector c s ++ vector x s)) ++ vector y s
 that_of ns c x y s h = h.is ∙ sym (append_assoc h.front (vector c s ++ vector x s) (vector y s))
 
-pub this_of : (ns front : List Part) (c x : Exp) (s : ℕ) → ns ≡ front ++ (vector c s ++ vector x s) → ns ≡ (front ++ vector c s) ++ vector x s
+pub this_of : (ns front : List PartNode) (c x : Exp) (s : ℕ) → ns ≡ front ++ (vector c s ++ vector x s) → ns ≡ (front ++ vector c s) ++ vector x s
 this_of ns front c x s h = h ∙ sym (append_assoc front (vector c s) (vector x s))
 
-pub routine_of : (ns : List Part) (es : Args) (f : Exp) (s : ℕ) (h : EndsInParts ns (Call es f) s) → ns ≡ (h.front ++ before_all es (s + 2)) ++ vector f (s + 2 + count es)
+pub routine_of : (ns : List PartNode) (es : Args) (f : Exp) (s : ℕ) (h : EndsInParts ns (Call es f) s) → ns ≡ (h.front ++ before_all es (s + 2)) ++ vector f (s + 2 + count es)
 routine_of ns es f s h = h.is ∙ sym (append_assoc h.front (before_all es (s + 2)) (vector f (s + 2 + count es)))
 
 stored : Exp → ℕ → Option ℕ
@@ -52,7 +52,7 @@ few_bound a h = record { fact = h.words }
 pub few_small : (a : Arguments) → AreFew a → a.nodes ≤ 2 ^ 40 → Small a.words
 few_small a h i = small_bound a.words (16 * a.nodes) (few_bound a h) (omega arith)
 
--- one argument more in front
+-- with one more argument before the others
 pub few_more : (a b : Arguments) (e : Exp) (s : ℕ) → AreFew a → b.words ≡ sum (plus (words_of (choices Two e s).any) (w s)) a.words → b.nodes ≡ nodes e + a.nodes → AreFew b
 unfolding stored
 few_more a b e s h i j =
@@ -60,8 +60,8 @@ few_more a b e s h i j =
     let all : Bound (sum (stored e s) a.words) (16 * (nodes e + a.nodes)) = wider _ (n + w s + 16 * a.nodes) _ (sum_bound _ a.words (n + w s) (16 * a.nodes) (plus_bound _ n (w s) k.any) (few_bound a h)) (omega arith) in
     record { words = rw (i, j) all.fact }
 
--- the last argument's nodes stand last
-pub last_argument : (ns : List Part) (es others : List CoreExp) (e : CoreExp) (s : ℕ) (h : EndsInArguments ns (args es) s) → es ≡ others ++ (e ∷ []) → ns ≡ (h.front ++ before_all (args others) s) ++ vector (exp e) (s + length others)
+-- the last argument's nodes are the last
+pub last_argument : (ns : List PartNode) (es others : List CoreExp) (e : CoreExp) (s : ℕ) (h : EndsInArguments ns (args es) s) → es ≡ others ++ (e ∷ []) → ns ≡ (h.front ++ before_all (args others) s) ++ vector (exp e) (s + length others)
 last_argument ns es others e s h i =
     h.is ∙ ap (λ x. h.front ++ before_all x s) (ap args i ∙ args_append others e) ∙ ap (λ x. h.front ++ x) (before_all-then (args others) (exp e) s)
     ∙ sym (append_assoc h.front (before_all (args others) s) (vector (exp e) (s + count (args others)))) ∙ ap (λ m. (h.front ++ before_all (args others) s) ++ vector (exp e) (s + m)) (args_count others)
@@ -74,23 +74,23 @@ last_words es others e s following h =
     ap (λ x. words_before x s following) (ap args h ∙ args_append others e) ∙ words_before-then (args others) (exp e) s following
     ∙ ap (λ m. words_before (args others) s (sum (plus (words_of (choices Two (exp e) (s + m)).any) (w (s + m))) following)) (args_count others)
 
--- what `last` and `cut` say of some nodes
-abbrev pub CutOf : List Part → List Part → List Part → Type 0
-CutOf ns front back = (xs : List Part) (e : Exp) (s : ℕ) → ns ≡ xs ++ vector e s → IsCut front back xs (vector e s)
+-- what `last` and `cut` say about nodes
+abbrev pub CutOf : List PartNode → List PartNode → List PartNode → Type 0
+CutOf ns front back = (xs : List PartNode) (e : Exp) (s : ℕ) → ns ≡ xs ++ vector e s → IsCut front back xs (vector e s)
 
-pub front_of_right : (ns front back : List Part) (op : Op) (a b : Exp) (s : ℕ) (h : EndsInParts ns (Bin op a b) s) → CutOf ns front back → front ≡ h.front ++ vector a (s + 1)
+pub front_of_right : (ns front back : List PartNode) (op : Op) (a b : Exp) (s : ℕ) (h : EndsInParts ns (Bin op a b) s) → CutOf ns front back → front ≡ h.front ++ vector a (s + 1)
 front_of_right ns front back op a b s h f = (f (h.front ++ vector a (s + 1)) b (s + 1) (right_of ns op a b s h)).first_is
 
-pub front_of_that : (ns front back : List Part) (c x y : Exp) (s : ℕ) (h : EndsInParts ns (Cond c x y) s) → CutOf ns front back → front ≡ (h.front ++ vector c s) ++ vector x s
+pub front_of_that : (ns front back : List PartNode) (c x y : Exp) (s : ℕ) (h : EndsInParts ns (Cond c x y) s) → CutOf ns front back → front ≡ (h.front ++ vector c s) ++ vector x s
 front_of_that ns front back c x y s h f = this_of front h.front c x s (f (h.front ++ (vector c s ++ vector x s)) y s (that_of ns c x y s h)).first_is
 
-pub front_of_this : (ns front back test this : List Part) (c x y : Exp) (s : ℕ) (h : EndsInParts ns (Cond c x y) s) → CutOf ns front back → CutOf front test this → test ≡ h.front ++ vector c s
+pub front_of_this : (ns front back test this : List PartNode) (c x y : Exp) (s : ℕ) (h : EndsInParts ns (Cond c x y) s) → CutOf ns front back → CutOf front test this → test ≡ h.front ++ vector c s
 front_of_this ns front back test this c x y s h f g = (g (h.front ++ vector c s) x s (front_of_that ns front back c x y s h f)).first_is
 
-joined : Part → Part → Part → Part
+joined : PartNode → PartNode → PartNode → PartNode
 joined c x y = record { choices = cond_choices c.choices x.choices y.choices; calls = c.calls || x.calls || y.calls; nodes = 1 + c.nodes + x.nodes + y.nodes }
 
-pub cond_whole : (r c x y : Part) (ec ex ey : Exp) (s : ℕ) → c ≡ node ec s → x ≡ node ex s → y ≡ node ey s → r ≡ record { choices = cond_choices c.choices x.choices y.choices; calls = c.calls || x.calls || y.calls; nodes = 1 + c.nodes + x.nodes + y.nodes } → r ≡ node (Cond ec ex ey) s
+pub cond_whole : (r c x y : PartNode) (ec ex ey : Exp) (s : ℕ) → c ≡ node ec s → x ≡ node ex s → y ≡ node ey s → r ≡ record { choices = cond_choices c.choices x.choices y.choices; calls = c.calls || x.calls || y.calls; nodes = 1 + c.nodes + x.nodes + y.nodes } → r ≡ node (Cond ec ex ey) s
 unfolding joined
 cond_whole r c x y ec ex ey s i j k h =
     h ∙ ap (λ q. joined q x y) i ∙ ap (λ q. joined (node ec s) q y) j ∙ ap (λ q. joined (node ec s) (node ex s) q) k

@@ -1,17 +1,17 @@
--- The marks of trees make these trees.
+-- Building from the marks of trees gives these trees.
 use Rattle.std.proofs.Common.{◌≡◌, ℕ, zero, suc, ◌+◌, ◌-◌, ◌<◌, refl, ap, sym, ◌∙◌, List, [], ◌∷◌, ◌++◌, length, take, drop, append-nil, append_assoc, length-append, arith, add-one}
 use Rattle.bc_rules_defs.specs.declared.derivation.Derivation.{Derivation}
 use Rattle.bc_rules_defs.specs.declared.rule.Rule.{Rule}
 use Rattle.bc_rules_defs.specs.Rules.{Tree, Trees, by, no_part, part, one, end_with}
 use Rattle.bc_rules_defs.specs.View.{derivation, derivations}
-use Rattle.bc_select.specs.declared.derivations.Mark.{Mark}
-use Rattle.bc_select.specs.declared.node.Part.{Part}
+use Rattle.bc_select.specs.declared.derivations.RuleMark.{RuleMark}
+use Rattle.bc_select.specs.declared.node.PartNode.{PartNode}
 use Rattle.bc_select.specs.declared.pending.Waiting.{Waiting}
 use Rattle.bc_select.specs.Marks.{size, marks, marks_of_all, first, rest, close, unwind}
 use Rattle.bc_select.specs.Waiting.{tree_of, trees_of, Added}
 use Rattle.bc_select.proofs.Waits.{joined, joined_nothing, joined_shift, joined_size, trees_append, trees_size}
 
--- so many at the front
+-- the first trees of a joined list
 first_joined : (ts us : Trees) → first (size ts) (joined ts us) ≡ ts
 first_joined no_part us = refl
 first_joined (part t ts) us = rw (add-one (size ts)) (ap (part t) (first_joined ts us))
@@ -20,7 +20,7 @@ rest_joined : (ts us : Trees) → rest (size ts) (joined ts us) ≡ us
 rest_joined no_part us = refl
 rest_joined (part t ts) us = rw (add-one (size ts)) (rest_joined ts us)
 
-unwind_append : (xs ys : List Mark) (ts : Trees) → unwind (xs ++ ys) ts ≡ unwind xs (unwind ys ts)
+unwind_append : (xs ys : List RuleMark) (ts : Trees) → unwind (xs ++ ys) ts ≡ unwind xs (unwind ys ts)
 unwind_append [] ys ts = refl
 unwind_append (x ∷ xs) ys ts = ap (close x) (unwind_append xs ys ts)
 
@@ -38,10 +38,10 @@ mutual
   all_back (part t ts) us =
       unwind_append (marks_of_all ts) (marks t) us ∙ ap (unwind (marks_of_all ts)) (one_back t us) ∙ all_back ts (end_with us t) ∙ joined_shift us ts t
 
-pub made : (ms : List Mark) (ts : Trees) → ms ≡ marks_of_all ts → unwind ms no_part ≡ ts
+pub made : (ms : List RuleMark) (ts : Trees) → ms ≡ marks_of_all ts → unwind ms no_part ≡ ts
 made ms ts h = ap (λ x. unwind x no_part) h ∙ all_back ts no_part
 
-pub unwind_last : (xs : List Mark) (x : Mark) (ts : Trees) → unwind (xs ++ (x ∷ [])) ts ≡ unwind xs (close x ts)
+pub unwind_last : (xs : List RuleMark) (x : RuleMark) (ts : Trees) → unwind (xs ++ (x ∷ [])) ts ≡ unwind xs (close x ts)
 unwind_last xs x ts = unwind_append xs (x ∷ []) ts
 
 marks_joined : (ts us : Trees) → marks_of_all (joined ts us) ≡ marks_of_all us ++ marks_of_all ts
@@ -67,11 +67,11 @@ pub derivations_size : (ds : List Derivation) → size (derivations ds) ≡ leng
 derivations_size [] = refl
 derivations_size (d ∷ ds) = omega (arith, derivations_size ds)
 
--- one mark more: the last that waits is taken, and its parts wait in its place
-pub listed_more : (nodes : List Part) (old left new : List Waiting) (next : Waiting) (rule : Rule) (ts : Trees) (done all : List Mark) (n : ℕ) → old ≡ left ++ (next ∷ []) → Added nodes left new ts → by rule ts ≡ tree_of next → n + length left ≡ length new → done ++ marks_of_all (trees_of old) ≡ all → (done ++ (record { rule = rule; parts = n } ∷ [])) ++ marks_of_all (trees_of new) ≡ all
+-- one step of the loop: the last waiting expression is taken and replaced by its parts
+pub listed_more : (nodes : List PartNode) (old left new : List Waiting) (next : Waiting) (rule : Rule) (ts : Trees) (done all : List RuleMark) (n : ℕ) → old ≡ left ++ (next ∷ []) → Added nodes left new ts → by rule ts ≡ tree_of next → n + length left ≡ length new → done ++ marks_of_all (trees_of old) ≡ all → (done ++ (record { rule = rule; parts = n } ∷ [])) ++ marks_of_all (trees_of new) ≡ all
 listed_more nodes old left new next rule ts done all n h i j k l =
     let few : n ≡ size ts = omega (arith, ap length i.is, length-append left i.added, trees_size i.added, ap size i.trees_are, k) in
-    let mark : Mark = record { rule = rule; parts = n } in
+    let mark : RuleMark = record { rule = rule; parts = n } in
     let now : trees_of new ≡ joined (trees_of left) ts = ap trees_of i.is ∙ trees_append left i.added ∙ ap (joined (trees_of left)) i.trees_are in
     let was : trees_of old ≡ joined (trees_of left) (one (by rule ts)) = ap trees_of h ∙ trees_append left (next ∷ []) ∙ ap (λ x. joined (trees_of left) (one x)) (sym j) in
     append_assoc done (mark ∷ []) (marks_of_all (trees_of new))
@@ -79,7 +79,7 @@ listed_more nodes old left new next rule ts done all n h i j k l =
     ∙ ap (λ x. done ++ (record { rule = rule; parts = size ts } ∷ x)) (ap marks_of_all now ∙ marks_joined (trees_of left) ts)
     ∙ ap (λ x. done ++ x) (sym (ap marks_of_all was ∙ marks_joined (trees_of left) (one (by rule ts)))) ∙ l
 
--- a list of marks with one more is longer
-pub fewer : (done more all : List Mark) (m : Mark) (us : List Mark) → (done ++ (m ∷ [])) ++ us ≡ all → more ≡ done ++ (m ∷ []) → length all - length more < length all - length done
+-- with one mark more, fewer remain
+pub fewer : (done more all : List RuleMark) (m : RuleMark) (us : List RuleMark) → (done ++ (m ∷ [])) ++ us ≡ all → more ≡ done ++ (m ∷ []) → length all - length more < length all - length done
 fewer done more all m us h i =
     omega (arith, sym (ap length h), length-append (done ++ (m ∷ [])) us, length-append done (m ∷ []), ap length i)

@@ -1,4 +1,4 @@
--- The content of a content is no operand.
+-- The content of a content isn't an operand.
 use Rattle.std.proofs.Common.{◌≡◌, Bool, true, false, Option, Some, None, cond, refl}
 use Rattle.bc_core.specs.declared.operands.Operand.{Operand}
 use Rattle.bc_core.specs.Operand.{content_of}

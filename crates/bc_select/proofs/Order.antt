@@ -1,4 +1,4 @@
--- Expressions in the order of their nodes, and the nodes one after the other.
+-- Expressions in the order of their nodes, and making the nodes one after the other.
 use Rattle.std.proofs.Common.{◌≡◌, ℕ, ◌+◌, ◌*◌, ◌-◌, ◌≤◌, ◌<◌, ◌^◌, List, [], ◌∷◌, ◌++◌, length, map, reverse, Option, Some, Result, Ok, Err, refl, ap, sym, subst, ◌∙◌, arith, append-nil, append_assoc, length-append}
 use Rattle.std.specs.Prelude.{IfOk}
 use Rattle.std.proofs.lemmas.List.{reverse-append, length-map, length-reverse}
@@ -7,13 +7,13 @@ use Rattle.bc_core.specs.View.{exp}
 use Rattle.bc_core.specs.WellFormed.{nodes, nodes_of_args}
 use Rattle.bc_select_defs.specs.Nodes.{in_order, all_in_order}
 use Rattle.bc_select.specs.declared.layout.AtLevel.{AtLevel}
-use Rattle.bc_select.specs.declared.node.Part.{Part}
+use Rattle.bc_select.specs.declared.node.PartNode.{PartNode}
 use Rattle.bc_select.specs.Order.{expression_at, from_the_end, in_order_of, parts_in_order, Fits, AllFit, listed, AreOf, ArgumentsPut, PartsPut, node_at, CanFollow}
 use Rattle.bc_select.specs.Selection.{root_vector}
 use Rattle.bc_select.proofs.Bounds.{some_node, count_of_args}
 use Rattle.bc_select.proofs.Vectors.{before_is, root_vector_is}
 
--- an expression comes after what stands below it
+-- an expression comes after all its parts
 whole_last : (e : Exp) (s : ℕ) → in_order e s ≡ parts_in_order e s ++ ((e, s) ∷ [])
 whole_last (Num n) s = refl
 whole_last (Frame k) s = refl
@@ -49,7 +49,7 @@ fit_last (y ∷ xs) x h = fit_last xs x h.1
 end_more : (xs : List AtLevel) (x : AtLevel) → from_the_end (xs ++ (x ∷ [])) ≡ expression_at x ∷ from_the_end xs
 end_more xs x = ap (map expression_at) (reverse-append xs (x ∷ []))
 
--- the arguments of a call are put after what waits, and its routine is the last part
+-- the arguments of a call are appended, and its routine is the last part
 pub call_parts : (old new : List AtLevel) (es : Args) (f : Exp) (s : ℕ) (x whole : AtLevel) → exp whole.e.now ≡ Call es f → whole.level ≡ s → ArgumentsPut old new es (s + 2) → exp x.e.now ≡ f → x.level ≡ s + 2 + count es → Fits whole → PartsPut old new (Some x) whole
 call_parts old new es f s x whole h i j k l m =
     let few = count_of_args es in let n : nodes (exp whole.e.now) ≡ 1 + nodes_of_args es + nodes f = ap nodes h in let o : nodes (exp x.e.now) ≡ nodes f = ap nodes k in let p = m.is in
@@ -63,7 +63,7 @@ call_parts old new es f s x whole h i j k l m =
           ∙ sym (ap (λ y. parts_in_order y whole.level) h ∙ ap (parts_in_order (Call es f)) i);
     }
 
--- one expression is listed, and its parts wait in its place
+-- one step of the loop: an expression is listed and replaced by its parts
 pub fit_more : (old new : List AtLevel) (last : Option AtLevel) (x : AtLevel) → PartsPut old new last x → AllFit (old ++ (x ∷ [])) → AllFit (new ++ listed last)
 fit_more old new last x h i =
     subst AllFit (sym (ap (λ y. y ++ listed last) h.is ∙ append_assoc old h.added (listed last))) (fit_append old (h.added ++ listed last) (fit_front old (x ∷ []) i) h.fit)
@@ -84,23 +84,23 @@ order_more old new order last x all h i =
 end_length : (xs : List AtLevel) → length (from_the_end xs) ≡ length xs
 end_length xs = length-map (reverse xs) expression_at ∙ length-reverse xs
 
--- a list of the same expressions with one more is longer
+-- with one expression more listed, fewer remain
 pub fewer : (order more : List AtLevel) (front all : List (Exp × ℕ)) (x : AtLevel) → more ≡ order ++ (x ∷ []) → front ++ from_the_end more ≡ all → length all - length more < length all - length order
 fewer order more front all x h i =
     omega (arith, sym (ap length i), length-append front (from_the_end more), end_length more, ap length h, length-append order (x ∷ []))
 
--- nodes one after the other, and then others
-follow_then : (made : List Part) (xs ys : List (Exp × ℕ)) → CanFollow made xs → CanFollow (made ++ map node_at xs) ys → CanFollow made (xs ++ ys)
+-- making nodes one after the other, and then further ones
+follow_then : (made : List PartNode) (xs ys : List (Exp × ℕ)) → CanFollow made xs → CanFollow (made ++ map node_at xs) ys → CanFollow made (xs ++ ys)
 follow_then made [] ys h i = subst (λ m. CanFollow m ys) (append-nil made) i
 follow_then made (x ∷ xs) ys h i = (h.0, follow_then (made ++ (node_at x ∷ [])) xs ys h.1 (subst (λ m. CanFollow m ys) (sym (append_assoc made (node_at x ∷ []) (map node_at xs))) i))
 
-whole_follows : (made : List Part) (e : Exp) (s : ℕ) → s + 2 * nodes e ≤ 2 ^ 40 → CanFollow made (parts_in_order e s) → CanFollow made (in_order e s)
+whole_follows : (made : List PartNode) (e : Exp) (s : ℕ) → s + 2 * nodes e ≤ 2 ^ 40 → CanFollow made (parts_in_order e s) → CanFollow made (in_order e s)
 whole_follows made e s h i =
     subst (CanFollow made) (sym (whole_last e s))
     (follow_then made (parts_in_order e s) ((e, s) ∷ []) i (record { fits = h; laid = record { front = made; is = ap (λ x. made ++ x) (sym (before_is e s)) } }, tt))
 
 mutual
-  can_follow : (made : List Part) (e : Exp) (s : ℕ) → s + 2 * nodes e ≤ 2 ^ 40 → CanFollow made (in_order e s)
+  can_follow : (made : List PartNode) (e : Exp) (s : ℕ) → s + 2 * nodes e ≤ 2 ^ 40 → CanFollow made (in_order e s)
   can_follow made (Num n) s h = whole_follows made (Num n) s h tt
   can_follow made (Frame k) s h = whole_follows made (Frame k) s h tt
   can_follow made (Glob n) s h = whole_follows made (Glob n) s h tt
@@ -119,17 +119,17 @@ mutual
       (follow_then made (all_in_order es (s + 2)) (in_order f (s + 2 + count es)) (all_can_follow made es (s + 2) (omega arith)) (can_follow _ f (s + 2 + count es) (omega arith)))
   can_follow made (Valof n) s h = whole_follows made (Valof n) s h tt
 
-  all_can_follow : (made : List Part) (es : Args) (s : ℕ) → s + 2 * nodes_of_args es ≤ 2 ^ 40 → CanFollow made (all_in_order es s)
+  all_can_follow : (made : List PartNode) (es : Args) (s : ℕ) → s + 2 * nodes_of_args es ≤ 2 ^ 40 → CanFollow made (all_in_order es s)
   all_can_follow made no_argument s h = tt
   all_can_follow made (argument e es) s h =
       let some = some_node e in
       follow_then made (in_order e s) (all_in_order es (s + 1)) (can_follow made e s (omega arith)) (all_can_follow _ es (s + 1) (omega arith))
 
-pub order_can_follow : (xs : List AtLevel) (made : List Part) → AllFit xs → CanFollow made (in_order_of xs)
+pub order_can_follow : (xs : List AtLevel) (made : List PartNode) → AllFit xs → CanFollow made (in_order_of xs)
 order_can_follow [] made h = tt
 order_can_follow (x ∷ xs) made h = follow_then made (in_order (exp x.e.now) x.level) (in_order_of xs) (can_follow made (exp x.e.now) x.level h.0.is) (order_can_follow xs _ h.1)
 
-pub nodes_of_root : (r : Root) (found : List AtLevel) (made : List Part) → AreOf found r → made ≡ map node_at (in_order_of found) → made ≡ root_vector r
+pub nodes_of_root : (r : Root) (found : List AtLevel) (made : List PartNode) → AreOf found r → made ≡ map node_at (in_order_of found) → made ≡ root_vector r
 nodes_of_root r found made h i = i ∙ ap (map node_at) h.order ∙ sym (root_vector_is r)
 
 pub if_ok : {A E : Type 0} (r : Result A E) (P Q : A → Type 0) → ((x : A) → P x → Q x) → IfOk r P → IfOk r Q

@@ -1,4 +1,4 @@
--- The trees of an expression begin with the rules of its choices.
+-- The trees of an expression begin with the rules of its choices, and continue with the trees of these rules' parts.
 use Rattle.std.proofs.Common.{◌≡◌, ℕ, ◌+◌, ◌++◌, Option, Some, None, refl, ap, sym, ◌∙◌, append-nil, append_assoc, arith}
 use Rattle.std.specs.Prelude.{true, false}
 use Rattle.bc_core.specs.declared.operands.Operand.{Operand}
@@ -68,7 +68,7 @@ reading_is e s (Jumps true) r h =
     ∙ sym (chosen_tree x (test_parts (readings Two e s).any (own (Jumps true))) (never x (cost d s) (rule_number (first_rule d)) _ (lower d s)))
     ∙ ap (λ y. tree_of x (test_parts y.any (own (Jumps true)))) (is_line e s) ∙ sym (ap (λ y. y.on_true) (is_line e s))
 
--- the choice of an assignment, both sides of which stand at level s, and its tree
+-- the choice of an assignment whose sides are at level s, and its tree
 pub assignment_choice : (v a : Exp) (level s : ℕ) (o : Option Operand) (x y : Asked) (r : Option Choice) → r ≡ assign_choice o x y level → o ≡ operand_of a → x ≡ node_of Two v s → y ≡ node_of Two a s → s ≡ side_level a level → r ≡ root_choice Two (Assign level v a)
 assignment_choice v a level s o x y r h i j k l =
     h ∙ ap (λ q. assign_choice q x y level) i ∙ ap (λ n. assign_choice (operand_of a) n y level) j ∙ ap (λ n. assign_choice (operand_of a) (node_of Two v s) n level) k
@@ -79,7 +79,7 @@ assignment_is v a level s x r h i j =
     let parts : Rule → Trees = assign_parts (readings Two v (side_level a level)) (readings Two a (side_level a level)) in
     ap (λ n. by r (assign_parts (readings Two v n) (readings Two a n) r)) h ∙ ap (λ q. by q (parts q)) (j ∙ ap rule_or_v1 i) ∙ sym (chosen_tree (root_choice Two (Assign level v a)) parts (λ k. refl))
 
--- one argument more at the end
+-- with one more argument at the end
 pub before_all-then : (es : Args) (e : Exp) (s : ℕ) → before_all (then_argument es e) s ≡ before_all es s ++ vector e (s + count es)
 before_all-then no_argument e s = append-nil (vector e s) ∙ ap (vector e) (omega arith)
 before_all-then (argument d es) e s =

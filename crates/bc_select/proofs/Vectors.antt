@@ -1,4 +1,4 @@
--- The rows of the nodes say what they are to say.
+-- The rows of the nodes have the least words and rules of their expressions.
 use Rattle.std.proofs.Common.{◌≡◌, ℕ, ◌+◌, List, [], ◌∷◌, ◌++◌, map, Option, Some, None, refl, ap, sym, subst, ◌∙◌}
 use Rattle.std.proofs.lemmas.List.{map-append}
 use Rattle.std.specs.Prelude.{true, false}
@@ -14,7 +14,7 @@ use Rattle.bc_select_defs.specs.Options.{words_of}
 use Rattle.bc_select_defs.specs.Nodes.{in_order, all_in_order, root_in_order}
 use Rattle.bc_select_defs.specs.Chosen.{chosen, chosen_words, root_choice}
 use Rattle.bc_select_defs.proofs.Words.{choices_are_least}
-use Rattle.bc_select.specs.declared.node.Part.{Part}
+use Rattle.bc_select.specs.declared.node.PartNode.{PartNode}
 use Rattle.bc_select.specs.declared.row.Row.{Row}
 use Rattle.bc_select.specs.Order.{node_at, parts_in_order}
 use Rattle.bc_select.specs.Vector.{node, before, before_all, vector}
@@ -34,13 +34,13 @@ all_right : (ats : List (Exp × ℕ)) → AllZip IsRowOf ats (map row_of_part (m
 all_right [] = tt
 all_right (at ∷ ats) = (row_right at, all_right ats)
 
-both : (xs ys : List Part) (ats bts : List (Exp × ℕ)) → xs ≡ map node_at ats → ys ≡ map node_at bts → xs ++ ys ≡ map node_at (ats ++ bts)
+both : (xs ys : List PartNode) (ats bts : List (Exp × ℕ)) → xs ≡ map node_at ats → ys ≡ map node_at bts → xs ++ ys ≡ map node_at (ats ++ bts)
 both xs ys ats bts h i = ap (λ zs. zs ++ ys) h ∙ ap (λ zs. map node_at ats ++ zs) i ∙ sym (map-append node_at ats bts)
 
-following : (xs : List Part) (e : Exp) (s : ℕ) (ats : List (Exp × ℕ)) → xs ≡ map node_at ats → xs ++ (node e s ∷ []) ≡ map node_at (ats ++ ((e, s) ∷ []))
+following : (xs : List PartNode) (e : Exp) (s : ℕ) (ats : List (Exp × ℕ)) → xs ≡ map node_at ats → xs ++ (node e s ∷ []) ≡ map node_at (ats ++ ((e, s) ∷ []))
 following xs e s ats h = both xs (node e s ∷ []) ats ((e, s) ∷ []) h refl
 
--- the nodes are those of the expressions in their order
+-- the nodes belong to the expressions in their order
 mutual
   pub before_is : (e : Exp) (s : ℕ) → before e s ≡ map node_at (parts_in_order e s)
   before_is (Num n) s = refl
@@ -77,7 +77,7 @@ root_vector_is (Value s e) = vector_is e s
 root_vector_is (Test s sense e) = vector_is e s
 root_vector_is (Assign s v a) = both (vector v (side_level a s)) (vector a (side_level a s)) (in_order v (side_level a s)) (in_order a (side_level a s)) (vector_is v (side_level a s)) (vector_is a (side_level a s))
 
-pub rows_of_root : (r : Root) (rows : List Row) (nodes : List Part) → rows ≡ map row_of_part nodes → nodes ≡ root_vector r → AllZip IsRowOf (root_in_order r) rows
+pub rows_of_root : (r : Root) (rows : List Row) (nodes : List PartNode) → rows ≡ map row_of_part nodes → nodes ≡ root_vector r → AllZip IsRowOf (root_in_order r) rows
 rows_of_root r rows nodes h i =
     let P : List Row → Type 0 = λ x. AllZip IsRowOf (root_in_order r) x in
     subst P (sym (h ∙ ap (map row_of_part) (i ∙ root_vector_is r))) (all_right (root_in_order r))

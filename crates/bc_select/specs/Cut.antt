@@ -1,7 +1,8 @@
--- For proofs: a list that is cut in two.
+-- For proofs: a list split in two.
 use Rattle.std.specs.Prelude.{◌≡◌, List}
-use Rattle.bc_select.specs.declared.node.Part.{Part}
+use Rattle.bc_select.specs.declared.node.PartNode.{PartNode}
 
-pub record IsCut (first second : List Part) (xs ys : List Part) : Type 0 where
+-- the two parts are these lists
+pub record IsCut (first second : List PartNode) (xs ys : List PartNode) : Type 0 where
   pub first_is : first ≡ xs
   pub second_is : second ≡ ys

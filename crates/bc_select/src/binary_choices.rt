@@ -1,4 +1,6 @@
-// The choices of a binary operator, from those of its operands.
+//! The choices of a binary operator and of an assignment, from those of their operands.
+//!
+//! Each function computes exactly the list of candidates that `bc_select_defs` defines, but tries only the operator's rules.
 #![tactic(auto, unfolding(bc_select_defs::specs::Options::given, bc_select_defs::specs::Options::better, bc_select_defs::specs::Options::least_from))]
 
 ghost use Rattle.std.specs.Prelude.{◌≡◌, ◌<◌, ◌≤◌, ◌+◌, ◌^◌, ◌∷◌, ◌++◌, None, true, false};
@@ -22,34 +24,38 @@ use bc_word::{Op, mirror};
 /// A binary operator at a level, with its operands.
 #[derive(Clone, Copy)]
 pub struct Pair {
+    /// The operator.
     pub op: Op,
+    /// The left operand.
     pub left: Asked,
+    /// The right operand.
     pub right: Asked,
+    /// The level of the whole; the operands are one level higher.
     pub level: u64,
 }
 
-/// Whether two expressions may be computed in either order.
+/// Whether two expressions may be evaluated in either order.
 pub fn free(a: &Asked, b: &Asked) -> bool
     ensures { result ≡ are_free a.now b.now }
 {
     !(a.calls || b.calls) || is_direct(a.operand) || is_direct(b.operand)
 }
 
-/// The words where this holds.
+/// The words if the condition holds, else None.
 pub fn given(holds: bool, x: Option<u64>) -> Option<u64>
     ensures { result ≡ given_of holds x }
 {
     if holds { x } else { None }
 }
 
-/// The words where the operator is the wanted one.
+/// The words if the operator `op` is `wanted`, else None.
 pub fn only(wanted: Op, op: Op, x: Option<u64>) -> Option<u64>
     ensures { result ≡ only_of wanted op x }
 {
     given(is(op, wanted), x)
 }
 
-/// Of the words of two operands those of the one beside a 0; the second 0 is taken first.
+/// The words of the operand beside a 0, where x and y are the words of the two operands. Of two zeros the right one is dropped.
 fn beside(pair: &Pair, x: Option<u64>, y: Option<u64>) -> Option<u64>
     requires first { Small x }
     requires second { Small y }
@@ -65,7 +71,7 @@ fn beside(pair: &Pair, x: Option<u64>, y: Option<u64>) -> Option<u64>
     }
 }
 
-/// The rules of a sum by which one operand stays in the instruction, where the operands have these words.
+/// Tries the rules for a sum that need the value of only one operand. x and y are the words of the operands in the current mode.
 fn mixed_sum(best: Option<Choice>, pair: &Pair, x: Option<u64>, y: Option<u64>) -> Option<Choice>
     requires sum { pair.now.op ≡ Add }
     requires first { Small x }
@@ -80,7 +86,7 @@ fn mixed_sum(best: Option<Choice>, pair: &Pair, x: Option<u64>, y: Option<u64>) 
     better(best, Rule::V8, beside(pair, x, y))
 }
 
-/// The rules of a difference.
+/// Tries the rules for a difference that need the value of only one operand.
 fn mixed_difference(
     best: Option<Choice>,
     pair: &Pair,
@@ -102,8 +108,8 @@ fn mixed_difference(
     better(best, Rule::V11, from_first)
 }
 
-/// The rules by which one operand stays in the instruction, where the operands have these words: only sums and
-/// differences have any.
+/// Tries the rules that need the value of only one operand. Only sums and differences have any. x and y are the words of the operands
+/// in the current mode.
 fn mixed(best: Option<Choice>, pair: &Pair, x: Option<u64>, y: Option<u64>) -> Option<Choice>
     requires first { Small x }
     requires second { Small y }
@@ -130,7 +136,7 @@ fn mixed(best: Option<Choice>, pair: &Pair, x: Option<u64>, y: Option<u64>) -> O
     }
 }
 
-/// The rules by which both operands are computed.
+/// Tries the rules that evaluate both operands, V12 to V19.
 fn worked(best: Option<Choice>, pair: &Pair) -> Option<Choice>
     requires first { AreSmall pair.now.left.choices }
     requires second { AreSmall pair.now.right.choices }
@@ -159,7 +165,7 @@ fn worked(best: Option<Choice>, pair: &Pair) -> Option<Choice>
     better(best, Rule::V19, only(Op::Subtract, op, difference))
 }
 
-/// The choice of a jump that is made of a value of so many words.
+/// The choice of a jump by rule J6, for a value of so many words.
 fn value_test(any: Option<u64>) -> Option<Choice>
     requires { Small any }
     ensures { result ≡ better_of None J6 (plus_of any 2) }
@@ -167,7 +173,7 @@ fn value_test(any: Option<u64>) -> Option<Choice>
     better(None, Rule::J6, plus(any, 2))
 }
 
-/// The words of a jump on whether an operand is 0, where the other one is.
+/// The words of a jump by J8 or J9: one operand is the number 0, and the other one is tested.
 fn zero_test(pair: &Pair) -> Option<u64>
     requires first { AreSmall pair.now.left.choices }
     requires second { AreSmall pair.now.right.choices }
@@ -178,7 +184,8 @@ fn zero_test(pair: &Pair) -> Option<u64>
     plus(beside(pair, x, y), 2)
 }
 
-/// The rules of a jump on false, where the value takes so many words.
+/// The choice of a jump on false; `any` has the words of the value in mode Any. The operators without rules of their own have four
+/// arms, because a single arm for all of them was not proved.
 fn tests_on_false(pair: &Pair, any: Option<u64>) -> Option<Choice>
     requires first { AreSmall pair.now.left.choices }
     requires second { AreSmall pair.now.right.choices }
@@ -205,7 +212,7 @@ fn tests_on_false(pair: &Pair, any: Option<u64>) -> Option<Choice>
     }
 }
 
-/// The rules of a jump on true, where the value takes so many words.
+/// The choice of a jump on true; `any` has the words of the value in mode Any. Its arms are like those of `tests_on_false`.
 fn tests_on_true(pair: &Pair, any: Option<u64>) -> Option<Choice>
     requires first { AreSmall pair.now.left.choices }
     requires second { AreSmall pair.now.right.choices }
@@ -232,7 +239,7 @@ fn tests_on_true(pair: &Pair, any: Option<u64>) -> Option<Choice>
     }
 }
 
-/// The choice of a value that is pushed.
+/// The choice of a value in mode Push. `operand` is the operand that the whole expression is, if any.
 fn pushed(pair: &Pair, operand: Option<Operand>) -> Option<Choice>
     requires first { AreSmall pair.now.left.choices }
     requires second { AreSmall pair.now.right.choices }
@@ -247,7 +254,7 @@ fn pushed(pair: &Pair, operand: Option<Operand>) -> Option<Choice>
     )
 }
 
-/// The choice of a value, where it is pushed in so many words.
+/// The choice of a value in mode Any, given the choice in mode Push.
 fn any(pair: &Pair, push: Option<Choice>) -> Option<Choice>
     requires first { AreSmall pair.now.left.choices }
     requires second { AreSmall pair.now.right.choices }
@@ -264,7 +271,7 @@ fn any(pair: &Pair, push: Option<Choice>) -> Option<Choice>
     worked(mixed, pair)
 }
 
-/// The choices of a binary operator which is this operand.
+/// The choices of a binary operator. `operand` is the operand that the whole expression is, if any.
 pub fn pair_choices(pair: &Pair, operand: Option<Operand>) -> Choices
     requires first { AreSmall pair.now.left.choices }
     requires second { AreSmall pair.now.right.choices }
@@ -283,7 +290,7 @@ pub fn pair_choices(pair: &Pair, operand: Option<Operand>) -> Choices
     }
 }
 
-/// The choice of an assignment at a level, from its address's operand.
+/// The choice of an assignment at a level. `operand` is the operand that the address is, if any.
 pub fn assign_choice(
     operand: Option<Operand>,
     value: &Asked,

@@ -1,4 +1,6 @@
-// Words of candidates, and the least of them.
+//! Arithmetic on the words of candidates, which are None if a rule doesn't apply, and the choice of the better one.
+//!
+//! `Small` bounds keep every sum far from the limits of `u64`.
 #![tactic(auto, unfolding(bc_select_defs::specs::Options::plus, bc_select_defs::specs::Options::more, bc_select_defs::specs::Options::sum, bc_select_defs::specs::Options::operand_cost, bc_select_defs::specs::Options::better, bc_select_defs::specs::Choices::number_cost))]
 
 ghost use Rattle.std.specs.Prelude.{◌≡◌, ◌<◌, ◌≤◌, ◌+◌, ◌==◌, ◌^◌};
@@ -12,7 +14,7 @@ use bc_rules_defs::{Rule, number_words, operand_words};
 use bc_select_defs::Choice;
 use bc_word::{Op, Word};
 
-/// The words of adding the negation of a number.
+/// The words of an instruction that adds the negation of this number.
 pub fn number_cost(number: Option<Word>) -> Option<u64>
     ensures words { result ≡ cost_of_number number }
     ensures small { Small result }
@@ -32,7 +34,7 @@ pub fn words(choice: Option<Choice>) -> Option<u64>
     Some(choice.words)
 }
 
-/// The words of a choice, however many they are.
+/// The words of a choice, without a bound on them.
 #[inline(always)]
 pub fn any_words(choice: Option<Choice>) -> Option<u64>
     ensures { result ≡ words_of choice }
@@ -41,7 +43,7 @@ pub fn any_words(choice: Option<Choice>) -> Option<u64>
     Some(choice.words)
 }
 
-/// So many words more.
+/// k words more.
 #[inline(always)]
 pub fn plus(x: Option<u64>, k: u64) -> Option<u64>
     requires small { Small x }
@@ -52,7 +54,7 @@ pub fn plus(x: Option<u64>, k: u64) -> Option<u64>
     Some(x + k)
 }
 
-/// The words of both.
+/// The sum of both words; None if either is None.
 #[inline(always)]
 pub fn sum(x: Option<u64>, y: Option<u64>) -> Option<u64>
     requires first { Small x }
@@ -64,7 +66,7 @@ pub fn sum(x: Option<u64>, y: Option<u64>) -> Option<u64>
     Some(x + y)
 }
 
-/// The words of both, and so many more.
+/// The sum of both words and k; None if either is None.
 #[inline(always)]
 pub fn both(x: Option<u64>, y: Option<u64>, k: u64) -> Option<u64>
     requires first { Small x }
@@ -77,7 +79,7 @@ pub fn both(x: Option<u64>, y: Option<u64>, k: u64) -> Option<u64>
     Some(x + y + k)
 }
 
-/// The words of all three, and so many more.
+/// The sum of all three words and k; None if any is None.
 pub fn three(x: Option<u64>, y: Option<u64>, z: Option<u64>, k: u64) -> Option<u64>
     requires first { Small x }
     requires second { Small y }
@@ -91,7 +93,7 @@ pub fn three(x: Option<u64>, y: Option<u64>, z: Option<u64>, k: u64) -> Option<u
     Some(x + y + z + k)
 }
 
-/// The words of an operand in an instruction of its own.
+/// The words of an instruction with this operand; None if there is no operand.
 pub fn alone(operand: Option<Operand>) -> Option<u64>
     ensures { result ≡ operand_cost operand }
 {
@@ -99,7 +101,7 @@ pub fn alone(operand: Option<Operand>) -> Option<u64>
     Some(operand_words(operand))
 }
 
-/// The words of an expression, and of an operand in the instruction after it.
+/// The words of an expression followed by an instruction with this operand.
 pub fn with_operand(x: Option<u64>, operand: Option<Operand>) -> Option<u64>
     requires { Small x }
     ensures { result ≡ sum_of x (operand_cost operand) }
@@ -109,7 +111,7 @@ pub fn with_operand(x: Option<u64>, operand: Option<Operand>) -> Option<u64>
     Some(x + operand_words(operand))
 }
 
-/// The same with k words more.
+/// The words of an expression followed by an instruction with this operand, and k more.
 pub fn with_operand_and(x: Option<u64>, operand: Option<Operand>, k: u64) -> Option<u64>
     requires small { Small x }
     requires few { k ≤ 16 }
@@ -120,14 +122,15 @@ pub fn with_operand_and(x: Option<u64>, operand: Option<Operand>, k: u64) -> Opt
     Some(x + (k + operand_words(operand)))
 }
 
-/// Whether an operator is this one.
+/// Whether two operators are the same.
 pub fn is(op: Op, wanted: Op) -> bool
     ensures { result ≡ (number_of op == number_of wanted) }
 {
     Word::from(op).get() == Word::from(wanted).get()
 }
 
-/// The better one of a choice and of a rule's words; of equal ones the choice.
+/// The better of a choice and a rule with its words. The choice is kept if the rule has as many words, so rules must be tried in the
+/// order of their numbers.
 #[inline(always)]
 pub fn better(best: Option<Choice>, rule: Rule, words: Option<u64>) -> Option<Choice>
     ensures { result ≡ better_of best rule words }

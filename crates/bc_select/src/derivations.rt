@@ -1,5 +1,7 @@
-// The derivations of expressions, read off by loops: first the rules are listed, wholes before parts and the last part first, and then the
-// trees are made from the end of that list, the first part first. So neither takes stack for the depth of the tree.
+//! Reads the derivations of expressions off a table of nodes, by two loops.
+//!
+//! The first loop lists the rules, wholes before parts and the last part first. The second builds the trees from the end of that
+//! list. Neither uses stack in proportion to the depth of the tree.
 
 ghost use Rattle.std.specs.Prelude.{◌≡◌, IfOk, OnOk};
 ghost use Rattle.bc_rules_defs.specs.View.{derivations};
@@ -15,20 +17,23 @@ use bc_rules_defs::{Derivation, Rule};
 use bc_word::Memory;
 use std::alloc::Global;
 
-/// A rule of a derivation, and how many parts it has there.
+/// A rule of a derivation with the number of its parts.
 #[derive(Clone, Copy)]
-pub struct Mark {
+pub struct RuleMark {
+    /// The rule.
     pub rule: Rule,
+    /// How many parts it has.
     pub parts: u32,
 }
 
-/// The rules of the derivations of what waits, wholes before parts and the last first. There is room for so many.
+/// Lists the rules of the derivations of the waiting expressions, wholes before parts and the last part first. `room` is the initial
+/// capacity of the list.
 fn listed(
     alloc: Global,
     room: usize,
     nodes: &Nodes,
     mut waiting: Vec<Waiting>,
-) -> Result<Vec<Mark>, Memory>
+) -> Result<Vec<RuleMark>, Memory>
     requires { AreReady nodes.now waiting.items }
     ensures { IfOk result (λ marks. marks.items ≡ marks_of_all (trees_of waiting.entry.items)) }
 {
@@ -38,7 +43,7 @@ fn listed(
         let before = waiting.len();
         parts(e, nodes, step, &mut waiting)?;
         match u32::try_from(waiting.len().saturating_sub(before)) {
-            Ok(parts) => marks.push(Mark {
+            Ok(parts) => marks.push(RuleMark {
                 rule: step.rule,
                 parts,
             })?,
@@ -48,8 +53,8 @@ fn listed(
     Ok(marks)
 }
 
-/// Takes the parts of a rule from the end, and puts the rule over them in their place.
-fn close(mark: Mark, trees: &mut Vec<Derivation>) -> Result<(), Memory>
+/// Replaces the last trees, as many as the mark has parts, by the tree of the mark's rule over them.
+fn close(mark: RuleMark, trees: &mut Vec<Derivation>) -> Result<(), Memory>
     ensures { OnOk result (derivations trees.new.items ≡ closed mark (derivations trees.old.items)) }
 {
     let first = trees.len().saturating_sub(mark.parts as usize);
@@ -58,8 +63,8 @@ fn close(mark: Mark, trees: &mut Vec<Derivation>) -> Result<(), Memory>
     Ok(())
 }
 
-/// The derivations of these rules.
-fn built(alloc: Global, mut marks: Vec<Mark>) -> Result<Vec<Derivation>, Memory>
+/// Builds the derivations from the list of their rules.
+fn built(alloc: Global, mut marks: Vec<RuleMark>) -> Result<Vec<Derivation>, Memory>
     ensures { (ts : Trees) → marks.items ≡ marks_of_all ts → IfOk result (λ v. derivations v.items ≡ ts) }
 {
     let mut trees = Vec::new(alloc);
@@ -69,10 +74,9 @@ fn built(alloc: Global, mut marks: Vec<Mark>) -> Result<Vec<Derivation>, Memory>
     Ok(trees)
 }
 
-/// The derivations of what waits, by these nodes. There is room for the rules of twice as many as there are nodes, so
-/// that what is listed is seldom copied.
+/// Reads the derivations of the waiting expressions off these nodes. Returns `Memory` if an allocation failed.
 ///
-/// `Memory` comes where an allocation was refused.
+/// The list of rules starts with room for twice the number of nodes, so it is rarely copied.
 pub fn read(alloc: Global, nodes: &Nodes, waiting: Vec<Waiting>) -> Result<Vec<Derivation>, Memory>
     requires { AreReady nodes.now waiting.items }
     ensures { IfOk result (λ v. derivations v.items ≡ trees_of waiting.entry.items) }

@@ -1,5 +1,7 @@
-// The nodes of expressions in one table, parts before wholes, laid out by two loops: first the expressions are listed, wholes before parts
-// and the last part first, and then their nodes are made from the end of that list. So neither takes stack for the depth of the tree.
+//! Lays out the nodes of expressions in one table, parts before wholes, by two loops.
+//!
+//! The first loop lists the expressions, wholes before parts and the last part first. The second makes their nodes from the end of
+//! that list. Neither uses stack in proportion to the depth of the tree.
 
 ghost use Rattle.std.specs.Prelude.{◌≡◌, ◌≤◌, ◌+◌, ◌*◌, ◌^◌, ◌++◌, [], None, map, IfOk, OnOk};
 ghost use Rattle.bc_core.specs.View.{exp, args};
@@ -15,11 +17,13 @@ use std::alloc::Global;
 /// An expression at its level.
 #[derive(Clone, Copy)]
 pub struct AtLevel<'a> {
+    /// The expression.
     pub e: &'a CoreExp,
+    /// Its level.
     pub level: u64,
 }
 
-/// An expression at a level.
+/// Makes an `AtLevel`.
 #[inline(always)]
 pub fn at_level<'a>(e: &'a CoreExp, level: u64) -> AtLevel<'a>
     ensures e { exp result.e.now ≡ exp e.now }
@@ -28,7 +32,7 @@ pub fn at_level<'a>(e: &'a CoreExp, level: u64) -> AtLevel<'a>
     AtLevel { e, level }
 }
 
-/// Puts the arguments of a call, the first of which stands at this level, after those that wait.
+/// Appends the arguments of a call to the waiting expressions. The first argument is at this level.
 fn put_arguments<'a>(
     arguments: &'a [CoreExp],
     level: u64,
@@ -44,7 +48,7 @@ fn put_arguments<'a>(
     put_arguments(others, level + 1, waiting)
 }
 
-/// Puts the parts of an expression but the last after those that wait, and gives the last.
+/// Appends all parts of an expression but the last to the waiting expressions, and returns the last.
 #[inline(always)]
 #[tactic(auto, using(bc_core::proofs::Rows::call_view))]
 fn put_parts<'a>(
@@ -59,7 +63,7 @@ fn put_parts<'a>(
         CoreExp::Num(_)
         | CoreExp::Frame(_)
         | CoreExp::Glob(_)
-        | CoreExp::Place(_)
+        | CoreExp::Site(_)
         | CoreExp::Valof(_) => Ok(None),
         CoreExp::Load(part) => Ok(Some(at_level(part, level))),
         CoreExp::Neg(part) => Ok(Some(at_level(part, level))),
@@ -81,7 +85,7 @@ fn put_parts<'a>(
     }
 }
 
-/// This expression, or where there is none the last that waits.
+/// Takes `last` if there is one, else the last of the waiting expressions.
 #[inline(always)]
 fn take_next<'a>(last: Option<AtLevel<'a>>, waiting: &mut Vec<AtLevel<'a>>) -> Option<AtLevel<'a>>
     ensures same { waiting.old.items ++ listed last.entry ≡ waiting.new.items ++ listed result }
@@ -93,10 +97,10 @@ fn take_next<'a>(last: Option<AtLevel<'a>>, waiting: &mut Vec<AtLevel<'a>>) -> O
     }
 }
 
-/// How many expressions there is room for from the start: as many as most roots have.
+/// The initial capacity of lists of expressions: enough for most roots.
 pub const ROOM: usize = 16;
 
-/// What waits with all that stands below it, wholes before parts and the last first.
+/// Lists the waiting expressions with all their parts, wholes before parts and the last part first.
 fn ordered<'a>(alloc: Global, mut waiting: Vec<AtLevel<'a>>) -> Result<Vec<AtLevel<'a>>, Memory>
     requires { AllFit waiting.items }
     ensures { IfOk result (λ order. from_the_end order.items ≡ in_order_of waiting.entry.items) }
@@ -111,7 +115,7 @@ fn ordered<'a>(alloc: Global, mut waiting: Vec<AtLevel<'a>>) -> Result<Vec<AtLev
     Ok(order)
 }
 
-/// The nodes of these expressions, from the last to the first.
+/// Makes the nodes of these expressions, from the last to the first.
 fn filled(alloc: Global, mut order: Vec<AtLevel>) -> Result<Table, Memory>
     requires { CanFollow [] (from_the_end order.items) }
     ensures { IfOk result (λ nodes. nodes ≡ map node_at (from_the_end order.entry.items)) }
@@ -124,9 +128,7 @@ fn filled(alloc: Global, mut order: Vec<AtLevel>) -> Result<Table, Memory>
     Ok(nodes)
 }
 
-/// The nodes of what waits, parts before wholes.
-///
-/// `Memory` comes where an allocation was refused.
+/// The nodes of the waiting expressions and of all their parts, parts before wholes. Returns `Memory` if an allocation failed.
 pub fn lay_out(alloc: Global, waiting: Vec<AtLevel>) -> Result<Table, Memory>
     requires { AllFit waiting.items }
     ensures { IfOk result (λ nodes. nodes ≡ map node_at (in_order_of waiting.entry.items)) }

@@ -1,4 +1,4 @@
-//! The derivation of least words of a root, with the least words of each of its nodes.
+//! The selector: finds the derivation of a root with the fewest words, and the least words of each of its nodes.
 #![tactic(auto)]
 
 mod binary_choices;

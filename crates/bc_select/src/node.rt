@@ -1,4 +1,7 @@
-// A node of the vector, and the operand that an expression is.
+//! A node of the table, and the operand that an expression is.
+//!
+//! A node holds no operand, because the prover failed where such a struct of another crate was moved through a cycle of calls.
+//! Operands are computed again where they are needed, in constant time.
 
 ghost use Rattle.std.specs.Prelude.{◌≡◌};
 ghost use Rattle.bc_core.specs.View.{exp};
@@ -7,18 +10,19 @@ ghost use Rattle.bc_core.specs.Operand.{operand_of, content_of};
 use bc_core::{CoreExp, Operand, content, operand};
 use bc_select_defs::Choices;
 
-/// A node, as the whole that it is part of sees it.
+/// The facts about a node that the enclosing expression needs.
 #[derive(Clone, Copy)]
-pub struct Part {
+pub struct PartNode {
+    /// Its least words and rules.
     pub choices: Choices,
-    /// Whether a call or a VALOF stands in it.
+    /// Whether it contains a call or a VALOF.
     pub calls: bool,
-    /// How many nodes it has.
+    /// The number of its nodes, itself included.
     pub nodes: usize,
 }
 
-/// The content of a cell, if one instruction can take it. It looks at the address alone, so that a row of contents
-/// takes no longer than its length.
+/// The operand that is the content of the cell at this address, if one instruction can take it. An address that is itself a content is
+/// rejected at once, so a chain of contents takes linear time.
 #[tactic(auto, using(crate::proofs::Operands::content_twice))]
 pub fn cell_operand(address: &CoreExp) -> Option<Operand>
     ensures { result ≡ content_of (operand_of (exp address.now)) }
@@ -28,7 +32,7 @@ pub fn cell_operand(address: &CoreExp) -> Option<Operand>
         CoreExp::Num(_)
         | CoreExp::Frame(_)
         | CoreExp::Glob(_)
-        | CoreExp::Place(_)
+        | CoreExp::Site(_)
         | CoreExp::Neg(_)
         | CoreExp::Not(_)
         | CoreExp::Bin(_, _, _)
@@ -38,7 +42,7 @@ pub fn cell_operand(address: &CoreExp) -> Option<Operand>
     }
 }
 
-/// The operand that an expression is.
+/// The operand that an expression is, or None.
 pub fn own_operand(e: &CoreExp) -> Option<Operand>
     ensures { result ≡ operand_of (exp e.now) }
 {
@@ -47,7 +51,7 @@ pub fn own_operand(e: &CoreExp) -> Option<Operand>
         CoreExp::Num(_)
         | CoreExp::Frame(_)
         | CoreExp::Glob(_)
-        | CoreExp::Place(_)
+        | CoreExp::Site(_)
         | CoreExp::Neg(_)
         | CoreExp::Not(_)
         | CoreExp::Bin(_, _, _)

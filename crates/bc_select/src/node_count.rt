@@ -1,4 +1,4 @@
-// How many nodes a root has.
+//! The number of nodes of a root. Counts saturate, so they can't overflow.
 
 ghost use Rattle.std.specs.Prelude.{◌≡◌, ◌≤◌, ◌<◌, ◌+◌, ◌^◌, ◌↔◌, IsTrue};
 ghost use Rattle.bc_core.specs.View.{exp, args, root as root_of};
@@ -8,13 +8,14 @@ ghost use Rattle.bc_select.specs.Counted.{Counts};
 
 use bc_core::{CoreExp, Root};
 
-/// Whether a root has at most 2^32 nodes, so that `select` and `rows` take it.
+/// Whether a root has at most 2^32 nodes, which `select` and `rows` require. Recurses over the root.
 pub fn is_selectable(root: &Root) -> bool
     ensures { IsTrue result ↔ (root_nodes (root_of root.now) ≤ 2 ^ 32) }
 {
     root_count(root) <= 1 << 32
 }
 
+/// The number of a root's nodes, saturating.
 fn root_count(root: &Root) -> u64
     ensures { Counts result (root_nodes (root_of root.now)) }
 {
@@ -24,6 +25,7 @@ fn root_count(root: &Root) -> u64
     }
 }
 
+/// The number of an expression's nodes, saturating.
 #[cycle(counting)]
 #[tactic(auto, using(bc_core::proofs::Rows::call_view))]
 fn count(e: &CoreExp) -> u64
@@ -33,7 +35,7 @@ fn count(e: &CoreExp) -> u64
         CoreExp::Num(_)
         | CoreExp::Frame(_)
         | CoreExp::Glob(_)
-        | CoreExp::Place(_)
+        | CoreExp::Site(_)
         | CoreExp::Valof(_) => 1,
         CoreExp::Load(e) | CoreExp::Neg(e) | CoreExp::Not(e) => count(e).saturating_add(1),
         CoreExp::Bin(_, left, right) => {
@@ -52,6 +54,7 @@ fn count(e: &CoreExp) -> u64
     }
 }
 
+/// The number of nodes of all arguments, saturating.
 #[cycle(counting)]
 fn count_all(arguments: &[CoreExp]) -> u64
     ensures { Counts result (nodes_of_args (args arguments.now)) }

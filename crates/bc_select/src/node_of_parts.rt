@@ -1,4 +1,4 @@
-// A node from those of its parts.
+//! Computes a node from those of its parts, which are the last ones in the table.
 
 ghost use Rattle.std.specs.Prelude.{◌≡◌, ◌<◌, ◌≤◌, ◌+◌, ◌*◌, ◌^◌, ◌||◌, true, false};
 ghost use Rattle.bc_core.specs.Tree as tree;
@@ -14,7 +14,7 @@ ghost use Rattle.bc_select.specs.Small.{Small, AreSmall};
 
 use crate::binary_choices::{Pair, pair_choices};
 use crate::candidates::{plus, sum, words};
-use crate::node::{Part, cell_operand, own_operand};
+use crate::node::{PartNode, cell_operand, own_operand};
 use crate::subtrees::{cut, last};
 use crate::table::Nodes;
 use crate::unary_choices::{
@@ -26,14 +26,16 @@ use bc_rules_defs::{Rule, number_words};
 use bc_select_defs::{Asked, Choices};
 use bc_word::Op;
 
-/// Arguments of a call: the words of them all, each stored in its cell, and how many nodes they have.
+/// The totals of some arguments of a call.
 #[derive(Clone, Copy)]
 pub struct Arguments {
+    /// The words to evaluate each and to store it in its cell.
     pub words: Option<u64>,
+    /// The number of their nodes.
     pub nodes: usize,
 }
 
-/// A binary operator, the operand that it is with its own operands, and its level.
+/// A binary operator, the operand that the whole expression is, and its level.
 #[derive(Clone, Copy)]
 struct Operator {
     op: Op,
@@ -42,47 +44,47 @@ struct Operator {
 }
 
 /// The node of an expression without parts.
-fn leaf(choices: Choices) -> Part
+fn leaf(choices: Choices) -> PartNode
     ensures { result ≡ record { choices = choices; calls = false; nodes = 1 } }
 {
-    Part {
+    PartNode {
         choices,
         calls: false,
         nodes: 1,
     }
 }
 
-/// The node of a form with one part, which this rule is for.
+/// The node of a form with one part, given the form's rule.
 #[inline(always)]
-fn unary_part(rule: Rule, operand: Option<Operand>, part: &Part) -> Part
+fn unary_part(rule: Rule, operand: Option<Operand>, part: &PartNode) -> PartNode
     requires part { AreSmall part.now.choices }
     requires value { Small (words_of (unary_of rule operand part.now.choices).any) }
     requires fits { part.now.nodes < 2 ^ 40 }
     ensures { result ≡ record { choices = unary_of rule operand part.now.choices; calls = part.now.calls; nodes = 1 + part.now.nodes } }
 {
-    Part {
+    PartNode {
         choices: unary_choices(rule, operand, &part.choices),
         calls: part.calls,
         nodes: 1 + part.nodes,
     }
 }
 
-/// That of NOT.
-fn not_part(part: &Part) -> Part
+/// The node of NOT.
+fn not_part(part: &PartNode) -> PartNode
     requires part { AreSmall part.now.choices }
     requires fits { part.now.nodes < 2 ^ 40 }
     ensures { result ≡ record { choices = not_of part.now.choices; calls = part.now.calls; nodes = 1 + part.now.nodes } }
 {
-    Part {
+    PartNode {
         choices: not_choices(&part.choices),
         calls: part.calls,
         nodes: 1 + part.nodes,
     }
 }
 
-/// An operand of a binary operator.
+/// The facts about an operand that the rules need, from the expression and its node.
 #[inline(always)]
-pub fn operand_node(e: &CoreExp, part: &Part) -> Asked
+pub fn operand_node(e: &CoreExp, part: &PartNode) -> Asked
     ensures { result ≡ record { choices = part.now.choices; operand = operand_of (exp e.now); number = constant_of (exp e.now); calls = part.now.calls; nodes = part.now.nodes } }
 {
     Asked {
@@ -94,9 +96,9 @@ pub fn operand_node(e: &CoreExp, part: &Part) -> Asked
     }
 }
 
-/// The node of a binary operator, which is this operand.
+/// The node of a binary operator with these operands. `operand` is the operand that the whole expression is, if any.
 #[inline(always)]
-fn pair_part(pair: &Pair, operand: Option<Operand>) -> Part
+fn pair_part(pair: &Pair, operand: Option<Operand>) -> PartNode
     requires first { AreSmall pair.now.left.choices }
     requires second { AreSmall pair.now.right.choices }
     requires value { Small (words_of (choices_of_pair Two pair.now.op operand pair.now.left pair.now.right pair.now.level).any) }
@@ -104,15 +106,15 @@ fn pair_part(pair: &Pair, operand: Option<Operand>) -> Part
     requires fits { pair.now.left.nodes + pair.now.right.nodes < 2 ^ 40 }
     ensures { result ≡ part_of_pair pair.now operand }
 {
-    Part {
+    PartNode {
         choices: pair_choices(pair, operand),
         calls: pair.left.calls || pair.right.calls,
         nodes: 1 + pair.left.nodes + pair.right.nodes,
     }
 }
 
-/// The node of a binary operator.
-fn pair_node(operator: &Operator, left: &CoreExp, right: &CoreExp, below: &Nodes) -> Part
+/// The node of a binary operator, whose operands' nodes are the last in `below`.
+fn pair_node(operator: &Operator, left: &CoreExp, right: &CoreExp, below: &Nodes) -> PartNode
     requires operand { operator.now.operand ≡ operand_of (tree.Bin operator.now.op (exp left.now) (exp right.now)) }
     requires fits { operator.now.level + 2 * nodes_in (tree.Bin operator.now.op (exp left.now) (exp right.now)) ≤ 2 ^ 40 }
     requires laid { EndsInParts below.now (tree.Bin operator.now.op (exp left.now) (exp right.now)) operator.now.level }
@@ -128,8 +130,8 @@ fn pair_node(operator: &Operator, left: &CoreExp, right: &CoreExp, below: &Nodes
     pair_part(&pair, operator.operand)
 }
 
-/// That of `condition -> this, that`.
-fn cond_part(condition: &Part, this: &Part, that: &Part) -> Part
+/// The node of `condition -> this, that`.
+fn cond_part(condition: &PartNode, this: &PartNode, that: &PartNode) -> PartNode
     requires condition { AreSmall condition.now.choices }
     requires this { AreSmall this.now.choices }
     requires that { AreSmall that.now.choices }
@@ -137,14 +139,14 @@ fn cond_part(condition: &Part, this: &Part, that: &Part) -> Part
     requires fits { condition.now.nodes + this.now.nodes + that.now.nodes < 2 ^ 40 }
     ensures { result ≡ record { choices = cond_of condition.now.choices this.now.choices that.now.choices; calls = condition.now.calls || this.now.calls || that.now.calls; nodes = 1 + condition.now.nodes + this.now.nodes + that.now.nodes } }
 {
-    Part {
+    PartNode {
         choices: cond_choices(&condition.choices, &this.choices, &that.choices),
         calls: condition.calls || this.calls || that.calls,
         nodes: 1 + condition.nodes + this.nodes + that.nodes,
     }
 }
 
-/// Arguments with those after them, where these are the nodes of the arguments and what stands before them.
+/// The totals of these arguments and of those that follow them. The nodes of these arguments are the last in `below`.
 fn with_arguments(
     arguments: &[CoreExp],
     level: u64,
@@ -173,31 +175,31 @@ fn with_arguments(
     with_arguments(others, level, &front, following)
 }
 
-/// The node of a call, from its arguments and its routine.
-fn call_part(arguments: &Arguments, routine: &Part, level: u64) -> Part
+/// The node of a call, from the totals of its arguments and the node of its routine.
+fn call_part(arguments: &Arguments, routine: &PartNode, level: u64) -> PartNode
     requires arguments { Small arguments.now.words }
     requires routine { AreSmall routine.now.choices }
     requires value { Small (words_of (call_of arguments.now.words routine.now.choices level).any) }
     requires fits { arguments.now.nodes + routine.now.nodes < 2 ^ 40 }
     ensures { result ≡ record { choices = call_of arguments.now.words routine.now.choices level; calls = true; nodes = 1 + arguments.now.nodes + routine.now.nodes } }
 {
-    Part {
+    PartNode {
         choices: call_choices(arguments.words, &routine.choices, level),
         calls: true,
         nodes: 1 + arguments.nodes + routine.nodes,
     }
 }
 
-/// The node of an expression, with those of its parts below.
+/// The node of an expression, whose parts' nodes are the last in `below`.
 #[tactic(auto, using(bc_core::proofs::Rows::call_view))]
-pub fn node(e: &CoreExp, level: u64, below: &Nodes) -> Part
+pub fn node(e: &CoreExp, level: u64, below: &Nodes) -> PartNode
     requires fits { level + 2 * nodes_in (exp e.now) ≤ 2 ^ 40 }
     requires laid { EndsInParts below.now (exp e.now) level }
     ensures { result ≡ node_of (exp e.now) level }
 {
     match e {
         CoreExp::Num(number) => leaf(number_choices(own_operand(e), *number)),
-        CoreExp::Frame(_) | CoreExp::Glob(_) | CoreExp::Place(_) => {
+        CoreExp::Frame(_) | CoreExp::Glob(_) | CoreExp::Site(_) => {
             leaf(leaf_choices(own_operand(e)))
         }
         CoreExp::Load(address) => unary_part(Rule::V2, cell_operand(address), &last(below)),
@@ -225,7 +227,7 @@ pub fn node(e: &CoreExp, level: u64, below: &Nodes) -> Part
             let arguments = with_arguments(arguments, level + 2, &front, none);
             call_part(&arguments, &last(below), level)
         }
-        CoreExp::Valof(_) => Part {
+        CoreExp::Valof(_) => PartNode {
             choices: valof_choices(),
             calls: true,
             nodes: 1,

@@ -1,4 +1,4 @@
-// Expressions that wait until their derivations are read.
+//! Expressions that wait until their derivations are read off the table.
 
 ghost use Rattle.std.specs.Prelude.{◌≡◌, ◌≤◌, ◌+◌, ◌*◌, ◌^◌, OnOk};
 ghost use Rattle.bc_core.specs.View.{exp};
@@ -15,35 +15,40 @@ use bc_core::CoreExp;
 use bc_rules_defs::{Aim, Rule};
 use bc_word::Memory;
 
-/// The level of an expression, and where its nodes end: after so many of the root's.
+/// The position of an expression.
 #[derive(Clone, Copy)]
-pub struct Place {
+pub struct Site {
+    /// Its level.
     pub level: u64,
+    /// The index after its last node in the table.
     pub end: usize,
 }
 
-/// The rule by which an expression gets its code for an aim, and its place.
+/// The rule that was chosen for an expression and an aim.
 #[derive(Clone, Copy)]
 pub struct Step {
-    pub place: Place,
+    /// The position of the expression.
+    pub place: Site,
+    /// The aim.
     pub aim: Aim,
+    /// The rule.
     pub rule: Rule,
 }
 
-/// An expression whose derivation is to be read off from the nodes.
+/// An expression whose derivation has still to be read.
 #[derive(Clone, Copy)]
 pub struct Waiting<'a> {
+    /// The expression.
     pub e: &'a CoreExp,
+    /// Its position, aim and rule.
     pub step: Step,
 }
 
-/// Puts an expression after those that wait.
-///
-/// `Memory` comes where an allocation was refused.
+/// Appends an expression to those that wait, with the rule that its node has for the aim. Returns `Memory` if an allocation failed.
 #[inline(always)]
 pub fn wait<'a>(
     e: &'a CoreExp,
-    place: Place,
+    place: Site,
     aim: Aim,
     nodes: &Nodes,
     waiting: &mut Vec<Waiting<'a>>,

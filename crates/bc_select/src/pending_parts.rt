@@ -1,4 +1,4 @@
-// The parts that a rule has, put after what waits to be read.
+//! Appends the parts of a rule to the expressions that wait to be read, in the order of the rule's code.
 
 ghost use Rattle.std.specs.Prelude.{◌≡◌, ℕ, List, ◌≤◌, ◌+◌, ◌*◌, ◌^◌, ◌++◌, OnOk};
 ghost use Rattle.bc_core.specs.Tree as tree;
@@ -13,39 +13,40 @@ ghost use Rattle.bc_core.specs.Operand.{constant_of};
 ghost use Rattle.bc_select_defs.specs.Chosen.{assign_parts};
 ghost use Rattle.bc_select.specs.Ends.{EndsAt};
 ghost use Rattle.bc_select.specs.Waiting.{Added};
-ghost use Rattle.bc_select.specs.declared.node.Part.{Part};
+ghost use Rattle.bc_select.specs.declared.node.PartNode.{PartNode};
 ghost use Rattle.bc_select.specs.Vector.{vector, before, before_all};
 ghost use Rattle.bc_select.specs.Reads.{own_parts, parts_for};
 
-use crate::pending::{Place, Step, Waiting, wait};
+use crate::pending::{Site, Step, Waiting, wait};
 use crate::table::Nodes;
 use bc_core::{CoreExp, constant};
 use bc_rules_defs::{Aim, Mode, Rule, Takes};
 use bc_select_defs::is_zero_number;
 use bc_word::Memory;
 
+/// The aim of a value in mode Any.
 pub const ANY: Aim = Aim::Gets(Mode::Any);
 
-/// Where the nodes of an expression's parts end, at its level.
-fn below(place: Place) -> Place
+/// The position at which the nodes of an expression's parts end: just before its own node.
+fn below(place: Site) -> Site
     ensures level { result.level ≡ place.level }
-    ensures end { (nodes : List Part) (e : Exp) (s : ℕ) → EndsAt nodes place.end (vector e s) → EndsAt nodes result.end (before e s) }
+    ensures end { (nodes : List PartNode) (e : Exp) (s : ℕ) → EndsAt nodes place.end (vector e s) → EndsAt nodes result.end (before e s) }
 {
-    Place {
+    Site {
         level: place.level,
         end: place.end.saturating_sub(1),
     }
 }
 
-/// How many nodes stand before those of the part that ends there.
+/// The index of the first node of the part whose nodes end at `end`.
 #[inline(always)]
 fn start(nodes: &Nodes, end: usize) -> usize
-    ensures { (xs : List Part) (e : Exp) (s : ℕ) → EndsAt nodes.now end (xs ++ vector e s) → EndsAt nodes.now result xs }
+    ensures { (xs : List PartNode) (e : Exp) (s : ℕ) → EndsAt nodes.now end (xs ++ vector e s) → EndsAt nodes.now result xs }
 {
     end.saturating_sub(nodes.count_at(end))
 }
 
-/// Puts the parts of a step after what waits.
+/// Appends the parts of a step to the waiting expressions. This and the functions below return `Memory` if an allocation failed.
 #[tactic(auto, using(crate::proofs::Waits::added_nothing))]
 pub fn parts<'a>(
     e: &'a CoreExp,
@@ -67,7 +68,7 @@ pub fn parts<'a>(
     }
 }
 
-/// The parts that the own rules of an expression have.
+/// The parts for the rules other than V0, V1, J6 and J7, by the form of the expression.
 #[tactic(auto, using(bc_core::proofs::Rows::call_view, crate::proofs::Waits::added_nothing))]
 fn own<'a>(
     e: &'a CoreExp,
@@ -87,7 +88,7 @@ fn own<'a>(
         CoreExp::Num(_)
         | CoreExp::Frame(_)
         | CoreExp::Glob(_)
-        | CoreExp::Place(_)
+        | CoreExp::Site(_)
         | CoreExp::Valof(_) => Ok(()),
         CoreExp::Load(part) => one_read(part, nodes, step, waiting),
         CoreExp::Neg(part) => one_read(part, nodes, step, waiting),
@@ -102,7 +103,7 @@ fn own<'a>(
     }
 }
 
-/// The one part, whose nodes end at the step's place.
+/// The part of a form with one part. Its nodes end at the step's place.
 #[tactic(auto, using(crate::proofs::Waits::added_nothing))]
 fn one_read<'a>(
     part: &'a CoreExp,
@@ -125,14 +126,14 @@ fn one_read<'a>(
     }
 }
 
-/// What is taken of two parts at a level, and where the nodes of both end.
+/// Which of two parts a rule takes, and the place at which the nodes of both end.
 #[derive(Clone, Copy)]
 struct Taken {
     takes: Takes,
-    place: Place,
+    place: Site,
 }
 
-/// Two parts at one level.
+/// Two parts at the same level.
 #[tactic(auto, using(crate::proofs::Ends::last_part, crate::proofs::Waits::added_nothing, crate::proofs::Waits::added_two))]
 fn two_read<'a>(
     first: &'a CoreExp,
@@ -146,7 +147,7 @@ fn two_read<'a>(
     ensures { OnOk result (Added nodes.now waiting.old.items waiting.new.items (two_taken taken.takes (readings Two (exp first.now) taken.place.level) (readings Two (exp second.now) taken.place.level))) }
 {
     let following = taken.place;
-    let front = Place {
+    let front = Site {
         level: following.level,
         end: start(nodes, following.end),
     };
@@ -166,7 +167,7 @@ fn two_read<'a>(
     Ok(())
 }
 
-/// The parts of a binary operator, whose nodes end at the step's place.
+/// The parts of a binary operator. Their nodes end at the step's place.
 fn pair_read<'a>(
     left: &'a CoreExp,
     right: &'a CoreExp,
@@ -180,7 +181,7 @@ fn pair_read<'a>(
 {
     let taken = Taken {
         takes: step.rule.takes(step.aim, is_zero_number(constant(right))),
-        place: Place {
+        place: Site {
             level: step.place.level + 1,
             end: step.place.end,
         },
@@ -188,14 +189,14 @@ fn pair_read<'a>(
     two_read(left, right, nodes, taken, waiting)
 }
 
-/// The branches of `condition -> this, that`.
+/// The two values of `condition -> this, that`.
 #[derive(Clone, Copy)]
 struct Branches<'a> {
     this: &'a CoreExp,
     that: &'a CoreExp,
 }
 
-/// The parts of `condition -> this, that`, whose nodes end at the step's place.
+/// The parts of `condition -> this, that`. Their nodes end at the step's place.
 #[tactic(auto, using(crate::proofs::Ends::last_part, crate::proofs::Waits::added_nothing, crate::proofs::Waits::added_three))]
 fn cond_read<'a>(
     condition: &'a CoreExp,
@@ -210,11 +211,11 @@ fn cond_read<'a>(
 {
     let level = step.place.level;
     let that = step.place;
-    let this = Place {
+    let this = Site {
         level,
         end: start(nodes, that.end),
     };
-    let test = Place {
+    let test = Site {
         level,
         end: start(nodes, this.end),
     };
@@ -239,12 +240,12 @@ fn cond_read<'a>(
     Ok(())
 }
 
-/// The parts of a call at a level, whose nodes end at this place.
+/// The parts of a call. Their nodes end at this place, which has the level of the call.
 fn call_read<'a>(
     arguments: &'a [CoreExp],
     routine: &'a CoreExp,
     nodes: &Nodes,
-    place: Place,
+    place: Site,
     waiting: &mut Vec<Waiting<'a>>,
 ) -> Result<(), Memory>
     requires fits { place.level + 2 * nodes_in (tree.Call (args arguments.now) (exp routine.now)) ≤ 2 ^ 40 }
@@ -252,11 +253,11 @@ fn call_read<'a>(
     ensures { OnOk result (Added nodes.now waiting.old.items waiting.new.items (end_with (readings_of_all Two (args arguments.now) (place.level + 2)) (readings Two (exp routine.now) (place.level + 2 + count (args arguments.now))).any)) }
 {
     let level = place.level + 2;
-    let following = Place {
+    let following = Site {
         level: level + arguments.len() as u64,
         end: place.end,
     };
-    let front = Place {
+    let front = Site {
         level,
         end: start(nodes, place.end),
     };
@@ -264,12 +265,12 @@ fn call_read<'a>(
     wait(routine, following, ANY, nodes, waiting)
 }
 
-/// Arguments of a call, the first of which stands at this level.
+/// The arguments of a call. Their nodes end at this place, which has the level of the first.
 #[tactic(auto, using(crate::proofs::Waits::added_nothing))]
 fn all_read<'a>(
     arguments: &'a [CoreExp],
     nodes: &Nodes,
-    place: Place,
+    place: Site,
     waiting: &mut Vec<Waiting<'a>>,
 ) -> Result<(), Memory>
     requires fits { place.level + 2 * nodes_of_args (args arguments.now) ≤ 2 ^ 40 }
@@ -279,11 +280,11 @@ fn all_read<'a>(
     let Some((last, others)) = arguments.split_last() else {
         return Ok(());
     };
-    let following = Place {
+    let following = Site {
         level: place.level + others.len() as u64,
         end: place.end,
     };
-    let front = Place {
+    let front = Site {
         level: place.level,
         end: start(nodes, place.end),
     };
@@ -291,7 +292,7 @@ fn all_read<'a>(
     wait(last, following, ANY, nodes, waiting)
 }
 
-/// The parts of an assignment, both sides of which stand at the step's level.
+/// The parts of an assignment. Both sides are at the step's level.
 pub fn sides_read<'a>(
     value: &'a CoreExp,
     address: &'a CoreExp,

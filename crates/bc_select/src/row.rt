@@ -1,3 +1,5 @@
+//! Rows: the least words and rules of a node, in the form that `select` returns.
+
 ghost use Rattle.std.specs.Prelude.{◌≡◌, List, ◌∷◌, [], ◌++◌};
 ghost use Rattle.bc_select.specs.Row.{row_of, rules_of, choice_in};
 ghost use Rattle.bc_select.specs.Reads.{rule_or_v1};
@@ -8,14 +10,17 @@ use crate::candidates::any_words;
 use bc_rules_defs::{Aim, Mode, Rule};
 use bc_select_defs::{Choice, Choices};
 
-/// The least words of a node for each aim, and the least rule that gives them: as a value, as a value
-/// that is pushed, as a jump on false, as a jump on true. There is none where there is no derivation.
+/// The least words of a node for each aim, and the rule of the lowest number that attains them. The aims are, in this order: a value in
+/// mode Any, a value in mode Push, a jump on false, a jump on true. None means that there is no derivation for the aim.
 #[derive(Clone, Copy, Debug, PartialEq, Eq)]
 pub struct Row {
+    /// The least words.
     pub costs: [Option<u64>; 4],
+    /// The rules that attain them.
     pub rules: [Option<Rule>; 4],
 }
 
+/// The rule of a choice.
 fn rule(choice: Option<Choice>) -> Option<Rule>
     ensures { result ≡ rule_of choice }
 {
@@ -43,6 +48,7 @@ pub fn row_from(choices: &Choices) -> Row
     }
 }
 
+/// A choice of these words and this rule; None if either is None.
 #[inline(always)]
 fn choice(words: Option<u64>, rule: Option<Rule>) -> Option<Choice>
     ensures { result ≡ choice_in words rule }
@@ -52,7 +58,7 @@ fn choice(words: Option<u64>, rule: Option<Rule>) -> Option<Choice>
     Some(Choice { words, rule })
 }
 
-/// The choices of a node that has this row.
+/// The choices from which this row was made.
 #[inline(always)]
 fn choices_from(row: &Row) -> Choices
     ensures { (c : Choices) → row.now ≡ row_of c → result ≡ c }
@@ -65,7 +71,7 @@ fn choices_from(row: &Row) -> Choices
     }
 }
 
-/// The rule of a choice; V1 where there is none.
+/// The rule of a choice, or V1 if there is no choice.
 pub fn rule_or_v1(choice: Option<Choice>) -> Rule
     ensures { result ≡ rule_or_v1 choice }
 {
@@ -75,7 +81,7 @@ pub fn rule_or_v1(choice: Option<Choice>) -> Rule
     }
 }
 
-/// The rules by which a node with these choices gets its code, in the order of a row.
+/// The rules of these choices in the order of a row, with V1 where there is no choice.
 #[inline(always)]
 pub fn rules_from(choices: &Choices) -> [Rule; 4]
     ensures { result ≡ rules_of choices.now }
@@ -88,7 +94,7 @@ pub fn rules_from(choices: &Choices) -> [Rule; 4]
     ]
 }
 
-/// The rule for an aim among those by which a node gets its code.
+/// The rule for an aim, of rules in the order of a row.
 #[inline(always)]
 pub fn rule_for(rules: &[Rule; 4], aim: Aim) -> Rule
     ensures { (c : Choices) → rules.now ≡ rules_of c → result ≡ rule_or_v1 (choice_of aim c) }
@@ -101,7 +107,7 @@ pub fn rule_for(rules: &[Rule; 4], aim: Aim) -> Rule
     }
 }
 
-/// The choices of the last node.
+/// The choices of the last row; none if there is no row.
 #[inline(always)]
 pub fn last_choices(rows: &[Row]) -> Choices
     ensures { (xs : List Row) (c : Choices) → rows.now ≡ xs ++ (row_of c ∷ []) → result ≡ c }

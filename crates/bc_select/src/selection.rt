@@ -1,3 +1,5 @@
+//! The public calls `select` and `rows`.
+
 ghost use Rattle.std.specs.Prelude.{◌≡◌, ◌≤◌, ◌+◌, ◌*◌, ◌^◌, ◌++◌, IfOk, OnOk};
 ghost use Rattle.std.specs.List.{AllZip};
 ghost use Rattle.bc_core.specs.Tree as tree;
@@ -22,7 +24,7 @@ use crate::derivations::read;
 use crate::layout::{AtLevel, ROOM, at_level, lay_out};
 use crate::node::own_operand;
 use crate::node_of_parts::operand_node;
-use crate::pending::{Place, Step};
+use crate::pending::{Site, Step};
 use crate::pending_parts::{ANY, parts, sides_read};
 use crate::row::{Row, rule_or_v1};
 use crate::subtrees::{choice_for, cut, last};
@@ -34,9 +36,10 @@ use bc_select_defs::Choice;
 use bc_word::Memory;
 use std::alloc::Global;
 
-/// A root's derivation of least words.
+/// The result of `select`.
 #[derive(Debug, Drop, PartialEq, Eq)]
 pub struct Selected {
+    /// The root's derivation with the fewest words.
     pub derivation: Derivation,
     /// The words of its code.
     pub words: u64,
@@ -44,14 +47,14 @@ pub struct Selected {
     pub table: Vec<Row>,
 }
 
-/// A root's derivation of least words, and those words.
+/// A root's derivation with the fewest words, and their number.
 #[derive(Drop)]
 struct Reading {
     derivation: Derivation,
     words: u64,
 }
 
-/// The expression of a root, or the value and the address of an assignment, at their level.
+/// The expression of a root at its level; of an assignment the value and the address.
 fn expressions(alloc: Global, root: &Root) -> Result<Vec<AtLevel<'_>>, Memory>
     requires { root_nodes (root_of root.now) ≤ 2 ^ 32 }
     ensures { IfOk result (λ found. AreOf found.items (root_of root.now)) }
@@ -80,7 +83,7 @@ fn expressions(alloc: Global, root: &Root) -> Result<Vec<AtLevel<'_>>, Memory>
     Ok(found)
 }
 
-/// The nodes of a root.
+/// Lays out the nodes of a root.
 fn lay_out_root(alloc: Global, root: &Root) -> Result<Table, Memory>
     requires { root_nodes (root_of root.now) ≤ 2 ^ 32 }
     ensures { IfOk result (λ nodes. nodes ≡ root_vector (root_of root.now)) }
@@ -89,7 +92,7 @@ fn lay_out_root(alloc: Global, root: &Root) -> Result<Table, Memory>
     lay_out(alloc, found)
 }
 
-/// An expression, with what its code is for.
+/// Reads the derivation of an expression for an aim.
 fn expression(
     alloc: Global,
     e: &CoreExp,
@@ -102,7 +105,7 @@ fn expression(
     ensures derivation { IfOk result (λ r. derivation_of r.derivation ≡ tree_for aim (readings Two (exp e.now) level)) }
     ensures words { IfOk result (λ r. r.words ≡ words_or_none (choice_of aim (choices Two (exp e.now) level))) }
 {
-    let place = Place {
+    let place = Site {
         level,
         end: nodes.len(),
     };
@@ -116,7 +119,7 @@ fn expression(
     })
 }
 
-/// The words of a choice.
+/// The words of a choice; 0 if there is none.
 fn count(choice: Option<Choice>) -> u64
     ensures { result ≡ words_or_none choice }
 {
@@ -126,7 +129,7 @@ fn count(choice: Option<Choice>) -> u64
     }
 }
 
-/// The level of both sides of an assignment to an address.
+/// The level of both sides of an assignment: that of the assignment if the address is an operand, else one higher.
 fn side_level(address: &CoreExp, level: u64) -> u64
     requires { level ≤ 65535 }
     ensures { result ≡ level_of_sides (exp address.now) level }
@@ -137,7 +140,7 @@ fn side_level(address: &CoreExp, level: u64) -> u64
     }
 }
 
-/// An assignment.
+/// Reads the derivation of an assignment.
 fn assignment(
     alloc: Global,
     value: &CoreExp,
@@ -157,7 +160,7 @@ fn assignment(
     let second = operand_node(address, &last(nodes));
     let choice = assign_choice(own_operand(address), &first, &second, level);
     let rule = rule_or_v1(choice);
-    let place = Place {
+    let place = Site {
         level: side,
         end: nodes.len(),
     };
@@ -175,7 +178,7 @@ fn assignment(
     })
 }
 
-/// What the choices of a root with these nodes come to.
+/// Reads the derivation of a root off its nodes.
 fn read_root(alloc: Global, root: &Root, nodes: &Nodes) -> Result<Reading, Memory>
     requires fits { root_nodes (root_of root.now) ≤ 2 ^ 32 }
     requires nodes { nodes.now ≡ root_vector (root_of root.now) }
@@ -200,12 +203,11 @@ fn read_root(alloc: Global, root: &Root, nodes: &Nodes) -> Result<Reading, Memor
     }
 }
 
-/// The derivation of a root that has the least words, those words, and a row for each node, parts before
-/// wholes: a call's arguments before its routine, an assignment's value before its address. Of derivations
-/// with as few words it is the one that begins with the rule of the least number, at each step. The rules
-/// are those of the second table. The root has at most 2^32 nodes; `is_selectable` tells whether one does.
+/// Finds the derivation of a root with the fewest words, by rule table 2. Returns the derivation, its number of words, and a row for
+/// each node, parts before wholes: a call's arguments before its routine, an assignment's value before its address. Of several
+/// derivations with the fewest words it is the one that begins with the rule of the lowest number, at each step.
 ///
-/// `Memory` comes where an allocation was refused.
+/// The root must have at most 2^32 nodes, which `is_selectable` decides. Returns `Memory` if an allocation failed.
 pub fn select(alloc: Global, root: &Root) -> Result<Selected, Memory>
     requires { root_nodes (root_of root.now) ≤ 2 ^ 32 }
     ensures derivation { IfOk result (λ s. derivation_of s.derivation ≡ root_shape (chosen Two (root_of root.now))) }
@@ -221,9 +223,8 @@ pub fn select(alloc: Global, root: &Root) -> Result<Selected, Memory>
     })
 }
 
-/// The rows of a root's nodes, as `select` gives them. The root has at most 2^32 nodes.
-///
-/// `Memory` comes where an allocation was refused.
+/// The rows of a root's nodes, as `select` returns them, without the derivation. The root must have at most 2^32 nodes. Returns
+/// `Memory` if an allocation failed.
 pub fn rows(alloc: Global, root: &Root) -> Result<Vec<Row>, Memory>
     requires { root_nodes (root_of root.now) ≤ 2 ^ 32 }
     ensures { IfOk result (λ v. AllZip IsRowOf (root_in_order (root_of root.now)) v.items) }

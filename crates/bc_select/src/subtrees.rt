@@ -1,4 +1,4 @@
-// The nodes of an expression, cut at its parts.
+//! Splits the nodes of an expression at those of its parts.
 
 ghost use Rattle.std.specs.Prelude.{◌≡◌, ℕ, List, ◌++◌};
 ghost use Rattle.bc_core.specs.Tree.{Exp};
@@ -6,12 +6,12 @@ ghost use Rattle.bc_select_defs.specs.Choices.{choice_for as choice_of};
 ghost use Rattle.bc_select.specs.Vector.{node, vector};
 ghost use Rattle.bc_select.specs.Cut.{IsCut};
 
-use crate::node::Part;
+use crate::node::PartNode;
 use crate::table::Nodes;
 use bc_rules_defs::{Aim, Mode};
 use bc_select_defs::{Choice, Choices};
 
-/// The choice for an aim.
+/// The choice for this aim.
 pub fn choice_for(choices: &Choices, aim: Aim) -> Option<Choice>
     ensures { result ≡ choice_of aim choices.now }
 {
@@ -23,9 +23,9 @@ pub fn choice_for(choices: &Choices, aim: Aim) -> Option<Choice>
     }
 }
 
-/// The nodes before those of the last part, and the nodes of that part.
+/// Splits off the nodes of the last part: returns the nodes before them, and them.
 pub fn cut<'a>(nodes: &Nodes<'a>) -> (Nodes<'a>, Nodes<'a>)
-    ensures { (xs : List Part) (e : Exp) (s : ℕ) → nodes.now ≡ xs ++ vector e s → IsCut result.0 result.1 xs (vector e s) }
+    ensures { (xs : List PartNode) (e : Exp) (s : ℕ) → nodes.now ≡ xs ++ vector e s → IsCut result.0 result.1 xs (vector e s) }
 {
     let count = nodes.last_count();
     nodes.split_at(nodes.len().saturating_sub(count))
@@ -33,8 +33,8 @@ pub fn cut<'a>(nodes: &Nodes<'a>) -> (Nodes<'a>, Nodes<'a>)
 
 /// The last node.
 #[inline(always)]
-pub fn last(nodes: &Nodes) -> Part
-    ensures { (xs : List Part) (e : Exp) (s : ℕ) → nodes.now ≡ xs ++ vector e s → result ≡ node e s }
+pub fn last(nodes: &Nodes) -> PartNode
+    ensures { (xs : List PartNode) (e : Exp) (s : ℕ) → nodes.now ≡ xs ++ vector e s → result ≡ node e s }
 {
     nodes.last()
 }

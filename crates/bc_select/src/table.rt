@@ -1,36 +1,37 @@
-// The nodes of expressions in two vectors: their rows, and what their wholes ask besides.
+//! The table of nodes, stored as two parallel vectors: the rows, which `select` returns, and the spans, which only this crate uses.
 
 ghost use Rattle.std.specs.Prelude.{◌≡◌, ◌≤◌, ◌+◌, ◌++◌, ◌∷◌, [], List, IfOk, OnOk, length, map, take, drop};
 ghost use Rattle.bc_select_defs.specs.Choices.{choice_for as choice_of};
 ghost use Rattle.bc_select.specs.Reads.{rule_or_v1};
 ghost use Rattle.bc_select.specs.Row.{row_of_part};
 
-use crate::node::Part;
+use crate::node::PartNode;
 use crate::row::{Row, last_choices, row_from, rule_for, rules_from};
 use bc_rules_defs::{Aim, Rule};
 use bc_word::Memory;
 use std::alloc::Global;
 use std::marker::Model;
 
-/// What a whole asks of a part besides its row, and what is asked where its derivation is read off. It has the order that takes the least room.
+/// The facts about a node that are needed besides its row. The rules are stored again here, so that reading a derivation doesn't touch
+/// the rows. The fields are in the order that takes the least memory: 16 bytes.
 #[derive(Clone, Copy)]
 pub struct Span {
-    /// How many nodes the part has.
+    /// The number of the node's nodes, itself included.
     pub nodes: usize,
-    /// The rules by which it gets its code.
+    /// The chosen rules, in the order of a row, with V1 where there is none.
     pub rules: [Rule; 4],
-    /// Whether a call or a VALOF stands in it.
+    /// Whether the node contains a call or a VALOF.
     pub calls: bool,
 }
 
-/// The span of no node.
+/// The span returned if there is no node.
 const NO_SPAN: Span = Span {
     nodes: 0,
     rules: [Rule::V1; 4],
     calls: false,
 };
 
-/// The last span.
+/// The last span, or `NO_SPAN`.
 #[inline(always)]
 fn last_span(spans: &[Span]) -> Span
     ensures { (xs : List Span) (p : Span) → spans.now ≡ xs ++ (p ∷ []) → result ≡ p }
@@ -41,7 +42,7 @@ fn last_span(spans: &[Span]) -> Span
     }
 }
 
-/// The span after which so many end.
+/// The span before the index `end`, or `NO_SPAN`.
 #[inline(always)]
 fn span_at(spans: &[Span], end: usize) -> Span
     ensures { (xs ys : List Span) (p : Span) → spans.now ≡ (xs ++ (p ∷ [])) ++ ys → end ≡ length xs + 1 → result ≡ p }
@@ -52,9 +53,7 @@ fn span_at(spans: &[Span], end: usize) -> Span
     }
 }
 
-/// The nodes of expressions, parts before wholes.
-///
-/// Contracts see them as the list.
+/// The nodes of expressions, parts before wholes. Its view in contracts is a list of `PartNode`.
 #[derive(Drop)]
 pub struct Table {
     rows: Vec<Row>,
@@ -63,19 +62,17 @@ pub struct Table {
 
 impl Model for Table {
     ghost use Rattle.std.specs.Prelude.{List};
-    ghost use Rattle.bc_select.specs.declared.node.Part.{Part};
+    ghost use Rattle.bc_select.specs.declared.node.PartNode.{PartNode};
     ghost use Rattle.bc_select.specs.Row.{parts_in, AreParts};
 
-    ghost Value = { List Part };
+    ghost Value = { List PartNode };
 
     ghost view = { λ t. parts_in t.rows.items t.spans.items };
 
     ghost invariant = { λ t. AreParts t.rows.items t.spans.items };
 }
 
-/// Some of a table's nodes, which lie side by side.
-///
-/// Contracts see them as the list.
+/// A contiguous range of a table's nodes. Its view in contracts is a list of `PartNode`.
 #[derive(Drop)]
 pub struct Nodes<'a> {
     rows: &'a [Row],
@@ -84,10 +81,10 @@ pub struct Nodes<'a> {
 
 impl<'a> Model for Nodes<'a> {
     ghost use Rattle.std.specs.Prelude.{List};
-    ghost use Rattle.bc_select.specs.declared.node.Part.{Part};
+    ghost use Rattle.bc_select.specs.declared.node.PartNode.{PartNode};
     ghost use Rattle.bc_select.specs.Row.{parts_in, AreParts};
 
-    ghost Value = { List Part };
+    ghost Value = { List PartNode };
 
     ghost view = { λ n. parts_in n.rows.now n.spans.now };
 
@@ -95,9 +92,7 @@ impl<'a> Model for Nodes<'a> {
 }
 
 impl Table {
-    /// No nodes, with room for so many.
-    ///
-    /// `Memory` comes where an allocation was refused.
+    /// An empty table with capacity for `count` nodes. Returns `Memory` if an allocation failed.
     pub fn with_capacity(alloc: Global, count: usize) -> Result<Table, Memory>
         ensures { IfOk result (λ nodes. nodes ≡ []) }
     {
@@ -106,7 +101,7 @@ impl Table {
         Ok(Table { rows, spans })
     }
 
-    /// The nodes.
+    /// All nodes of the table.
     pub fn nodes(&self) -> Nodes<'_>
         ensures { result ≡ self.now }
     {
@@ -116,10 +111,8 @@ impl Table {
         }
     }
 
-    /// Puts a node after the others.
-    ///
-    /// `Memory` comes where a vector could not grow.
-    pub fn push(&mut self, node: &Part) -> Result<(), Memory>
+    /// Appends a node. Returns `Memory` if a vector could not grow; the table is then unchanged.
+    pub fn push(&mut self, node: &PartNode) -> Result<(), Memory>
         ensures { OnOk result (self.new ≡ self.old ++ (node.now ∷ [])) }
     {
         let rules = rules_from(&node.choices);
@@ -138,7 +131,7 @@ impl Table {
         }
     }
 
-    /// The rows of the nodes.
+    /// The rows of all nodes.
     pub fn into_rows(self) -> Vec<Row>
         ensures { result.items ≡ map row_of_part self }
     {
@@ -148,14 +141,14 @@ impl Table {
 }
 
 impl<'a> Nodes<'a> {
-    /// How many nodes there are.
+    /// The number of nodes.
     pub fn len(&self) -> usize
         ensures { result ≡ length self.now }
     {
         self.spans.len()
     }
 
-    /// The first nodes, so many, and the others.
+    /// The first `count` nodes, and the others.
     pub fn split_at(&self, count: usize) -> (Nodes<'a>, Nodes<'a>)
         requires { count ≤ length self.now }
         ensures front { result.0 ≡ take count self.now }
@@ -176,36 +169,36 @@ impl<'a> Nodes<'a> {
 
     /// The last node.
     #[inline(always)]
-    pub fn last(&self) -> Part
-        ensures { (xs : List Part) (p : Part) → self.now ≡ xs ++ (p ∷ []) → result ≡ p }
+    pub fn last(&self) -> PartNode
+        ensures { (xs : List PartNode) (p : PartNode) → self.now ≡ xs ++ (p ∷ []) → result ≡ p }
     {
         let span = last_span(self.spans);
-        Part {
+        PartNode {
             choices: last_choices(self.rows),
             calls: span.calls,
             nodes: span.nodes,
         }
     }
 
-    /// How many nodes the last one has below it and with itself.
+    /// The number of nodes of the last node, itself included.
     pub fn last_count(&self) -> usize
-        ensures { (xs : List Part) (p : Part) → self.now ≡ xs ++ (p ∷ []) → result ≡ p.nodes }
+        ensures { (xs : List PartNode) (p : PartNode) → self.now ≡ xs ++ (p ∷ []) → result ≡ p.nodes }
     {
         last_span(self.spans).nodes
     }
 
-    /// How many nodes the one has, below it and with itself, after which so many end.
+    /// The number of nodes, itself included, of the node before the index `end`.
     #[inline(always)]
     pub fn count_at(&self, end: usize) -> usize
-        ensures { (xs ys : List Part) (p : Part) → self.now ≡ (xs ++ (p ∷ [])) ++ ys → end ≡ length xs + 1 → result ≡ p.nodes }
+        ensures { (xs ys : List PartNode) (p : PartNode) → self.now ≡ (xs ++ (p ∷ [])) ++ ys → end ≡ length xs + 1 → result ≡ p.nodes }
     {
         span_at(self.spans, end).nodes
     }
 
-    /// The rule for an aim by which the node gets its code after which so many end.
+    /// The rule chosen for an aim at the node before the index `end`; V1 if there is none.
     #[inline(always)]
     pub fn rule_at(&self, end: usize, aim: Aim) -> Rule
-        ensures { (xs ys : List Part) (p : Part) → self.now ≡ (xs ++ (p ∷ [])) ++ ys → end ≡ length xs + 1 → result ≡ rule_or_v1 (choice_of aim p.choices) }
+        ensures { (xs ys : List PartNode) (p : PartNode) → self.now ≡ (xs ++ (p ∷ [])) ++ ys → end ≡ length xs + 1 → result ≡ rule_or_v1 (choice_of aim p.choices) }
     {
         rule_for(&span_at(self.spans, end).rules, aim)
     }

@@ -1,4 +1,4 @@
-// The choices of the other forms of expressions, from those of their parts.
+//! The choices of all forms of expression but binary operators, from those of their parts.
 #![tactic(auto, unfolding(bc_select_defs::specs::Options::better, bc_select_defs::specs::Options::least_from, bc_select_defs::specs::Options::operand_cost))]
 
 ghost use Rattle.std.specs.Prelude.{◌≡◌, ◌<◌, ◌≤◌, ◌+◌, ◌^◌, None, true, false};
@@ -12,7 +12,7 @@ use bc_rules_defs::{Rule, jumps, number_words};
 use bc_select_defs::{Choice, Choices};
 use bc_word::Word;
 
-/// The choice of a test that is made of a value.
+/// The choice of a test by J6, given the choice of the value in mode Any.
 fn value_test(any: Option<Choice>) -> Option<Choice>
     requires { Small (words_of any) }
     ensures { result ≡ least_of None (by_value_of (words_of any) false) }
@@ -20,7 +20,7 @@ fn value_test(any: Option<Choice>) -> Option<Choice>
     better(None, Rule::J6, plus(words(any), 2))
 }
 
-/// The choices of an expression whose test is made of its value.
+/// The choices of an expression whose only test is by J6, given those of its value.
 fn tested_by_value(push: Option<Choice>, any: Option<Choice>) -> Choices
     requires { Small (words_of any) }
     ensures { result ≡ record { any = any; push = push; on_false = least_of None (by_value_of (words_of any) false); on_true = least_of None (by_value_of (words_of any) true) } }
@@ -34,7 +34,7 @@ fn tested_by_value(push: Option<Choice>, any: Option<Choice>) -> Choices
     }
 }
 
-/// Those of an address.
+/// The choices of an address: of a cell of the frame, a global or a place.
 pub fn leaf_choices(operand: Option<Operand>) -> Choices
     requires { Small (words_of (leaf_of operand).any) }
     ensures { result ≡ leaf_of operand }
@@ -44,6 +44,7 @@ pub fn leaf_choices(operand: Option<Operand>) -> Choices
     tested_by_value(push, any)
 }
 
+/// The choice of a test of a number that jumps on `sense`: by J6 or by J7.
 fn number_test(number: Word, any: Option<Choice>, sense: bool) -> Option<Choice>
     requires { Small (words_of any) }
     ensures { result ≡ least_of None (number_tests number (words_of any) sense) }
@@ -53,7 +54,7 @@ fn number_test(number: Word, any: Option<Choice>, sense: bool) -> Option<Choice>
     better(test, Rule::J7, Some(jump))
 }
 
-/// Those of a number, which is this operand.
+/// The choices of a number. `operand` is the operand that it is.
 pub fn number_choices(operand: Option<Operand>, number: Word) -> Choices
     requires { Small (words_of (number_of operand number).any) }
     ensures { result ≡ number_of operand number }
@@ -68,7 +69,7 @@ pub fn number_choices(operand: Option<Operand>, number: Word) -> Choices
     }
 }
 
-/// Those of an expression with one part, which this rule is for.
+/// The choices of a form with one part, given the form's rule. `operand` is the operand that the whole expression is, if any.
 pub fn unary_choices(rule: Rule, operand: Option<Operand>, part: &Choices) -> Choices
     requires part { AreSmall part.now }
     requires value { Small (words_of (unary_of rule operand part.now).any) }
@@ -81,7 +82,7 @@ pub fn unary_choices(rule: Rule, operand: Option<Operand>, part: &Choices) -> Ch
     tested_by_value(push, any)
 }
 
-/// Those of NOT.
+/// The choices of NOT.
 pub fn not_choices(part: &Choices) -> Choices
     requires { AreSmall part.now }
     ensures { result ≡ not_of part.now }
@@ -96,7 +97,7 @@ pub fn not_choices(part: &Choices) -> Choices
     }
 }
 
-/// Those of `condition -> this, that`.
+/// The choices of `condition -> this, that`.
 pub fn cond_choices(condition: &Choices, this: &Choices, that: &Choices) -> Choices
     requires condition { AreSmall condition.now }
     requires this { AreSmall this.now }
@@ -113,7 +114,7 @@ pub fn cond_choices(condition: &Choices, this: &Choices, that: &Choices) -> Choi
     tested_by_value(None, any)
 }
 
-/// Those of a call, from the words of all its arguments.
+/// The choices of a call, from the words of all its arguments, each stored in its cell, and the choices of its routine.
 pub fn call_choices(arguments: Option<u64>, routine: &Choices, level: u64) -> Choices
     requires arguments { Small arguments }
     requires routine { AreSmall routine.now }
@@ -124,7 +125,7 @@ pub fn call_choices(arguments: Option<u64>, routine: &Choices, level: u64) -> Ch
     tested_by_value(None, better(None, Rule::V22, all))
 }
 
-/// Those of a VALOF.
+/// The choices of a VALOF, whose body counts no words.
 pub fn valof_choices() -> Choices
     ensures { result ≡ valof_of }
 {

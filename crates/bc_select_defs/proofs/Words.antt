@@ -1,4 +1,4 @@
--- The choices of an expression are its least words and least rules.
+-- The choices of an expression are its least words, with the rules of the lowest numbers that attain them.
 use Rattle.std.proofs.Common.{◌≡◌, ℕ, ◌+◌, Option, Some, None, refl, ap, ◌∙◌}
 use Rattle.std.specs.Prelude.{true, false}
 use Rattle.bc_core.specs.Tree.{Exp, Num, Frame, Glob, Place, Load, Neg, Not, Bin, Cond, Call, Valof, count}
@@ -33,7 +33,7 @@ line_top cs own (Gets Push) c h = tree_top cs.push _ c h
 line_top cs own (Jumps false) c h = tree_top cs.on_false _ c h
 line_top cs own (Jumps true) c h = tree_top cs.on_true _ c h
 
--- a tree begins with the rule of its choice
+-- the tree for an aim begins with the rule of its choice
 begins : (T : Table) (e : Exp) (s : ℕ) (aim : Aim) (c : Choice) → choice_for aim (choices T e s) ≡ Some c → top (tree_for aim (readings T e s)) ≡ c.rule
 begins T (Num n) s aim c h = line_top _ leaf_parts aim c h
 begins T (Frame k) s aim c h = line_top _ leaf_parts aim c h

@@ -1,4 +1,4 @@
--- For proofs: each choice is the words and the rule of a derivation, whose parts are the choices' own.
+-- For proofs: each choice has the words and the rule of some derivation, whose parts are derivations of the parts' choices.
 use Rattle.std.proofs.Common.{◌≡◌, ℕ, ◌+◌, ◌*◌, ◌==◌, ◌≤◌, List, [], ◌∷◌, ◌++◌, Bool, true, false, not, Option, Some, None, IsTrue, cond, refl, ap, sym, subst, ◌∙◌, arith}
 use Rattle.std.specs.Prelude.{is_some}
 use Rattle.std.proofs.lemmas.Bool.{cond-true, cond-false, eqb-true}
@@ -38,12 +38,12 @@ use Rattle.bc_select_defs.specs.Lower.{lower, is_zero_is}
 use Rattle.bc_select_defs.specs.Readings.{Readings, tree_for, tree_of, push_parts, value_parts, test_parts, read_line, leaf_parts, part_parts, two_taken, pair_parts, cond_parts, call_parts, readings, readings_of_all}
 use Rattle.bc_select_defs.specs.Makes.{Makes, makes_none, makes_some, makes_map, makes_plus, makes_more, makes_sum, makes_given, OperandOf, makes_operand, AllMade, all_append, Chosen, chosen_least}
 
--- a derivation with this tree, whose parts are least ones
+-- a derivation with this tree, whose parts are least
 pub record IsWhole {T : Table} {e : Exp} {aim : Aim} (s : ℕ) (t : Tree) (d : Derives T e aim) : Type 0 where
   pub shape_is : shape d ≡ t
   pub parts : HasLeastParts d s
 
--- the same, and itself a least one
+-- a derivation with this tree that is least, and whose parts are least
 pub record IsPart {T : Table} {e : Exp} {aim : Aim} (s : ℕ) (t : Tree) (d : Derives T e aim) : Type 0 where
   pub shape_is : shape d ≡ t
   pub least : IsLeast d s
@@ -62,7 +62,7 @@ Part T e aim s t x = Makes (Derives T e aim) (λ d. cost d s) (λ d. IsPart s t 
 abbrev pub Whole : Table → Exp → Aim → ℕ → Tree → Option ℕ → Type 0
 Whole T e aim s t x = Makes (Derives T e aim) (λ d. cost d s) (λ d. IsWhole s t d) x
 
--- candidates are the words of derivations with the rule and its parts
+-- each candidate has the words of a derivation with its rule and that rule's parts
 abbrev pub AllMake : Table → Exp → Aim → ℕ → (Rule → Trees) → List Candidate → Type 0
 AllMake T e aim s parts cs = AllMade (Derives T e aim) (λ d. cost d s) (λ r d. IsWhole s (by r (parts r)) d) cs
 
@@ -109,7 +109,7 @@ part_for h (Jumps true) = h.on_true
 abbrev pub Low : Table → Exp → ℕ → Choices → Type 0
 Low T e s c = (aim : Aim) (d : Derives T e aim) → AtMost (choice_for aim c) (cost d s) (rule_number (first_rule d))
 
--- a line is attained where its own rules are
+-- the choices of a node are attained if the candidates of its own rules are
 attains_line :
     (T : Table) (e : Exp) (s : ℕ) (pushes values : List Candidate) (tests : Option ℕ → Bool → List Candidate) (own : Aim → Rule → Trees)
     → Low T e s (line (operand_of e) pushes values tests)
@@ -139,7 +139,7 @@ attains_line T e s pushes values tests own low hp hv ht =
           (low (Jumps true));
     }
 
--- J6, of an expression that it is for
+-- J6, at an expression to which it applies
 test_of_value : (T : Table) (e : Exp) (s : ℕ) (any : Option ℕ) (t : Tree) (sense : Bool) → IsTrue (is_plain e) → Part T e (Gets Any) s t any
     → Whole T e (Jumps sense) s (by rule.J6 (one t)) (plus any 2)
 test_of_value T e s any t sense p h =
@@ -147,7 +147,7 @@ test_of_value T e s any t sense p h =
     (λ d i. record { shape_is = ap (λ y. by rule.J6 (one y)) i.shape_is; parts = least_part (least_parts i) (least.own none) })
     (makes_plus _ _ _ any 2 h)
 
--- one part, with a word more
+-- rules with one part that add one word
 unary_push : (T : Table) (e e1 : Exp) (m : Mode) (s : ℕ) (r : Rule) (x : Option ℕ) (t : Tree) (rule_of : Derives T e (Gets m) → Derives T e1 (Gets m))
     → ((d : Derives T e (Gets m)) → cost (rule_of d) s ≡ cost d s + 1) → ((d : Derives T e (Gets m)) → shape (rule_of d) ≡ by r (one (shape d)))
     → ((d : Derives T e (Gets m)) → IsLeast d s × HasLeastParts d s → HasLeastParts (rule_of d) s) → Part T e (Gets m) s t x
@@ -156,7 +156,7 @@ unary_push T e e1 m s r x t rule_of w sh least h =
     makes_map _ _ _ _ _ _ _ rule_of w (λ d i. record { shape_is = sh d ∙ ap (λ y. by r (one y)) i.shape_is; parts = least d (least_parts i) })
     (makes_plus _ _ _ x 1 h)
 
--- an operator is known by its number
+-- an operator is determined by its number
 abbrev operator_at : ℕ → Op
 operator_at n = cond (n == 5) operators.Multiply
     (cond (n == 6) operators.Divide
@@ -200,7 +200,7 @@ makes_only T op wanted a b aim s t x h =
     makes_given _ _ _ (number_of op == number_of wanted) x (λ e. let P : Op → Type 0 = λ o. Whole T (Bin o a b) aim s t x in
     subst P (same_operator op wanted e) h)
 
--- a derivation of the part that a rule finds
+-- a derivation of the operand that remains when a rule drops a 0
 pub record Beside (T : Table) (p : Option Exp) (aim : Aim) : Type 0 where
   pub expression : Exp
   pub is : p ≡ Some expression
@@ -222,7 +222,7 @@ second_zero a b h = cond-true (is_zero b) _ _ (sym (is_zero_is b) ∙ h)
 pub first_zero : (a b : Exp) → zero_number (constant_of b) ≡ false → IsTrue (zero_number (constant_of a)) → beside_zero a b ≡ Some b
 first_zero a b h i = cond-false (is_zero b) _ _ (sym (is_zero_is b) ∙ h) ∙ cond-true (is_zero a) _ _ (sym (is_zero_is a) ∙ i)
 
--- what stands beside a 0
+-- the operand beside a 0
 of_beside : (T : Table) (a b : Exp) (aim : Aim) (s : ℕ) (ra rb : Readings) (x y : Option ℕ) → Part T a aim s (tree_for aim ra) x
     → Part T b aim s (tree_for aim rb) y → Makes (Beside T (beside_zero a b) aim) (λ q. cost q.derivation s)
     (λ q. IsPart s (tree_for aim (cond (zero_number (constant_of b)) ra rb)) q.derivation)
@@ -259,12 +259,12 @@ without_0 T operators.Or a b m s ca cb ra rb x y ha hb = makes_none _ _ _
 without_0 T operators.NotEquivalent a b m s ca cb ra rb x y ha hb = makes_none _ _ _
 without_0 T operators.Equivalent a b m s ca cb ra rb x y ha hb = makes_none _ _ _
 
--- which is the part that is taken
+-- it is the part that the table of rules takes
 beside_taken : (aim : Aim) (zero : Bool) (ra rb : Readings) → one (tree_for aim (cond zero ra rb)) ≡ two_taken (beside aim zero) ra rb
 beside_taken aim true ra rb = refl
 beside_taken aim false ra rb = refl
 
--- one operand is computed, the other stands in the instruction
+-- one operand is evaluated, the other is the operand of an instruction
 beside_operand : (T : Table) (e e1 : Exp) (m : Mode) (s : ℕ) (p : Option Operand) (r : Rule) (x z : Option ℕ) (t : Tree) (c : Derives T e (Gets m)
     × OperandOf p → ℕ) (rule_of : Derives T e (Gets m) × OperandOf p → Derives T e1 (Gets m))
     → ((q : Derives T e (Gets m) × OperandOf p) → cost (rule_of q) s ≡ c q)
@@ -343,7 +343,7 @@ by_v9 T a b m s x t h =
     (λ q i. (lessened T a b m s t q.1.0 q.0 q.1.1).whole i.0)
     (makes_sum _ _ _ _ _ _ x (number_cost (constant_of b)) h (makes_number b))
 
--- the rules with one operand in the instruction
+-- the rules that have one operand in an instruction
 mixed_attained : (T : Table) (op : Op) (a b : Exp) (m : Mode) (s : ℕ) (ca cb : Choices) (ra rb : Readings) (x y : Option ℕ) (t : Tree)
     → Part T a (Gets m) (s + 1) (tree_for (Gets m) ra) x → Part T b (Gets m) (s + 1) (tree_for (Gets m) rb) y
     → AllMake T (Bin op a b) (Gets m) s (pair_parts (zero_number (constant_of b)) ra rb (Gets m)) (mixed op (node a ca) (node b cb) x y)
@@ -392,7 +392,7 @@ pub some_operator : (p : Option Op) → IsTrue (is_some p) → (q : Op) × (p �
 some_operator None h = cc
 some_operator (Some q) h = (q, refl)
 
--- the rules with both operands computed
+-- the rules that evaluate both operands
 worked_attained : (T : Table) (op : Op) (a b : Exp) (s : ℕ) (ca cb : Choices) (ra rb : Readings) → Attains T a (s + 1) ca ra → Attains T b (s + 1) cb rb
     → AllMake T (Bin op a b) (Gets Any) s (pair_parts (zero_number (constant_of b)) ra rb (Gets Any)) (worked op (node a ca) (node b cb) s)
 worked_attained T op a b s ca cb ra rb ha hb =

@@ -1,4 +1,4 @@
--- For proofs: the derivation of a root that the choices come to.
+-- For proofs: the derivation of a root to which the choices lead, and why it is least.
 use Rattle.std.proofs.Common.{◌≡◌, ℕ, ◌+◌, ◌*◌, ◌≤◌, [], ◌∷◌, Bool, true, false, not, Option, Some, None, cond, refl, ap, sym, subst, ◌∙◌, arith}
 use Rattle.std.specs.Prelude.{is_some}
 use Rattle.bc_word.specs.declared.operator.Op.{Op}
@@ -31,7 +31,7 @@ use Rattle.bc_select_defs.specs.Readings.{Readings, tree_for, tree_of, two_taken
 use Rattle.bc_select_defs.specs.Makes.{Made, Makes, makes_none, makes_some, makes_map, makes_plus, makes_sum, makes_given, Chosen, chosen_least}
 use Rattle.bc_select_defs.specs.Attained.{IsPart, Part, least_parts, least_part, part_for, attained}
 
--- the choice of an assignment, from its address's operand
+-- the choice of an assignment, given the operand that its address is
 abbrev pub assign_choice : Option Operand → (value address : Asked) → ℕ → Option Choice
 assign_choice (Some o) v a s = least_from None (candidate rule.A1 (plus (words_of v.choices.any) (operand_words o)) ∷ [])
 assign_choice None v a s =
@@ -40,20 +40,23 @@ assign_choice None v a s =
     ∷ candidate rule.A3 (plus (sum (words_of v.choices.any) (words_of a.choices.any)) (2 * w s + 2 * w (s + 1)))
     ∷ [])
 
+-- the choice of a root
 abbrev pub root_choice : Table → Root → Option Choice
 root_choice T (Value s e) = (choices T e s).any
 root_choice T (Test s sense e) = choice_for (Jumps sense) (choices T e s)
 root_choice T (Assign s v a) = assign_choice (operand_of a) (node_of T v (side_level a s)) (node_of T a (side_level a s)) s
 
+-- the trees of the sides that an assignment's rule takes
 abbrev pub assign_parts : (value address : Readings) → Rule → Trees
 assign_parts v a r = two_taken (takes r (Gets Any) false) v a
 
+-- the tree to which the choices of a root lead
 abbrev pub root_reading : Table → Root → Tree
 root_reading T (Value s e) = (readings T e s).any
 root_reading T (Test s sense e) = tree_for (Jumps sense) (readings T e s)
 root_reading T (Assign s v a) = tree_of (root_choice T (Assign s v a)) (assign_parts (readings T v (side_level a s)) (readings T a (side_level a s)))
 
--- no derivation of a root has fewer words
+-- no derivation of a root has fewer words than its choice
 abbrev assign_at : Table → Exp → Exp → ℕ → Option Operand → Option Choice
 assign_at T v a s p = assign_choice p (node_of T v (cond (is_some p) s (s + 1))) (node_of T a (cond (is_some p) s (s + 1))) s
 
@@ -68,7 +71,7 @@ root_lower (a3 {T = T} {s = s} {v = v} {a = a} h d b) =
     subst (λ p. AtMost (assign_at T v a s p) (cost d (s + 1) + cost b (s + 1) + (2 * w s + 2 * w (s + 1))) 3) (sym h)
     (by_rule _ _ _ refl (more_words _ _ _ (both _ _ _ _ (words _ _ _ (lower d (s + 1))) (words _ _ _ (lower b (s + 1))))))
 
--- a derivation of a root with this tree, and itself a least one with least parts
+-- a derivation of a root with this tree that is least, and whose parts are least
 pub record IsRootPart {T : Table} {r : Root} (t : Tree) (d : RootDerives T r) : Type 0 where
   pub shape_is : root_shape d ≡ t
   pub least : RootIsLeast d
@@ -101,7 +104,7 @@ root_part T r parts (Some c) h low =
       parts = found.fact.parts;
     })
 
--- of an assignment, by its address's operand
+-- the same for an assignment, given the operand that its address is
 abbrev AssignPart : Table → Exp → Exp → ℕ → Option Operand → Type 0
 AssignPart T v a s p = Chosen (RootDerives T (Assign s v a)) (λ d. root_cost d)
     (λ q d. IsRootWhole (by q (assign_parts (readings T v (cond (is_some p) s (s + 1))) (readings T a (cond (is_some p) s (s + 1))) q)) d)
@@ -169,7 +172,7 @@ root_attained T (Test s sense e) =
 root_attained T (Assign s v a) = root_part T (Assign s v a) (assign_parts (readings T v (side_level a s)) (readings T a (side_level a s)))
     (root_choice T (Assign s v a)) (assign_attained T v a s (operand_of a) refl) (λ d. root_lower d)
 
--- every expression has a derivation as a value and as a test, and so every root has one
+-- every expression has a derivation as a value and as a test, hence every root has one
 test_of_pair : (T : Table) (op : Op) (a b : Exp) → ((sense : Bool) → Derives T a (Jumps sense)) → ((sense : Bool) → Derives T b (Jumps sense))
     → Derives T (Bin op a b) (Gets Any) → (sense : Bool) → Derives T (Bin op a b) (Jumps sense)
 test_of_pair T operators.Multiply a b ha hb d sense = j6 refl d
@@ -236,14 +239,14 @@ there_is : (x : Option Choice) (k q : ℕ) → Chooses x k q → (n : ℕ) × (w
 there_is None k q h = absurd h
 there_is (Some c) k q h = (c.words, refl)
 
--- the choice of a root
+-- every root has a choice
 pub root_words : (T : Table) (r : Root) → (n : ℕ) × (words_of (root_choice T r) ≡ Some n)
 root_words T r = let d = some_root T r in there_is (root_choice T r) (root_cost d) (rule_number (top (root_shape d))) (root_lower d).fact
 
 pub the_choice : (T : Table) (r : Root) → Made (RootDerives T r) (λ d. root_cost d) (λ d. IsRootPart (root_reading T r) d) (root_words T r).0
 the_choice T r = (root_attained T r).some (root_words T r).0 (root_words T r).1
 
--- The derivation of least words; of those with as few, the one that begins with the least rule, at each step.
+-- The derivation with the fewest words; among these the one that begins with the rule of the lowest number, at each step.
 pub chosen : (T : Table) (r : Root) → RootDerives T r
 chosen T r = (the_choice T r).thing
 
@@ -263,7 +266,7 @@ pub chosen_has_least_parts : (T : Table) (r : Root) → RootHasLeastParts (chose
 unfolding chosen
 chosen_has_least_parts T r = (the_choice T r).fact.parts
 
--- the words of the choices of an expression are least
+-- the choices of an expression have the least words
 words_least : (T : Table) (e : Exp) (aim : Aim) (s : ℕ) (t : Tree) (x : Option Choice) → Part T e aim s t (words_of x)
     → ((d : Derives T e aim) → AtMost x (cost d s) (rule_number (first_rule d))) → AreLeastWords T e aim s (words_of x)
 words_least T e aim s t None h low = λ d. (low d).fact

@@ -1,4 +1,4 @@
--- For proofs: what the fold over candidates does not pass over.
+-- For proofs: the fold over candidates keeps the best of them.
 use Rattle.std.proofs.Common.{◌≡◌, ℕ, ◌≤◌, ◌<◌, ◌==◌, List, [], ◌∷◌, Bool, true, false, ◌&&◌, Option, Some, None, cond, refl, subst, arith}
 use Rattle.std.specs.Prelude.{nat_le, nat_lt}
 use Rattle.std.proofs.lemmas.Bool.{cond_both, ltb-true, ltb-false, leb-true, eqb-true, and_parts}
@@ -8,7 +8,7 @@ use Rattle.bc_select_defs.specs.declared.choice.Candidate.{Candidate}
 use Rattle.bc_rules_defs.specs.Names.{rule_number}
 use Rattle.bc_select_defs.specs.Options.{words_of, choice, better, least_from}
 
--- there are words, and at most k
+-- the words exist and are at most k
 abbrev pub Within : Option ℕ → ℕ → Type 0
 Within None k = ⊥
 Within (Some n) k = n ≤ k
@@ -16,7 +16,7 @@ Within (Some n) k = n ≤ k
 pub record Reaches (x : Option ℕ) (k : ℕ) : Type 0 where
   pub fact : Within x k
 
--- there is a choice of at most k words; with as many, its rule has at most the number q
+-- the choice has at most k words; if it has k, its rule's number is at most q
 pub record IsUpTo (c : Choice) (k q : ℕ) : Type 0 where
   pub fewer : c.words ≤ k
   pub first : k ≤ c.words → rule_number c.rule ≤ q
@@ -32,12 +32,12 @@ abbrev pub RuleUpTo : Option Choice → ℕ → Type 0
 RuleUpTo None m = Unit {0}
 RuleUpTo (Some c) m = rule_number c.rule ≤ m
 
--- rules come in the order of their numbers
+-- the candidates' rules are in the order of their numbers, from m on
 abbrev pub ascending : ℕ → List Candidate → Bool
 ascending m [] = true
 ascending m (c ∷ cs) = nat_le m (rule_number c.rule) && ascending (rule_number c.rule) cs
 
--- the words by the rule with this number
+-- the words of the candidate whose rule has this number
 abbrev pub of_rule : ℕ → List Candidate → Option ℕ
 of_rule q [] = None
 of_rule q (c ∷ cs) = cond (rule_number c.rule == q) c.words (of_rule q cs)
@@ -52,7 +52,7 @@ better_kept None r (Some n) k q h = absurd h
 better_kept (Some b) r None k q h = h
 better_kept (Some b) r (Some n) k q h = cond_both (nat_lt n b.words) (choice r n) b (λ c. IsUpTo c k q) (λ e. less b r n k q h (ltb-true n b.words e)) (λ e. h)
 
--- what a fold has is kept
+-- a bound on the best choice is kept by the fold
 kept : (best : Option Choice) (cs : List Candidate) (k q : ℕ) → Chooses best k q → Chooses (least_from best cs) k q
 unfolding least_from
 kept best [] k q h = h
@@ -75,7 +75,7 @@ rule_further : (best : Option Choice) (m n : ℕ) → m ≤ n → RuleUpTo best 
 rule_further None m n h b = tt
 rule_further (Some c) m n h b = omega arith
 
--- the fold chooses no more words than a rule among the candidates
+-- the fold chooses no more words than any rule among the candidates has
 reached : (best : Option Choice) (m : ℕ) (cs : List Candidate) (k q : ℕ) → RuleUpTo best m → ascending m cs ≡ true → Within (of_rule q cs) k
     → Chooses (least_from best cs) k q
 unfolding least_from

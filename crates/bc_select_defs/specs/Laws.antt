@@ -1,4 +1,4 @@
--- What holds of the choice of least words.
+-- Laws about derivations with the fewest words.
 use Rattle.std.specs.Prelude.{ℕ}
 use Rattle.bc_core.specs.Tree.{Exp, Root}
 use Rattle.bc_rules_defs.specs.declared.rule.Table.{Table}
@@ -8,15 +8,15 @@ use Rattle.bc_select_defs.specs.Options.{rule_of}
 use Rattle.bc_select_defs.specs.Choices.{choice_for, words_for, choices}
 use Rattle.bc_select_defs.specs.Chosen.{chosen}
 
--- no derivation of a root has fewer words than the chosen one, and with as few none begins with a lesser rule
+-- No derivation of a root has fewer words than the chosen one, and none with as few begins with a rule of a lower number.
 abbrev pub NothingBeatsTheChosen : Type 0
 NothingBeatsTheChosen = (T : Table) (r : Root) → RootIsLeast (chosen T r)
 
--- and so it is at each step
+-- The same holds of each part of the chosen derivation, and of the parts of its parts.
 abbrev pub ChosenAtEachStep : Type 0
 ChosenAtEachStep = (T : Table) (r : Root) → RootHasLeastParts (chosen T r)
 
--- the choices of an expression are the least words for each aim, and the least rules that give them
+-- The choices of an expression are the least words for each aim, with the rule of the lowest number that attains them.
 abbrev pub ChoicesAreLeast : Type 0
 ChoicesAreLeast =
     (T : Table) (e : Exp) (aim : Aim) (s : ℕ)

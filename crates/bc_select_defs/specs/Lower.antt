@@ -1,4 +1,4 @@
--- For proofs: no derivation has fewer words than the choice of its aim, and with as many none begins with a lesser rule.
+-- For proofs: no derivation has fewer words than the choice for its aim, and none with as few begins with a rule of a lower number.
 use Rattle.std.proofs.Common.{◌≡◌, ℕ, ◌+◌, Bool, true, false, Option, Some, None, IsTrue, cond, refl, ap, sym, subst, ◌∙◌, arith}
 use Rattle.std.specs.Prelude.{is_some}
 use Rattle.bc_word.specs.declared.operator.Op.{Op}
@@ -69,7 +69,7 @@ number_costs n = exactly (w (negated n))
 pub is_mirrored : (p : Option Op) (q : Op) → p ≡ Some q → IsTrue (is_some p)
 is_mirrored p q e = subst (λ o. IsTrue (is_some o)) (sym e) refl
 
--- V0, V1 and J6 stand in each line
+-- V0, V1 and J6, which are candidates at every node
 v0_least : (T : Table) (e : Exp) (s k : ℕ) → Reaches (words_of (choices T e s).push) k → AtMost (choices T e s).any k 0
 v0_least T (Num n) s k h = by_rule _ k 0 refl h
 v0_least T (Frame n) s k h = by_rule _ k 0 refl h
@@ -121,7 +121,7 @@ j6_least T (Call es f) s k false p h = by_rule _ (k + 2) 6 refl (more_words _ 2 
 j6_least T (Valof n) s k true p h = by_rule _ (k + 2) 6 refl (more_words _ 2 k h)
 j6_least T (Valof n) s k false p h = by_rule _ (k + 2) 6 refl (more_words _ 2 k h)
 
--- a sum or difference without its 0, and what stands beside a 0
+-- a sum or difference with its 0 dropped, and the operand beside a 0
 pub is_zero_is : (e : Exp) → zero_number (constant_of e) ≡ is_zero e
 is_zero_is (Num n) = refl
 is_zero_is (Frame n) = refl
@@ -135,7 +135,7 @@ is_zero_is (Cond c x y) = refl
 is_zero_is (Call es f) = refl
 is_zero_is (Valof n) = refl
 
--- the words of an expression, where there is one
+-- the words of an expression, if there is one
 abbrev pub at : Option Exp → (Exp → Option ℕ) → Option ℕ
 at None f = None
 at (Some e) f = f e
@@ -173,7 +173,7 @@ without_is T operators.Or a b s f = refl
 without_is T operators.NotEquivalent a b s f = refl
 without_is T operators.Equivalent a b s f = refl
 
--- the words of a part that a rule finds
+-- the words of the operand that a rule finds beside a 0
 pub part_at : (x : Option ℕ) (p : Option Exp) (c : Exp) (f : Exp → Option ℕ) (k : ℕ) → x ≡ at p f → p ≡ Some c → Reaches (f c) k → Reaches x k
 part_at x p c f k e i h = let P : Option ℕ → Type 0 = λ y. Reaches y k in subst P (sym (e ∙ ap (λ q. at q f) i)) h
 
@@ -183,7 +183,7 @@ with_tests T x j e h = by_given (has_tests_of_zero T) x j (ap has_tests_of_zero 
 abbrev pub words_at : (T : Table) (aim : Aim) (s : ℕ) → Exp → Option ℕ
 words_at T aim s e = words_for aim (choices T e s)
 
--- no derivation has fewer words than the choice of its aim
+-- no derivation has fewer words than the choice for its aim
 mutual
   pub lower : {T : Table} {e : Exp} {aim : Aim} (d : Derives T e aim) (s : ℕ) → AtMost (choice_for aim (choices T e s)) (cost d s) (rule_number (first_rule d))
   lower (v0 {T = T} {e = e} d) s = v0_least T e s _ (words _ _ _ (lower d s))

@@ -1,4 +1,4 @@
--- For proofs: numbers that are the words of something.
+-- For proofs: numbers that are the words of some thing, such as a derivation.
 use Rattle.std.proofs.Common.{◌≡◌, ℕ, ◌+◌, List, [], ◌∷◌, ◌++◌, Bool, true, false, Option, Some, None, IsTrue, refl, ap, subst, ◌∙◌, arith}
 use Rattle.bc_core.specs.declared.operands.Operand.{Operand}
 use Rattle.bc_rules_defs.specs.Piece.{operand_words}
@@ -9,13 +9,13 @@ use Rattle.bc_select_defs.specs.declared.choice.Choice.{Choice}
 use Rattle.bc_select_defs.specs.declared.choice.Candidate.{Candidate}
 use Rattle.bc_select_defs.specs.Options.{plus, more, sum, given, operand_cost, choice, better, least_from}
 
--- some thing of the type X has so many words, and has P
+-- some thing of type X has n words and has the property P
 pub record Made (X : Type 0) (c : X → ℕ) (P : X → Type 0) (n : ℕ) : Type 0 where
   pub thing : X
   pub words : c thing ≡ n
   pub fact : P thing
 
--- where there are words, some d of the type X has so many, and has P
+-- if x is a number of words, some thing of type X has that many, and has the property P
 pub record Makes (X : Type 0) (c : X → ℕ) (P : X → Type 0) (x : Option ℕ) : Type 0 where
   pub some : (n : ℕ) → x ≡ Some n → Made X c P n
 
@@ -69,7 +69,7 @@ unfolding operand_cost
 makes_operand None = makes_none (OperandOf None) (λ q. operand_words q.0) (λ q. Unit {0})
 makes_operand (Some o) = makes_some (OperandOf (Some o)) (λ q. operand_words q.0) (λ q. Unit {0}) (o, refl) (operand_words o) refl tt
 
--- candidates are the words of things that begin with their rule
+-- each candidate has the words of a thing with the property for its rule
 abbrev pub AllMade : (X : Type 0) (c : X → ℕ) (P : Rule → X → Type 0) → List Candidate → Type 0
 AllMade X c P [] = Unit {0}
 AllMade X c P (x ∷ xs) = Makes X c (P x.rule) x.words × AllMade X c P xs
@@ -78,7 +78,7 @@ pub all_append : (X : Type 0) (c : X → ℕ) (P : Rule → X → Type 0) (xs ys
 all_append X c P [] ys h i = i
 all_append X c P (x ∷ xs) ys h i = (h.0, all_append X c P xs ys h.1 i)
 
--- and so is a choice
+-- a choice has the words of a thing with the property for its rule
 pub record Chosen (X : Type 0) (c : X → ℕ) (P : Rule → X → Type 0) (x : Option Choice) : Type 0 where
   pub some : (best : Choice) → x ≡ Some best → Made X c (P best.rule) best.words
 

@@ -1,4 +1,4 @@
--- For proofs: the trees of rules that the choices of an expression and of its parts come to.
+-- For proofs: the trees of rule names to which the choices of an expression and of its parts lead.
 use Rattle.std.specs.Prelude.{ℕ, ◌+◌, Bool, true, false, Option, Some, None}
 use Rattle.bc_core.specs.Tree.{Exp, Num, Frame, Glob, Place, Load, Neg, Not, Bin, Cond, Call, Valof, Args, no_argument, argument, count}
 use Rattle.bc_core.specs.Operand.{constant_of}
@@ -23,13 +23,14 @@ pub record Readings : Type 0 where
   pub on_false : Tree
   pub on_true : Tree
 
+-- the tree for an aim
 abbrev pub tree_for : Aim → Readings → Tree
 tree_for (Gets Any) r = r.any
 tree_for (Gets Push) r = r.push
 tree_for (Jumps false) r = r.on_false
 tree_for (Jumps true) r = r.on_true
 
--- a choice's rule, and the parts that it has
+-- the tree of a choice: its rule over the trees of that rule's parts
 abbrev pub tree_of : Option Choice → (Rule → Trees) → Tree
 tree_of None parts = by V1 no_part
 tree_of (Some c) parts = by c.rule (parts c.rule)
@@ -47,7 +48,7 @@ test_parts any own J6 = one any
 test_parts any own J7 = no_part
 test_parts any own r = own r
 
--- over the parts that an expression's own rules have for an aim
+-- the trees for all aims, given the parts that the expression's own rules have
 abbrev pub read_line : Choices → (Aim → Rule → Trees) → Readings
 read_line c own =
     let push = tree_of c.push (push_parts (own (Gets Push))) in
@@ -62,11 +63,12 @@ read_line c own =
 abbrev pub leaf_parts : Aim → Rule → Trees
 leaf_parts aim r = no_part
 
--- the trees of the parts that are taken: of one part, of two, of a condition and two values
+-- the trees of the parts that a rule takes: at a node with one part, with two, at a condition with two values
 abbrev pub one_taken : Takes → Readings → Trees
 one_taken (taken.First aim) e = one (tree_for aim e)
 one_taken _ e = no_part
 
+-- at a node with two parts
 abbrev pub two_taken : Takes → (a b : Readings) → Trees
 two_taken (taken.First aim) a b = one (tree_for aim a)
 two_taken (taken.Second aim) a b = one (tree_for aim b)
@@ -79,13 +81,15 @@ choice_taken (taken.Choice false) c x y = three c.on_false x.any y.any
 choice_taken (taken.Choice true) c x y = three c.on_true y.any x.any
 choice_taken _ c x y = no_part
 
+-- the trees of a node with one part
 abbrev pub part_parts : Readings → Aim → Rule → Trees
 part_parts e aim r = one_taken (takes r aim false) e
 
--- of two operands; drops says whether the second one is a 0
+-- the trees of the operands that a rule takes; `drops` says whether the second one is 0
 abbrev pub pair_parts : (drops : Bool) → (a b : Readings) → Aim → Rule → Trees
 pair_parts drops a b aim r = two_taken (takes r aim drops) a b
 
+-- the trees of a condition with two values
 abbrev pub cond_parts : (c x y : Readings) → Aim → Rule → Trees
 cond_parts c x y aim r = choice_taken (takes r aim false) c x y
 
@@ -93,6 +97,7 @@ abbrev pub call_parts : Trees → Readings → Aim → Rule → Trees
 call_parts arguments routine aim r = end_with arguments routine.any
 
 abbrev mutual
+  -- the trees of an expression at level s
   pub readings : Table → Exp → ℕ → Readings
   readings T (Num n) s = read_line (choices T (Num n) s) leaf_parts
   readings T (Frame k) s = read_line (choices T (Frame k) s) leaf_parts
@@ -106,6 +111,7 @@ abbrev mutual
   readings T (Call es f) s = read_line (choices T (Call es f) s) (call_parts (readings_of_all T es (s + 2)) (readings T f (s + 2 + count es)))
   readings T (Valof n) s = read_line (choices T (Valof n) s) leaf_parts
 
+  -- the trees of the arguments of a call
   pub readings_of_all : Table → Args → ℕ → Trees
   readings_of_all T no_argument s = no_part
   readings_of_all T (argument e es) s = part (readings T e s).any (readings_of_all T es (s + 1))

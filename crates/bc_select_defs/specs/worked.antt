@@ -1,4 +1,4 @@
--- Worked examples of operands, of each rule of the rule table, and of least words. They are lemmas that compute, in `specs`.
+-- Worked examples of operands, of each rule of the rule table, and of least words. The prover computes each.
 pub mod Operands
 pub mod Freedom
 pub mod Values

@@ -1,22 +1,20 @@
-//! Laws of the choice of least words. Each is the contract of a function that does nothing.
+//! Laws about derivations with the fewest words. Each is the contract of a function with an empty body.
 
 ghost use Rattle.bc_select_defs.specs.Laws.{NothingBeatsTheChosen, ChosenAtEachStep, ChoicesAreLeast};
 
-/// No derivation of a root has fewer words than the chosen one, and none that has as few begins with a
-/// rule of a lesser number.
+/// No derivation of a root has fewer words than the chosen one. Of those with as few words, none begins with a rule of a lower
+/// number.
 pub fn nothing_beats_the_chosen()
     ensures { NothingBeatsTheChosen }
 {}
 
-/// Each part of the chosen derivation, and each part of its parts, is such a derivation of its
-/// expression at its level.
+/// The same holds of each part of the chosen derivation, and of the parts of its parts, for their expressions at their levels.
 pub fn chosen_at_each_step()
     ensures { ChosenAtEachStep }
 {}
 
-/// The words that the choices of an expression have for an aim are those of some derivation, and no
-/// derivation has fewer; the rule is the least that a derivation of these words begins with. Where there
-/// is no choice there is no derivation.
+/// The choice of an expression for an aim has the words of some derivation, no derivation has fewer, and its rule has the
+/// lowest number with which a derivation of these words begins. If there is no choice, there is no derivation.
 pub fn choices_are_least()
     ensures { ChoicesAreLeast }
 {}

@@ -1,4 +1,4 @@
-//! Derivations of least words: what they are, and that there is one wherever there is a derivation.
+//! Derivations with the fewest words: their definition, and the law that every root has one.
 #![tactic(auto)]
 
 mod choice;

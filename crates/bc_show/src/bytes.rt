@@ -1,6 +1,8 @@
+//! Bytes as printable text.
+
 use std::fmt;
 
-/// Bytes as text: one from 32 to 126 means itself, any other is written as `\x` and two hexadecimal digits.
+/// Prints bytes: those from 32 to 126 as they are, all others as `\x` and two hexadecimal digits.
 #[derive(Drop)]
 pub struct ShownBytes<'b>(pub &'b [u8]);
 
@@ -13,6 +15,7 @@ impl fmt::Display for ShownBytes<'_> {
     }
 }
 
+/// Prints a byte.
 fn write_byte<W: fmt::Write>(f: &mut fmt::Formatter<W>, byte: u8) -> fmt::Result {
     if byte >= 32 && byte <= 126 {
         f.write_char(char::from(byte))

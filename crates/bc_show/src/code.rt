@@ -1,8 +1,10 @@
+//! Items of INTCODE and pieces of code as text.
+
 use bc_rules_defs::Piece;
 use bc_text_items::{Base, Function, Item};
 use std::fmt;
 
-/// An item as it stands in a text.
+/// Prints an item as in an INTCODE text.
 #[derive(Drop)]
 pub struct ShownItem<'i>(pub &'i Item);
 
@@ -45,14 +47,15 @@ impl fmt::Display for ShownItem<'_> {
     }
 }
 
-/// The letters of the functions, in their order.
+/// The letters of the functions, in the order of the enum.
 const FUNCTIONS: [char; 8] = ['L', 'S', 'A', 'J', 'T', 'F', 'K', 'X'];
 
+/// The letter of a function.
 fn function_letter(function: Function) -> char {
     FUNCTIONS.get(function as usize).copied().unwrap_or('X')
 }
 
-/// The letter of a base, or nothing.
+/// The letter of a base, which is empty for a plain number.
 fn base_letter(base: Base) -> &'static str {
     match base {
         Base::Number => "",
@@ -62,7 +65,7 @@ fn base_letter(base: Base) -> &'static str {
     }
 }
 
-/// A piece of a root's code: an item, or `?` with the number of a VALOF's body.
+/// Prints a piece of a root's code: an item, or `?` and the number of a VALOF's body.
 #[derive(Drop)]
 pub struct ShownPiece<'p>(pub &'p Piece);
 

@@ -1,7 +1,10 @@
+//! Derivations as text.
+
 use bc_rules_defs::Derivation;
 use std::fmt;
 
-/// A derivation: its rule's name, or in brackets the name with the derivations of its parts, as `(V6 V1)`.
+/// Prints a derivation: the name of its rule or, if it has parts, the name and the parts in parentheses, as in `(V6
+/// V1)`.
 #[derive(Drop)]
 pub struct ShownDerivation<'d>(pub &'d Derivation);
 
@@ -11,6 +14,7 @@ impl fmt::Display for ShownDerivation<'_> {
     }
 }
 
+/// Prints a derivation and, recursively, its parts.
 fn write_derivation<W: fmt::Write>(
     f: &mut fmt::Formatter<W>,
     derivation: &Derivation,

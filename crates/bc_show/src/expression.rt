@@ -1,8 +1,10 @@
+//! Resolved expressions and roots as text.
+
 use bc_core::{CoreExp, Root};
 use bc_word::Op;
 use std::fmt;
 
-/// The signs of the operators, in their order.
+/// The signs of the operators, in the order of the enum.
 const SIGNS: [&str; 17] = [
     "*", "/", "REM", "+", "-", "=", "NE", "<", ">=", ">", "<=", "<<", ">>", "&", "|", "NEQV", "EQV",
 ];
@@ -12,10 +14,10 @@ pub fn sign(op: Op) -> &'static str {
     SIGNS.get(op as usize).copied().unwrap_or("")
 }
 
-/// An expression whose names are resolved. A number means itself, `P2` for the address of offset 2 of the frame, `G14` for
-/// that of global 14, `L3` for that of place 3, `V0` for the VALOF with the number 0; `!` is the content of what stands after it. The
-/// others stand in brackets, their operator first: `(+ !P2 1)`, `(NEG 1)`, `(NOT 1)`, `(-> !P2 1 2)`, and a call with its
-/// routine in front, `(CALL !G14 65)`.
+/// Prints a resolved expression. `P2` is the address of offset 2 of the frame, `G14` the address of global 14, `L3`
+/// the address of place 3, and `V0` the VALOF with number 0. `!` is the contents of the cell at the address that
+/// follows. Other expressions are in parentheses, with the operator first: `(+ !P2 1)`, `(NEG 1)`, `(NOT 1)`, `(->
+/// !P2 1 2)`. In a call the routine comes first: `(CALL !G14 65)`.
 #[derive(Drop)]
 pub struct ShownExpression<'e>(pub &'e CoreExp);
 
@@ -25,14 +27,14 @@ impl fmt::Display for ShownExpression<'_> {
     }
 }
 
-/// An expression after a blank.
+/// Prints a blank and an expression.
 #[cycle(showing)]
 fn write_part<W: fmt::Write>(f: &mut fmt::Formatter<W>, e: &CoreExp) -> fmt::Result {
     f.write_char(' ')?;
     write_expression(f, e)
 }
 
-/// An expression without parts.
+/// Prints an expression without parts.
 fn write_leaf<W: fmt::Write>(f: &mut fmt::Formatter<W>, e: &CoreExp) -> fmt::Result {
     match e {
         CoreExp::Num(number) => {
@@ -47,7 +49,7 @@ fn write_leaf<W: fmt::Write>(f: &mut fmt::Formatter<W>, e: &CoreExp) -> fmt::Res
     }
 }
 
-/// Expressions, each after a blank.
+/// Prints expressions, each after a blank.
 #[cycle(showing)]
 fn write_parts<W: fmt::Write>(f: &mut fmt::Formatter<W>, list: &[CoreExp]) -> fmt::Result {
     for e in list {
@@ -56,7 +58,7 @@ fn write_parts<W: fmt::Write>(f: &mut fmt::Formatter<W>, list: &[CoreExp]) -> fm
     Ok(())
 }
 
-/// An operator with its operand.
+/// Prints an operator with its operand. `head` is the parenthesis and the operator.
 #[cycle(showing)]
 fn write_monadic<W: fmt::Write>(
     f: &mut fmt::Formatter<W>,
@@ -68,6 +70,7 @@ fn write_monadic<W: fmt::Write>(
     f.write_char(')')
 }
 
+/// Prints an expression.
 #[cycle(showing)]
 fn write_expression<W: fmt::Write>(f: &mut fmt::Formatter<W>, e: &CoreExp) -> fmt::Result {
     match e {
@@ -101,7 +104,7 @@ fn write_expression<W: fmt::Write>(f: &mut fmt::Formatter<W>, e: &CoreExp) -> fm
     }
 }
 
-/// A root with its level: `(VALUE 3 e)`, `(TRUE 3 e)` and `(FALSE 3 e)` for a jump where e is true or false, and
+/// Prints a root with its level: `(VALUE 3 e)`; `(TRUE 3 e)` and `(FALSE 3 e)` for a jump if e is true or false; and
 /// `(ASSIGN 3 address value)`.
 #[derive(Drop)]
 pub struct ShownRoot<'r>(pub &'r Root);

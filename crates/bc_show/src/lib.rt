@@ -1,4 +1,4 @@
-//! Roots, derivations and code as text that people read.
+//! Text forms of roots, derivations, code and bytes, for listings and tests.
 #![tactic(auto)]
 
 mod bytes;

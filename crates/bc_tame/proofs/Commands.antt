@@ -1,4 +1,4 @@
--- Commands that the check passes are not wild.
+-- Commands that pass the check aren't wild.
 use Rattle.std.proofs.Common.{◌≡◌, ◌≢◌, ℕ, ◌+◌, ◌<◌, ◌≤◌, ◌==◌, ◌||◌, ◌&&◌, Bool, true, false, refl, ◌∙◌, inl, inr, arith}
 use Rattle.std.specs.Prelude.{nat_lt, nat_le, cond}
 use Rattle.std.proofs.lemmas.Bool.Decides.{nat_tests}
@@ -19,7 +19,7 @@ use Rattle.bc_tame.proofs.Fine.{Gone, Live, Shape, Runs, OfRound, All_are, anyth
 use Rattle.bc_tame.proofs.Expressions.{Around, Sound, runs_sense}
 use Rattle.bc_tame.proofs.Shapes.{set_at, live_at, set_here, set_there, live_here, live_there, keeps_set, keeps_live, around_kept, around_also, runs_to_frame, runs_assign, runs_declare}
 
--- the ways in which control may leave
+-- the jumps that are allowed
 abbrev pub Allowed : Exits → Exit → Type 0
 Allowed J Past = Unit {0}
 Allowed J Broke = J.in_loop ≡ true

@@ -1,4 +1,4 @@
--- Where a law of the library says what a call does with turns enough, it is not wild with fewer.
+-- The laws of the library say what a call does with enough turns; so it isn't wild with fewer turns either.
 use Rattle.std.proofs.Common.{◌≡◌, ℕ, zero, suc, ◌+◌, ◌<◌, ◌≤◌, ◌%◌, ◌==◌, ◌&&◌, ◌||◌, List, [], ◌∷◌, length, Bool, true, false, Option, Some, None, refl, sym, ap, ◌∙◌, subst, arith, ◌≢◌, ◌*◌, ◌/◌, ◌++◌}
 use Rattle.bc_word.specs.Words.{signed}
 use Rattle.bc_machine_defs.specs.Streams.{Content}
@@ -48,7 +48,7 @@ fine_before σ d v cells st1 (Ended e1 streams) o1 g e same lt i = tt
 fine_before σ d v cells st1 (Going streams) o1 g e same lt i = tt
 fine_before σ d v cells st1 Wild o1 g e same lt i = let f : true ≡ false = ap is_wild (sym g ∙ e) in let z : ⊥ = cc in absurd z
 
--- a call that changes no cell where it has turns enough
+-- a call that changes no cell if it has enough turns
 pub by_law : (σ : Shape) (program : List Placed) (a f n d v : ℕ) (vs : List ℕ) → v < 65536 → (change : Content → Content)
     → ((cells : List Cell) → Inv σ cells → (streams : Content) (t : ℕ) → calls program (d + n) a vs f (state cells streams (d + t)) ≡ Done v (state cells (change streams) t))
     → Runs σ IsWord σ (calls program n a vs f)
@@ -62,7 +62,7 @@ by_law σ program a f n d v vs lt change law = record {
       fine_before σ d v st.cells (state st.cells (change st.streams) st.turns) (calls program n a vs f st) (calls program (d + n) a vs f (later d st)) goes e refl lt i;
 }
 
--- a store of such a shape is ready
+-- a store of this shape is ready for the library
 held_cell : (static : ℕ → Bool) (text : ℕ → Option (List ℕ)) (place : ℕ → ℕ) (address : ℕ → ℕ) (σ : Shape) (cells : List Cell) → Ground library_fixed static text place (library_global address) σ → Inv σ cells
     → (g : ℕ) → g < 512 → library_fixed g ≡ true → cell_at cells (8 + g) ≡ Set (library_global address g)
 held_cell static text place address σ cells ground i g lt e = (subst (λ k. Fits k (cell_at cells (8 + g))) (ground.held g lt e) (i.fits (8 + g))).0
@@ -109,7 +109,7 @@ writen_callable program address static text place n h (v ∷ []) f σ args groun
     let r = ready static text place address σ f 20 ground gone room cells i in
     writen_does program address h v args.1.0 cells streams f n t r)
 
--- the bytes of a string, of which the words are held
+-- the bytes of a string, from the words in the store
 packed_held : (σ : Shape) (cells : List Cell) → Inv σ cells → (s k : ℕ) (bs : List ℕ) → are_bytes bs ≡ true → HoldsWords σ (s + k) (packed bs) → HoldsBytes cells s (2 * k) bs
 packed_held σ cells i s k [] ok h = tt
 packed_held σ cells i s k (high ∷ []) ok h =
@@ -145,7 +145,7 @@ string_held σ cells i s bytes ok h =
     let e : s ≡ s + 0 = omega arith in
     packed_held σ cells i s 0 (length bytes ∷ bytes) ok (subst (λ z. HoldsWords σ z (string_words bytes)) e h)
 
--- a format reads as pieces
+-- a format that passes the check is a list of pieces
 record Read (bs : List ℕ) (vs : List ℕ) : Type 0 where
   pieces : List Piece
   more : List ℕ

@@ -1,4 +1,4 @@
-//! What the program can't be asked to build.
+//! Tests of `build` with arguments that the program never passes.
 
 #[cfg(test)]
 mod tests;

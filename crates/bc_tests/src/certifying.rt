@@ -1,4 +1,4 @@
-//! The selector, the writer of certificates and the checker where memory is refused or a device fails, and once where all is given.
+//! Tests of the selector, the writer of certificates and the checker, with allocations and devices that fail.
 
 #[cfg(test)]
 mod certificates;

@@ -1,5 +1,4 @@
-//! What makes code of a source, where memory is refused and once where all is given: lexer, parser, speller, names, their translation and the
-//! generator. And calls on names that no source shows.
+//! Tests of the stages from source to code, with allocations that fail, and of calls about names that no source leads to.
 
 #[cfg(test)]
 mod generating;

@@ -1,4 +1,4 @@
-//! What the cases of the interpreter don't show.
+//! Tests of the interpreter, with allocations and devices that fail.
 
 #[cfg(test)]
 mod tests;

@@ -1,4 +1,4 @@
-//! Tests of INTCODE texts, the machine, the linker and runs, by their public surfaces.
+//! Tests of INTCODE texts, the machine, the linker and runs through their public calls.
 
 #[cfg(test)]
 mod devices;

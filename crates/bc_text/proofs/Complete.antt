@@ -1,4 +1,4 @@
--- What is spelled is read: each element of a text brings the reader on by what it spells.
+-- Every text is read as what it spells: each element advances the reader by what it spells.
 use Rattle.std.proofs.Common.{◌≡◌, inl, inr, ℕ, ◌+◌, ◌-◌, ◌*◌, ◌%◌, ◌≤◌, List, [], ◌∷◌, ◌++◌, length, map, Result, Ok, Err, Bool, true, false, ◌&&◌, cond, eqb, refl, sym, ap, ◌∙◌, arith, append_assoc, append-nil, length-append, ◌≢◌}
 use Rattle.std.proofs.lemmas.Bool.Decides.{nat_tests}
 use Rattle.std.proofs.lemmas.Bool.{le-ltb}
@@ -20,8 +20,8 @@ use Rattle.bc_text.specs.Steps.{Progress, at_place, with_digit, if_in_range, gre
 use Rattle.bc_text.specs.declared.head.Head.{Head}
 use Rattle.bc_text.specs.declared.head.Head.TheVariants as heads
 use Rattle.bc_text.specs.declared.head.Ended.TheVariants as ended
-use Rattle.bc_text.specs.declared.head.Place.{Place}
-use Rattle.bc_text.specs.declared.head.Place.TheVariants as places
+use Rattle.bc_text.specs.declared.head.Position.{Position}
+use Rattle.bc_text.specs.declared.head.Position.TheVariants as places
 use Rattle.bc_text.specs.declared.text_error.TextError.{TextError}
 use Rattle.bc_text.specs.declared.text_error.TextError.TheVariants as errors
 use Rattle.bc_text.proofs.States.{state, step-state, answer-step}
@@ -32,7 +32,7 @@ pub and_true : (a b : Bool) → (a && b) ≡ true → (a ≡ true) × (b ≡ tru
 and_true true b e = (refl, e)
 and_true false b e = absurd cc
 
--- a digit is no `Z`, no blank and no `/`
+-- a digit isn't `Z`, a blank or `/`
 pub digit_is_no_sign : (d : ℕ) → is_ascii_digit d ≡ true → (eqb d 90 ≡ false) × (is_blank d ≡ false) × (eqb d 47 ≡ false)
 digit_is_no_sign d h = (grind (arith, nat_tests), grind (arith, nat_tests), grind (arith, nat_tests))
 
@@ -43,7 +43,7 @@ value_from-ge n [] = omega arith
 value_from-ge n (d ∷ digits) = omega (arith, value_from-ge (n * 10 + (d - 48)) digits)
 
 -- the count of bytes may be written in another way
-pub counted : (bytes : List ℕ) (s : List (List Item)) (i : List Item) (place : Place) (m n : ℕ) → m ≡ n
+pub counted : (bytes : List ℕ) (s : List (List Item)) (i : List Item) (place : Position) (m n : ℕ) → m ≡ n
     → answer bytes (state s i place m) ≡ answer bytes (state s i place n)
 counted bytes s i place m n e = ap (λ k. answer bytes (state s i place k)) e
 
@@ -52,7 +52,7 @@ pub in_range : (head : Head) (from : ℕ) (negative : Bool) (value : ℕ) → va
     → if_in_range head from negative value ≡ Ok (places.Digits head from negative value)
 in_range head from negative value h = rw (le-ltb _ _ h) refl
 
--- digits go on with the number as long as it is in range
+-- digits continue the number while it is in range
 pub digits_read : (s : List (List Item)) (i : List Item) (head : Head) (from : ℕ) (negative : Bool) (value n : ℕ) (digits more : List ℕ)
     → all_ascii_digits digits ≡ true → value_from value digits ≤ greatest head negative
     → answer (digits ++ more) (state s i (places.Digits head from negative value) n)
@@ -69,7 +69,7 @@ digits_read s i head from negative value n (d ∷ digits) more all fits =
     ∙ counted more s i _ (n + 1 + length digits) (n + length (d ∷ digits)) (omega arith)
 
 -- the place takes a first digit as the beginning of a number after this head
-abbrev pub TakesNumber : Place → Head → ℕ → Bool → ℕ → Type 0
+abbrev pub TakesNumber : Position → Head → ℕ → Bool → ℕ → Type 0
 TakesNumber place head from negative n =
     (s : List (List Item)) (i : List Item) (d : ℕ) → is_ascii_digit d ≡ true
     → at_place (state s i place (n + 1)) place d (capped n) ≡ placed_at (state s i place (n + 1)) (with_digit head from negative 0 d)
@@ -83,8 +83,8 @@ head_takes_number head n s i d h = rw h refl
 pub minus_takes_number : (head : Head) (from n : ℕ) → TakesNumber (places.Minus head from) head from true n
 minus_takes_number head from n s i d h = rw h refl
 
--- a number is read, up to what stands after its digits
-pub number_read : (s : List (List Item)) (i : List Item) (place : Place) (head : Head) (from : ℕ) (negative : Bool) (limit value n : ℕ) (digits more : List ℕ)
+-- a number is read, up to what follows its digits
+pub number_read : (s : List (List Item)) (i : List Item) (place : Position) (head : Head) (from : ℕ) (negative : Bool) (limit value n : ℕ) (digits more : List ℕ)
     → TakesNumber place head from negative n → limit ≡ greatest head negative → IsNumber limit digits value
     → answer (digits ++ more) (state s i place n) ≡ answer more (state s i (places.Digits head from negative value) (n + length digits))
 number_read s i place head from negative limit value n [] more takes same number = absurd number
@@ -174,12 +174,12 @@ head_read s i (heads.GlobalLabel g) n front more is other =
 
 -- ---- Items
 
--- from any place the beginning of an item goes on as it does from between
-begun-place : (s : List (List Item)) (i : List Item) (place : Place) (n byte at : ℕ)
+-- an item may begin after a complete number exactly as between items
+begun-place : (s : List (List Item)) (i : List Item) (place : Position) (n byte at : ℕ)
     → begun (state s i place n) byte at ≡ begun (state s i places.Between n) byte at
 begun-place s i place n byte at = go (eqb byte 90) (between byte at)
   where
-    go : (z : Bool) (r : Result Place TextError)
+    go : (z : Bool) (r : Result Position TextError)
         → cond z (Ok (state (s ++ i ∷ []) [] places.Between n)) (placed_at (state s i place n) r)
         ≡ cond z (Ok (state (s ++ i ∷ []) [] places.Between n)) (placed_at (state s i places.Between n) r)
     go true r = refl
@@ -190,14 +190,14 @@ unended : (i : List Item) (it : Item) (s : List (List Item)) → Err errors.Unen
 unended [] it s = refl
 unended (x ∷ i) it s = refl
 
--- a byte that is no digit ends a number, and begins what comes after its item
+-- a byte that isn't a digit ends a number, and begins what follows its item
 number_ended : (s : List (List Item)) (i : List Item) (head : Head) (from : ℕ) (negative : Bool) (value n : ℕ) (it : Item) (byte at : ℕ)
     → is_ascii_digit byte ≡ false → ended_number head negative value ≡ ended.Item it
     → at_place (state s i (places.Digits head from negative value) n) (places.Digits head from negative value) byte at
     ≡ begun (state s (i ++ it ∷ []) (places.Digits head from negative value) n) byte at
 number_ended s i head from negative value n it byte at last made = rw (made, last) refl
 
--- where no digit follows, a number is at an end and has made its item
+-- where no digit follows, a number has ended and completed its item
 pub ended_read : (s : List (List Item)) (i : List Item) (head : Head) (from : ℕ) (negative : Bool) (value n : ℕ) (it : Item) (more : List ℕ)
     → BeginsWithNoDigit more → ended_number head negative value ≡ ended.Item it
     → answer more (state s i (places.Digits head from negative value) n) ≡ answer more (state s (i ++ it ∷ []) places.Between n)
@@ -212,7 +212,7 @@ ended_read s i head from negative value n it (byte ∷ more) last made =
     ∙ sym (step-state s (i ++ it ∷ []) places.Between n byte))
 
 -- a number without sign after a head, and its item
-pub unsigned_read : (s : List (List Item)) (i : List Item) (place : Place) (head : Head) (from limit value n : ℕ) (it : Item) (digits more : List ℕ)
+pub unsigned_read : (s : List (List Item)) (i : List Item) (place : Position) (head : Head) (from limit value n : ℕ) (it : Item) (digits more : List ℕ)
     → TakesNumber place head from false n → limit ≡ greatest head false → IsNumber limit digits value → BeginsWithNoDigit more
     → ended_number head false value ≡ ended.Item it
     → answer (digits ++ more) (state s i place n) ≡ answer more (state s (i ++ it ∷ []) places.Between (n + length digits))
@@ -261,7 +261,7 @@ operation_number_read s i function indirect bases.P value n text more number las
 operation_number_read s i function indirect bases.G value n text more number last =
     signed_read s i (plain function indirect bases.G) value n (items.Operation function indirect bases.G) text more refl refl (λ _ _. refl) number last
 
--- a head and what stands after it
+-- a head and what follows it
 after_read : (s : List (List Item)) (i : List Item) (head : Head) (n : ℕ) (front rest text more : List ℕ) (it : Item)
     → text ≡ front ++ rest → IsHead front head → head ≢ heads.Label
     → answer (rest ++ more) (state s i (places.Head head) (n + length front)) ≡ answer more (state s (i ++ it ∷ []) places.Between (n + length front + length rest))
@@ -304,7 +304,7 @@ blank_is_no_z byte h = grind (arith, nat_tests)
 not_line_end : (byte : ℕ) → byte ≢ 10 → eqb byte 10 ≡ false
 not_line_end byte h = grind (arith, nat_tests)
 
--- a line of a comment is passed over
+-- a line of a comment is skipped
 line_read : (s : List (List Item)) (i : List Item) (n : ℕ) (line more : List ℕ) → HasNoLineEnd line
     → answer (line ++ more) (state s i places.Comment n) ≡ answer more (state s i places.Comment (n + length line))
 line_read s i n [] more none = counted more s i places.Comment n (n + 0) (omega arith)
@@ -317,7 +317,7 @@ comment_finished : (i : List Item) (s : List (List Item)) → finished_at places
 comment_finished [] s = refl
 comment_finished (x ∷ i) s = refl
 
--- at the end of its line a comment is at an end
+-- a comment ends at the end of its line
 line_end_read : (s : List (List Item)) (i : List Item) (n : ℕ) (more : List ℕ) → BeginsWithLineEnd more
     → answer more (state s i places.Comment n) ≡ answer more (state s i places.Between n)
 unfolding run
@@ -341,7 +341,7 @@ items_after (end_of_segment ∷ elements) i = items_after elements []
 abbrev pub state_after : List Element → List (List Item) → List Item → ℕ → Progress
 state_after elements s i n = state (segments_after elements s i) (items_after elements i) places.Between n
 
--- elements and separators bring the reader on by what they are
+-- elements and separators advance the reader by what they are
 pub begins_read : {bytes rest : List ℕ} {elements : List Element} → Begins bytes elements rest
     → (s : List (List Item)) (i : List Item) (n m : ℕ) → m + length rest ≡ n + length bytes
     → answer bytes (state s i places.Between n) ≡ answer rest (state_after elements s i m)

@@ -48,13 +48,13 @@ load_65 = Operation functions.Load false bases.Number 65
 pub empty_text : IsText [] []
 empty_text = nothing
 
--- no separator is owed
+-- no separator is required
 pub no_separators : IsText (codes "1L65Z") ((Label 1 ∷ load_65 ∷ []) ∷ [])
 no_separators =
     item (codes "1") (Label 1) (refl, refl, omega arith) refl
     (item (codes "L65") load_65 (codes "65", refl, inl (refl, refl, omega arith)) refl (segment_end nothing))
 
--- a comment goes to the end of its line, and may be the last thing in a text
+-- a comment extends to the end of its line, and may be the last thing in a text
 pub with_comments : IsText (codes "/L5\n1 Z/5") ((Label 1 ∷ []) ∷ [])
 with_comments =
     comment (codes "L5") ((λ e. cc), ((λ e. cc), tt)) refl (blank refl
@@ -65,7 +65,7 @@ with_comments =
 pub no_item_begins : HasFault (codes "Q") (errors.BadCharacter 0)
 no_item_begins = (0, [], codes "Q", nothing, refl, no_item 0 81 [] refl)
 
--- `L65536 Z`: the fifth digit takes the number out of range, which begins at 1
+-- `L65536 Z`: the fifth digit makes the number too large, which begins at 1
 pub out_of_range : HasFault (codes "L65536 Z") (errors.BadNumber 1)
 out_of_range = (
   0,
@@ -81,7 +81,7 @@ pub out_of_range_below : HasFault (codes "D-32769") (errors.BadNumber 1)
 out_of_range_below =
     (0, [], codes "D-32769", nothing, refl, too_small 0 57 [] (codes "D") (codes "3276") heads.Data refl refl refl (omega arith) (omega arith))
 
--- `L 5 Z`: nothing stands inside an item
+-- `L 5 Z`: no separator is allowed within an item
 pub blank_inside : HasFault (codes "L 5 Z") (errors.BadNumber 1)
 blank_inside = (
   0,
@@ -92,11 +92,11 @@ blank_inside = (
   no_digit 0 32 (codes "5 Z") (codes "L") (heads.Operation functions.Load false bases.Number) refl (λ e. cc) refl refl,
 )
 
--- `G1 Z`: the `L` is wanted at 2
+-- `G1 Z`: an `L` must come at 2
 pub label_wanted : HasFault (codes "G1 Z") (errors.MissingLabel 2)
 label_wanted = (0, [], codes "G1 Z", nothing, refl, no_label 0 32 1 (codes "Z") (codes "1") (refl, refl, omega arith) refl (λ e. cc))
 
--- `5-3`: a number ends at the first other byte, and what follows is judged again
+-- `5-3`: a number ends at the first other byte, and an item must begin there
 pub judged_anew : HasFault (codes "5-3") (errors.BadCharacter 1)
 judged_anew =
     (1, _, codes "-3", item (codes "5") (Label 5) (refl, refl, omega arith) refl nothing, refl, no_item 1 45 (codes "3") refl)

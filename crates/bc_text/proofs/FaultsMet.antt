@@ -1,4 +1,4 @@
--- A fault that stands in a text is met.
+-- Every fault of the definition is found by the reader.
 use Rattle.std.proofs.Common.{◌≡◌, ◌≢◌, ◌⊎◌, inl, inr, ℕ, ◌+◌, ◌-◌, ◌*◌, ◌<◌, ◌≤◌, List, [], ◌∷◌, ◌++◌, length, Some, None, Result, Ok, Err, Bool, true, false, ◌&&◌, ◌||◌, cond, eqb, refl, sym, ap, ◌∙◌, arith, append_assoc}
 use Rattle.std.proofs.lemmas.Bool.Decides.{nat_tests}
 use Rattle.std.proofs.lemmas.Bool.{lt-ltb, eqb-true}
@@ -14,8 +14,8 @@ use Rattle.bc_text.specs.Faults.{capped, may_begin, first_letters, Breaks, no_it
 use Rattle.bc_text.specs.Steps.{Progress, at_place, longer, head_of, if_in_range, greatest, placed_at, answer, answer_of, run, start, finished_at}
 use Rattle.bc_text.specs.declared.head.Head.{Head}
 use Rattle.bc_text.specs.declared.head.Head.TheVariants as heads
-use Rattle.bc_text.specs.declared.head.Place.{Place}
-use Rattle.bc_text.specs.declared.head.Place.TheVariants as places
+use Rattle.bc_text.specs.declared.head.Position.{Position}
+use Rattle.bc_text.specs.declared.head.Position.TheVariants as places
 use Rattle.bc_text.specs.declared.text_error.TextError.{TextError}
 use Rattle.bc_text.specs.declared.text_error.TextError.TheVariants as errors
 use Rattle.bc_text.proofs.States.{state, run-stop, answer-step}
@@ -25,11 +25,11 @@ pub or_false : (a b : Bool) → (a || b) ≡ false → (a ≡ false) × (b ≡ f
 or_false true b e = absurd cc
 or_false false b e = (refl, e)
 
-answer-stop : (s : List (List Item)) (i : List Item) (place : Place) (n byte : ℕ) (bytes : List ℕ) (fault : TextError)
+answer-stop : (s : List (List Item)) (i : List Item) (place : Position) (n byte : ℕ) (bytes : List ℕ) (fault : TextError)
     → at_place (state s i place (n + 1)) place byte (capped n) ≡ Err fault → answer (byte ∷ bytes) (state s i place n) ≡ Err fault
 answer-stop s i place n byte bytes fault e = ap answer_of (run-stop s i place n byte bytes fault e)
 
--- no head begins with another letter than the first letters
+-- every head begins with one of the first letters
 pub no_head : (byte : ℕ) → list_any (λ letter. eqb byte letter) first_letters ≡ false → head_of byte ≡ None
 no_head byte h =
     let a = or_false (eqb byte 76) _ h in
@@ -54,7 +54,7 @@ no_item_met s i n byte h =
     let d = or_false (is_blank byte) _ c.0 in
     rw (c.1, d.0, d.1, b.1, no_head byte a.1) refl
 
--- no letter makes a head longer that does not allow it
+-- a letter that a head doesn't allow doesn't extend it
 pub not_longer : (head : Head) (byte : ℕ) → allows head byte ≡ false → longer head byte ≡ None
 not_longer heads.Label byte h = refl
 not_longer heads.Data byte h = let a = or_false (eqb byte 76) _ h in rw (a.0) refl
@@ -82,7 +82,7 @@ not_longer (heads.Operation function indirect bases.Label) byte h = refl
 not_longer heads.Global byte h = refl
 not_longer (heads.GlobalLabel n) byte h = refl
 
--- no `-` stands after a head that does not allow the byte
+-- a head that doesn't allow `-` isn't followed by one
 pub no_minus : (head : Head) (byte : ℕ) → allows head byte ≡ false → (eqb byte 45 && allows head 45) ≡ false
 no_minus head byte h = go (eqb byte 45) refl
   where
@@ -114,8 +114,8 @@ out_of_range : (head : Head) (from : ℕ) (negative : Bool) (value : ℕ) → gr
     → if_in_range head from negative value ≡ Err (errors.BadNumber from)
 out_of_range head from negative value h = rw (lt-ltb _ _ h) refl
 
--- a digit that takes a number out of range is refused
-digits_stop : (s : List (List Item)) (i : List Item) (place : Place) (head : Head) (from : ℕ) (negative : Bool) (n d : ℕ) (digits more : List ℕ)
+-- a digit that makes a number too large is a fault
+digits_stop : (s : List (List Item)) (i : List Item) (place : Position) (head : Head) (from : ℕ) (negative : Bool) (n d : ℕ) (digits more : List ℕ)
     → TakesNumber place head from negative n → all_ascii_digits (digits ++ d ∷ []) ≡ true
     → value_of_digits digits ≤ greatest head negative → greatest head negative < value_of_digits (digits ++ d ∷ [])
     → answer (digits ++ d ∷ more) (state s i place n) ≡ Err (errors.BadNumber from)
@@ -133,7 +133,7 @@ digits_stop s i place head from negative n d (x ∷ digits) more takes all low h
     ∙ answer-stop s i there m d more (errors.BadNumber from)
     (rw (a.1) (ap (placed_at (state s i there (m + 1))) (out_of_range head from negative (value * 10 + (d - 48)) past)))
 
--- the same after a head that is no label
+-- the same after a head other than that of a label
 head_digits_stop : (s : List (List Item)) (i : List Item) (head : Head) (n d : ℕ) (front digits more : List ℕ) → IsHead front head
     → all_ascii_digits (digits ++ d ∷ []) ≡ true → value_of_digits digits ≤ limit head → limit head < value_of_digits (digits ++ d ∷ [])
     → answer (front ++ digits ++ d ∷ more) (state s i places.Between n) ≡ Err (errors.BadNumber (capped (n + length front)))
@@ -176,7 +176,7 @@ minus_after_read s i head n front more is allowed =
     head_read s i head n front (45 ∷ more) is (minus_is_of_word head allowed).0
     ∙ answer-step s i (places.Head head) (n + length front) 45 more _ (minus_read head s i (n + length front) allowed)
 
--- what breaks is refused, with its place
+-- what breaks a text is reported, with its position
 pub breaks_met : (s : List (List Item)) (i : List Item) {at : ℕ} {rest : List ℕ} {fault : TextError} → Breaks at rest fault
     → answer rest (state s i places.Between at) ≡ Err fault
 breaks_met s i (no_item at byte more h) = answer-stop s i places.Between at byte more _ (no_item_met s i at byte h)
@@ -203,8 +203,8 @@ breaks_met s i (no_label at byte n more number is d other) =
     not_l : (byte : ℕ) → byte ≢ 76 → eqb byte 76 ≡ false
     not_l byte h = grind (arith, nat_tests)
 
--- only the end of the bytes is refused as unended
-pub only_unended : (place : Place) (i : List Item) (s : List (List Item)) (fault : TextError) → finished_at place i s ≡ Err fault → fault ≡ errors.Unended
+-- Unended is reported only at the end of the bytes
+pub only_unended : (place : Position) (i : List Item) (s : List (List Item)) (fault : TextError) → finished_at place i s ≡ Err fault → fault ≡ errors.Unended
 only_unended places.Between [] s fault e = absurd cc
 only_unended places.Between (x ∷ i) s fault e = cc
 only_unended places.Comment [] s fault e = absurd cc
@@ -217,7 +217,7 @@ pub refused_in_run : (r : Result Progress TextError) (fault : TextError) → ans
 refused_in_run (Ok p) fault e = inr (only_unended p.place p.items p.segments fault e)
 refused_in_run (Err f) fault e = inl (let same : f ≡ fault = cc in ap (λ x. Err x) same)
 
--- what breaks is not unended
+-- what breaks a text isn't reported as Unended
 not_unended : {at : ℕ} {rest : List ℕ} {fault : TextError} → Breaks at rest fault → fault ≢ errors.Unended
 not_unended (no_item at byte more h) e = cc
 not_unended (no_digit at byte more front head is other d h) e = cc
@@ -226,7 +226,7 @@ not_unended (too_large at digit more front digits head is all low high) e = cc
 not_unended (too_small at digit more front digits head is allowed all low high) e = cc
 not_unended (no_label at byte n more number is d other) e = cc
 
--- a fault that stands in bytes is met in reading them
+-- a fault of bytes is found in reading them
 pub fault_met : (bytes : List ℕ) (fault : TextError) → HasFault bytes fault → run bytes start ≡ Err fault
 fault_met bytes fault (at, elements, rest, begins, place, breaks) =
     let h = begins_read begins [] [] 0 at (omega arith) ∙ breaks_met (segments_after elements [] []) (items_after elements []) breaks in

@@ -1,4 +1,4 @@
--- What a reader's calls answer, by what it has read.
+-- The results of the reader's calls, given what it has read.
 use Rattle.std.proofs.Common.{◌≡◌, ◌⊎◌, inl, inr, ℕ, List, [], ◌∷◌, ◌++◌, Vec, Option, Some, None, Result, Ok, Err, OnOk, OnErr, sym, ap, subst, ◌∙◌, ◌+◌, ◌<◌, ◌≤◌, length, take, drop, get_or, append-nil, take-append-drop}
 use Rattle.std.proofs.lemmas.List.{take_more, take_all}
 use Rattle.std.proofs.lemmas.Grind.{flat_map-append}
@@ -15,7 +15,7 @@ use Rattle.bc_text.proofs.Complete.{text_read}
 use Rattle.bc_text.proofs.FaultsMet.{fault_met}
 use Rattle.bc_text.proofs.Whole.{run_goes_on, run_has_fault, text_of_answer, fault_of_answer, answer_of_fault}
 
--- a run goes on after what was read
+-- a run continues after what was read
 run-read : (bytes piece : List ℕ) (p : Progress) → run bytes start ≡ Ok p → run (bytes ++ piece) start ≡ run piece p
 run-read bytes piece p e = run-append bytes piece start ∙ ap (λ r. on_ok r (run piece)) e
 
@@ -56,7 +56,7 @@ finishes_again (Some p) result f h = absurd cc
 
 -- ---- The whole text
 
--- a fault stands in the bytes whatever follows them
+-- a fault of bytes stays their fault whatever follows them
 pub fault-append : (bytes more : List ℕ) (fault : TextError) → HasFault bytes fault → HasFault (bytes ++ more) fault
 fault-append bytes more fault h =
     run_has_fault (bytes ++ more) fault (run-append bytes more start ∙ ap (λ r. on_ok r (run more)) (fault_met bytes fault h))
@@ -81,7 +81,7 @@ nothing_read p e = ap (λ q. Ok q) (sym e)
 
 -- ---- Pieces
 
--- the pieces are those so far, this one, and the rest
+-- the pieces are those before, this one, and the rest
 pieces_parted : (pieces : List (Bor (List ℕ))) (i : ℕ) (d : Bor (List ℕ)) → i < length pieces
     → bytes_of pieces ≡ (bytes_of (take i pieces) ++ (get_or pieces i d).now) ++ bytes_of (drop (i + 1) pieces)
 pieces_parted pieces i d h =
@@ -93,7 +93,7 @@ pieces_parted pieces i d h =
     ∙ flat_map-append now (take i pieces) (get_or pieces i d ∷ [])
     ∙ ap (λ t. bytes_of (take i pieces) ++ t) (append-nil (get_or pieces i d).now))
 
--- a refusal of a piece is one of the whole
+-- an error of a piece is one of the whole
 pub piece_refused : (pieces : List (Bor (List ℕ))) (i : ℕ) (d : Bor (List ℕ)) (fault : TextError) → i < length pieces
     → (fault ≡ errors.Memory) ⊎ HasFault (bytes_of (take i pieces) ++ (get_or pieces i d).now) fault
     → (fault ≡ errors.Memory) ⊎ IsFaultOf (bytes_of pieces) fault
@@ -102,7 +102,7 @@ piece_refused pieces i d fault h (inr f) =
     inr (inl (subst (λ t. HasFault t fault) (sym (pieces_parted pieces i d h))
     (fault-append (bytes_of (take i pieces) ++ (get_or pieces i d).now) (bytes_of (drop (i + 1) pieces)) fault f)))
 
--- at the end the pieces so far are all
+-- at the end the pieces read are all of them
 pub all_read : (pieces : List (Bor (List ℕ))) (i : ℕ) (result : Result (Vec (List Item) Global) TextError) → length pieces ≤ i
     → IsAnswerAtEnd (bytes_of (take i pieces)) result → IsWholeAnswer (bytes_of pieces) result
 all_read pieces i result h is = whole result (subst (λ ps. IsAnswerAtEnd (bytes_of ps) result) (take_all i pieces h) is)

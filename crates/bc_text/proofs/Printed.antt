@@ -1,4 +1,4 @@
--- What was printed reads back.
+-- Printed segments read back.
 use Rattle.std.proofs.Common.{◌≡◌, ℕ, ◌+◌, ◌-◌, ◌*◌, ◌/◌, ◌%◌, ◌^◌, ◌<◌, ◌≤◌, List, [], ◌∷◌, ◌++◌, length, map, flat_map, inl, true, refl, sym, ap, subst, ◌∙◌, arith, append_assoc, length-append}
 use Rattle.std.proofs.lemmas.Fmt.{decimal_by_steps}
 use Rattle.std.proofs.lemmas.Bool.Decides.{nat_tests}
@@ -75,7 +75,7 @@ segment_begins list more rest elements h begins =
     subst (λ t. Begins t (map an_item list ++ end_of_segment ∷ elements) rest) (sym (append_assoc (flat_map line list) (90 ∷ 10 ∷ []) more))
     (lines_begin list (90 ∷ 10 ∷ more) rest (end_of_segment ∷ elements) h (segment_end (blank refl begins)))
 
--- what was printed is a text of the segments
+-- the printed text is a text of the segments
 pub reads_back : (segments : List (List Item)) → ReadsBack segments
 reads_back [] h = nothing
 reads_back (segment ∷ segments) h =

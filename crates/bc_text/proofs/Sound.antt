@@ -1,4 +1,4 @@
--- What is read is spelled so, and what is refused is a fault: the reader's state tells what its bytes are.
+-- What is read is what the bytes spell, and what is reported is their fault: the reader's state determines what its bytes are.
 use Rattle.std.proofs.Common.{◌≡◌, ◌≢◌, inl, inr, ℕ, ◌+◌, ◌-◌, ◌*◌, ◌<◌, ◌≤◌, List, [], ◌∷◌, ◌++◌, length, map, Option, Some, None, Result, Ok, Err, Bool, true, false, ◌&&◌, cond, eqb, ltb, refl, sym, ap, subst, ◌∙◌, arith, append_assoc, append-nil, length-append, add-zero}
 use Rattle.std.proofs.lemmas.Bool.{eqb-true, ltb-true, ltb-false}
 use Rattle.std.specs.Char.{is_ascii_digit}
@@ -20,15 +20,15 @@ use Rattle.bc_text.specs.declared.head.Head.{Head}
 use Rattle.bc_text.specs.declared.head.Head.TheVariants as heads
 use Rattle.bc_text.specs.declared.head.Ended.{Ended}
 use Rattle.bc_text.specs.declared.head.Ended.TheVariants as ended
-use Rattle.bc_text.specs.declared.head.Place.{Place}
-use Rattle.bc_text.specs.declared.head.Place.TheVariants as places
+use Rattle.bc_text.specs.declared.head.Position.{Position}
+use Rattle.bc_text.specs.declared.head.Position.TheVariants as places
 use Rattle.bc_text.specs.declared.text_error.TextError.{TextError}
 use Rattle.bc_text.specs.declared.text_error.TextError.TheVariants as errors
 use Rattle.bc_text.proofs.States.{capped-more}
 use Rattle.bc_text.proofs.Complete.{and_true}
 use Rattle.bc_text.proofs.FaultsMet.{minus_is_of_word, value_from-append}
 
--- ---- Elements and what stands after them
+-- ---- Elements and what follows them
 
 -- elements after elements
 pub begins-trans : {bytes mid rest : List ℕ} {one two : List Element} → Begins bytes one mid → Begins mid two rest → Begins bytes (one ++ two) rest
@@ -63,15 +63,15 @@ elements-closed p =
     ∙ elements-append p.segments (p.items ∷ [])
     ∙ sym (append_assoc (elements_of p.segments) (map an_item p.items) (end_of_segment ∷ []))
 
--- ---- What a state tells
+-- ---- What a state says about its bytes
 
 -- the sign of a number
 abbrev pub sign : Bool → List ℕ
 sign true = 45 ∷ []
 sign false = []
 
--- the bytes of what is open at a place, where it began at `at`
-abbrev pub IsOpen : Place → ℕ → List ℕ → Type 0
+-- the bytes of the incomplete part at a place, which began at position `at`
+abbrev pub IsOpen : Position → ℕ → List ℕ → Type 0
 IsOpen places.Between at held = held ≡ []
 IsOpen places.Comment at held = (line : List ℕ) × (held ≡ 47 ∷ line) × HasNoLineEnd line
 IsOpen (places.Head head) at held = IsHead held head × (head ≢ heads.Label)
@@ -81,7 +81,7 @@ IsOpen (places.Digits head from negative value) at held =
     (front digits : List ℕ) × (held ≡ front ++ (sign negative ++ digits)) × IsHead front head × (negative ≡ true → allows head 45 ≡ true)
     × IsNumber (greatest head negative) digits value × (from ≡ capped (at + length front))
 
--- the bytes are the elements that were read, and then what is open, whatever comes after them
+-- the bytes are the elements that were read, and then the incomplete part, whatever follows
 pub record Stands (bytes : List ℕ) (p : Progress) : Type 0 where
   pub before : List ℕ
   pub held : List ℕ
@@ -98,7 +98,7 @@ pub record Meets (bytes : List ℕ) (byte : ℕ) (p : Progress) : Type 0 where
   pub count : p.at ≡ capped (length (bytes ++ byte ∷ []))
   pub begins : (after : List ℕ) → Begins (before ++ (held ++ byte ∷ after)) (elements_so_far p) (held ++ byte ∷ after)
 
--- with this byte: where it led, or the fault that it made
+-- with this byte: the state to which it led, or the fault that it made
 abbrev pub LeadsOn : List ℕ → ℕ → Result Progress TextError → Type 0
 LeadsOn bytes byte (Ok q) = Stands (bytes ++ byte ∷ []) q
 LeadsOn bytes byte (Err fault) = (more : List ℕ) → HasFault (bytes ++ byte ∷ more) fault
@@ -108,7 +108,7 @@ by_test : {X : Type 0} (P : X → Type 0) (test : Bool) (x y : X) → (test ≡ 
 by_test P true x y if_so if_not = if_so refl
 by_test P false x y if_so if_not = if_not refl
 
--- ---- A byte after what is open
+-- ---- A byte after an incomplete part
 
 -- the progress that the byte meets
 abbrev counted : Progress → Progress
@@ -123,8 +123,8 @@ meets bytes byte p s = record {
   begins = λ after. s.begins (byte ∷ after);
 }
 
--- it is open too
-grown : (bytes : List ℕ) (byte : ℕ) (p : Progress) (place : Place) (m : Meets bytes byte p) → IsOpen place (length m.before) (m.held ++ byte ∷ [])
+-- the part is still incomplete
+grown : (bytes : List ℕ) (byte : ℕ) (p : Progress) (place : Position) (m : Meets bytes byte p) → IsOpen place (length m.before) (m.held ++ byte ∷ [])
     → Stands (bytes ++ byte ∷ []) (placed p place)
 grown bytes byte p place m open_now = record {
   before = m.before;
@@ -165,7 +165,7 @@ pub number_from : (limit value : ℕ) (digits : List ℕ) (d : ℕ) → all_asci
 number_from limit value [] d all is fits = (all, is, fits)
 number_from limit value (x ∷ digits) d all is fits = (all, is, fits)
 
--- a number that its next digit takes out of range
+-- a number that its next digit makes too large
 out_of_range_breaks : (at byte from : ℕ) (head : Head) (negative : Bool) (held front digits more : List ℕ)
     → held ≡ front ++ (sign negative ++ digits) → IsHead front head → (negative ≡ true → allows head 45 ≡ true)
     → all_ascii_digits (digits ++ byte ∷ []) ≡ true → value_of_digits digits ≤ greatest head negative
@@ -178,7 +178,7 @@ out_of_range_breaks at byte from head true held front digits more is opens allow
     rw (is, place, append_assoc front (45 ∷ digits) (byte ∷ more))
     (too_small at byte more front digits head opens (allowed refl) all (subst (λ k. value_of_digits digits ≤ k) bound low) (subst (λ k. k < value_of_digits (digits ++ byte ∷ [])) bound high))
 
--- a digit goes on with a number, or takes it out of range
+-- a digit continues a number, or makes it too large
 digit_leads : (bytes : List ℕ) (byte : ℕ) (p : Progress) (m : Meets bytes byte p) (head : Head) (from : ℕ) (negative : Bool) (value : ℕ) (front digits : List ℕ)
     → m.held ≡ front ++ (sign negative ++ digits) → IsHead front head → (negative ≡ true → allows head 45 ≡ true)
     → all_ascii_digits digits ≡ true → value_of_digits digits ≡ value → value ≤ greatest head negative → from ≡ capped (length m.before + length front)
@@ -217,7 +217,7 @@ meets_at bytes byte p h count = record {
   begins = h;
 }
 
--- what is open and the byte are elements and separators
+-- the incomplete part and the byte are elements and separators
 passes : (bytes : List ℕ) (byte : ℕ) (p q : Progress) (elements : List Element) (m : Meets bytes byte p) → q.at ≡ capped (length (bytes ++ byte ∷ []))
     → q.place ≡ places.Between → elements_so_far q ≡ elements_so_far p ++ elements → ((after : List ℕ) → Begins (m.held ++ byte ∷ after) elements after)
     → Stands (bytes ++ byte ∷ []) q
@@ -270,7 +270,7 @@ begun_leads : (bytes : List ℕ) (byte : ℕ) (p : Progress) → AreElements byt
     → LeadsOn bytes byte (begun p byte (capped (length bytes)))
 begun_leads bytes byte p h count =
     let at = capped (length bytes) in
-    let P : Result Place TextError → Type 0 = λ r. LeadsOn bytes byte (placed_at p r) in
+    let P : Result Position TextError → Type 0 = λ r. LeadsOn bytes byte (placed_at p r) in
     by_test (LeadsOn bytes byte) (eqb byte 90) (Ok (closed p)) (placed_at p (between byte at))
     (λ z. passes bytes byte p (closed p) (end_of_segment ∷ []) (meets_at bytes byte p h count) count refl (elements-closed p)
     (λ after. subst (λ b. Begins (b ∷ after) (end_of_segment ∷ []) after) (sym (eqb-true byte 90 z)) (segment_end nothing)))
@@ -292,11 +292,11 @@ no_line_end-more [] byte h e = ((λ is. absurd (lines_differ is)), tt)
 no_line_end-more (b ∷ line) byte h e = (h.0, no_line_end-more line byte h.1 e)
 
 -- a progress by its parts
-abbrev stood : List (List Item) → List Item → Place → ℕ → Progress
+abbrev stood : List (List Item) → List Item → Position → ℕ → Progress
 stood segments i place at = record { segments = segments; items = i; place = place; at = at }
 
 -- what a byte leads to at a place
-abbrev LeadsFrom : List ℕ → ℕ → List (List Item) → List Item → Place → ℕ → Type 0
+abbrev LeadsFrom : List ℕ → ℕ → List (List Item) → List Item → Position → ℕ → Type 0
 LeadsFrom bytes byte segments i place at = LeadsOn bytes byte (at_place (counted (stood segments i place at)) place byte at)
 
 length-whole : (bytes before held : List ℕ) (at : ℕ) → bytes ≡ before ++ held → at ≡ capped (length bytes) → at ≡ capped (length before + length held)
@@ -323,7 +323,7 @@ comment_leads bytes byte segments i at s =
     (λ after. rw (s.is_open.1) (comment line s.is_open.2 (eqb-true byte 10 e) (blank (subst (λ b. is_blank b ≡ true) (sym (eqb-true byte 10 e)) refl) nothing))))
     (λ e. grown bytes byte (counted p) places.Comment m (line ++ byte ∷ [], ap (λ t. t ++ byte ∷ []) s.is_open.1, no_line_end-more line byte s.is_open.2 e))
 
--- the head that a letter makes of another, or that none does
+-- the head that a letter extends another to, or that none does
 abbrev pub IsLonger : List ℕ → Head → ℕ → Option Head → Type 0
 IsLonger held head byte (Some longer_head) = IsHead (held ++ byte ∷ []) longer_head × (longer_head ≢ heads.Label)
 IsLonger held head byte None = allows head byte ≡ false
@@ -385,7 +385,7 @@ head_leads bytes byte segments i at head s =
     let p = stood segments i (places.Head head) at in
     let m = meets bytes byte p s in
     let there = length-whole bytes s.before s.held at s.whole s.count in
-    let P : Result Place TextError → Type 0 = λ r. LeadsOn bytes byte (placed_at (counted p) r) in
+    let P : Result Position TextError → Type 0 = λ r. LeadsOn bytes byte (placed_at (counted p) r) in
     by_test P (is_ascii_digit byte) _ _
     (λ d. digit_leads bytes byte (counted p) m head at false 0 s.held [] (sym (append-nil s.held)) s.is_open.0 (λ e. absurd cc) refl refl (omega arith) there d)
     (λ d. by_test P (eqb byte 45 && allows head 45) _ _
@@ -402,7 +402,7 @@ minus_leads bytes byte segments i at head from s =
     let is : s.held ≡ front ++ 45 ∷ [] = s.is_open.1 in
     let there : at ≡ capped (length s.before + length front + 1) =
     length-whole bytes s.before s.held at s.whole s.count ∙ ap capped (omega (arith, ap length is, length-append front (45 ∷ []))) in
-    let P : Result Place TextError → Type 0 = λ r. LeadsOn bytes byte (placed_at (counted p) r) in
+    let P : Result Position TextError → Type 0 = λ r. LeadsOn bytes byte (placed_at (counted p) r) in
     by_test P (is_ascii_digit byte) _ _
     (λ d. digit_leads bytes byte (counted p) m head from true 0 front [] is s.is_open.2 (λ e. s.is_open.3) refl refl (omega arith) s.is_open.4 d)
     (λ d. broken bytes byte (counted p) (errors.BadNumber at) m (λ more.
@@ -423,7 +423,7 @@ spelled_operation held digits function indirect bases.P false value is allowed n
 spelled_operation held digits function indirect bases.G true value is allowed number = (45 ∷ digits, is, inr (digits, value, refl, number, refl))
 spelled_operation held digits function indirect bases.G false value is allowed number = (digits, is, inl number)
 
--- the number ended, and its item is spelled by what was open
+-- the number ended, and its item is spelled by the part that was incomplete
 abbrev pub IsSpelled : List ℕ → Ended → Type 0
 IsSpelled held (ended.Item it) = Spells held it
 IsSpelled held (ended.Global g) = (digits : List ℕ) × (held ≡ 71 ∷ digits) × IsNumber 511 digits g
@@ -449,7 +449,7 @@ spelled held front digits (heads.GlobalLabel g) true value is opens allowed numb
 spelled held front digits (heads.GlobalLabel g) false value is opens allowed number =
     (opens.0, digits, is ∙ ap (λ t. t ++ digits) opens.1 ∙ ap (λ t. 71 ∷ t) (append_assoc opens.0 (76 ∷ []) digits), opens.2, number)
 
--- what a byte that is no digit leads to after a number
+-- what a byte that isn't a digit leads to after a number
 ended_leads : (bytes : List ℕ) (byte : ℕ) (p : Progress) (s : Stands bytes p) (e : Ended) → IsSpelled s.held e → is_ascii_digit byte ≡ false
     → LeadsOn bytes byte (after_number (counted p) e byte (capped (length bytes)))
 ended_leads bytes byte p s (ended.Item it) spells d =
@@ -481,12 +481,12 @@ digits_leads bytes byte segments i at head from negative value s =
     (λ d. subst (λ k. LeadsOn bytes byte (after_number (counted p) (ended_number head negative value) byte k)) (sym s.count)
     (ended_leads bytes byte p s (ended_number head negative value) (spelled s.held front digits head negative value is opens allowed number) d))
 
--- a byte leads on from where the reader stands, or makes a fault
+-- a byte leads to the next state of the reader, or makes a fault
 pub step_leads : (bytes : List ℕ) (byte : ℕ) (p : Progress) → Stands bytes p → LeadsOn bytes byte (step p byte)
 unfolding step
 step_leads bytes byte p s = go p.place s
   where
-    go : (place : Place) → Stands bytes (stood p.segments p.items place p.at) → LeadsFrom bytes byte p.segments p.items place p.at
+    go : (place : Position) → Stands bytes (stood p.segments p.items place p.at) → LeadsFrom bytes byte p.segments p.items place p.at
     go places.Between s = between_leads bytes byte p.segments p.items p.at s
     go places.Comment s = comment_leads bytes byte p.segments p.items p.at s
     go (places.Head head) s = head_leads bytes byte p.segments p.items p.at head s

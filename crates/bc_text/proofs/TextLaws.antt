@@ -1,4 +1,4 @@
--- Laws of texts and their faults, by what reading them answers.
+-- The laws of texts and their faults, proved from the result of reading them.
 use Rattle.std.proofs.Common.{◌≡◌, ◌⊎◌, inl, inr, ℕ, List, Result, Ok, Err, refl, sym, ◌∙◌}
 use Rattle.bc_text_items.specs.declared.item.Item.{Item}
 use Rattle.bc_text.specs.Texts.{GoesOn}

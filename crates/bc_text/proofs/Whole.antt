@@ -6,8 +6,8 @@ use Rattle.bc_text.specs.Faults.{HasFault, IsUnended, IsFaultOf}
 use Rattle.bc_text.specs.Steps.{Progress, start, step, run, on_ok, finished, finished_at, answer, answer_of}
 use Rattle.bc_text.specs.declared.head.Head.{Head}
 use Rattle.bc_text.specs.declared.head.Head.TheVariants as heads
-use Rattle.bc_text.specs.declared.head.Place.{Place}
-use Rattle.bc_text.specs.declared.head.Place.TheVariants as places
+use Rattle.bc_text.specs.declared.head.Position.{Position}
+use Rattle.bc_text.specs.declared.head.Position.TheVariants as places
 use Rattle.bc_text.specs.declared.text_error.TextError.{TextError}
 use Rattle.bc_text.specs.declared.text_error.TextError.TheVariants as errors
 use Rattle.bc_text.proofs.States.{run-append}
@@ -17,7 +17,7 @@ use Rattle.bc_text.proofs.Sound.{Stands, LeadsOn, step_leads, begins-trans}
 
 -- ---- From the run to the relations
 
--- where a run led, or the fault that it met
+-- the state to which a run led, or the fault that it met
 abbrev pub RunTells : List ℕ → Result Progress TextError → Type 0
 RunTells bytes (Ok p) = Stands bytes p
 RunTells bytes (Err fault) = HasFault bytes fault
@@ -45,8 +45,8 @@ run_tells_from done (byte ∷ bytes) p s = go (step p byte) (step_leads done byt
 pub run_tells : (bytes : List ℕ) → RunTells bytes (run bytes start)
 run_tells bytes = run_tells_from [] bytes start start_stands
 
--- at the end, nothing is open and no item stands after the last segment
-finished_tells : (bytes : List ℕ) (place : Place) (i : List Item) (s segments : List (List Item)) (at : ℕ)
+-- at the end, no part is incomplete and no item follows the last segment
+finished_tells : (bytes : List ℕ) (place : Position) (i : List Item) (s segments : List (List Item)) (at : ℕ)
     → Stands bytes (record { segments = s; items = i; place = place; at = at }) → finished_at place i s ≡ Ok segments → IsText bytes segments
 finished_tells bytes places.Between [] s segments at stands e =
     let same : s ≡ segments = cc in
@@ -69,9 +69,9 @@ finished_tells bytes (places.Head head) i s segments at stands e = absurd cc
 finished_tells bytes (places.Minus head from) i s segments at stands e = absurd cc
 finished_tells bytes (places.Digits head from negative value) i s segments at stands e = absurd cc
 
--- ---- Every place goes on to the end of a segment
+-- ---- From every place the end of a segment can be reached
 
--- bytes after which a progress is at an end
+-- bytes after which a reader can end
 abbrev Ends : Progress → Type 0
 Ends p = (more : List ℕ) × (segments : List (List Item)) × (answer more p ≡ Ok segments)
 
@@ -106,7 +106,7 @@ digits_end s i at (heads.Operation function indirect base) from negative value =
 digits_end s i at heads.Global from negative value = (76 ∷ 48 ∷ 90 ∷ [], _, refl)
 digits_end s i at (heads.GlobalLabel g) from negative value = (90 ∷ [], _, refl)
 
-place_ends : (s : List (List Item)) (i : List Item) (at : ℕ) (place : Place) → Ends (record { segments = s; items = i; place = place; at = at })
+place_ends : (s : List (List Item)) (i : List Item) (at : ℕ) (place : Position) → Ends (record { segments = s; items = i; place = place; at = at })
 unfolding run step
 place_ends s i at places.Between = (90 ∷ [], _, refl)
 place_ends s i at places.Comment = (10 ∷ 90 ∷ [], _, refl)
@@ -116,7 +116,7 @@ place_ends s i at (places.Digits head from negative value) = digits_end s i at h
 
 -- ---- Answers
 
--- the answer to bytes after others
+-- the result of bytes that follow others
 answer-append : (xs ys : List ℕ) (p : Progress) → run xs start ≡ Ok p → answer (xs ++ ys) start ≡ answer ys p
 answer-append xs ys p e = ap answer_of (run-append xs ys start ∙ ap (λ r. on_ok r (run ys)) e)
 
@@ -128,22 +128,22 @@ text_of_answer bytes segments e = go (run bytes start) (run_tells bytes) e
     go (Ok p) stands e = finished_tells bytes p.place p.items p.segments segments p.at stands e
     go (Err fault) has e = absurd cc
 
--- where no fault was met, the bytes go on to a text
+-- where no fault was met, the bytes can be continued to a text
 pub run_goes_on : (bytes : List ℕ) (p : Progress) → run bytes start ≡ Ok p → GoesOn bytes
 run_goes_on bytes p e =
     let (more, segments, h) = place_ends p.segments p.items p.at p.place in
     (more, segments, text_of_answer (bytes ++ more) segments (answer-append bytes more p e ∙ h))
 
--- a fault that was met stands in the bytes
+-- a fault that was met is a fault of the bytes
 pub run_has_fault : (bytes : List ℕ) (fault : TextError) → run bytes start ≡ Err fault → HasFault bytes fault
 run_has_fault bytes fault e = subst (RunTells bytes) e (run_tells bytes)
 
--- with no fault and no text, the bytes are unended
+-- bytes without a fault that aren't a text are unended
 pub run_unended : (bytes : List ℕ) (p : Progress) (fault : TextError) → run bytes start ≡ Ok p → finished p ≡ Err fault → (fault ≡ errors.Unended) × IsUnended bytes
 run_unended bytes p fault e f =
     (only_unended p.place p.items p.segments fault f, (λ segments is. let both : Err fault ≡ Ok segments = sym f ∙ ap answer_of (sym e) ∙ text_read bytes segments is in cc, run_goes_on bytes p e))
 
--- what goes on to a text has no fault
+-- what can be continued to a text has no fault
 pub goes_on_runs : (bytes : List ℕ) → GoesOn bytes → (p : Progress) × (run bytes start ≡ Ok p)
 goes_on_runs bytes (more, segments, is) = go (run bytes start) refl
   where
@@ -153,7 +153,7 @@ goes_on_runs bytes (more, segments, is) = go (run bytes start) refl
         let h : Err fault ≡ Ok segments = sym (ap answer_of (run-append bytes more start ∙ ap (λ r. on_ok r (run more)) e)) ∙ text_read (bytes ++ more) segments is in
         absurd cc
 
--- what is wrong with the bytes is the answer, and the answer is what is wrong
+-- the result is an error exactly if it is the fault of the bytes
 pub fault_of_answer : (bytes : List ℕ) (fault : TextError) → answer bytes start ≡ Err fault → IsFaultOf bytes fault
 fault_of_answer bytes fault e = go (run bytes start) refl e
   where

@@ -1,4 +1,4 @@
--- The first fault of bytes that are no text, and its place.
+-- The fault of bytes that aren't a text, and its position.
 use Rattle.std.specs.Prelude.{ℕ, ◌+◌, ◌-◌, ◌^◌, ◌≡◌, ◌≢◌, ◌<◌, ◌≤◌, ◌==◌, ◌⊎◌, min, List, [], ◌∷◌, ◌++◌, length, Bool, true, false, ◌||◌}
 use Rattle.std.specs.Char.{is_ascii_digit}
 use Rattle.std.specs.Str.{all_ascii_digits}
@@ -13,7 +13,7 @@ use Rattle.bc_text.specs.declared.head.Head.TheVariants as heads
 use Rattle.bc_text.specs.declared.text_error.TextError.{TextError}
 use Rattle.bc_text.specs.declared.text_error.TextError.TheVariants as errors
 
--- places count bytes from the stream's start, and stay at 2^64 - 1
+-- positions count bytes from the start of the stream, and saturate at 2^64 - 1
 abbrev pub capped : ℕ → ℕ
 capped n = min n (2 ^ 64 - 1)
 
@@ -21,26 +21,26 @@ capped n = min n (2 ^ 64 - 1)
 abbrev pub first_letters : List ℕ
 first_letters = 76 ∷ 83 ∷ 65 ∷ 74 ∷ 84 ∷ 70 ∷ 75 ∷ 88 ∷ 68 ∷ 67 ∷ 71 ∷ []
 
--- what may stand where an item may begin: a blank, the `/` of a comment, the `Z` of a segment's end, a
--- digit, or a letter that begins an item
+-- the bytes that are allowed between items: a blank, the `/` of a comment, the `Z` that ends a segment, a digit, or a letter that begins
+-- an item
 abbrev pub may_begin : ℕ → Bool
 may_begin byte =
     is_blank byte || byte == 47 || byte == 90 || is_ascii_digit byte || list_any (λ letter. byte == letter) first_letters
 
--- Where an item may begin, at the place `at`, these bytes have this fault.
+-- These bytes, which begin between items at position `at`, have this fault at once.
 pub data Breaks : ℕ → List ℕ → TextError → Type 0 where
-  -- a byte begins no item
+  -- no item begins with the byte
   no_item : (at byte : ℕ) (more : List ℕ) → may_begin byte ≡ false
       → Breaks at (byte ∷ more) (errors.BadCharacter (capped at))
-  -- after a head stands neither a digit nor another byte that may stand there
+  -- a head is followed neither by a digit nor by another byte that it allows
   no_digit : (at byte : ℕ) (more front : List ℕ) (head : Head) → IsHead front head → head ≢ heads.Label
       → is_ascii_digit byte ≡ false → allows head byte ≡ false
       → Breaks at (front ++ byte ∷ more) (errors.BadNumber (capped (at + length front)))
-  -- after a `-` stands no digit
+  -- a `-` isn't followed by a digit
   no_digit_after_minus : (at byte : ℕ) (more front : List ℕ) (head : Head) → IsHead front head → allows head 45 ≡ true
       → is_ascii_digit byte ≡ false
       → Breaks at (front ++ 45 ∷ byte ∷ more) (errors.BadNumber (capped (at + length front + 1)))
-  -- a digit takes a number out of range: the place is that of the number's first byte
+  -- a digit makes a number too large: the position is that of the number's first byte
   too_large : (at digit : ℕ) (more front digits : List ℕ) (head : Head) → IsHead front head
       → all_ascii_digits (digits ++ digit ∷ []) ≡ true → value_of_digits digits ≤ limit head
       → limit head < value_of_digits (digits ++ digit ∷ [])
@@ -50,20 +50,20 @@ pub data Breaks : ℕ → List ℕ → TextError → Type 0 where
       → all_ascii_digits (digits ++ digit ∷ []) ≡ true → value_of_digits digits ≤ 32768
       → 32768 < value_of_digits (digits ++ digit ∷ [])
       → Breaks at (front ++ 45 ∷ (digits ++ digit ∷ more)) (errors.BadNumber (capped (at + length front)))
-  -- after the number of a global stands no `L`
+  -- the number of a global isn't followed by `L`
   no_label : (at byte n : ℕ) (more number : List ℕ) → IsNumber 511 number n → is_ascii_digit byte ≡ false → byte ≢ 76
       → Breaks at (71 ∷ (number ++ byte ∷ more)) (errors.MissingLabel (capped (at + 1 + length number)))
 
--- Elements and separators, and then a fault: the first one, since up to there all is lawful.
+-- The bytes are elements and separators, followed by this fault. It is the first one, since everything before it is correct.
 abbrev pub HasFault : List ℕ → TextError → Type 0
 HasFault bytes fault =
     (at : ℕ) × (elements : List Element) × (rest : List ℕ)
     × Begins bytes elements rest × (at + length rest ≡ length bytes) × Breaks at rest fault
 
--- the bytes are no text, and go on to one: they end in an item, or have items after the last `Z`
+-- the bytes aren't a text, but can be continued to one: they end within an item, or have items after the last `Z`
 abbrev pub IsUnended : List ℕ → Type 0
 IsUnended bytes = ((segments : List (List Item)) → IsText bytes segments → ⊥) × GoesOn bytes
 
--- what is wrong with bytes that are no text
+-- this is the fault of bytes that aren't a text
 abbrev pub IsFaultOf : List ℕ → TextError → Type 0
 IsFaultOf bytes fault = HasFault bytes fault ⊎ ((fault ≡ errors.Unended) × IsUnended bytes)

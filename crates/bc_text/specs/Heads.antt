@@ -1,4 +1,4 @@
--- What an item has before its last number: which bytes may stand after it, and which numbers.
+-- Heads: all of an item before its last number. Which bytes may follow a head, and which numbers.
 use Rattle.std.specs.Prelude.{ℕ, ◌==◌, ◌≡◌, List, [], ◌∷◌, ◌++◌, Bool, true, false}
 use Rattle.std.specs.List.{list_any}
 use Rattle.bc_text_items.specs.declared.item.Base.TheVariants as bases
@@ -7,7 +7,7 @@ use Rattle.bc_text.specs.Letters.{operation_letters}
 use Rattle.bc_text.specs.declared.head.Head.{Head}
 use Rattle.bc_text.specs.declared.head.Head.TheVariants as heads
 
--- the text is this head
+-- the text spells this head
 abbrev pub IsHead : List ℕ → Head → Type 0
 IsHead text heads.Label = text ≡ []
 IsHead text heads.Data = text ≡ 68 ∷ []
@@ -17,7 +17,7 @@ IsHead text (heads.Operation function indirect base) = text ≡ operation_letter
 IsHead text heads.Global = text ≡ 71 ∷ []
 IsHead text (heads.GlobalLabel n) = (number : List ℕ) × (text ≡ 71 ∷ number ++ 76 ∷ []) × IsNumber 511 number n
 
--- the bytes that may stand after the head beside a digit: `I`, `P`, `G`, `L` and `-`
+-- the bytes other than digits that may follow the head: some of `I`, `P`, `G`, `L` and `-`
 abbrev pub others_after : Head → List ℕ
 others_after heads.Label = []
 others_after heads.Data = 76 ∷ 45 ∷ []
@@ -31,11 +31,11 @@ others_after (heads.Operation function indirect bases.Label) = []
 others_after heads.Global = []
 others_after (heads.GlobalLabel n) = []
 
--- whether this byte, no digit, may stand after the head
+-- whether this byte, which isn't a digit, may follow the head
 abbrev pub allows : Head → ℕ → Bool
 allows head byte = list_any (λ other. byte == other) (others_after head)
 
--- the greatest number after the head; one with a `-` goes to 32,768
+-- the greatest number that may follow the head; with a `-` it is 32,768
 abbrev pub limit : Head → ℕ
 limit heads.Label = 65535
 limit heads.Data = 65535

@@ -1,4 +1,4 @@
--- The letters and signs of INTCODE text, as bytes.
+-- The letters and separators of INTCODE text, as bytes.
 use Rattle.std.specs.Prelude.{ℕ, List, [], ◌∷◌, ◌++◌, Bool, true, false, ◌==◌, ◌||◌}
 use Rattle.bc_text_items.specs.declared.item.Base.{Base}
 use Rattle.bc_text_items.specs.declared.item.Base.TheVariants as bases
@@ -28,10 +28,10 @@ base_letter bases.P = 80 ∷ []
 base_letter bases.G = 71 ∷ []
 base_letter bases.Label = 76 ∷ []
 
--- what an operation has before its number
+-- all of an operation before its number
 abbrev pub operation_letters : Function → Bool → Base → List ℕ
 operation_letters function indirect base = letter function ∷ indirection indirect ++ base_letter base
 
--- what separates items: space, tab, CR, LF and `$`
+-- the bytes that separate items: space, tab, CR, LF and `$`
 abbrev pub is_blank : ℕ → Bool
 is_blank byte = byte == 32 || byte == 9 || byte == 13 || byte == 10 || byte == 36

@@ -1,4 +1,4 @@
--- The texts of an item, as the table of items has them.
+-- The texts of an item: the table of items.
 use Rattle.std.specs.Prelude.{ℕ, ◌≡◌, List, [], ◌∷◌, ◌++◌}
 use Rattle.bc_text_items.specs.declared.item.Item.{Item}
 use Rattle.bc_text_items.specs.declared.item.Item.TheVariants.{Label, Data, DataLabel, Byte, Operation, Global}
@@ -14,7 +14,7 @@ IsOperationNumber bases.Number text n = IsSignedNumber text n
 IsOperationNumber bases.P text n = IsSignedNumber text n
 IsOperationNumber bases.G text n = IsSignedNumber text n
 
--- the text is `front`, and then a text of which `P` holds
+-- the text is `front`, followed by a text with the property P
 abbrev pub After : List ℕ → (List ℕ → Type 0) → List ℕ → Type 0
 After front P text = (rest : List ℕ) × (text ≡ front ++ rest) × P rest
 

@@ -1,4 +1,4 @@
-//! The text of INTCODE: reading it in pieces, and printing it.
+//! INTCODE text: a reader that takes it in pieces, and a printer.
 #![tactic(auto)]
 
 mod head;

@@ -1,4 +1,4 @@
-//! What one byte makes at a place of a text.
+//! The transitions of the reader: its next state, given its state and a byte. `at` is always the position of that byte.
 
 ghost use Rattle.std.specs.Prelude.{◌≡◌, ◌≤◌, ◌+◌, ◌<◌, IsTrue, cond, nat_le, IfOk};
 ghost use Rattle.std.specs.Char.{is_ascii_digit};
@@ -6,12 +6,12 @@ ghost use Rattle.bc_text.specs.Letters.{is_blank};
 ghost use Rattle.bc_text.specs.Heads.{allows, limit};
 ghost use Rattle.bc_text.specs.Steps.{head_of, longer, greatest, with_digit, after_letter, after_head, after_minus, between, after_global, ended_number, word_of, is_in_range};
 
-use crate::head::{Ended, Head, Place};
+use crate::head::{Ended, Head, Position};
 use crate::text_error::TextError;
 use bc_text_items::{Base, Function, GlobalNumber, Item};
 use bc_word::Word;
 
-/// Whether the byte separates items and is none of a comment's.
+/// Whether the byte separates items: space, tab, CR, LF or `$`. (The `/` of a comment isn't included.)
 #[inline]
 pub fn is_blank(byte: u8) -> bool
     ensures { result ≡ is_blank byte }
@@ -19,7 +19,7 @@ pub fn is_blank(byte: u8) -> bool
     matches!(byte, b' ' | b'\t' | b'\r' | b'\n' | b'$')
 }
 
-/// Whether a `-` may stand after the head.
+/// Whether a `-` may follow the head.
 #[inline]
 pub fn allows_minus(head: &Head) -> bool
     ensures { result ≡ allows head.now 45 }
@@ -31,7 +31,7 @@ pub fn allows_minus(head: &Head) -> bool
     }
 }
 
-/// The greatest number after the head, where it has no sign.
+/// The greatest number that may follow the head without a sign.
 #[inline]
 pub fn limit(head: &Head) -> u16
     ensures { result ≡ limit head.now }
@@ -43,7 +43,7 @@ pub fn limit(head: &Head) -> u16
     }
 }
 
-/// The head that a letter begins.
+/// The head that a letter begins; `None` if it begins none.
 #[inline]
 pub fn head_of(byte: u8) -> Option<Head>
     ensures { result ≡ head_of byte }
@@ -69,7 +69,7 @@ pub fn head_of(byte: u8) -> Option<Head>
     })
 }
 
-/// The head with one letter more.
+/// The head with one more letter; `None` if that is no head.
 #[inline]
 pub fn longer(head: &Head, byte: u8) -> Option<Head>
     ensures { result ≡ longer head.now byte }
@@ -101,7 +101,7 @@ pub fn longer(head: &Head, byte: u8) -> Option<Head>
     }
 }
 
-/// The number with one digit more, unless that takes it out of range. Its first byte stands at `from`.
+/// The state after one more digit of a number whose first byte is at position `from`. `BadNumber(from)` if the number is out of range.
 #[inline]
 pub fn with_digit(
     head: &Head,
@@ -109,7 +109,7 @@ pub fn with_digit(
     negative: bool,
     value: u16,
     byte: u8,
-) -> Result<Place, TextError>
+) -> Result<Position, TextError>
     requires { IsTrue (is_ascii_digit byte) }
     ensures is { result ≡ with_digit head.now from negative value byte }
     ensures in_range { IfOk result (λ place. IsTrue (is_in_range place)) }
@@ -123,7 +123,7 @@ pub fn with_digit(
     if u32::from(greatest) < more {
         return Err(TextError::BadNumber(from));
     }
-    Ok(Place::Digits {
+    Ok(Position::Digits {
         head: *head,
         from,
         negative,
@@ -131,9 +131,9 @@ pub fn with_digit(
     })
 }
 
-/// What a byte makes after a head.
+/// The state after a byte that follows a head. `BadNumber` unless it is a digit or a byte that the head allows.
 #[inline]
-pub fn after_head(head: &Head, byte: u8, at: u64) -> Result<Place, TextError>
+pub fn after_head(head: &Head, byte: u8, at: u64) -> Result<Position, TextError>
     ensures is { result ≡ after_head head.now byte at }
     ensures in_range { IfOk result (λ place. IsTrue (is_in_range place)) }
 {
@@ -141,20 +141,20 @@ pub fn after_head(head: &Head, byte: u8, at: u64) -> Result<Place, TextError>
         return with_digit(head, at, false, 0, byte);
     }
     if byte == b'-' && allows_minus(head) {
-        return Ok(Place::Minus {
+        return Ok(Position::Minus {
             head: *head,
             from: at,
         });
     }
     match longer(head, byte) {
-        Some(head) => Ok(Place::Head(head)),
+        Some(head) => Ok(Position::Head(head)),
         None => Err(TextError::BadNumber(at)),
     }
 }
 
-/// What a byte makes after the `-` of a number.
+/// The state after a byte that follows the `-` of a number. `BadNumber` unless it is a digit.
 #[inline]
-pub fn after_minus(head: &Head, from: u64, byte: u8, at: u64) -> Result<Place, TextError>
+pub fn after_minus(head: &Head, from: u64, byte: u8, at: u64) -> Result<Position, TextError>
     ensures is { result ≡ after_minus head.now from byte at }
     ensures in_range { IfOk result (λ place. IsTrue (is_in_range place)) }
 {
@@ -165,41 +165,41 @@ pub fn after_minus(head: &Head, from: u64, byte: u8, at: u64) -> Result<Place, T
     }
 }
 
-/// What a byte makes between items, where it is not the `Z` of a segment's end.
+/// The state after a byte between items, other than the `Z` that ends a segment. `BadCharacter` if no item begins with it.
 #[inline]
-pub fn between(byte: u8, at: u64) -> Result<Place, TextError>
+pub fn between(byte: u8, at: u64) -> Result<Position, TextError>
     ensures is { result ≡ between byte at }
     ensures in_range { IfOk result (λ place. IsTrue (is_in_range place)) }
 {
     if is_blank(byte) {
-        return Ok(Place::Between);
+        return Ok(Position::Between);
     }
     if byte == b'/' {
-        return Ok(Place::Comment);
+        return Ok(Position::Comment);
     }
     if byte.is_ascii_digit() {
         return with_digit(&Head::Label, at, false, 0, byte);
     }
     match head_of(byte) {
-        Some(head) => Ok(Place::Head(head)),
+        Some(head) => Ok(Position::Head(head)),
         None => Err(TextError::BadCharacter(at)),
     }
 }
 
-/// What a byte makes after the number of a global.
+/// The state after a byte that follows the number of a global. `MissingLabel` unless it is `L`.
 #[inline]
-pub fn after_global(number: GlobalNumber, byte: u8, at: u64) -> Result<Place, TextError>
+pub fn after_global(number: GlobalNumber, byte: u8, at: u64) -> Result<Position, TextError>
     ensures is { result ≡ after_global number byte at }
     ensures in_range { IfOk result (λ place. IsTrue (is_in_range place)) }
 {
     if byte == b'L' {
-        Ok(Place::Head(Head::GlobalLabel(number)))
+        Ok(Position::Head(Head::GlobalLabel(number)))
     } else {
         Err(TextError::MissingLabel(at))
     }
 }
 
-/// The word of a number with or without sign.
+/// The word of a number; a negative one is taken modulo 65,536.
 #[inline]
 fn word_of(negative: bool, value: u16) -> Word
     ensures { result ≡ word_of negative value }
@@ -211,7 +211,7 @@ fn word_of(negative: bool, value: u16) -> Word
     })
 }
 
-/// What stands there where the digits of a number are at an end.
+/// What a number completes when its digits end. The value must not be above the head's limit.
 #[inline]
 pub fn ended_number(head: &Head, negative: bool, value: u16) -> Ended
     requires { IsTrue (nat_le value (limit head.now)) }

@@ -1,4 +1,4 @@
-//! Printing a segment.
+//! The public call `print`: writes a segment as text.
 
 ghost use Rattle.std.specs.Prelude.{◌≡◌, ◌≤◌, ◌+◌, ◌++◌, ◌∷◌, [], OnOk, IfErr};
 ghost use Rattle.std.specs.Fmt.{decimal};
@@ -13,10 +13,10 @@ use bc_text_items::{Base, Function, Item, Segment};
 use itoa::Buffer;
 use std::io::Write;
 
-/// Writes a segment: each item and then `Z`, each on a line of its own, the numbers without sign.
+/// Writes a segment: each item and then `Z`, each on its own line, the numbers without sign. Allocates nothing, and passes one line at a
+/// time to the writer.
 ///
-/// It takes no memory, and hands the writer a line at a time. `Write` comes only where the writer failed:
-/// it answered an error, or took nothing. It has then taken a front of the text.
+/// `Write` only if the writer fails: it returns an error or takes nothing. It has then taken the beginning of the text.
 pub fn print<W: Write>(segment: &Segment, out: &mut W) -> Result<(), TextError>
     ensures written { OnOk result (Appends (W.contents out.old) (W.contents out.new) (printed_segment segment.now)) }
     ensures front { AppendsFront (W.contents out.old) (W.contents out.new) (printed_segment segment.now) }
@@ -28,7 +28,7 @@ pub fn print<W: Write>(segment: &Segment, out: &mut W) -> Result<(), TextError>
     put(out, b"Z\n")
 }
 
-/// Hands the writer all of the bytes, or what it takes of them.
+/// Writes all of the bytes; `Write` if the writer fails, which has then taken the first of them.
 fn put<W: Write>(out: &mut W, bytes: &[u8]) -> Result<(), TextError>
     ensures written { OnOk result (Appends (W.contents out.old) (W.contents out.new) bytes.now) }
     ensures front { AppendsFront (W.contents out.old) (W.contents out.new) bytes.now }
@@ -44,10 +44,10 @@ fn put<W: Write>(out: &mut W, bytes: &[u8]) -> Result<(), TextError>
     Ok(())
 }
 
-/// The longest line is that of a global, 11 bytes.
+/// A buffer for one line. The longest line is that of a global, 11 bytes.
 type Line = ArrayString<16>;
 
-/// The line of an item.
+/// An item as a line, with its line feed.
 fn line_of(item: &Item) -> Line
     ensures { result.bytes ≡ line item.now }
 {
@@ -90,7 +90,7 @@ fn line_of(item: &Item) -> Line
     text
 }
 
-/// Adds a number in decimal digits, of which there are at most five. Almost half of the numbers of a text have one, which is copied as a constant.
+/// Appends a number in decimal, at most five digits. Almost half of the numbers in a text have one digit, which is copied as a constant.
 #[tactic(auto, using(std::proofs::lemmas::Fmt::decimal_digit))]
 fn push_number(text: &mut Line, number: u16)
     requires { array_string_len text.old ≤ 11 }
@@ -115,7 +115,7 @@ fn push_number(text: &mut Line, number: u16)
     }
 }
 
-/// Adds the letter of a function.
+/// Appends the letter of a function.
 fn push_letter(text: &mut Line, function: Function)
     requires { array_string_len text.old ≤ 11 }
     ensures bytes { text.new.bytes ≡ text.old.bytes ++ letter function ∷ [] }
@@ -133,7 +133,7 @@ fn push_letter(text: &mut Line, function: Function)
     }
 }
 
-/// Adds the letter of a base, or nothing.
+/// Appends the letter of a base, or nothing.
 fn push_base(text: &mut Line, base: Base)
     requires { array_string_len text.old ≤ 11 }
     ensures bytes { text.new.bytes ≡ text.old.bytes ++ base_letter base }

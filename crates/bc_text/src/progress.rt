@@ -1,21 +1,25 @@
-//! What a reader has read so far.
+//! The state of a reader after the bytes that it has read, and how one more byte changes it.
 
 ghost use Rattle.std.specs.Prelude.{◌≡◌, ◌⊎◌, Ok, Err, MatchResult, IfOk, IsTrue};
 ghost use Rattle.bc_text.specs.Steps.{is_in_range, start, step, run, finished, begun, closed, placed_at, after_number};
 
-use crate::head::{Ended, Place};
+use crate::head::{Ended, Position};
 use crate::place::{after_global, after_head, after_minus, between, ended_number, with_digit};
 use crate::text_error::TextError;
 use bc_text_items::{Item, Segment};
 use std::alloc::Global;
 use std::mem;
 
-/// Whole segments, the items after them, the place in the text, and how many bytes stand before it.
+/// The state of a reader: complete segments, the items after them, the state between two bytes, and the number of bytes read.
 #[derive(Drop)]
 pub struct Progress {
+    /// The complete segments.
     segments: Vec<Segment>,
+    /// The items after the last complete segment.
     items: Vec<Item>,
-    place: Place,
+    /// The state between two bytes.
+    place: Position,
+    /// The number of bytes read; saturates at 2^64 - 1.
     at: u64,
     alloc: Global,
     ghost in_range: { IsTrue (is_in_range place) },
@@ -24,32 +28,32 @@ pub struct Progress {
 impl Progress {
     ghost use Rattle.bc_text.specs.Reached.{progress_of, Reaches, GivesProgress, GivesSegments};
 
-    /// Nothing was read.
+    /// The state before the first byte.
     pub fn new(alloc: Global) -> Progress
         ensures { progress_of result ≡ start }
     {
         Progress {
             segments: Vec::new(alloc),
             items: Vec::new(alloc),
-            place: Place::Between,
+            place: Position::Between,
             at: 0,
             alloc,
         }
     }
 
-    /// The `Z` of a segment's end.
+    /// Ends a segment, at a `Z`. `Memory` if an allocation fails.
     fn end_segment(&mut self) -> Result<(), TextError>
         ensures { Reaches result (progress_of self.new) (Ok (closed (progress_of self.old))) }
     {
         let items = mem::replace(&mut self.items, Vec::new(self.alloc));
         self.segments.push(Segment::new(items))?;
-        self.place = Place::Between;
+        self.place = Position::Between;
         Ok(())
     }
 
-    /// The place that a byte leads to, where it leads to one.
+    /// Goes to the next place, or returns the fault.
     #[inline]
-    fn go_to(&mut self, place: Result<Place, TextError>) -> Result<(), TextError>
+    fn go_to(&mut self, place: Result<Position, TextError>) -> Result<(), TextError>
         requires { IfOk place (λ place. IsTrue (is_in_range place)) }
         ensures { Reaches result (progress_of self.new) (placed_at (progress_of self.old) place) }
     {
@@ -62,7 +66,7 @@ impl Progress {
         }
     }
 
-    /// A byte where an item may begin.
+    /// Takes a byte at which an item may begin.
     #[inline]
     fn begin(&mut self, byte: u8, at: u64) -> Result<(), TextError>
         ensures { Reaches result (progress_of self.new) (begun (progress_of self.old) byte at) }
@@ -74,7 +78,7 @@ impl Progress {
         }
     }
 
-    /// The byte after a number's digits, with what they made.
+    /// Takes the byte after a number's digits, which completed `ended`.
     #[inline]
     fn end_number(&mut self, ended: Ended, byte: u8, at: u64) -> Result<(), TextError>
         ensures { Reaches result (progress_of self.new) (after_number (progress_of self.old) ended byte at) }
@@ -88,7 +92,7 @@ impl Progress {
         }
     }
 
-    /// One byte more.
+    /// Takes one more byte. The error is the fault that the byte makes, or `Memory`.
     #[inline]
     #[tactic(auto, unfolding(crate::specs::Steps::step))]
     fn take(&mut self, byte: u8) -> Result<(), TextError>
@@ -97,16 +101,16 @@ impl Progress {
         let at = self.at;
         self.at = at.saturating_add(1);
         match self.place {
-            Place::Between => self.begin(byte, at),
-            Place::Comment => {
+            Position::Between => self.begin(byte, at),
+            Position::Comment => {
                 if byte == b'\n' {
-                    self.place = Place::Between;
+                    self.place = Position::Between;
                 }
                 Ok(())
             }
-            Place::Head(head) => self.go_to(after_head(&head, byte, at)),
-            Place::Minus { head, from } => self.go_to(after_minus(&head, from, byte, at)),
-            Place::Digits {
+            Position::Head(head) => self.go_to(after_head(&head, byte, at)),
+            Position::Minus { head, from } => self.go_to(after_minus(&head, from, byte, at)),
+            Position::Digits {
                 head,
                 from,
                 negative,
@@ -121,7 +125,7 @@ impl Progress {
         }
     }
 
-    /// The bytes of a piece.
+    /// Takes the bytes of a piece, up to the first error.
     pub fn fed(mut self, piece: &[u8]) -> Result<Progress, TextError>
         ensures { GivesProgress result (run piece.now (progress_of self)) }
     {
@@ -131,11 +135,11 @@ impl Progress {
         Ok(self)
     }
 
-    /// The segments, at the end of the text.
+    /// The segments, at the end of the text. `Unended` if an item is incomplete, or if items follow the last `Z`.
     pub fn finished(self) -> Result<Vec<Segment>, TextError>
         ensures { GivesSegments result (finished (progress_of self)) }
     {
-        let between = matches!(self.place, Place::Between | Place::Comment);
+        let between = matches!(self.place, Position::Between | Position::Comment);
         if between && self.items.is_empty() {
             Ok(self.segments)
         } else {

@@ -1,3 +1,5 @@
+//! The reader: a text of INTCODE that comes in pieces.
+
 ghost use Rattle.std.specs.Prelude.{◌≡◌, [], ◌++◌, OnOk, OnErr, List, ℕ};
 ghost use Rattle.bc_text.specs.Reading.{HasRead, HasFailed, IsAnswer, IsAnswerAtEnd, Feeds, Finishes, bytes_of, IsWholeAnswer, IsOnly, IsRefused};
 
@@ -9,11 +11,11 @@ use std::marker::Model;
 
 /// Reads a text of INTCODE that comes in pieces.
 ///
-/// It keeps what it has read and its place in an item, a number or a comment, and none of the bytes. So
-/// a refusal comes in the very call that holds the byte at which the fault is known, and how the bytes
-/// are cut into pieces changes no answer.
+/// It keeps the items read and its state within an item, a number or a comment, but none of the bytes. So a fault is reported by the very
+/// call that passes the byte at which it is known, and how the bytes are split into pieces makes no difference.
 #[derive(Drop)]
 pub struct Reader {
+    /// `None` after an error.
     progress: Option<Progress>,
 }
 
@@ -29,7 +31,7 @@ impl Model for Reader {
 }
 
 impl Reader {
-    /// A reader before the first byte. It takes no memory.
+    /// A reader before the first byte. Allocates nothing.
     pub fn new(alloc: Global) -> Reader
         ensures { HasRead result [] }
     {
@@ -38,6 +40,7 @@ impl Reader {
         }
     }
 
+    /// Takes a piece; the reader fails on the first error.
     fn advance(&mut self, piece: &[u8]) -> Result<(), TextError>
         ensures { Feeds self.old piece.now result self.new }
     {
@@ -50,11 +53,12 @@ impl Reader {
         }
     }
 
-    /// Takes the next piece of the text. A refusal comes in the call that holds the byte at which the fault
-    /// is known; `Memory` comes where an allocation was refused. After either, each further call answers
-    /// `Failed`.
+    /// Takes the next piece of the text.
+    ///
+    /// The error is the first fault of the bytes up to here. It is reported by the call that passes the byte at which it is known.
+    /// `Memory` if an allocation fails. After an error, each further call returns `Failed`.
     pub fn feed(&mut self, piece: &[u8]) -> Result<(), TextError>
-        // Ok just where the bytes so far go on to a text, and else their first fault.
+        // Ok exactly if the bytes up to here can be continued to a text, else their first fault (or Memory).
         ensures answer { (bytes : List ℕ) → HasRead self.old bytes → IsAnswer (bytes ++ piece.now) result }
         ensures read { (bytes : List ℕ) → HasRead self.old bytes → OnOk result (HasRead self.new (bytes ++ piece.now)) }
         ensures failed { OnErr result (HasFailed self.new) }
@@ -63,16 +67,18 @@ impl Reader {
         self.advance(piece)
     }
 
-    /// The segments, at the end of the text. It takes no memory. `Unended` comes where the text ends in an
-    /// item or has items after the last `Z`, and `Failed` where a call of `feed` has refused.
+    /// The segments, at the end of the text. Allocates nothing.
+    ///
+    /// `Unended` if the text ends in an item or has items after the last `Z`, and `Failed` if a call of `feed` has returned an error.
     pub fn finish(self) -> Result<Vec<Segment>, TextError>
-        // The segments that the bytes are a text of, or what is wrong with them.
+        // The segments of which the bytes are a text, or the fault of the bytes.
         ensures answer { (bytes : List ℕ) → HasRead self bytes → IsAnswerAtEnd bytes result }
         ensures again { HasFailed self → result ≡ Err TextError.Failed }
     {
         self.close()
     }
 
+    /// The segments of what was read, or the error.
     fn close(self) -> Result<Vec<Segment>, TextError>
         ensures { Finishes self result }
     {
@@ -83,7 +89,9 @@ impl Reader {
     }
 }
 
-/// The segments of the text that comes in these pieces.
+/// The segments of the text that consists of these pieces.
+///
+/// The error is the fault of the text, or `Memory` if an allocation fails.
 pub fn read_all(alloc: Global, pieces: &[&[u8]]) -> Result<Vec<Segment>, TextError>
     ensures answer { IsWholeAnswer (bytes_of pieces.now) result }
     ensures only { IsOnly (bytes_of pieces.now) result }

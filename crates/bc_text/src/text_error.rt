@@ -1,30 +1,32 @@
+//! The errors of reading and printing.
+
 use std::alloc::{AllocError, AllocFailed};
 use thiserror::Error;
 
-/// Why a text was not read, or not written.
+/// Why a text wasn't read or written.
 ///
-/// A place is the number of bytes before it, counted from the stream's start; it stays at 2^64 - 1.
+/// A position is the number of bytes before it, counted from the start of the stream. It saturates at 2^64 - 1.
 #[derive(Clone, Copy, Debug, PartialEq, Eq, Hash, Error)]
 pub enum TextError {
-    /// The byte at this place begins no item.
+    /// No item begins with the byte at this position.
     #[error("a byte that begins no item, at {0}")]
     BadCharacter(u64),
-    /// At this place a digit is wanted and another byte stands, or a number begins that is out of range.
+    /// The byte at this position should be a digit, or a number that is out of range begins there.
     #[error("a bad number, at {0}")]
     BadNumber(u64),
-    /// At this place the `L` of a global is wanted and another byte stands.
+    /// The byte at this position should be the `L` of a global.
     #[error("a global without its label, at {0}")]
     MissingLabel(u64),
-    /// The text ends in an item, or with items after the last `Z`.
+    /// The text ends within an item, or with items after the last `Z`.
     #[error("the text ends before its last segment does")]
     Unended,
     /// The writer failed.
     #[error("the text could not be written")]
     Write,
-    /// An allocation was refused.
+    /// An allocation failed.
     #[error("out of memory")]
     Memory,
-    /// The reader has refused before.
+    /// The reader has returned an error before.
     #[error("the reader has failed")]
     Failed,
 }

@@ -1,4 +1,4 @@
--- The words of items, part by part.
+-- Lists of items that are assembled in parts.
 use Rattle.std.proofs.Common.{◌≡◌, ℕ, ◌+◌, ◌*◌, List, [], ◌∷◌, ◌++◌, length, refl, sym, ap, ◌∙◌, arith, append_assoc, length-append}
 use Rattle.bc_text_items.specs.Sizes.{size_of_all, operation_size}
 use Rattle.bc_text_items.specs.Assembled.{assembled, operation_words, short_or_long, instruction, label_places}
@@ -44,7 +44,7 @@ length-assembled address (Global n m ∷ items) = omega (arith, length-assembled
 
 -- ---- Parts
 
--- a byte before what is no byte stands alone
+-- a byte before an item that isn't a byte has a word of its own
 byte_apart : (address : ℕ → ℕ) (start a : ℕ) (others : List Item) → BeginsWithNoByte others → StandApart address start (Byte a ∷ []) others
 byte_apart address start a [] h = record { words = refl; size = refl; places = refl; settings = refl }
 byte_apart address start a (Byte b ∷ others) h = absurd h

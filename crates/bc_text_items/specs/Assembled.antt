@@ -1,4 +1,4 @@
--- The words that items become, the places of their labels, and the globals that they set.
+-- The words that items become, the places of labels, and the globals that items set.
 use Rattle.std.specs.Prelude.{ℕ, ◌+◌, ◌*◌, ◌≡◌, List, [], ◌∷◌, ◌++◌, Bool, true, false, cond, nat_le, refl}
 use Rattle.bc_text_items.specs.Sizes.{size}
 use Rattle.bc_text_items.specs.declared.item.Item.{Item}
@@ -26,8 +26,8 @@ base_bit bases.P = 2048
 base_bit bases.G = 1024
 base_bit bases.Label = 0
 
--- An instruction's word: the function in bits 13 to 15, indirection 4096, the base's bit, and below
--- them an address from 0 to 511, or 512 for the long form.
+-- An instruction's word: the function in bits 13 to 15, 4096 if it is indirect, the base's bit, and in the low bits an address from 0 to
+-- 511, or 512 for the long form.
 abbrev pub instruction : Function → Bool → Base → ℕ → ℕ
 instruction function indirect base low =
     8192 * function_number function + cond indirect 4096 0 + base_bit base + low
@@ -37,14 +37,14 @@ abbrev pub short_or_long : Function → Bool → Base → ℕ → List ℕ
 short_or_long function indirect base number =
     cond (nat_le number 511) (instruction function indirect base number ∷ []) (instruction function indirect base 512 ∷ number ∷ [])
 
--- the words of an operation, where `address m` is the address of the label m
+-- the words of an operation; `address m` is the address of the label m
 abbrev pub operation_words : (ℕ → ℕ) → Function → Bool → Base → ℕ → List ℕ
 operation_words address function indirect bases.Label label = instruction function indirect bases.Label 512 ∷ address label ∷ []
 operation_words address function indirect bases.Number number = short_or_long function indirect bases.Number number
 operation_words address function indirect bases.P number = short_or_long function indirect bases.P number
 operation_words address function indirect bases.G number = short_or_long function indirect bases.G number
 
--- the words of an item that stands alone: a lone byte is the high byte, with 0 below it
+-- the words of a single item: a single byte becomes the high byte of its word, and the low byte is 0
 abbrev pub words_of_item : (ℕ → ℕ) → Item → List ℕ
 words_of_item address (Label m) = []
 words_of_item address (Data n) = n ∷ []
@@ -59,15 +59,15 @@ assembled address [] = []
 assembled address (Byte high ∷ Byte low ∷ items) = (high * 256 + low) ∷ assembled address items
 assembled address (item ∷ items) = words_of_item address item ++ assembled address items
 
--- Each label with its address, where the items stand from `start` on: the address of the next word
--- after it. A label at the end has the address after the last word.
+-- Each label with its address, for items whose words begin at address `start`: the address of the next word after the label. A label at
+-- the end has the address after the last word.
 abbrev pub label_places : ℕ → List Item → List (ℕ × ℕ)
 label_places start [] = []
 label_places start (Label m ∷ items) = (m, start) ∷ label_places start items
 label_places start (Byte high ∷ Byte low ∷ items) = label_places (start + 1) items
 label_places start (item ∷ items) = label_places (start + size item) items
 
--- each global that the items set, with the label whose address it becomes
+-- each global that the items set, with the label whose address it is set to
 abbrev pub global_settings : List Item → List (ℕ × ℕ)
 global_settings [] = []
 global_settings (Global number label ∷ items) = (number, label) ∷ global_settings items

@@ -1,11 +1,11 @@
--- What holds of the words that items become.
+-- The laws of the words that items become.
 use Rattle.std.specs.Prelude.{ℕ, ◌+◌, ◌≡◌, List, [], ◌∷◌, ◌++◌, length}
 use Rattle.bc_text_items.specs.Sizes.{size_of_all}
 use Rattle.bc_text_items.specs.Assembled.{assembled, label_places, global_settings}
 use Rattle.bc_text_items.specs.declared.item.Item.{Item}
 use Rattle.bc_text_items.specs.declared.item.Item.TheVariants.{Label, Data, DataLabel, Byte, Operation, Global}
 
--- what comes first is no byte, so that it shares no word with one before it
+-- the first item isn't a byte, so it shares no word with an item before it
 abbrev pub BeginsWithNoByte : List Item → Type 0
 BeginsWithNoByte [] = Unit {0}
 BeginsWithNoByte (Byte b ∷ items) = ⊥
@@ -15,11 +15,11 @@ BeginsWithNoByte (DataLabel m ∷ items) = Unit {0}
 BeginsWithNoByte (Operation function indirect base n ∷ items) = Unit {0}
 BeginsWithNoByte (Global n m ∷ items) = Unit {0}
 
--- items become as many words as their size says
+-- these items become as many words as their size says
 abbrev pub HasItsSize : (ℕ → ℕ) → List Item → Type 0
 HasItsSize address items = length (assembled address items) ≡ size_of_all items
 
--- items after which no byte comes become what they become alone, and what follows is after them
+-- items and others can be assembled separately: words, size, places of labels and settings of the whole are those of the parts
 pub record StandApart (address : ℕ → ℕ) (start : ℕ) (items others : List Item) : Type 0 where
   pub words : assembled address (items ++ others) ≡ assembled address items ++ assembled address others
   pub size : size_of_all (items ++ others) ≡ size_of_all items + size_of_all others

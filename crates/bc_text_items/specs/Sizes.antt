@@ -1,4 +1,4 @@
--- How many words items take.
+-- The number of words that items take.
 use Rattle.std.specs.Prelude.{ℕ, ◌+◌, ◌≡◌, List, [], ◌∷◌, false, cond, nat_le, refl}
 use Rattle.bc_text_items.specs.declared.item.Item.{Item}
 use Rattle.bc_text_items.specs.declared.item.Item.TheVariants.{Label, Data, DataLabel, Byte, Operation, Global}
@@ -6,15 +6,14 @@ use Rattle.bc_text_items.specs.declared.item.Base.{Base}
 use Rattle.bc_text_items.specs.declared.item.Base.TheVariants as bases
 use Rattle.bc_text_items.specs.declared.item.Function.TheVariants as functions
 
--- An operation is short, one word, where its number is at most 511; else it is long, two words. With a
--- label it is always long.
+-- An operation is short, one word, if its number is at most 511; otherwise it is long, two words. With a label it is always long.
 abbrev pub operation_size : Base → ℕ → ℕ
 operation_size bases.Label number = 2
 operation_size bases.Number number = cond (nat_le number 511) 1 2
 operation_size bases.P number = cond (nat_le number 511) 1 2
 operation_size bases.G number = cond (nat_le number 511) 1 2
 
--- the words of an item that stands alone
+-- the number of words of a single item
 abbrev pub size : Item → ℕ
 size (Label m) = 0
 size (Data n) = 1
@@ -23,8 +22,8 @@ size (Byte b) = 1
 size (Operation function indirect base number) = operation_size base number
 size (Global number label) = 0
 
--- The words of a list of items: neighbouring bytes share a word in pairs, and every other item, a label
--- or a global too, ends such a run.
+-- The number of words of a list of items. Two consecutive bytes share a word; any other item between bytes, even a label or a global,
+-- separates them.
 abbrev pub size_of_all : List Item → ℕ
 size_of_all [] = 0
 size_of_all (Byte high ∷ Byte low ∷ items) = 1 + size_of_all items

@@ -1,11 +1,11 @@
+//! The number of a global, with its range in the type.
+
 ghost use Rattle.std.specs.Prelude.{◌≡◌, ◌<◌, ◌^◌};
 ghost use Rattle.std.specs.Option.{SomeIff};
 
 use std::marker::Model;
 
-/// The number of a cell of the global vector, 0 to 511.
-///
-/// Contracts see it as that number.
+/// The number of a cell of the global vector, 0 to 511. In contracts it is that number.
 #[derive(Clone, Copy, Debug, Default, PartialEq, Eq, Hash, PartialOrd, Ord)]
 pub struct GlobalNumber {
     number: u16,
@@ -24,7 +24,7 @@ impl Model for GlobalNumber {
 }
 
 impl GlobalNumber {
-    /// The global with this number; none where the number is over 511.
+    /// The global with this number; `None` if the number is above 511.
     pub fn new(number: u16) -> Option<GlobalNumber>
         ensures { SomeIff result (number < 512) number }
     {

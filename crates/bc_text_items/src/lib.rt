@@ -1,4 +1,4 @@
-//! Items of INTCODE: what the assembler's text is made of, and the words that items become.
+//! The items of INTCODE, of which assembler texts are made, and the machine words that they become.
 #![tactic(auto)]
 
 mod global_number;

@@ -1,10 +1,11 @@
+//! A segment: the code of one source.
+
 ghost use Rattle.std.specs.Prelude.{◌≡◌};
 
 use crate::item::Item;
 use std::marker::Model;
 
-/// A segment: a list of items, and so is it seen by contracts. The `Z` that ends it in a text is no
-/// item.
+/// A segment, which is a list of items; in contracts it is that list. The `Z` that ends it in a text isn't an item.
 #[derive(Debug, Drop)]
 pub struct Segment {
     items: Vec<Item>,
@@ -20,14 +21,14 @@ impl Model for Segment {
 }
 
 impl Segment {
-    /// The segment of these items.
+    /// A segment of these items.
     pub fn new(items: Vec<Item>) -> Segment
         ensures { result ≡ items.items }
     {
         Segment { items }
     }
 
-    /// The items.
+    /// The items of the segment.
     pub fn items(&self) -> &[Item]
         ensures { result.now ≡ self.now }
     {

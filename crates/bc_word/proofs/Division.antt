@@ -1,4 +1,4 @@
--- Quotient and remainder.
+-- The laws of quotient and remainder.
 use Rattle.std.proofs.Common.{arith, ◌≡◌, ◌<◌, ℕ, ◌*◌, ◌%◌, ◌*ℤ◌, ap, sym, ◌∙◌, Some, refl, pos, negsuc, subst}
 use Rattle.std.specs.Prelude.{ℤ, zero, suc, ◌+◌, ◌+ℤ◌, ◌≢◌, ◌≤◌, ◌==◌, ◌≤ℤ◌, FitsSigned, int_div, int_rem, unsigned_abs, cond, false, unwrap_or, Bool, None}
 use Rattle.std.specs.Int.{cast_signed, cast_unsigned, w16, int_wrap}
@@ -14,12 +14,12 @@ nonzero a h = grind (arith, h)
 signed_fits : (w : ℕ) → w < 65536 → FitsSigned w16 (signed w)
 signed_fits w p = search (arith, ints)
 
--- the signed reading of what a number leaves in a word is the wrapped number
+-- an integer as a word, and read again as a signed number, is the integer wrapped to the range of signed words
 read_back : (z : ℤ) → signed (wrapped z) ≡ int_wrap w16 z
 unfolding int_wrap
 read_back z = refl
 
--- a signed word is 32,768 from 0 at most, and only 0 is 0 away
+-- a signed word is at most 32,768 away from 0, and only 0 is 0 away
 size_at_most : (a : ℕ) → a < 65536 → unsigned_abs (signed a) ≤ 32768
 size_at_most a p = grind (arith, ints)
 
@@ -53,7 +53,7 @@ recombined b a q p Q R e =
     ∙ int_wrap_fits w16 (signed b) (signed_fits b q))
     ∙ of_z-to_z w16 b q
 
--- what a division gives where the divisor is not 0
+-- the result of a division by a nonzero divisor
 given : (t : Bool) (x y : ℕ) → t ≡ false → cond t None (Some x) ≡ Some y → x ≡ y
 given t x y f e =
     let same : Some x ≡ Some y = sym (ap (λ v. cond v None (Some x)) f) ∙ e in ap (λ o. unwrap_or o 0) same

@@ -1,4 +1,4 @@
--- Operands exchanged.
+-- Operators with their operands exchanged, by cases over the operator.
 use Rattle.std.proofs.Common.{rules, arith, ◌≡◌, ℕ, ap, Some, None, refl, subst}
 use Rattle.std.specs.Prelude.{◌%◌, ◌-◌, ◌==◌, unwrap_or, not}
 use Rattle.std.proofs.Math.IntN.{*ℤ_comm}

@@ -1,4 +1,4 @@
--- Products, quotients and remainders of words.
+-- The product, quotient and remainder of words.
 use Rattle.std.proofs.Common.{arith, ◌≡◌, ◌<◌, ℕ, ◌*◌, ◌%◌, ◌*ℤ◌, ap, sym, ◌∙◌, Some, pos, negsuc}
 use Rattle.std.specs.Prelude.{ℤ}
 use Rattle.std.specs.Int.{cast_unsigned, w16, int_wrap}
@@ -10,7 +10,7 @@ pub wrapped_below : (z : ℤ) → wrapped z < 65536
 wrapped_below (pos a) = omega arith
 wrapped_below (negsuc a) = omega arith
 
--- the product of the words as they stand is that of the signed numbers
+-- the unsigned product and the signed product are the same word
 pub product_is : (b a : ℕ) → b < 65536 → a < 65536 → (b * a) % 65536 ≡ wrapped (signed b *ℤ signed a)
 unfolding int_wrap
 product_is b a p q =

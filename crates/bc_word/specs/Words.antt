@@ -1,4 +1,4 @@
--- The arithmetic of words, over whole numbers.
+-- The arithmetic of words, over natural numbers and integers.
 use Rattle.std.specs.Prelude.{ℕ, ◌≡◌, ◌≢◌, ◌+◌, ◌-◌, ◌*◌, ◌/◌, ◌%◌, ◌^◌, ◌==◌, ℤ, pos, ◌*ℤ◌, int_lt, int_le, int_div, int_rem, bit_and, bit_or, bit_xor, unsigned_abs, Bool, true, false, not, cond, Option, Some, None, Result, Ok, Err, nat_le}
 use Rattle.std.specs.Int.{int_rem_euclid, cast_signed, w16}
 use Rattle.bc_word.specs.declared.operator.Op.{Op}
@@ -7,23 +7,24 @@ use Rattle.bc_word.specs.declared.operator.Rel.{Rel}
 use Rattle.bc_word.specs.declared.operator.Rel.TheVariants as relations
 use Rattle.bc_word.specs.declared.operator.NotAnOperator.{NotAnOperator}
 
--- a word read as a signed number, two's complement
+-- a word as a signed number in two's complement
 abbrev pub signed : ℕ → ℤ
 signed w = cast_signed w16 w
 
--- what is left of a whole number in a word: its remainder by 65,536
+-- an integer as a word: its remainder by 65,536
 abbrev pub wrapped : ℤ → ℕ
 wrapped z = unsigned_abs (int_rem_euclid z (pos 65536))
 
--- TRUE or FALSE
+-- the word for TRUE or FALSE
 abbrev pub truth : Bool → ℕ
 truth true = 65535
 truth false = 0
 
--- the machine's X2 and X3
+-- the negation: the machine's operation X2
 abbrev pub negated : ℕ → ℕ
 negated w = (65536 - w) % 65536
 
+-- the complement, NOT: the machine's operation X3
 abbrev pub complemented : ℕ → ℕ
 complemented w = 65535 - w
 
@@ -36,10 +37,11 @@ holds relations.GreaterEqual b a = int_le (signed a) (signed b)
 holds relations.Greater b a = int_lt (signed a) (signed b)
 holds relations.LessEqual b a = int_le (signed b) (signed a)
 
+-- the value of `b rel a`, as a word
 abbrev pub value_of_relation : Rel → ℕ → ℕ → Option ℕ
 value_of_relation rel b a = Some (truth (holds rel b a))
 
--- `b op a`; none for a zero divisor
+-- the value of `b op a`; none for a zero divisor
 abbrev pub value_of : Op → ℕ → ℕ → Option ℕ
 value_of operators.Multiply b a = Some (wrapped (signed b *ℤ signed a))
 value_of operators.Divide b a = cond (a == 0) None (Some (wrapped (int_div (signed b) (signed a))))
@@ -59,7 +61,7 @@ value_of operators.Or b a = Some (bit_or b a)
 value_of operators.NotEquivalent b a = Some (bit_xor b a)
 value_of operators.Equivalent b a = Some (65535 - bit_xor b a)
 
--- the operator that works a relation out
+-- the operator that computes a relation
 abbrev pub operator_of : Rel → Op
 operator_of relations.Equal = operators.Equal
 operator_of relations.NotEqual = operators.NotEqual
@@ -68,7 +70,7 @@ operator_of relations.GreaterEqual = operators.GreaterEqual
 operator_of relations.Greater = operators.Greater
 operator_of relations.LessEqual = operators.LessEqual
 
--- the machine's number of an operator
+-- the number of the machine's operation that computes an operator
 abbrev pub number_of : Op → ℕ
 number_of operators.Multiply = 5
 number_of operators.Divide = 6
@@ -88,7 +90,7 @@ number_of operators.Or = 19
 number_of operators.NotEquivalent = 20
 number_of operators.Equivalent = 21
 
--- the operator with this number was found, or there is none
+-- the result is the operator with this number, or an error if there is none
 abbrev pub IsOperatorOf : ℕ → Result Op NotAnOperator → Type 0
 IsOperatorOf number (Ok op) = number_of op ≡ number
 IsOperatorOf number (Err e) = (op : Op) → number_of op ≢ number

@@ -1,3 +1,4 @@
+//! The values of operators, and operators with the same or the opposite value.
 ghost use Rattle.std.specs.Prelude.{◌≡◌, ◌<◌, ◌↔◌, ℕ, not, Some, IfSome};
 ghost use Rattle.bc_word.specs.Words.{value_of, truth as truth_of, holds};
 ghost use Rattle.bc_word.specs.Mirror.{mirror_of, IsMirror};
@@ -5,7 +6,7 @@ ghost use Rattle.bc_word.specs.Mirror.{mirror_of, IsMirror};
 use crate::operator::{Op, Rel};
 use crate::word::Word;
 
-/// TRUE, the word of 16 ones, or FALSE, the word 0.
+/// The word for a truth value: 16 one bits for TRUE, 0 for FALSE.
 #[inline(always)]
 fn truth(value: bool) -> Word
     ensures { result ≡ truth_of value }
@@ -13,9 +14,9 @@ fn truth(value: bool) -> Word
     Word::new(if value { 65535 } else { 0 })
 }
 
-/// The value of `b op a`, for any two words.
+/// The value of `b op a`, for any two words. Arithmetic wraps at 16 bits.
 ///
-/// `None` comes for `Op::Divide` and `Op::Remainder` with `a` = 0, and for nothing else.
+/// Returns `None` for `Op::Divide` and `Op::Remainder` with `a` = 0, and never otherwise.
 #[inline(always)]
 pub fn apply(op: Op, b: Word, a: Word) -> Option<Word>
     ensures { result ≡ value_of op b a }
@@ -42,7 +43,7 @@ pub fn apply(op: Op, b: Word, a: Word) -> Option<Word>
     }
 }
 
-/// The signed product, wrapped: it is also the product of the words as they stand.
+/// The signed product, wrapped. The unsigned product has the same low 16 bits.
 #[inline(always)]
 #[tactic(auto, using(crate::proofs::Products::multiplied))]
 fn product(b: u16, a: u16) -> u16
@@ -51,7 +52,7 @@ fn product(b: u16, a: u16) -> u16
     b.wrapping_mul(a)
 }
 
-/// The signed quotient, truncated towards zero and wrapped; none for a zero divisor.
+/// The signed quotient, truncated towards zero and wrapped; `None` for a zero divisor.
 #[inline(always)]
 fn quotient(dividend: u16, divisor: u16) -> Option<Word>
     ensures { result ≡ value_of Op.Divide dividend divisor }
@@ -63,7 +64,7 @@ fn quotient(dividend: u16, divisor: u16) -> Option<Word>
     Some(Word::new(quotient.cast_unsigned()))
 }
 
-/// The remainder with the dividend's sign; none for a zero divisor.
+/// The signed remainder, which has the sign of the dividend; `None` for a zero divisor.
 #[inline(always)]
 fn remainder(dividend: u16, divisor: u16) -> Option<Word>
     ensures { result ≡ value_of Op.Remainder dividend divisor }
@@ -75,10 +76,9 @@ fn remainder(dividend: u16, divisor: u16) -> Option<Word>
     Some(Word::new(remainder.cast_unsigned()))
 }
 
-/// The operator that gives the same value with its operands exchanged: `b op a` is `a mirror b`
-/// for all words.
+/// The operator that has the same value with the operands exchanged: `b op a` equals `a mirror(op) b` for all words.
 ///
-/// `None` comes for `/`, REM, `-` and the shifts, which have no mirror.
+/// Returns `None` for `/`, REM, `-` and the shifts, which have no mirror.
 #[tactic(auto, using(crate::proofs::Mirrors::exchanged))]
 pub fn mirror(op: Op) -> Option<Op>
     ensures which { result ≡ mirror_of op }
@@ -101,7 +101,7 @@ pub fn mirror(op: Op) -> Option<Op>
     }
 }
 
-/// The relation with the opposite value, for all words.
+/// The relation that holds for exactly the words for which `rel` doesn't.
 pub fn complement(rel: Rel) -> Rel
     ensures { (b : ℕ) → (a : ℕ) → b < 65536 → a < 65536 → holds result b a ≡ not (holds rel b a) }
 {

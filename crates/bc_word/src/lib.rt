@@ -1,4 +1,5 @@
-//! Words of 16 bits and their operators: the arithmetic that the language and the machine share.
+//! Words of 16 bits and their operators: the arithmetic that the language and the machine share. Also `Memory`, the error of calls
+//! that can only fail by a failed allocation.
 #![tactic(auto)]
 
 mod arithmetic;

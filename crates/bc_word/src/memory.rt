@@ -1,7 +1,8 @@
+//! The error of a failed allocation.
 use std::alloc::{AllocError, AllocFailed};
 use thiserror::Error;
 
-/// An allocation was refused: the one fault of a call that fails because memory ran out alone.
+/// An allocation failed. Calls return this type if they can fail for no other reason.
 #[derive(Clone, Copy, Debug, PartialEq, Eq, Hash, Error)]
 #[error("out of memory")]
 pub struct Memory;

@@ -1,43 +1,67 @@
+//! Operators, relations, and their numbers as operations of the machine.
 ghost use Rattle.std.specs.Prelude.{◌≡◌};
 ghost use Rattle.bc_word.specs.Words.{operator_of};
 
 use crate::word::Word;
 use thiserror::Error;
 
-/// A dyadic operator of expressions, in the order of the machine's operations X5 to X21.
+/// A dyadic operator of expressions. The order is that of the machine's operations X5 to X21.
 #[derive(Clone, Copy, Debug, PartialEq, Eq, Hash, PartialOrd, Ord)]
 pub enum Op {
+    /// `*`, signed
     Multiply,
+    /// `/`, signed, truncated towards zero
     Divide,
+    /// `REM`, with the sign of the dividend
     Remainder,
+    /// `+`
     Add,
+    /// `-`
     Subtract,
+    /// `=`
     Equal,
+    /// `~=`
     NotEqual,
+    /// `<`, signed
     Less,
+    /// `>=`, signed
     GreaterEqual,
+    /// `>`, signed
     Greater,
+    /// `<=`, signed
     LessEqual,
+    /// `<<`
     ShiftLeft,
+    /// `>>`, which shifts in zeros
     ShiftRight,
+    /// `&`, bit by bit
     And,
+    /// `|`, bit by bit
     Or,
+    /// `NEQV`: exclusive or, bit by bit
     NotEquivalent,
+    /// `EQV`: the complement of NEQV
     Equivalent,
 }
 
-/// A relation of two signed words.
+/// A relation of two words, read as signed numbers.
 #[derive(Clone, Copy, Debug, PartialEq, Eq, Hash, PartialOrd, Ord)]
 pub enum Rel {
+    /// `=`
     Equal,
+    /// `~=`
     NotEqual,
+    /// `<`
     Less,
+    /// `>=`
     GreaterEqual,
+    /// `>`
     Greater,
+    /// `<=`
     LessEqual,
 }
 
-/// The number is no operator's: it is not one of 5 to 21.
+/// A number is not that of an operator, 5 to 21.
 #[derive(Clone, Copy, Debug, PartialEq, Eq, Hash, Error)]
 #[error("no operator has this number")]
 pub struct NotAnOperator;
@@ -59,7 +83,7 @@ impl From<Rel> for Op {
     }
 }
 
-/// The number of the machine's operation that works the operator out: 5 to 21.
+/// The number of the machine's operation that computes an operator: 5 to 21.
 impl From<Op> for Word {
     ghost use Rattle.bc_word.specs.Words.{number_of};
 
@@ -70,9 +94,7 @@ impl From<Op> for Word {
     }
 }
 
-/// The operator that the machine's operation of this number computes.
-///
-/// `NotAnOperator` comes for every number but 5 to 21.
+/// The operator that the machine's operation with this number computes. Fails with `NotAnOperator` for all numbers but 5 to 21.
 impl TryFrom<Word> for Op {
     ghost use Rattle.std.specs.Prelude.{◌≡◌, Ok, Err};
     ghost use Rattle.bc_word.specs.Words.{IsOperatorOf};

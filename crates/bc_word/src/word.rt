@@ -1,11 +1,12 @@
+//! The type `Word`.
 ghost use Rattle.std.specs.Prelude.{◌≡◌, ◌<◌, ℕ, ℤ};
 ghost use Rattle.bc_word.specs.Words.{signed, negated, complemented};
 
 use std::marker::Model;
 
-/// A word of 16 bits: the one type of the language, and what a cell of the machine's store holds.
+/// A word of 16 bits: the only type of the language, and the content of a cell of the machine's store.
 ///
-/// Contracts see a word as a whole number from 0 to 65,535.
+/// Contracts see a word as a natural number from 0 to 65,535.
 #[derive(Clone, Copy, Debug, Default, PartialEq, Eq, Hash, PartialOrd, Ord)]
 pub struct Word {
     bits: u16,
@@ -24,7 +25,7 @@ impl Model for Word {
 }
 
 impl Word {
-    /// The word of this number.
+    /// The word with this unsigned number.
     #[inline(always)]
     pub const fn new(number: u16) -> Word
         ensures { result ≡ number }
@@ -32,7 +33,7 @@ impl Word {
         Word { bits: number }
     }
 
-    /// The word as a number from 0 to 65,535.
+    /// The word as an unsigned number, 0 to 65,535.
     #[inline(always)]
     pub const fn get(self) -> u16
         ensures same { result ≡ self }
@@ -41,7 +42,7 @@ impl Word {
         self.bits
     }
 
-    /// The word as a signed number, two's complement, from -32,768 to 32,767.
+    /// The word as a signed number in two's complement, -32,768 to 32,767.
     #[inline(always)]
     pub fn signed(self) -> i16
         ensures { result ≡ signed self }
@@ -49,7 +50,7 @@ impl Word {
         self.get().cast_signed()
     }
 
-    /// The word with the opposite signed number, wrapped: what the machine's X2 makes of A.
+    /// The negation, wrapped: -32,768 is its own negation. This is the machine's operation X2.
     #[inline(always)]
     pub fn negated(self) -> Word
         ensures { result ≡ negated self }
@@ -59,7 +60,7 @@ impl Word {
         }
     }
 
-    /// The word with every bit turned over: what NOT and the machine's X3 make of A.
+    /// The word with every bit inverted. This is NOT, and the machine's operation X3.
     #[inline(always)]
     pub fn complemented(self) -> Word
         ensures { result ≡ complemented self }

@@ -1,1 +1,2 @@
+-- The definitions that contracts of the program cite.
 pub mod Devices

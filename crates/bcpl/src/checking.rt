@@ -12,8 +12,8 @@ use std::io::{BufReader, Read, Write};
 use std::rt::Files;
 use std::{fs, io};
 
-/// What is told of the place of a fault of a certificate, which is read once more for that. `Memory` comes where an allocation was refused,
-/// and where it can't be read.
+/// The explanation of a fault in a certificate, which is read again for it. `Memory` if an allocation fails or the
+/// file can't be read.
 fn lines_on<F: Files>(
     rt: &F,
     alloc: Global,
@@ -32,7 +32,8 @@ fn lines_on<F: Files>(
     }
 }
 
-/// The failure of a certificate that can't be read to its end, with the reason: that which reading its first byte has, or its size.
+/// The failure of a certificate that can't be read to its end. Its reason is the error of reading the first byte or,
+/// if there is none, that reading failed later or the file is too large.
 fn unread<F: Files>(rt: &F, alloc: Global, path: &str) -> Failure {
     let mut first = [0u8; 1];
     let read = match fs::open(rt, path) {
@@ -43,13 +44,13 @@ fn unread<F: Files>(rt: &F, alloc: Global, path: &str) -> Failure {
         Ok(_) => Failure::file_since(
             alloc,
             path,
-            "reading it failed on the way, or it has more than 1073741824 bytes",
+            "reading failed before the end of the file, or the file is larger than 1073741824 bytes",
         ),
         Err(error) => Failure::io(alloc, &error, path),
     }
 }
 
-/// The failure that a fault of a certificate is.
+/// The failure for a fault in the certificate with this path, with an explanation if `shows`.
 fn refused<F: Files>(rt: &F, alloc: Global, path: &str, fault: CheckFault, shows: bool) -> Failure {
     match fault {
         CheckFault::Read => unread(rt, alloc, path),
@@ -64,7 +65,7 @@ fn refused<F: Files>(rt: &F, alloc: Global, path: &str, fault: CheckFault, shows
     }
 }
 
-/// The certificate of these words, to be read.
+/// Opens the certificate with this path.
 fn opened<F: Files>(rt: &F, alloc: Global, path: &str) -> Result<BufReader<F::File>, Failure> {
     let file = match fs::open(rt, path) {
         Ok(file) => file,
@@ -76,7 +77,7 @@ fn opened<F: Files>(rt: &F, alloc: Global, path: &str) -> Result<BufReader<F::Fi
     }
 }
 
-/// What the certificate of these words says.
+/// Checks the certificate with this path and returns what it says. If `shows`, explains a refusal.
 pub fn verdict_of<F: Files>(
     rt: &F,
     alloc: Global,
@@ -89,7 +90,8 @@ pub fn verdict_of<F: Files>(
     }
 }
 
-/// How many entries the certificate of these words has, and their words in all. Nothing of an entry is kept.
+/// Checks the certificate with this path, without keeping its entries. Returns the number of entries and the sum of
+/// their words.
 fn sums_of<F: Files>(
     rt: &F,
     alloc: Global,
@@ -102,7 +104,7 @@ fn sums_of<F: Files>(
     }
 }
 
-/// How many entries these are, and their words in all.
+/// The number of these entries and the sum of their words.
 fn sums_in(entries: &[Judged]) -> (u64, u64) {
     let mut words: u64 = 0;
     for entry in entries {
@@ -111,7 +113,7 @@ fn sums_in(entries: &[Judged]) -> (u64, u64) {
     (entries.len() as u64, words)
 }
 
-/// The same of a certificate that has the code of the texts that are named.
+/// Checks a certificate and compares it with texts. Returns the number of entries and the sum of their words.
 fn sums_against<F: Files>(
     rt: &F,
     alloc: Global,
@@ -125,7 +127,7 @@ fn sums_against<F: Files>(
     }
 }
 
-/// What a certificate says, and the texts that it is compared with, with their segments.
+/// What a certificate says, and the texts and segments to compare it with.
 #[derive(Clone, Copy)]
 struct Compared<'c> {
     verdict: &'c Verdict,
@@ -133,8 +135,8 @@ struct Compared<'c> {
     segments: &'c [Segment],
 }
 
-/// What is told of a certificate whose code the texts don't have; it is read once more for that. `Memory` comes where an allocation was
-/// refused, and where it can't be read.
+/// The explanation if the texts do not have the certified code. The certificate is read again for it. `Memory` if an
+/// allocation fails or the file can't be read.
 fn lines_against<F: Files>(
     rt: &F,
     alloc: Global,
@@ -155,7 +157,7 @@ fn lines_against<F: Files>(
     }
 }
 
-/// Whether the texts have the code of the certificate of this path, and the failure where they don't.
+/// Compares a certificate with the segments. The failure for a mismatch has an explanation if `shows`.
 fn judged<F: Files>(
     rt: &F,
     alloc: Global,
@@ -176,7 +178,7 @@ fn judged<F: Files>(
     }
 }
 
-/// Compares what a certificate says with the texts of these words.
+/// Reads the texts and compares the certificate with them.
 fn compare<F: Files>(
     rt: &F,
     alloc: Global,
@@ -195,13 +197,13 @@ fn compare<F: Files>(
     judged(rt, alloc, order.certificate, compared, shows)
 }
 
-/// Tells how many entries a certificate has, and their words in all.
+/// Prints the result of `check`.
 fn tell<O: Write + Drop>(entries: u64, words: u64, out: &mut O) -> io::Result<()> {
     writeln!(out, "ok {entries} {words}")?;
     out.flush()
 }
 
-/// How many entries the certificate of these words has, and their words in all, where it and what it is compared with are accepted.
+/// The number of entries and the sum of their words, if the certificate and the texts, if any, are accepted.
 fn sums_asked<F: Files>(
     rt: &F,
     alloc: Global,
@@ -215,7 +217,8 @@ fn sums_asked<F: Files>(
     }
 }
 
-/// Checks a certificate, and where texts are named, that they have its code. `shows` says whether the place of a refusal is told.
+/// Runs `check`: checks a certificate and, if texts are named, whether they have its code. If `shows`, explains a
+/// refusal.
 pub fn check_certificate<F: Files, O: Write + Drop>(
     rt: &F,
     alloc: Global,

@@ -1,4 +1,4 @@
-//! The commands.
+//! Runs one command each: calls it, prints its failure and hints, and computes the exit status.
 
 ghost use Rattle.std.specs.Prelude.{◌≡◌, ◌≤◌};
 ghost use Rattle.bcpl_cli.specs.Statuses.{status_of};
@@ -24,7 +24,7 @@ use std::io;
 use std::io::{Read, Write};
 use std::rt::Files;
 
-/// The program of the texts of these words.
+/// Links the texts of `asm`.
 fn assembled<F: Files>(
     rt: &F,
     alloc: Global,
@@ -35,7 +35,7 @@ fn assembled<F: Files>(
     program_of(alloc, order.texts.as_slice(), contents.as_slice(), shows)
 }
 
-/// Prints the words that texts become.
+/// Runs `asm`: prints the words of the image.
 fn assemble<F: Files, O: Write + Drop>(
     rt: &F,
     alloc: Global,
@@ -49,7 +49,7 @@ fn assemble<F: Files, O: Write + Drop>(
     }
 }
 
-/// Tells a failure: its line, and where places are told the further ones.
+/// Prints the first line of a failure and, if `shows`, its further lines.
 fn tell<E: Write + Drop>(failure: &Failure, shows: bool, err: &mut E) -> io::Result<()> {
     writeln!(err, "bcpl: {failure}")?;
     if shows {
@@ -58,7 +58,7 @@ fn tell<E: Write + Drop>(failure: &Failure, shows: bool, err: &mut E) -> io::Res
     err.flush()
 }
 
-/// The status of a command, with its failure told on standard error, and further lines where places are told.
+/// The exit status of a command. Prints its failure on standard error, with further lines if `shows`.
 fn status<E: Write + Drop>(done: Result<(), Failure>, shows: bool, err: &mut E) -> u8
     ensures { result ≡ status_of done }
 {
@@ -71,14 +71,14 @@ fn status<E: Write + Drop>(done: Result<(), Failure>, shows: bool, err: &mut E) 
     }
 }
 
-/// The status where memory was refused, which is told.
+/// Reports that memory ran out and returns the exit status.
 fn without_memory<E: Write + Drop>(err: &mut E) -> u8
     ensures { result ≤ 3 }
 {
     status(Err(Failure::new(Cause::Memory)), false, err)
 }
 
-/// The status of words of which this one is none that its option takes, which is told.
+/// Reports an invalid option value and returns the exit status.
 fn bad_option<E: Write + Drop>(word: &str, err: &mut E) -> u8
     ensures { result ≤ 3 }
 {
@@ -87,7 +87,7 @@ fn bad_option<E: Write + Drop>(word: &str, err: &mut E) -> u8
     3
 }
 
-/// The status of words of which the reader says this as help that was asked for, which goes to standard output.
+/// Prints requested help on standard output and returns the exit status.
 fn helped<O: Write + Drop, E: Write + Drop>(
     alloc: Global,
     error: &clap::Error,
@@ -103,7 +103,7 @@ fn helped<O: Write + Drop, E: Write + Drop>(
     }
 }
 
-/// The status of words of which their reader says this, which is told.
+/// Prints a message of the argument parser and returns the exit status.
 fn said<O: Write + Drop, E: Write + Drop>(
     alloc: Global,
     error: &clap::Error,
@@ -123,7 +123,7 @@ fn said<O: Write + Drop, E: Write + Drop>(
     }
 }
 
-/// The status of words that ask for nothing, with the reason told. Help that was asked for goes to standard output.
+/// Reports an invalid command line and returns the exit status. Requested help goes to standard output.
 fn refused<O: Write + Drop, E: Write + Drop>(
     alloc: Global,
     bad: &BadWords<'_>,
@@ -155,11 +155,11 @@ pub struct Standard<R: Read + Drop, O: Write + Drop, E: Write + Drop> {
     pub terminals: Terminals,
 }
 
-/// What is told where a program without words waits for somebody to type.
+/// What is printed if the program, run without arguments, waits for a terminal.
 const WAITING: &str =
-    "bcpl: waiting for INTCODE text on standard input; bcpl --help tells what else there is\n";
+    "bcpl: waiting for INTCODE text on standard input; bcpl --help lists the commands\n";
 
-/// Whether places are told, where standard error is a terminal or not.
+/// Whether to explain refusals, if standard error is a terminal or not.
 fn are_told(places: Places, is_terminal: bool) -> bool {
     match places {
         Places::Always => true,
@@ -168,8 +168,8 @@ fn are_told(places: Places, is_terminal: bool) -> bool {
     }
 }
 
-/// Whether further lines on what a command came to are told: those that are half of its answer wherever standard error goes, unless the
-/// words say never.
+/// Whether to print the further lines of a command's result. Those that are half of the answer are printed on a
+/// terminal or not, unless `--places never` is given.
 fn are_told_of(done: &Result<(), Failure>, places: Places, is_terminal: bool) -> bool {
     let is_answer = match done {
         Ok(()) => false,
@@ -178,7 +178,7 @@ fn are_told_of(done: &Result<(), Failure>, places: Places, is_terminal: bool) ->
     are_told(places, is_terminal || is_answer)
 }
 
-/// The status of a command that takes these files, with its failure told, and what is said of the files.
+/// The exit status of a command on files. Prints its failure, and hints about the files.
 fn status_of_files<F: Files, E: Write + Drop>(
     rt: &F,
     alloc: Global,
@@ -191,7 +191,7 @@ fn status_of_files<F: Files, E: Write + Drop>(
     status(with_hints(rt, alloc, done, taken), taken.shows, err)
 }
 
-/// Refuses words that ask for nothing.
+/// Reports an invalid command line, with a guess at what was meant, and returns the exit status.
 fn refuse<F: Files, R: Read + Drop, O: Write + Drop, E: Write + Drop>(
     rt: &F,
     alloc: Global,
@@ -242,7 +242,7 @@ fn do_run_input<F: Files, R: Read + Drop, O: Write + Drop, E: Write + Drop>(
     status(run_input(rt, alloc, standards), terminals.err, &mut err)
 }
 
-/// Does what `asm` asks for.
+/// Runs `asm`.
 fn do_assemble<F: Files, R: Read + Drop, O: Write + Drop, E: Write + Drop>(
     rt: &F,
     alloc: Global,
@@ -263,7 +263,7 @@ fn do_assemble<F: Files, R: Read + Drop, O: Write + Drop, E: Write + Drop>(
     status_of_files(rt, alloc, done, taken, &mut err)
 }
 
-/// Does what `run` asks for.
+/// Runs `run`.
 fn do_run<F: Files, R: Read + Drop, O: Write + Drop, E: Write + Drop>(
     rt: &F,
     alloc: Global,
@@ -290,7 +290,7 @@ fn do_run<F: Files, R: Read + Drop, O: Write + Drop, E: Write + Drop>(
     status_of_files(rt, alloc, done, taken, &mut err)
 }
 
-/// Does what `interpret` asks for.
+/// Runs `interpret`.
 fn do_interpret<F: Files, R: Read + Drop, O: Write + Drop, E: Write + Drop>(
     rt: &F,
     alloc: Global,
@@ -323,7 +323,7 @@ fn do_interpret<F: Files, R: Read + Drop, O: Write + Drop, E: Write + Drop>(
     status(done, tells, &mut err)
 }
 
-/// Builds, and tells of what there is to warn of.
+/// Runs `build` and prints its warnings.
 fn do_build<F: Files, R: Read + Drop, O: Write + Drop, E: Write + Drop>(
     rt: &F,
     alloc: Global,
@@ -350,7 +350,7 @@ fn do_build<F: Files, R: Read + Drop, O: Write + Drop, E: Write + Drop>(
     }
 }
 
-/// Does what `convert` asks for.
+/// Runs `convert`.
 fn do_convert<F: Files, R: Read + Drop, O: Write + Drop, E: Write + Drop>(
     rt: &F,
     alloc: Global,
@@ -370,7 +370,7 @@ fn do_convert<F: Files, R: Read + Drop, O: Write + Drop, E: Write + Drop>(
     status(done, tells, &mut err)
 }
 
-/// Does what `show` asks for.
+/// Runs `show`.
 fn do_show<F: Files, R: Read + Drop, O: Write + Drop, E: Write + Drop>(
     rt: &F,
     alloc: Global,
@@ -392,7 +392,7 @@ fn do_show<F: Files, R: Read + Drop, O: Write + Drop, E: Write + Drop>(
     status_of_files(rt, alloc, done, taken, &mut err)
 }
 
-/// Does what `list` asks for.
+/// Runs `list`.
 fn do_list<F: Files, R: Read + Drop, O: Write + Drop, E: Write + Drop>(
     rt: &F,
     alloc: Global,
@@ -414,11 +414,11 @@ fn do_list<F: Files, R: Read + Drop, O: Write + Drop, E: Write + Drop>(
     status_of_files(rt, alloc, done, taken, &mut err)
 }
 
-/// What is told where the page of `explain` would go to a terminal.
+/// What is printed if the page of `explain` would go to a terminal.
 const PAGE: &str =
-    "bcpl: the page is for a browser: name its file by --out, as in `bcpl explain --out hello.html hello.bcpl`\n";
+    "bcpl: the page is for a browser: name a file with --out, as in `bcpl explain --out hello.html hello.bcpl`\n";
 
-/// Does what `explain` asks for. A page is not written to a terminal.
+/// Runs `explain`. The page is not written to a terminal.
 fn do_explain<F: Files, R: Read + Drop, O: Write + Drop, E: Write + Drop>(
     rt: &F,
     alloc: Global,
@@ -443,7 +443,7 @@ fn do_explain<F: Files, R: Read + Drop, O: Write + Drop, E: Write + Drop>(
     status_of_files(rt, alloc, done, taken, &mut err)
 }
 
-/// Does what `check` asks for.
+/// Runs `check`.
 fn do_check<F: Files, R: Read + Drop, O: Write + Drop, E: Write + Drop>(
     rt: &F,
     alloc: Global,
@@ -467,7 +467,7 @@ fn do_check<F: Files, R: Read + Drop, O: Write + Drop, E: Write + Drop>(
     status_of_files(rt, alloc, done, taken, &mut err)
 }
 
-/// Does what these words asked for.
+/// Runs the command of this order.
 fn follow<F: Files, R: Read + Drop, O: Write + Drop, E: Write + Drop>(
     rt: &F,
     alloc: Global,
@@ -490,9 +490,9 @@ fn follow<F: Files, R: Read + Drop, O: Write + Drop, E: Write + Drop>(
     }
 }
 
-/// Does what these words of a command line, without the program's name, ask for, and gives the program's status: 0 where
-/// it was done, 1 where something was refused, 2 where a run ended otherwise than by finishing, 3 where the words ask for
-/// nothing. What went wrong is told on `err`; its place, too, where that is a terminal, or the words say so.
+/// Runs the command line `words`, without the program's name, and returns the exit status: 0 on success, 1 if
+/// something was refused, 2 if a run ended in another way than by finishing, 3 for invalid arguments. Failures are
+/// printed on standard error, with explanations as `--places` says.
 pub fn command_on<'a, F: Files, R: Read + Drop, O: Write + Drop, E: Write + Drop>(
     rt: &F,
     alloc: Global,
@@ -519,7 +519,7 @@ pub fn command_on<'a, F: Files, R: Read + Drop, O: Write + Drop, E: Write + Drop
     }
 }
 
-/// Does what these words ask for, as `command_on`, where no stream is a terminal.
+/// Runs a command line like `command_on`, with no stream being a terminal.
 pub fn command<'a, F: Files, R: Read + Drop, O: Write + Drop, E: Write + Drop>(
     rt: &F,
     alloc: Global,

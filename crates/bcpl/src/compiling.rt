@@ -22,7 +22,7 @@ use std::io::Write;
 use std::mem::forget;
 use std::rt::Files;
 
-/// The failure of a build that was refused for this fault, with what is told of it and of the mains after. `shows` says whether anything is.
+/// The failure of a refused build. If `shows`, it explains the refusal, and those of later mains.
 pub fn refused(alloc: Global, program: &Program<'_, '_>, fault: BuildError, shows: bool) -> Failure
     ensures { result.cause ≡ causes.Build fault }
 {
@@ -37,7 +37,7 @@ pub fn refused(alloc: Global, program: &Program<'_, '_>, fault: BuildError, show
     }
 }
 
-/// The lines of what there is to warn of in a program that these segments were built of.
+/// The warnings about a program that was built to these segments.
 pub fn warnings_on(
     alloc: Global,
     given: &Sources<'_>,
@@ -50,7 +50,7 @@ pub fn warnings_on(
     Ok(warnings)
 }
 
-/// What there is to warn of, where warnings are wanted.
+/// The warnings, unless they are suppressed or nothing is explained.
 fn warnings_wanted(
     alloc: Global,
     order: &BuildOrder<'_>,
@@ -65,7 +65,7 @@ fn warnings_wanted(
     }
 }
 
-/// Builds a program that was gathered, with what there is to warn of. `shows` says whether places and warnings are told.
+/// Builds a program and collects its warnings. If `shows`, explains refusals and collects warnings.
 fn built_of(
     alloc: Global,
     order: &BuildOrder<'_>,
@@ -86,7 +86,7 @@ fn built_of(
     }
 }
 
-/// Builds the program of BLIB and the files, with what there is to warn of. `shows` says whether places and warnings are told.
+/// Reads the files, builds the program of the library and the files, and collects its warnings.
 fn built<F: Files>(
     rt: &F,
     alloc: Global,
@@ -101,7 +101,7 @@ fn built<F: Files>(
     built_of(alloc, order, &gathered, shows)
 }
 
-/// Writes the text of these segments.
+/// Prints these segments as INTCODE text.
 fn print_all<W: Write>(segments: &[Segment], out: &mut W) -> Result<(), TextError> {
     for segment in segments {
         print(segment, out)?;
@@ -109,7 +109,7 @@ fn print_all<W: Write>(segments: &[Segment], out: &mut W) -> Result<(), TextErro
     Ok(())
 }
 
-/// Writes the text of these segments to the file of this path, which has all of it or stays as it was.
+/// Writes these segments to the file with this path, which is written completely or stays as it was.
 fn write_segments<F: Files>(
     rt: &F,
     alloc: Global,
@@ -130,7 +130,7 @@ fn write_segments<F: Files>(
     }
 }
 
-/// Writes the certificate of a program to the file of this path, which has all of it or stays as it was.
+/// Writes the certificate of a program to the file with this path, which is written completely or stays as it was.
 fn write_certificate<F: Files>(
     rt: &F,
     alloc: Global,
@@ -154,7 +154,7 @@ fn write_certificate<F: Files>(
     }
 }
 
-/// Refuses a file to be written that is one of these sources.
+/// Refuses an output file that is one of the sources.
 pub fn spare_given<F: Files>(
     rt: &F,
     alloc: Global,
@@ -170,7 +170,7 @@ pub fn spare_given<F: Files>(
     Ok(())
 }
 
-/// Refuses a certificate to be written whose file is one of the sources, or the text's.
+/// Refuses a certificate file that is one of the sources or the output for the text.
 fn spare_for_certificate<F: Files>(
     rt: &F,
     alloc: Global,
@@ -183,7 +183,7 @@ fn spare_for_certificate<F: Files>(
     }
 }
 
-/// Refuses a file to be written that is one of the sources, or the text where it is the certificate.
+/// Refuses output files that would overwrite a source or each other.
 fn spare_sources<F: Files>(rt: &F, alloc: Global, order: &BuildOrder<'_>) -> Result<(), Failure> {
     spare_given(rt, alloc, order.out, &order.sources)?;
     match order.certificate {
@@ -192,29 +192,33 @@ fn spare_sources<F: Files>(rt: &F, alloc: Global, order: &BuildOrder<'_>) -> Res
     }
 }
 
-/// Refuses a certificate whose file is the text's.
+/// Refuses a certificate file that is the output for the text.
 fn spare_text<F: Files>(rt: &F, alloc: Global, path: &str, text: &str) -> Result<(), Failure> {
     if is_one_file(rt, path, text) {
         Err(Failure::file_since(
             alloc,
             path,
-            "the text and the certificate can't be one file",
+            "the text and the certificate can't be the same file",
         ))
     } else {
         Ok(())
     }
 }
 
-/// Refuses a file to be written that is this source.
+/// Refuses an output file that is this source.
 fn spare<F: Files>(rt: &F, alloc: Global, path: &str, source: &str) -> Result<(), Failure> {
     if is_one_file(rt, path, source) {
-        Err(Failure::file_since(alloc, path, "this is one of the sources, and would be lost"))
+        Err(Failure::file_since(
+            alloc,
+            path,
+            "this is one of the sources, so it can't be an output too",
+        ))
     } else {
         Ok(())
     }
 }
 
-/// Writes the certificate that the words ask for, unless its file is the text's.
+/// Writes the certificate, unless its file is the one just written for the text.
 fn write_beside<F: Files>(
     rt: &F,
     alloc: Global,
@@ -224,14 +228,14 @@ fn write_beside<F: Files>(
 ) -> Result<(), Failure>
     requires { AllZip WorkedOut (map entry_view built.now.entries.items) built.now.workings.items }
 {
-    // these may be two names of a file that wasn't there before
+    // The paths may be two names of a file that did not exist before.
     match spare_text(rt, alloc, path, order.out) {
         Ok(()) => write_certificate(rt, alloc, path, built),
         Err(failure) => Err(failure),
     }
 }
 
-/// Writes the files that the words ask for: the text, which has its name from then on, and then the certificate.
+/// Writes the text and then the certificate, if one is ordered.
 fn write_files<F: Files>(
     rt: &F,
     alloc: Global,
@@ -247,7 +251,7 @@ fn write_files<F: Files>(
     }
 }
 
-/// Tells of a program's size.
+/// Prints the result of `build`.
 fn tell<O: Write + Drop>(built: &Built, out: &mut O) -> io::Result<()> {
     let segments = built.segments.len();
     let entries = built.entries.len();
@@ -256,16 +260,17 @@ fn tell<O: Write + Drop>(built: &Built, out: &mut O) -> io::Result<()> {
     out.flush()
 }
 
-/// How much is asked for at once by `make_room`: more than any vector of a build takes, and not so much that the C library passes it over.
+/// The size of the block that `make_room` allocates, in bytes: more than any vector of a build, and small enough for
+/// the C library to keep the block instead of mapping it separately.
 const ROOM: usize = 24 << 20;
 
-/// Asks for much memory and gives it back untouched. From then on the C library keeps what large vectors give back: so what reading the
-/// source took is there for its code, and the system is asked for fewer pages.
+/// Allocates a large block and frees it untouched. From then on the C library keeps large freed vectors, so memory
+/// used for reading the sources is reused for their code, and the system is asked for fewer pages.
 fn make_room(alloc: Global) {
     let _room: Result<Vec<u8>, AllocError> = Vec::with_capacity(alloc, ROOM);
 }
 
-/// Writes the files of a program that was built, and tells of its size.
+/// Writes the files of a program and prints the result.
 fn write_and_tell<F: Files, O: Write + Drop>(
     rt: &F,
     alloc: Global,
@@ -281,8 +286,8 @@ fn write_and_tell<F: Files, O: Write + Drop>(
     }
 }
 
-/// Builds a program, writes its text and certificate, and tells of its size; gives what there is to warn of. `shows` says whether
-/// the place of a refusal, and warnings, are told.
+/// Runs `build`: builds a program, writes its text and certificate, and prints the result. Returns the warnings. If
+/// `shows`, explains refusals and collects warnings.
 pub fn compile<F: Files, O: Write + Drop>(
     rt: &F,
     alloc: Global,
@@ -294,7 +299,7 @@ pub fn compile<F: Files, O: Write + Drop>(
     spare_sources(rt, alloc, order)?;
     let (program, warnings) = built(rt, alloc, order, shows)?;
     let done = write_and_tell(rt, alloc, order, &program, out);
-    // The process is about to end, and the system takes all memory back at once.
+    // The process is about to end, and the system frees all its memory at once.
     forget(program);
     match done {
         Ok(()) => Ok(warnings),

@@ -1,4 +1,4 @@
-//! What the streams of a run read from and write to.
+//! The devices that the streams of a run read from and write to.
 
 ghost use Rattle.bcpl.specs.Devices.{source_remaining, sink_contents};
 
@@ -7,19 +7,19 @@ use std::alloc::Global;
 use std::io;
 use std::io::{BufReader, BufWriter, Read, Write};
 
-/// What an input reads from.
+/// The device of an input.
 #[derive(Drop)]
 pub enum Source<R: Read + Drop, F: Read + Drop> {
     /// Standard input.
     Standard(R),
     /// A file.
     File(F),
-    /// Nothing.
+    /// Nothing: the input is empty.
     Empty,
 }
 
 impl<R: Read + Drop, F: Read + Drop> Source<R, F> {
-    /// This source with a buffer. A fault names the source by `name`.
+    /// A buffered reader of this source. A failure names it by `name`.
     pub fn buffered(self, alloc: Global, name: &str) -> Result<BufReader<Source<R, F>>, Failure> {
         match BufReader::new(alloc, self) {
             Ok(reader) => Ok(reader),
@@ -40,7 +40,7 @@ impl<R: Read + Drop, F: Read + Drop> Read for Source<R, F> {
     }
 }
 
-/// What an output writes to.
+/// The device of an output.
 #[derive(Drop)]
 pub enum Sink<O: Write + Drop, F: Write + Drop> {
     /// Standard output.
@@ -50,7 +50,7 @@ pub enum Sink<O: Write + Drop, F: Write + Drop> {
 }
 
 impl<O: Write + Drop, F: Write + Drop> Sink<O, F> {
-    /// This sink with a buffer. A fault names the sink by `name`.
+    /// A buffered writer to this sink. A failure names it by `name`.
     pub fn buffered(self, alloc: Global, name: &str) -> Result<BufWriter<Sink<O, F>>, Failure> {
         match BufWriter::new(alloc, self) {
             Ok(writer) => Ok(writer),
@@ -58,7 +58,7 @@ impl<O: Write + Drop, F: Write + Drop> Sink<O, F> {
         }
     }
 
-    /// This sink with no room for bytes, so that each goes at once. A fault names the sink by `name`.
+    /// A writer to this sink without a buffer, so that each byte is written at once. A failure names it by `name`.
     pub fn direct(self, alloc: Global, name: &str) -> Result<BufWriter<Sink<O, F>>, Failure> {
         match BufWriter::with_capacity(alloc, 0, self) {
             Ok(writer) => Ok(writer),

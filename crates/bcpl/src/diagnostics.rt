@@ -1,4 +1,4 @@
-//! What is told of refusals and warnings beside the first line.
+//! Explanations of refused sources, and warnings about accepted ones.
 
 use bc_build::{BuildError, build};
 use bc_text_items::{Item, Segment};
@@ -7,13 +7,13 @@ use bcpl_messages::{Named, message_of, told_lines};
 use bcpl_warnings::{likely_starts, warnings};
 use std::alloc::Global;
 
-/// The most refusals that are told.
+/// The largest number of refusals that are explained.
 const MOST: usize = 10;
 
 /// The global that a run calls.
 const START: u16 = 1;
 
-/// A program's sources, and which of them become a segment each.
+/// The sources of a program, and which of them are mains.
 #[derive(Clone, Copy)]
 pub struct Program<'a, 's> {
     pub named: Named<'a, 's>,
@@ -21,7 +21,7 @@ pub struct Program<'a, 's> {
     pub mains: &'a [usize],
 }
 
-/// The lines on one refusal; none where nothing is known beside its first line.
+/// The explanation of one refusal, or an empty text.
 fn lines_of(
     alloc: Global,
     program: &Program<'_, '_>,
@@ -33,7 +33,7 @@ fn lines_of(
     }
 }
 
-/// The main that is refused; none where it is no one main.
+/// The main that was refused, or `None` if the refusal is not of a single main.
 fn refused_main(fault: &BuildError) -> Option<usize> {
     match fault {
         BuildError::Lex(main, _)
@@ -44,7 +44,7 @@ fn refused_main(fault: &BuildError) -> Option<usize> {
     }
 }
 
-/// The lines on what is refused in this main by itself; none where it is not refused.
+/// The explanation if this main is refused when it is compiled without the others, or an empty text.
 fn lines_of_main(alloc: Global, program: &Program<'_, '_>, main: usize) -> Result<String, Memory> {
     if main >= program.named.sources.len() {
         return Ok(String::new(alloc));
@@ -56,7 +56,7 @@ fn lines_of_main(alloc: Global, program: &Program<'_, '_>, main: usize) -> Resul
     }
 }
 
-/// Adds the lines on what is refused in this main, before which so many were refused, and gives how many are refused with it.
+/// Adds the explanation for this main. `count` is the number of refused mains before it; returns the number with it.
 fn add_main(
     told: &mut String,
     alloc: Global,
@@ -74,7 +74,7 @@ fn add_main(
     Ok(count.saturating_add(1))
 }
 
-/// Adds how many files are refused.
+/// Adds the number of refused files.
 fn add_count(told: &mut String, count: usize) -> Result<(), Memory> {
     if count > 1 {
         writeln!(told, "{count} files are refused")?;
@@ -82,7 +82,7 @@ fn add_count(told: &mut String, count: usize) -> Result<(), Memory> {
     Ok(())
 }
 
-/// Adds the lines on what is refused in the mains after the first that is, and how many are refused.
+/// Adds the explanations for the mains after the first refused one, and the number of refused files.
 fn add_after(
     told: &mut String,
     alloc: Global,
@@ -98,8 +98,7 @@ fn add_after(
     add_count(told, count)
 }
 
-/// The lines on a refusal, and on those of the mains after the one that is refused, ten at the most. Memory is answered where a
-/// growth was refused.
+/// The explanation of a refusal and of refusals in later mains, ten at most in all. `Memory` if an allocation fails.
 pub fn explained(
     alloc: Global,
     program: &Program<'_, '_>,
@@ -112,11 +111,11 @@ pub fn explained(
     Ok(told)
 }
 
-/// What is warned of where no routine sets the global that a run calls.
+/// The warning if no routine sets the global that a run calls.
 const NO_START: &str =
-    "bcpl: warning: no routine sets global 1, so a run calls nothing; LET START() BE .. behind GET \"LIBHDR\" does\n";
+    "bcpl: warning: no routine sets global 1, so a run does nothing; after GET \"LIBHDR\", LET START() BE .. sets it\n";
 
-/// The lines of a warning that no routine sets the global that a run calls, and on those that are likely meant to.
+/// That warning, with the routines that were probably meant to set it.
 fn no_start(alloc: Global, library: usize, program: &Program<'_, '_>) -> Result<String, Memory> {
     let mut told = String::from_str(alloc, NO_START)?;
     let starts = likely_starts(alloc, program.named, library, program.mains)?;
@@ -132,7 +131,7 @@ fn sets_start(segment: &Segment) -> bool {
     })
 }
 
-/// The lines of warnings on the global that a run calls; none where a routine of the segments sets it.
+/// The warning about the global that a run calls, or an empty text if a routine of the segments sets it.
 fn start_warnings(
     alloc: Global,
     library: usize,
@@ -146,8 +145,8 @@ fn start_warnings(
     }
 }
 
-/// The lines of warnings on a program that these segments were built of, and of which so many sources in front are the library's. Memory is
-/// answered where a growth was refused.
+/// All warnings about a program. `segments` is what it was built to, and its first `library` sources are the
+/// library's. `Memory` if an allocation fails.
 pub fn warnings_of(
     alloc: Global,
     library: usize,

@@ -22,7 +22,8 @@ use std::io::Write;
 use std::mem::forget;
 use std::rt::Files as Access;
 
-/// What the compiler sees of a main: its index among the sources, its segment's index, and its trees. It is forgotten at the end.
+/// What the compiler knows of a main: its source and segment indexes, and its trees. It is never dropped, because the
+/// process is about to end.
 #[derive(Drop)]
 struct Front<'s> {
     main: usize,
@@ -32,7 +33,7 @@ struct Front<'s> {
     core: Core,
 }
 
-/// The tokens of a main of a program that was built, so that only memory can be missing.
+/// The tokens of a main. The program was built before, so only `Memory` can be the failure.
 fn tokens_of<'s>(
     alloc: Global,
     sources: &[Source<'s>],
@@ -49,7 +50,7 @@ fn tokens_of<'s>(
     }
 }
 
-/// Adds this, and forgets it where there is no room.
+/// Adds a value. If memory runs out, the value is forgotten instead of dropped.
 fn keep<T: Drop>(all: &mut Vec<T>, value: T) -> Result<(), Failure> {
     match all.push(value) {
         Ok(()) => Ok(()),
@@ -60,7 +61,7 @@ fn keep<T: Drop>(all: &mut Vec<T>, value: T) -> Result<(), Failure> {
     }
 }
 
-/// Adds what the compiler sees of a main of a program that was built, so that only memory can be missing.
+/// Adds what the compiler knows of a main. The program was built before, so only `Memory` can be the failure.
 fn add_front<'s>(
     alloc: Global,
     fronts: &mut Vec<Front<'s>>,
@@ -90,7 +91,7 @@ fn add_front<'s>(
     }
 }
 
-/// The entries of a segment.
+/// The entries of the segment with this index. `entries` is sorted by segment.
 pub fn entries_of(entries: &[Entry], segment: usize) -> &[Entry] {
     let wanted = segment as u64;
     let from = entries.partition_point(|entry| entry.segment < wanted);
@@ -98,7 +99,7 @@ pub fn entries_of(entries: &[Entry], segment: usize) -> &[Entry] {
     entries.get(from..to).unwrap_or(&[])
 }
 
-/// What the checker says of the certificate of a program.
+/// Writes the certificate of a program to memory and checks it.
 fn judged(alloc: Global, built: &Built) -> Result<Checked, Failure> {
     let mut certificate = Vec::new(alloc);
     if write_cert(alloc, built.entries.as_slice(), &mut certificate).is_err() {
@@ -113,7 +114,7 @@ fn judged(alloc: Global, built: &Built) -> Result<Checked, Failure> {
     }
 }
 
-/// A main of a program that was built, with what the compiler sees of it.
+/// A main of the program with what the compiler knows of it.
 fn program_of<'p, 's>(
     files: Files<'p, 's>,
     front: &'p Front<'s>,
@@ -135,7 +136,7 @@ fn program_of<'p, 's>(
     }
 }
 
-/// The mains of a program that was built, with what the compiler sees of each.
+/// The mains of the program with what the compiler knows of each.
 fn programs_of<'p, 's>(
     alloc: Global,
     files: Files<'p, 's>,
@@ -149,7 +150,7 @@ fn programs_of<'p, 's>(
     Ok(programs)
 }
 
-/// Adds what the compiler sees of these mains, if they stand after so many sources.
+/// Adds what the compiler knows of each main whose source index is at least `following`.
 fn add_fronts<'s>(
     alloc: Global,
     fronts: &mut Vec<Front<'s>>,
@@ -165,7 +166,7 @@ fn add_fronts<'s>(
     Ok(())
 }
 
-/// The report on these mains of a program that was built.
+/// The report on these mains.
 fn report_of<'p, 's>(
     alloc: Global,
     files: Files<'p, 's>,
@@ -177,7 +178,7 @@ fn report_of<'p, 's>(
     in_memory(explanation(alloc, programs.as_slice(), checked))
 }
 
-/// The report on a program that was built of these sources.
+/// The report on a program that was built from these sources.
 fn report_on(
     alloc: Global,
     gathered: &Gathered<'_, '_>,
@@ -196,12 +197,12 @@ fn report_on(
         Ok(()) => report_of(alloc, files, fronts.as_slice(), built),
         Err(failure) => Err(failure),
     };
-    // The process is about to end, and the system takes all memory back at once.
+    // The process is about to end, and the system frees all its memory at once.
     forget(fronts);
     report
 }
 
-/// The report on the program that was gathered from these sources. `shows` says whether the place of a refusal is told.
+/// Builds the program and returns the report on it. If `shows`, explains a refusal.
 fn built_report(
     alloc: Global,
     gathered: &Gathered<'_, '_>,
@@ -215,7 +216,7 @@ fn built_report(
     }
 }
 
-/// The report that is asked for, and what the checker said.
+/// Reads the files and returns the report on their program.
 fn reported<F: Access>(
     rt: &F,
     alloc: Global,
@@ -228,7 +229,7 @@ fn reported<F: Access>(
     built_report(alloc, &gathered, given, shows)
 }
 
-/// Writes a report to the file of this path, which has all of it or stays as it was.
+/// Writes a report to the file with this path, which is written completely or stays as it was.
 fn write_report<F: Access>(
     rt: &F,
     alloc: Global,
@@ -245,7 +246,7 @@ fn write_report<F: Access>(
     }
 }
 
-/// Refuses a report's file that is one of the sources.
+/// Refuses an output file that is one of the sources.
 fn spare_sources<F: Access>(
     rt: &F,
     alloc: Global,
@@ -257,7 +258,7 @@ fn spare_sources<F: Access>(
     }
 }
 
-/// Does what `explain` asks for. `shows` says whether the place of a refusal is told.
+/// Runs `explain`. If `shows`, explains a refusal.
 pub fn explain<F: Access, O: Write + Drop>(
     rt: &F,
     alloc: Global,

@@ -1,9 +1,9 @@
-//! Lists that grow.
+//! A list that remembers a failed allocation, so that the callers need not check each addition.
 
 use bc_word::Memory;
 use std::alloc::Global;
 
-/// A list that grows. Where a growth was refused, that is kept, and the list counts for nothing.
+/// A list that remembers a failed allocation; once one has failed, its contents are void.
 #[derive(Drop)]
 pub struct Growing<T: Drop> {
     items: Vec<T>,
@@ -11,7 +11,7 @@ pub struct Growing<T: Drop> {
 }
 
 impl<T: Drop> Growing<T> {
-    /// A list with nothing in it.
+    /// An empty list.
     pub fn new(alloc: Global) -> Growing<T> {
         Growing {
             items: Vec::new(alloc),
@@ -19,14 +19,14 @@ impl<T: Drop> Growing<T> {
         }
     }
 
-    /// Adds this.
+    /// Adds an item.
     pub fn add(&mut self, item: T) {
         if self.items.push(item).is_err() {
             self.is_refused = true;
         }
     }
 
-    /// All that was added; `Memory` where a growth was refused.
+    /// All items, or `Memory` if an allocation failed.
     pub fn whole(self) -> Result<Vec<T>, Memory> {
         let Growing { items, is_refused } = self;
         if is_refused { Err(Memory) } else { Ok(items) }

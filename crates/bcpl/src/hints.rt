@@ -1,4 +1,4 @@
-//! What is told after a refusal of files, or of words, where another command is likely meant.
+//! Hints printed after a refusal of a file or of a command line if another command was probably meant.
 
 use crate::texts::readable;
 use bc_build::BuildError;
@@ -10,7 +10,7 @@ use bcpl_cli::{
 use std::alloc::Global;
 use std::rt::Files;
 
-/// What is said of the file of this path, where it can be read and looks like something else than is wanted.
+/// The hint on the file with this path, if it can be read and does not look as expected.
 fn hint_of<F: Files>(rt: &F, alloc: Global, wanted: Wanted, path: &str) -> Option<String> {
     let bytes = readable(rt, alloc, path)?;
     hint(alloc, wanted, path, bytes.as_slice()).ok()?
@@ -19,15 +19,16 @@ fn hint_of<F: Files>(rt: &F, alloc: Global, wanted: Wanted, path: &str) -> Optio
 /// The files that a command takes.
 #[derive(Clone, Copy)]
 pub struct Taken<'a> {
-    /// What each of them is to be.
+    /// What each file is expected to be.
     wanted: Wanted,
     paths: &'a [&'a str],
-    /// Whether more is told than the first line of a refusal.
+    /// Whether more than the first line of a refusal is printed.
     pub shows: bool,
 }
 
 impl<'a> Taken<'a> {
-    /// Files under these paths, of which each is to be what is wanted. `shows` says whether more is told than the first line of a refusal.
+    /// The files with these paths, each expected to be `wanted`. `shows` is whether more than the first line of a
+    /// refusal is printed.
     pub fn new(wanted: Wanted, paths: &'a [&'a str], shows: bool) -> Taken<'a> {
         Taken {
             wanted,
@@ -37,7 +38,7 @@ impl<'a> Taken<'a> {
     }
 }
 
-/// Whether a refusal is one of what a file of this kind has in it.
+/// Whether this cause is about the content of a file of this kind.
 fn is_of_content(cause: &Cause, wanted: Wanted) -> bool {
     match wanted {
         Wanted::Source => matches!(cause, Cause::Build(_)),
@@ -47,7 +48,7 @@ fn is_of_content(cause: &Cause, wanted: Wanted) -> bool {
     }
 }
 
-/// Whether two routines set one global.
+/// Whether the cause is that two routines set the same global.
 fn is_of_two_setters(cause: &Cause) -> bool {
     matches!(
         cause,
@@ -56,7 +57,7 @@ fn is_of_two_setters(cause: &Cause) -> bool {
     )
 }
 
-/// The lines on those of these files that look like something else than is wanted, or have carriage returns alone.
+/// A hint for each file that does not look as expected or has carriage returns only.
 fn looks_of<F: Files>(rt: &F, alloc: Global, taken: Taken<'_>) -> Result<String, Memory> {
     let mut lines = String::new(alloc);
     for path in taken.paths {
@@ -68,7 +69,7 @@ fn looks_of<F: Files>(rt: &F, alloc: Global, taken: Taken<'_>) -> Result<String,
     Ok(lines)
 }
 
-/// Whether the file of this path is a source, wanted as one, whose lines end by carriage returns alone.
+/// Whether a source is expected here and the file is one whose lines end in carriage returns only.
 fn has_returns_alone<F: Files>(rt: &F, alloc: Global, wanted: Wanted, path: &str) -> bool {
     match readable(rt, alloc, path) {
         Some(bytes) => matches!(
@@ -79,7 +80,7 @@ fn has_returns_alone<F: Files>(rt: &F, alloc: Global, wanted: Wanted, path: &str
     }
 }
 
-/// Whether one of these files looks like something else than is wanted, so that no help on what it has is right.
+/// Whether one of these files is of another kind than expected. Then the help about its content is misleading.
 fn is_other_among<F: Files>(rt: &F, alloc: Global, taken: Taken<'_>) -> bool {
     for path in taken.paths {
         let is_told_of = hint_of(rt, alloc, taken.wanted, path).is_some();
@@ -90,7 +91,7 @@ fn is_other_among<F: Files>(rt: &F, alloc: Global, taken: Taken<'_>) -> bool {
     false
 }
 
-/// What was told, without the help at its end, which supposes that the file is of the kind that is wanted.
+/// The explanation without the help at its end, which assumes that the file is of the expected kind.
 fn without_help(told: &str) -> &str {
     let whole = told.trim_end_matches('\n');
     match whole.rsplit_once('\n') {
@@ -99,7 +100,7 @@ fn without_help(told: &str) -> &str {
     }
 }
 
-/// What was told, and these lines after it.
+/// The explanation followed by these lines.
 fn joined(alloc: Global, told: &str, lines: &str) -> Result<String, Memory> {
     let mut joined = String::from_str(alloc, told)?;
     if !joined.is_empty() {
@@ -109,8 +110,8 @@ fn joined(alloc: Global, told: &str, lines: &str) -> Result<String, Memory> {
     Ok(joined)
 }
 
-/// What is told of a refusal of these files: what was told, or where some look like something else than is wanted, that instead of the
-/// help; of sources with carriage returns alone, that after it.
+/// The explanation of a refusal of these files. If a file is of another kind than expected, the hint replaces the
+/// help; a hint on carriage returns follows it.
 fn lines_on_files<F: Files>(
     rt: &F,
     alloc: Global,
@@ -129,12 +130,12 @@ fn lines_on_files<F: Files>(
     joined(alloc, kept, looks.as_str())
 }
 
-/// The line on a file that is named twice.
+/// The line about a file that is named twice.
 fn line_on_twice(alloc: Global, path: &str) -> Result<String, Memory> {
-    Ok(format!(in alloc; "{path} is named twice, so that what it has would stand there twice\n")?)
+    Ok(format!(in alloc; "{path} is named twice, so its content would be linked twice\n")?)
 }
 
-/// What is told of a failure of a command that takes these files, instead of what was told; none where that stays.
+/// The explanation that replaces the one of this failure; `None` if that is kept.
 fn lines_on_failure<F: Files>(
     rt: &F,
     alloc: Global,
@@ -151,7 +152,7 @@ fn lines_on_failure<F: Files>(
     }
 }
 
-/// A failure of a command that takes these files, with what is said of them.
+/// This failure with hints on the files that its command takes.
 fn hinted<F: Files>(rt: &F, alloc: Global, failure: Failure, taken: Taken<'_>) -> Failure {
     match lines_on_failure(rt, alloc, &failure, taken) {
         Some(lines) => failure.with(lines),
@@ -159,8 +160,8 @@ fn hinted<F: Files>(rt: &F, alloc: Global, failure: Failure, taken: Taken<'_>) -
     }
 }
 
-/// What a command came to, which takes these files, with what is said of those that look like something else than is wanted, and of one that
-/// is named twice.
+/// The result of a command, with hints on the files that it takes: on those that don't look as expected, and on one
+/// that is named twice.
 pub fn with_hints<T: Drop, F: Files>(
     rt: &F,
     alloc: Global,
@@ -173,47 +174,49 @@ pub fn with_hints<T: Drop, F: Files>(
     }
 }
 
-/// What is said of a text without its number of instructions: what it looks like, or how the number is given.
+/// The hint if `--steps` is missing: what the file looks like, or how to give the number.
 fn said_of_steps<F: Files>(rt: &F, alloc: Global, path: &str) -> Result<Option<String>, Memory> {
     match hint_of(rt, alloc, Wanted::Text, path) {
         Some(said) => Ok(Some(said)),
         None => Ok(Some(format!(in alloc;
-            "--steps N is the most instructions that the run may take, as in `bcpl run --steps 1000000 {path}`"
+            "add --steps N, the largest number of instructions to run, as in `bcpl run --steps 1000000 {path}`"
         )?)),
     }
 }
 
-/// What is said of a source without the file that its text goes to: what it looks like, or how the file is given.
+/// The hint if `--out` is missing: what the file looks like, or how to name the output.
 fn said_of_out<F: Files>(rt: &F, alloc: Global, path: &str) -> Result<Option<String>, Memory> {
     match hint_of(rt, alloc, Wanted::Source, path) {
         Some(said) => Ok(Some(said)),
         None => {
             let bare = bare(path);
             Ok(Some(format!(in alloc;
-                "--out OUT is the file that the text goes to, as in `bcpl build --out {bare}.int {path}`"
+                "add --out OUT, the file for the INTCODE text, as in `bcpl build --out {bare}.int {path}`"
             )?))
         }
     }
 }
 
-/// What is said of a text that stands where --out and the text are to.
+/// The hint if the output was named without `--out`.
 fn said_of_text(alloc: Global, text: &str, source: &str) -> Result<Option<String>, Memory> {
     Ok(Some(format!(in alloc;
-        "the text goes to the file behind --out, as in `bcpl build --out {text} {source}`"
+        "name the file for the INTCODE text with --out, as in `bcpl build --out {text} {source}`"
     )?))
 }
 
-/// What is said of an option whose number is none.
+/// The hint on an option whose number is invalid.
 fn said_of_digits(alloc: Global, option: &str) -> Result<Option<String>, Memory> {
-    Ok(Some(format!(in alloc; "{option} takes a number in digits alone, as in `{option} 10000`")?))
+    Ok(Some(format!(in alloc;
+        "{option} takes a number in decimal digits, as in `{option} 10000`"
+    )?))
 }
 
-/// What is said of an option with one dash.
+/// The hint on an option with one dash.
 fn said_of_dash(alloc: Global, word: &str) -> Result<Option<String>, Memory> {
-    Ok(Some(format!(in alloc; "an option has two dashes: -{word}")?))
+    Ok(Some(format!(in alloc; "options begin with two dashes: -{word}")?))
 }
 
-/// What is said of what words lack.
+/// The hint for this guess.
 fn said_of_guess<F: Files>(
     rt: &F,
     alloc: Global,
@@ -229,7 +232,7 @@ fn said_of_guess<F: Files>(
     }
 }
 
-/// What these words lack, or the file among them is, in a sentence; none where that can't be guessed.
+/// The hint on an invalid command line, or `None` if nothing can be guessed.
 fn said_of_words<F: Files>(
     rt: &F,
     alloc: Global,
@@ -245,7 +248,7 @@ fn said_of_words<F: Files>(
     }
 }
 
-/// The line after a refusal of these words, which are bad in this way. `Memory` comes where an allocation was refused.
+/// The help line for an invalid command line, or an empty text. `Memory` if an allocation fails.
 pub fn line_on_words<F: Files>(
     rt: &F,
     alloc: Global,

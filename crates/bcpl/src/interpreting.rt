@@ -2,14 +2,14 @@
 
 use crate::compiling::{refused, warnings_on};
 use crate::devices::Source;
-use crate::diagnostics::Program;
+use crate::diagnostics::BuiltProgram;
 use crate::output::{tell_lines, unfinished};
 use crate::protected_files::spare_files;
 use crate::running::{Streams, streams_of};
 use crate::source_files::{Gathered, sources_of};
 use bc_build::{Built, build};
 use bc_interpret_sources::{
-    Cause as Access, Ending, Interpreted, Outcome, Program as Sections, interpret,
+    Cause as Access, Ending, Interpreted, Outcome, BuiltProgram as Sections, interpret,
 };
 use bc_machine_defs::End;
 use bc_text_items::Segment;
@@ -21,7 +21,7 @@ use std::alloc::Global;
 use std::io::{Read, Write};
 use std::rt::Files;
 
-/// Where a run's first input comes from and its first output goes to, whether that is a terminal, and whether places are told.
+/// Standard input and output for a run, whether the output is a terminal, and whether refusals are explained.
 #[derive(Drop)]
 pub struct Standards<R: Read + Drop, O: Write + Drop> {
     pub input: R,
@@ -30,15 +30,15 @@ pub struct Standards<R: Read + Drop, O: Write + Drop> {
     pub shows: bool,
 }
 
-/// The standard streams of a run, and where what there is to warn of is told before it.
+/// The standard streams of a run, and the stream for warnings.
 #[derive(Drop)]
 pub struct Console<'e, R: Read + Drop, O: Write + Drop, E: Write + Drop> {
     pub standards: Standards<R, O>,
     pub err: &'e mut E,
 }
 
-/// Runs sources by what they mean. The place of a refusal, and warnings, are told where places are; that of an end of the run other than
-/// finishing is told in any case.
+/// Runs `interpret`. Refusals are explained and warnings printed if `console.standards.shows`; an abnormal end of the
+/// run is always explained.
 pub fn interpret_files<F: Files, R: Read + Drop, O: Write + Drop, E: Write + Drop>(
     rt: &F,
     alloc: Global,
@@ -51,7 +51,7 @@ pub fn interpret_files<F: Files, R: Read + Drop, O: Write + Drop, E: Write + Dro
     came_to(alloc, &gathered.program(), &run)
 }
 
-/// Tells what there is to warn of in a program that these segments were built of, where warnings are wanted.
+/// Prints the warnings about a program that was built to these segments, unless they are suppressed.
 fn tell_warnings<E: Write + Drop>(
     alloc: Global,
     order: &InterpretOrder<'_>,
@@ -66,17 +66,17 @@ fn tell_warnings<E: Write + Drop>(
     Ok(())
 }
 
-/// A program that was built and run by what its sources mean.
+/// A program that was built, and run by its meaning.
 #[derive(Drop)]
 struct Interpretation {
     built: Built,
-    /// What its run came to.
+    /// The result of the run.
     interpreted: Interpreted,
-    /// Whether its streams were closed without failure.
+    /// Whether its streams were closed without error.
     is_closed: bool,
 }
 
-/// Builds a program that was gathered, tells what there is to warn of, and runs it by what its sources mean.
+/// Builds a program, prints its warnings, and runs it by its meaning.
 fn interpretation_of<F: Files, R: Read + Drop, O: Write + Drop, E: Write + Drop>(
     rt: &F,
     alloc: Global,
@@ -110,7 +110,7 @@ fn interpretation_of<F: Files, R: Read + Drop, O: Write + Drop, E: Write + Drop>
     })
 }
 
-/// Refuses outputs whose file is one of the sources, one of the inputs, or another output's.
+/// Refuses an output whose file is a source, an input or another output.
 fn spare<F: Files>(rt: &F, alloc: Global, order: &InterpretOrder<'_>) -> Result<(), Failure> {
     let outputs = order.outputs.as_slice();
     let files = order.sources.files.as_slice();
@@ -118,7 +118,7 @@ fn spare<F: Files>(rt: &F, alloc: Global, order: &InterpretOrder<'_>) -> Result<
     spare_files(rt, alloc, &[], order.sources.gets.as_slice(), outputs)
 }
 
-/// The streams of a run, in the order of the words.
+/// The streams of a run, in the order of the arguments.
 fn run_streams<F: Files, R: Read + Drop, O: Write + Drop>(
     rt: &F,
     alloc: Global,
@@ -147,13 +147,13 @@ fn run_streams<F: Files, R: Read + Drop, O: Write + Drop>(
     )
 }
 
-/// The failure of a run that finished, an output of which can't be written to its end.
+/// The failure of a run that finished while one of its outputs could not be written to its end.
 fn unclosed(alloc: Global) -> Failure {
     unfinished(alloc, Failure::new(Cause::Ended(End::Device)))
 }
 
-/// What a run came to.
-fn came_to(alloc: Global, program: &Program<'_, '_>, run: &Interpretation) -> Result<(), Failure> {
+/// The result of a run as the result of the command.
+fn came_to(alloc: Global, program: &BuiltProgram<'_, '_>, run: &Interpretation) -> Result<(), Failure> {
     match run.interpreted.outcome {
         Outcome::Ended(Ending::Finished) if run.is_closed => Ok(()),
         Outcome::Ended(Ending::Finished) => Err(unclosed(alloc)),
@@ -164,20 +164,20 @@ fn came_to(alloc: Global, program: &Program<'_, '_>, run: &Interpretation) -> Re
     }
 }
 
-/// The lines of what is said, where that could be said.
+/// The lines of this message, if there was memory for it.
 fn lines_of(
     alloc: Global,
-    program: &Program<'_, '_>,
+    program: &BuiltProgram<'_, '_>,
     message: Result<Message, Memory>,
 ) -> Result<String, Memory> {
     let message = message?;
     told_lines(alloc, program.named, &message)
 }
 
-/// The failure of this cause with what is said of it; that of memory where it could not be said.
+/// A failure with this explanation, or one of `Memory` if there was no memory for it.
 fn told(
     alloc: Global,
-    program: &Program<'_, '_>,
+    program: &BuiltProgram<'_, '_>,
     cause: Cause,
     message: Result<Message, Memory>,
 ) -> Failure {
@@ -187,38 +187,38 @@ fn told(
     }
 }
 
-/// The failure of a run of which a stream failed.
-fn failed(alloc: Global, program: &Program<'_, '_>, run: &Interpretation) -> Failure {
+/// The failure of a run whose stream failed.
+fn failed(alloc: Global, program: &BuiltProgram<'_, '_>, run: &Interpretation) -> Failure {
     let message = ended(alloc, program, run, "a stream failed here");
     told(alloc, program, Cause::Ended(End::Device), message)
 }
 
 /// The failure of a run that divided by zero.
-fn divided(alloc: Global, program: &Program<'_, '_>, run: &Interpretation) -> Failure {
-    let message = ended(alloc, program, run, "a number is divided by 0 here");
+fn divided(alloc: Global, program: &BuiltProgram<'_, '_>, run: &Interpretation) -> Failure {
+    let message = ended(alloc, program, run, "this divides by 0");
     told(alloc, program, Cause::Ended(End::ZeroDivide), message)
 }
 
-/// What is said of a run whose turns were spent.
+/// The explanation of a run that used up its turns.
 fn ended_going(
     alloc: Global,
-    program: &Program<'_, '_>,
+    program: &BuiltProgram<'_, '_>,
     run: &Interpretation,
 ) -> Result<Message, Memory> {
     let message = ended(
         alloc,
         program,
         run,
-        "the run was here when its turns were spent",
+        "the run was here when it used up its turns",
     )?;
     message.helped(
         alloc,
-        Some("--turns N gives more; does the loop or the recursion end?"),
+        Some("--turns N allows more; make sure that the loop or the recursion ends"),
     )
 }
 
-/// The failure of a run whose turns were spent.
-fn spent(alloc: Global, program: &Program<'_, '_>, run: &Interpretation) -> Failure {
+/// The failure of a run that used up its turns.
+fn spent(alloc: Global, program: &BuiltProgram<'_, '_>, run: &Interpretation) -> Failure {
     told(
         alloc,
         program,
@@ -227,10 +227,10 @@ fn spent(alloc: Global, program: &Program<'_, '_>, run: &Interpretation) -> Fail
     )
 }
 
-/// The failure of a run that met a wild access.
+/// The failure of a run that met a wild cell.
 fn gone_wild(
     alloc: Global,
-    program: &Program<'_, '_>,
+    program: &BuiltProgram<'_, '_>,
     run: &Interpretation,
     access: Access,
 ) -> Failure {
@@ -238,7 +238,7 @@ fn gone_wild(
     told(alloc, program, Cause::Wild(wild_of(access)), message)
 }
 
-/// The wild access as it is told.
+/// The wild access, as a cause of a failure.
 fn wild_of(access: Access) -> Wild {
     match access {
         Access::Unset(address) => Wild::Unset(address),
@@ -250,22 +250,22 @@ fn wild_of(access: Access) -> Wild {
     }
 }
 
-/// A program that was built, as what is said of a run takes it.
+/// A program as `bcpl_wild` takes it.
 fn program_of<'p, 's>(
-    program: &Program<'p, 's>,
+    program: &BuiltProgram<'p, 's>,
     run: &'p Interpretation,
-) -> bcpl_wild::Program<'p, 's> {
-    bcpl_wild::Program {
+) -> bcpl_wild::BuiltProgram<'p, 's> {
+    bcpl_wild::BuiltProgram {
         sources: program.named.sources,
         mains: program.mains,
         image: &run.built.image,
     }
 }
 
-/// What is said of a wild access: where it stands, whose cell it met, and the calls that led there.
+/// The explanation of a wild access: where it happened, whose cell it met, and the calls that led there.
 fn wild(
     alloc: Global,
-    program: &Program<'_, '_>,
+    program: &BuiltProgram<'_, '_>,
     run: &Interpretation,
     access: Access,
 ) -> Result<Message, Memory> {
@@ -277,10 +277,10 @@ fn wild(
     wild_message(alloc, &program_of(program, run), &met)
 }
 
-/// What is said of another end of a run: this sentence, where the run stood, and the calls that led there.
+/// The explanation of another end of a run: this sentence, where the run was, and the calls that led there.
 fn ended(
     alloc: Global,
-    program: &Program<'_, '_>,
+    program: &BuiltProgram<'_, '_>,
     run: &Interpretation,
     sentence: &str,
 ) -> Result<Message, Memory> {

@@ -9,20 +9,20 @@ use bc_core::Root;
 use bc_text_items::Segment;
 use bc_word::Memory;
 use bcpl_cli::{Cause, Failure, ListOrder};
-use bcpl_list::{Note, Program, image_listing};
+use bcpl_list::{Note, LinkedProgram, image_listing};
 use bcpl_reports::Text;
 use std::alloc::Global;
 use std::io::Write;
 use std::rt::Files;
 
-/// Adds this name so often.
+/// Adds this name `count` times.
 fn add_name<'a>(names: &mut Growing<&'a str>, name: &'a str, count: usize) {
     for _ in 0..count {
         names.add(name);
     }
 }
 
-/// What each segment is called: the primitives, and each other one by its text's path.
+/// The name of each segment: the path of its text, or a name for the primitives.
 fn names_of<'a>(alloc: Global, texts: &[Text<'a>]) -> Result<Vec<&'a str>, Failure> {
     let mut names = Growing::new(alloc);
     names.add("the primitives");
@@ -33,7 +33,7 @@ fn names_of<'a>(alloc: Global, texts: &[Text<'a>]) -> Result<Vec<&'a str>, Failu
     in_memory(names.whole())
 }
 
-/// What is said of an entry.
+/// The note on an entry of a certificate.
 fn said_of(alloc: Global, entry: &Judged) -> Result<String, Memory> {
     let words = entry.words;
     let unit = if words == 1 { "word" } else { "words" };
@@ -46,7 +46,7 @@ fn said_of(alloc: Global, entry: &Judged) -> Result<String, Memory> {
     Ok(format!(in alloc; "{what}, {words} {unit}, the least")?)
 }
 
-/// What is said of an entry of a certificate, and of which item of which segment.
+/// A note on an entry of a certificate, and the item where the entry begins.
 #[derive(Drop)]
 struct Remark {
     segment: usize,
@@ -54,7 +54,7 @@ struct Remark {
     said: String,
 }
 
-/// What is said of this entry.
+/// The note on this entry. Segment 0 is the primitives, which certificates don't count.
 fn remark_on(alloc: Global, entry: &Judged) -> Result<Remark, Memory> {
     Ok(Remark {
         segment: (entry.segment as usize).saturating_add(1),
@@ -63,7 +63,7 @@ fn remark_on(alloc: Global, entry: &Judged) -> Result<Remark, Memory> {
     })
 }
 
-/// What is said of these entries.
+/// The notes on these entries.
 fn remarks_on(alloc: Global, entries: &[Judged]) -> Result<Vec<Remark>, Memory> {
     let mut remarks = Vec::new(alloc);
     for entry in entries {
@@ -72,7 +72,7 @@ fn remarks_on(alloc: Global, entries: &[Judged]) -> Result<Vec<Remark>, Memory> 
     Ok(remarks)
 }
 
-/// What is said of the entries of the certificate of this path, which is to be about these segments.
+/// Checks the certificate with this path against the segments and returns the notes on its entries.
 fn certified<F: Files>(
     rt: &F,
     alloc: Global,
@@ -87,7 +87,7 @@ fn certified<F: Files>(
     }
 }
 
-/// What is said beside the items of a program, if the words name a certificate.
+/// The notes on a program, if a certificate is given.
 fn remarks_of<F: Files>(
     rt: &F,
     alloc: Global,
@@ -104,7 +104,7 @@ fn remarks_of<F: Files>(
     }
 }
 
-/// What is said, as the listing takes it.
+/// The notes, as the listing takes them.
 fn notes_of<'r>(alloc: Global, remarks: &'r [Remark]) -> Result<Vec<Note<'r>>, Memory> {
     let mut notes = Growing::new(alloc);
     for remark in remarks {
@@ -117,7 +117,7 @@ fn notes_of<'r>(alloc: Global, remarks: &'r [Remark]) -> Result<Vec<Note<'r>>, M
     notes.whole()
 }
 
-/// The listing of a program whose segments have these names, with these remarks.
+/// The listing of a program, with these names for its segments and these notes.
 fn listing_of<'p>(
     alloc: Global,
     program: &'p LinkedProgram,
@@ -125,7 +125,7 @@ fn listing_of<'p>(
     remarks: &'p [Remark],
 ) -> Result<String, Memory> {
     let notes = notes_of(alloc, remarks)?;
-    let program = Program {
+    let program = LinkedProgram {
         segments: program.segments.as_slice(),
         names,
         image: &program.image,
@@ -148,7 +148,7 @@ fn listed_of<F: Files>(
     in_memory(listing_of(alloc, &program, names.as_slice(), remarks.as_slice()))
 }
 
-/// The listing that is asked for.
+/// Reads the texts and returns their listing.
 fn listed<F: Files>(
     rt: &F,
     alloc: Global,
@@ -160,7 +160,7 @@ fn listed<F: Files>(
     listed_of(rt, alloc, order, texts.as_slice(), shows)
 }
 
-/// Does what `list` asks for. `shows` says whether the place of a refusal is told.
+/// Runs `list`. If `shows`, explains a refusal.
 pub fn list<F: Files, O: Write + Drop>(
     rt: &F,
     alloc: Global,

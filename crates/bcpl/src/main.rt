@@ -1,4 +1,4 @@
-//! The program: compiles BCPL, checks certificates, and assembles, links and runs INTCODE texts.
+//! The program `bcpl`: compiles and interprets BCPL, checks certificates, and assembles, links and runs INTCODE.
 #![tactic(auto)]
 
 mod checking;
@@ -25,10 +25,10 @@ use std::io::{BufWriter, IsTerminal};
 use std::process::ExitCode;
 use std::{env, fs, io};
 
-/// Does what the words after the program's name ask for.
+/// Runs the command that the arguments ask for and returns the exit status. Fails if the arguments can't be read.
 fn status(rt: &HostRuntime) -> io::Result<u8> {
-    // The system gives the number of a standard stream that is closed to the next file that is opened: to these, which can
-    // be neither read nor written.
+    // If a standard stream is closed, the system gives its number to the next file that is opened. These folders take
+    // the numbers, so that no file of the program is used as a standard stream: they can be neither read nor written.
     let _held = [fs::open(rt, "/"), fs::open(rt, "/"), fs::open(rt, "/")];
     let words: Vec<String> = env::args(rt)?.skip(1).collect(rt.alloc())?;
     let mut texts = Vec::new(rt.alloc());
@@ -49,17 +49,18 @@ fn status(rt: &HostRuntime) -> io::Result<u8> {
     Ok(command_on(rt, rt.alloc(), texts.as_slice(), standard))
 }
 
-/// The status where the words themselves can't be had: because memory ran out, or since one is no text.
+/// The exit status if the arguments can't be read, because memory ran out or one is not valid UTF-8.
 fn without_words(rt: &HostRuntime, error: &io::Error) -> u8 {
     if error.kind() == io::ErrorKind::OutOfMemory {
         let _ = rt.eprintln("bcpl: memory");
         1
     } else {
-        let _ = rt.eprintln("bcpl: a word of the command line is no text");
+        let _ = rt.eprintln("bcpl: an argument is not valid UTF-8");
         3
     }
 }
 
+/// Runs the program.
 fn main(rt: HostRuntime) -> ExitCode {
     match status(&rt) {
         Ok(status) => ExitCode::from(status),

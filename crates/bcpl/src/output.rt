@@ -1,4 +1,4 @@
-//! What commands print.
+//! Helpers for printing results and explanations.
 
 ghost use Rattle.std.specs.Prelude.{◌≡◌};
 
@@ -9,11 +9,10 @@ use std::alloc::Global;
 use std::io;
 use std::io::{BufWriter, Write};
 
-/// What is told of a run that finished, where an output can't be written to its end.
-const NOT_TO_ITS_END: &str =
-    "the run finished, and behind that an output could not be written to its end\n";
+/// The explanation if a run finished but an output could not be written to its end.
+const NOT_TO_ITS_END: &str = "the run finished, but an output could not be completely written\n";
 
-/// The failure of such a run, with what is told of it.
+/// Adds this explanation to the failure of such a run.
 pub fn unfinished(alloc: Global, failure: Failure) -> Failure
     ensures { result.cause ≡ failure.cause }
 {
@@ -23,7 +22,7 @@ pub fn unfinished(alloc: Global, failure: Failure) -> Failure
     }
 }
 
-/// What writing to standard output came to: the failure of that, with the reason, where it failed.
+/// The result of writing to standard output. An I/O error becomes the failure of SYSPRINT, with the reason.
 pub fn of_output(alloc: Global, done: io::Result<()>) -> Result<(), Failure> {
     match done {
         Ok(()) => Ok(()),
@@ -31,19 +30,19 @@ pub fn of_output(alloc: Global, done: io::Result<()>) -> Result<(), Failure> {
     }
 }
 
-/// Writes all of a text.
+/// Writes all of a text and flushes it.
 pub fn print_all<O: Write + Drop>(text: &[u8], out: &mut O) -> io::Result<()> {
     out.write_all(text)?;
     out.flush()
 }
 
-/// Tells what is told beside the status of a command, or after it.
+/// Prints explanations or warnings. Errors are ignored: there is nowhere to report them.
 pub fn tell_lines<E: Write + Drop>(lines: &str, err: &mut E) {
     let _ = err.write_all(lines.as_bytes());
     let _ = err.flush();
 }
 
-/// Writes the words of the store up to the stack base, one a line.
+/// Writes the words of the image up to the base of the stack, one per line, in decimal.
 pub fn print_words<O: Write + Drop>(alloc: Global, image: &Image, out: O) -> io::Result<()> {
     let mut out = BufWriter::new(alloc, out)?;
     let count = usize::from(image.stack_base.get());

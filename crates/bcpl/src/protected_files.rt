@@ -1,24 +1,24 @@
-//! Files of a run that an output of it would lose.
+//! Refuses outputs of a run that would overwrite a file that the run reads or writes.
 
 use bcpl_cli::{Binding, Failure, would_lose};
 use std::alloc::Global;
 use std::rt::Files;
 
-/// Refuses the output of this path where its file is one of these, which are read.
+/// Refuses this path for an output if it is one of the files in `read`.
 fn spare<F: Files>(rt: &F, alloc: Global, path: &str, read: &[&str]) -> Result<(), Failure> {
     for other in read {
         if would_lose(rt, path, other) {
             return Err(Failure::file_since(
                 alloc,
                 path,
-                "the run reads this file, and it would be lost",
+                "the run reads this file, so it can't be an output too",
             ));
         }
     }
     Ok(())
 }
 
-/// Refuses the output of this path where its file is one of these inputs'.
+/// Refuses this path for an output if it is the file of one of these inputs.
 fn spare_inputs<F: Files>(
     rt: &F,
     alloc: Global,
@@ -31,7 +31,7 @@ fn spare_inputs<F: Files>(
     Ok(())
 }
 
-/// Refuses this output where its file is that of one of these.
+/// Refuses an output whose file is that of one of `others`.
 fn spare_outputs<F: Files>(
     rt: &F,
     alloc: Global,
@@ -39,15 +39,19 @@ fn spare_outputs<F: Files>(
     others: &[Binding<'_>],
 ) -> Result<(), Failure> {
     for other in others {
-        // two streams of one name are refused as such
+        // two streams with the same name are refused elsewhere
         if output.name != other.name && would_lose(rt, output.path, other.path) {
-            return Err(Failure::file_since(alloc, output.path, "two outputs can't be one file"));
+            return Err(Failure::file_since(
+                alloc,
+                output.path,
+                "two outputs can't be the same file",
+            ));
         }
     }
     Ok(())
 }
 
-/// Refuses an output of a run whose file is one of those that are read, an input's, or that of an output before it.
+/// Refuses an output whose file is in `read`, or is that of an input or of an earlier output.
 pub fn spare_files<F: Files>(
     rt: &F,
     alloc: Global,

@@ -24,10 +24,10 @@ use std::fs;
 use std::io::{BufReader, BufWriter, Read, Write};
 use std::rt::Files;
 
-/// The most instructions of a run without words.
+/// The largest number of instructions of a run without arguments.
 const DEFAULT_STEPS: u64 = 1_000_000;
 
-/// A device under a stream's name, where it is there.
+/// A device with the name of its stream.
 fn named<T: Drop>(
     alloc: Global,
     name: &str,
@@ -44,7 +44,7 @@ type Input<R, F> = Named<BufReader<Source<R, F>>>;
 /// An output of a run.
 type Output<O, F> = Named<BufWriter<Sink<O, F>>>;
 
-/// The input from a file.
+/// Opens an input from a file.
 fn file_input<F: Files, R: Read + Drop>(
     rt: &F,
     alloc: Global,
@@ -59,7 +59,7 @@ fn file_input<F: Files, R: Read + Drop>(
     }
 }
 
-/// The inputs of a run: standard input, or nothing in its place, and the files.
+/// The inputs of a run: `first` as SYSIN, and the files.
 fn inputs<F: Files, R: Read + Drop>(
     rt: &F,
     alloc: Global,
@@ -77,7 +77,7 @@ fn inputs<F: Files, R: Read + Drop>(
     Ok(inputs)
 }
 
-/// The output to standard output. To a terminal each byte goes at once, so that a question is seen before its answer is typed.
+/// The stream SYSPRINT. On a terminal it is unbuffered, so that a prompt appears before the program waits for input.
 fn standard_output<O: Write + Drop, F: Write + Drop>(
     alloc: Global,
     out: O,
@@ -92,7 +92,7 @@ fn standard_output<O: Write + Drop, F: Write + Drop>(
     named(alloc, "SYSPRINT", device)
 }
 
-/// The output to a file.
+/// Opens an output to a file.
 fn file_output<F: Files, O: Write + Drop>(
     rt: &F,
     alloc: Global,
@@ -107,7 +107,7 @@ fn file_output<F: Files, O: Write + Drop>(
     }
 }
 
-/// The outputs of a run: standard output, and the files.
+/// The outputs of a run: SYSPRINT and the files.
 fn outputs<F: Files, O: Write + Drop>(
     rt: &F,
     alloc: Global,
@@ -123,7 +123,8 @@ fn outputs<F: Files, O: Write + Drop>(
     Ok(outputs)
 }
 
-/// What a run came to, with its streams closed: a finished run whose outputs can't be flushed has met a device failure.
+/// The result of a run after its streams are closed. If it finished but an output can't be flushed, that is a device
+/// failure.
 fn closed<R: Read, W: Write>(streams: &mut FileStreams<R, W>, end: End) -> Result<(), Failure>
     ensures finished { IfOk result (λ _. end ≡ Finished) }
     ensures ended { end ≢ Finished → result ≡ Err (untold (causes.Ended end)) }
@@ -137,7 +138,7 @@ fn closed<R: Read, W: Write>(streams: &mut FileStreams<R, W>, end: End) -> Resul
     }
 }
 
-/// How a machine stopped.
+/// Where and how a machine stopped.
 fn stop_of(machine: &Machine, end: End, steps: u64) -> Stop {
     let address = machine.address();
     let following = Word::new(address.get().wrapping_add(1));
@@ -149,7 +150,8 @@ fn stop_of(machine: &Machine, end: End, steps: u64) -> Stop {
     }
 }
 
-/// How a run is done: its texts, what they were linked to, the most instructions, and whether it is told where it ended.
+/// What to run: the texts, the program linked from them, the limit on instructions, and whether a failure is
+/// explained.
 #[derive(Drop)]
 struct Manner<'t, 'p> {
     texts: &'t [Text<'t>],
@@ -158,7 +160,7 @@ struct Manner<'t, 'p> {
     shows: bool,
 }
 
-/// The failure of a run that stopped so, with what is told of it.
+/// Explains why a run stopped.
 fn told_of_stop(alloc: Global, manner: &Manner<'_, '_>, stop: &Stop, failure: Failure) -> Failure {
     let lines = ended_lines(
         alloc,
@@ -170,7 +172,7 @@ fn told_of_stop(alloc: Global, manner: &Manner<'_, '_>, stop: &Stop, failure: Fa
     explained(failure, lines)
 }
 
-/// The failure of a run that ended so, or of its outputs after that, with what is told of it.
+/// Explains the end of a run, or the failure of its outputs after it, if explanations are printed.
 fn told_of_end(
     alloc: Global,
     manner: &Manner<'_, '_>,
@@ -192,7 +194,7 @@ fn told_of_end(
     }
 }
 
-/// What a run came to that ended so, with its streams closed.
+/// The result of a run, whose streams it closes.
 fn came_to<R: Read, W: Write>(
     alloc: Global,
     manner: &Manner<'_, '_>,
@@ -206,7 +208,7 @@ fn came_to<R: Read, W: Write>(
     }
 }
 
-/// Runs a program over these streams, which it closes.
+/// Runs a program over these streams, and closes them.
 fn run_linked<R: Read, W: Write>(
     alloc: Global,
     manner: &Manner<'_, '_>,
@@ -217,7 +219,7 @@ fn run_linked<R: Read, W: Write>(
     came_to(alloc, manner, &machine, streams, &end)
 }
 
-/// Runs a machine that has not run yet, and notes what it does: the lines of a trace go to its file, if there is one.
+/// Runs a machine from its start and records what it does. The trace, if any, goes to its file.
 fn run_noted<R: Read, W: Write, T: Write + Drop>(
     machine: &mut Machine,
     watch: &mut Watch,
@@ -233,7 +235,7 @@ fn run_noted<R: Read, W: Write, T: Write + Drop>(
     }
 }
 
-/// What was noted of a run.
+/// A recorded run.
 #[derive(Clone, Copy)]
 struct Noted<'n> {
     watch: &'n Watch,
@@ -241,7 +243,7 @@ struct Noted<'n> {
     image: &'n Image,
 }
 
-/// The text of the profile, if it is wanted.
+/// The text of the profile, if one is ordered.
 fn profile_of(alloc: Global, order: &WatchOrder<'_>, noted: Noted<'_>) -> Result<String, Memory> {
     match order.profile {
         Some(_) => profile(alloc, noted.watch, noted.machine, noted.image),
@@ -249,7 +251,8 @@ fn profile_of(alloc: Global, order: &WatchOrder<'_>, noted: Noted<'_>) -> Result
     }
 }
 
-/// Ends the files of what was noted of a run, and gives what that came to; `Memory` where an allocation was refused before.
+/// Completes the trace and the profile. The inner result is a failure of a file; the outer one is `Memory` if an
+/// allocation fails.
 fn end_notes<W: Write + Drop, F: Files<File = W>>(
     rt: &F,
     alloc: Global,
@@ -269,7 +272,7 @@ fn end_notes<W: Write + Drop, F: Files<File = W>>(
     }
 }
 
-/// What a run came to, where ending its notes came to this.
+/// The failure of the run or, if there is none, that of its trace and profile. `Memory` comes first.
 fn first_of(
     done: Result<(), Failure>,
     ended: Result<Result<(), Failure>, Memory>,
@@ -283,7 +286,7 @@ fn first_of(
     }
 }
 
-/// Runs a program as `run_linked`, and notes what it does.
+/// Like `run_linked`, and records what the run does.
 fn watch_linked<F: Files, R: Read, W: Write>(
     rt: &F,
     alloc: Global,
@@ -314,7 +317,7 @@ fn watch_linked<F: Files, R: Read, W: Write>(
 /// The streams of a run over devices.
 pub type Streams<R, O, F> = FileStreams<BufReader<Source<R, F>>, BufWriter<Sink<O, F>>>;
 
-/// The streams of a run, of this input and output, and these files.
+/// The streams of a run over this input and output and these files.
 pub fn streams_of<F: Files, R: Read + Drop, O: Write + Drop>(
     rt: &F,
     alloc: Global,
@@ -336,7 +339,7 @@ pub fn streams_of<F: Files, R: Read + Drop, O: Write + Drop>(
     }
 }
 
-/// Runs a program over an empty input.
+/// Runs a program with an empty input.
 fn run_alone<F: Files, O: Write + Drop>(
     rt: &F,
     alloc: Global,
@@ -355,7 +358,7 @@ fn run_alone<F: Files, O: Write + Drop>(
     run_linked(alloc, manner, &mut streams)
 }
 
-/// Runs the text on standard input, over an empty input.
+/// Runs the text on standard input, with an empty input.
 pub fn run_input<F: Files, R: Read + Drop, O: Write + Drop>(
     rt: &F,
     alloc: Global,
@@ -382,7 +385,7 @@ pub fn run_input<F: Files, R: Read + Drop, O: Write + Drop>(
     run_alone(rt, alloc, &manner, out, is_terminal)
 }
 
-/// The names of streams: this one, and those of the words.
+/// The names of streams: this one, then those of the arguments.
 fn names_of<'a>(
     alloc: Global,
     first: &'a str,
@@ -396,14 +399,14 @@ fn names_of<'a>(
     Ok(names)
 }
 
-/// What is told of the names of a run's streams.
+/// The explanation of streams with invalid names.
 fn lines_of_streams(alloc: Global, order: &RunOrder<'_>) -> Result<String, Memory> {
     let inputs = names_of(alloc, "SYSIN", order.inputs.as_slice())?;
     let outputs = names_of(alloc, "SYSPRINT", order.outputs.as_slice())?;
     stream_lines(alloc, inputs.as_slice(), outputs.as_slice())
 }
 
-/// The failure of a run's streams, with what is told of their names.
+/// Explains a failure of the streams if it is about their names.
 fn told_of_streams(alloc: Global, order: &RunOrder<'_>, failure: Failure, shows: bool) -> Failure {
     let is_name = match &failure.cause {
         Cause::Streams(fault) => !matches!(fault, StreamsError::Memory),
@@ -416,7 +419,7 @@ fn told_of_streams(alloc: Global, order: &RunOrder<'_>, failure: Failure, shows:
     }
 }
 
-/// The bytes of the texts of a run whose files of what is noted are none of them.
+/// Reads the texts of a run, after checking that the trace and the profile overwrite none of them.
 fn run_contents<F: Files>(
     rt: &F,
     alloc: Global,
@@ -428,14 +431,14 @@ fn run_contents<F: Files>(
     }
 }
 
-/// The bytes of the texts of a run, and the program that they were linked to.
+/// The bytes of the texts of a run, and the program linked from them.
 #[derive(Drop)]
 struct LoadedTexts {
     contents: Vec<Vec<u8>>,
     program: LinkedProgram,
 }
 
-/// The texts of a run, read and linked. `shows` says whether the place of a refusal is told.
+/// Reads and links the texts of a run. If `shows`, explains a refusal.
 fn loaded<F: Files>(
     rt: &F,
     alloc: Global,
@@ -449,7 +452,7 @@ fn loaded<F: Files>(
     }
 }
 
-/// Runs texts.
+/// Runs `run`.
 pub fn run<F: Files, R: Read + Drop, O: Write + Drop>(
     rt: &F,
     alloc: Global,
@@ -475,7 +478,7 @@ pub fn run<F: Files, R: Read + Drop, O: Write + Drop>(
     }
 }
 
-/// The streams of a run of texts. An output whose file the run reads, or another output is, is refused.
+/// Opens the streams of a run. Refuses an output whose file the run reads or another output writes.
 fn run_streams<F: Files, R: Read + Drop, O: Write + Drop>(
     rt: &F,
     alloc: Global,
@@ -499,7 +502,7 @@ fn run_streams<F: Files, R: Read + Drop, O: Write + Drop>(
     streams_of(rt, alloc, standards, inputs, outputs)
 }
 
-/// Runs a program that was linked.
+/// Runs a linked program.
 fn run_program<F: Files, R: Read + Drop, O: Write + Drop>(
     rt: &F,
     alloc: Global,

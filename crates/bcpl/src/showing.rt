@@ -26,7 +26,7 @@ use std::io::Write;
 use std::mem::forget;
 use std::rt::Files as Access;
 
-/// What is listed of which source.
+/// The source to list.
 #[derive(Clone, Copy)]
 struct Shown<'a, 's> {
     files: Files<'a, 's>,
@@ -34,12 +34,12 @@ struct Shown<'a, 's> {
     main: usize,
     /// The indexes of the mains of its program.
     mains: &'a [usize],
-    /// Whether the place of a refusal is told.
+    /// Whether a refusal is explained.
     shows: bool,
     ghost within: { All (λ index. index < length files.sources.now) mains.now },
 }
 
-/// A source that was built, with its tokens and its trees.
+/// A source that was built, with its tokens and trees.
 #[derive(Clone, Copy)]
 struct Resolved<'r, 's> {
     built: &'r Built,
@@ -49,7 +49,7 @@ struct Resolved<'r, 's> {
 }
 
 impl<'a, 's> Shown<'a, 's> {
-    /// The failure of a source that is refused.
+    /// The failure of a refused source.
     fn refused(&self, alloc: Global, mains: &[usize], fault: BuildError) -> Failure {
         let program = Program {
             named: Named {
@@ -74,22 +74,24 @@ impl<'a, 's> Shown<'a, 's> {
         }
     }
 
-    /// The failure of a source that is no section.
+    /// The failure of a source that the parser refuses.
     fn no_section(&self, alloc: Global, fault: ParseError) -> Failure {
         self.refused(alloc, &[self.main], BuildError::Parse(self.main, fault))
     }
 
+    /// The listing `tokens`.
     fn token_listing(&self, alloc: Global) -> Result<Vec<u8>, Failure> {
         let tokens = self.tokens(alloc)?;
         in_memory(token_listing(alloc, self.files, self.main, tokens.as_slice()))
     }
 
+    /// The listing `tree`.
     fn tree_listing(&self, alloc: Global) -> Result<Vec<u8>, Failure> {
         let tokens = self.tokens(alloc)?;
         match parse(alloc, tokens.as_slice()) {
             Ok(section) => {
                 let listing = self.tree_of(alloc, tokens.as_slice(), &section);
-                // The process is about to end, and the system takes all memory back at once.
+                // The process is about to end, and the system frees all its memory at once.
                 forget(section);
                 listing
             }
@@ -97,6 +99,7 @@ impl<'a, 's> Shown<'a, 's> {
         }
     }
 
+    /// The listing `tree` of a parsed section.
     fn tree_of(
         &self,
         alloc: Global,
@@ -107,7 +110,7 @@ impl<'a, 's> Shown<'a, 's> {
         in_memory(tree_listing(alloc, self.files, self.main, tokens, kinds.as_slice()))
     }
 
-    /// The program of the library and the source.
+    /// Builds the program of the library and the source.
     fn built(&self, alloc: Global) -> Result<Built, Failure> {
         match build(alloc, self.files.sources, self.mains) {
             Ok(built) => Ok(built),
@@ -115,7 +118,7 @@ impl<'a, 's> Shown<'a, 's> {
         }
     }
 
-    /// The listing of scopes or code of a source that is built.
+    /// The listing `scopes` or `code`.
     fn built_listing(&self, alloc: Global, listing: Listing) -> Result<Vec<u8>, Failure> {
         let built = self.built(alloc)?;
         let tokens = self.tokens(alloc)?;
@@ -127,7 +130,7 @@ impl<'a, 's> Shown<'a, 's> {
                     (&built, tokens.as_slice()),
                     &section,
                 );
-                // The process is about to end, and the system takes all memory back at once.
+                // The process is about to end, and the system frees all its memory at once.
                 forget(section);
                 text
             }
@@ -135,7 +138,7 @@ impl<'a, 's> Shown<'a, 's> {
         }
     }
 
-    /// The listing of scopes or code of a source that is built, of these tokens and this section.
+    /// The listing `scopes` or `code` of this program, with these tokens and this section.
     fn resolved_listing(
         &self,
         alloc: Global,
@@ -165,6 +168,7 @@ impl<'a, 's> Shown<'a, 's> {
         }
     }
 
+    /// The listing `scopes` of a resolved source.
     fn scopes_of(&self, alloc: Global, resolved: Resolved<'_, 's>) -> Result<Vec<u8>, Failure> {
         let primitives = primitives(alloc)?;
         let library = libraries(resolved.built);
@@ -193,6 +197,7 @@ impl<'a, 's> Shown<'a, 's> {
         in_memory(scope_listing(alloc, scopes))
     }
 
+    /// The listing `code` of a resolved source.
     fn code_of(&self, alloc: Global, resolved: Resolved<'_, 's>) -> Result<Vec<u8>, Failure> {
         let built = resolved.built;
         let Some(segment) = built.segments.last() else {
@@ -212,7 +217,7 @@ impl<'a, 's> Shown<'a, 's> {
     }
 }
 
-/// The segments before the source's own, which are those of the library.
+/// The segments before the source's own: those of the library.
 fn libraries(built: &Built) -> &[Segment] {
     let segments = built.segments.as_slice();
     match segments.split_last() {
@@ -221,7 +226,7 @@ fn libraries(built: &Built) -> &[Segment] {
     }
 }
 
-/// The items of the segment with this index; none where there is none.
+/// The items of the segment with this index, or an empty list.
 fn items_at(segments: &[Segment], index: usize) -> &[Item] {
     match segments.get(index) {
         Some(segment) => segment.items(),
@@ -229,7 +234,7 @@ fn items_at(segments: &[Segment], index: usize) -> &[Item] {
     }
 }
 
-/// The address at which the segment with this index begins, counted from the primitives' on.
+/// The address at which the segment with this index begins; index 0 is the primitives.
 fn start_of(built: &Built, index: usize) -> u64 {
     match built.image.places.as_slice().get(index) {
         Some(place) => u64::from(place.start.get()),
@@ -237,7 +242,7 @@ fn start_of(built: &Built, index: usize) -> u64 {
     }
 }
 
-/// How many words stand before the source's segment: the first cells, the primitives, and the library's segments.
+/// The numbers of words before the source's segment: of the first cells, of the primitives, and of the library.
 fn first_of(built: &Built) -> [u64; 3] {
     let primitives = start_of(built, 0);
     let library = start_of(built, 1);
@@ -249,7 +254,7 @@ fn first_of(built: &Built) -> [u64; 3] {
     ]
 }
 
-/// The listing of the last of the sources that were gathered. `shows` says whether the place of a refusal is told.
+/// The listing of the last source.
 fn listed(
     alloc: Global,
     gathered: &Gathered<'_, '_>,
@@ -274,7 +279,7 @@ fn listed(
     }
 }
 
-/// The listing of the last of the sources that the words name.
+/// Reads the files and returns the listing of the last source.
 fn listing_of<F: Access>(
     rt: &F,
     alloc: Global,
@@ -287,7 +292,7 @@ fn listing_of<F: Access>(
     listed(alloc, &gathered, listing, shows)
 }
 
-/// Does what `show` asks for. `shows` says whether the place of a refusal is told.
+/// Runs `show`. If `shows`, explains a refusal.
 pub fn show<F: Access, O: Write + Drop>(
     rt: &F,
     alloc: Global,

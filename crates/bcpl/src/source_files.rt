@@ -1,4 +1,4 @@
-//! The sources of a program, gathered from the files that the words name.
+//! The sources of a program: the library's, and those in the files that the arguments name.
 
 ghost use Rattle.std.specs.Prelude.{◌<◌, All, IfOk, length, vec_len};
 
@@ -14,13 +14,13 @@ use bcpl_messages::Named;
 use std::alloc::Global;
 use std::rt::Files;
 
-/// How many sources stand before those of the command line: LIBHDR and BLIB, of which the second becomes a segment.
+/// The number of sources before those of the command line: LIBHDR and BLIB, of which BLIB is a main.
 const BASIC_SOURCES: usize = 2;
 
-/// How many they are with the further library: EXTHDR and EXTLIB, too, of which the second becomes a segment.
+/// That number with the further library: EXTHDR and EXTLIB as well, of which EXTLIB is a main.
 const FURTHER_SOURCES: usize = 4;
 
-/// How many sources a library has.
+/// The number of sources in a library.
 fn library_sources(library: Library) -> usize {
     match library {
         Library::Basic => BASIC_SOURCES,
@@ -31,20 +31,20 @@ fn library_sources(library: Library) -> usize {
 /// A source that was read from a file.
 #[derive(Drop)]
 pub struct Loaded {
-    /// The name that GET knows it by.
+    /// The name by which GET finds it.
     name: Vec<u8>,
-    /// Its bytes.
+    /// Its content.
     text: Vec<u8>,
 }
 
-/// The source of this name in the file of this path.
+/// Reads a source from the file with this path.
 fn source_of<F: Files>(rt: &F, alloc: Global, name: &str, path: &str) -> Result<Loaded, Failure> {
     let text = contents(rt, alloc, path)?;
     let name = Vec::from_slice(alloc, name.as_bytes())?;
     Ok(Loaded { name, text })
 }
 
-/// The sources in the files that the words name: those of `--get` first.
+/// Reads the files that the arguments name, beginning with those of `--get`.
 pub fn sources_of<F: Files>(
     rt: &F,
     alloc: Global,
@@ -63,8 +63,8 @@ pub fn sources_of<F: Files>(
     Ok(sources)
 }
 
-/// The indexes of the sources that become a segment each, of which there are this many: the library's routines, and what stands
-/// after the library and the files of `--get`.
+/// The indexes of the mains among `sources` sources: those of the library, and all sources after the library and the
+/// files of `--get`.
 fn mains_of(
     alloc: Global,
     library: usize,
@@ -87,7 +87,7 @@ fn mains_of(
     Ok(mains)
 }
 
-/// The name of the source of a library with this index.
+/// The name of the library source with this index.
 fn library_name<'s>(index: usize) -> &'s str {
     match index {
         0 => "LIBHDR",
@@ -97,7 +97,7 @@ fn library_name<'s>(index: usize) -> &'s str {
     }
 }
 
-/// The source of a library with this index.
+/// The library source with this index.
 fn library_source<'s>(index: usize) -> Source<'s> {
     let text = match index {
         0 => LIBHDR,
@@ -111,7 +111,7 @@ fn library_source<'s>(index: usize) -> Source<'s> {
     }
 }
 
-/// The sources of a program, as the compiler takes them: those of the library, then these.
+/// All sources in the compiler's order: those of the library, then these.
 fn given_to_compiler<'s>(
     alloc: Global,
     library: usize,
@@ -130,7 +130,7 @@ fn given_to_compiler<'s>(
     sources.whole()
 }
 
-/// The paths under which sources are told, in the order of `given_to_compiler`.
+/// The paths to print for the sources, in the same order.
 fn paths_of<'a>(
     alloc: Global,
     library: usize,
@@ -149,21 +149,21 @@ fn paths_of<'a>(
     paths.whole()
 }
 
-/// The sources of a program as the compiler takes them, and which of them become a segment each.
+/// The sources of a program in the compiler's order, and which of them are mains.
 #[derive(Drop)]
 pub struct Gathered<'a, 's> {
     sources: Vec<Source<'s>>,
-    /// The path of each source, in their order.
+    /// The path of each source.
     paths: Vec<&'a str>,
     /// The indexes of the mains.
     mains: Vec<usize>,
-    /// How many of the first sources are those of the library.
+    /// The number of sources that belong to the library; they come first.
     pub library: usize,
     ghost within: { All (λ main. main < vec_len sources) mains.items },
 }
 
 impl<'a, 's> Gathered<'a, 's> {
-    /// The program of the library and of what the words name, of which these are the files.
+    /// The program of the library and the files that the arguments name.
     pub fn new(
         alloc: Global,
         given: &Sources<'a>,
@@ -181,7 +181,7 @@ impl<'a, 's> Gathered<'a, 's> {
         })
     }
 
-    /// The sources under their paths, and the mains.
+    /// The sources with their paths, and the mains.
     pub fn program(&self) -> Program<'_, 's>
         ensures { All (λ main. main < length result.named.sources.now) result.mains.now }
     {

@@ -1,4 +1,4 @@
-//! Texts in files, read and linked.
+//! Reads, parses and links INTCODE texts.
 
 ghost use Rattle.std.specs.Prelude.{◌≡◌};
 
@@ -16,12 +16,12 @@ use std::io;
 use std::io::{ErrorKind, Read};
 use std::rt::Files;
 
-/// Adds what was found, if it was.
+/// Adds a value, unless it is a failure.
 pub fn add<T: Drop>(all: &mut Vec<T>, found: Result<T, Failure>) -> Result<(), Failure> {
     Ok(all.push(found?)?)
 }
 
-/// What was found, where it is a failure that memory was refused.
+/// Turns `Memory` into a failure.
 pub fn in_memory<T: Drop>(found: Result<T, Memory>) -> Result<T, Failure> {
     match found {
         Ok(found) => Ok(found),
@@ -29,7 +29,7 @@ pub fn in_memory<T: Drop>(found: Result<T, Memory>) -> Result<T, Failure> {
     }
 }
 
-/// The bytes of the files of these paths.
+/// The contents of the files with these paths.
 pub fn all_contents<F: Files>(
     rt: &F,
     alloc: Global,
@@ -42,12 +42,12 @@ pub fn all_contents<F: Files>(
     Ok(all)
 }
 
-/// The bytes of the file of this path, where it can be read.
+/// The content of the file with this path, or `None` if it can't be read.
 pub fn readable<F: Files>(rt: &F, alloc: Global, path: &str) -> Option<Vec<u8>> {
     contents(rt, alloc, path).ok()
 }
 
-/// The failure of a text on standard input that can't be read to its end, or that of the bytes before that, if they are refused.
+/// The refusal of these bytes, which were read before reading failed, or else `failure`.
 fn judged_first(alloc: Global, bytes: &[u8], failure: Failure) -> Failure {
     let front = bytes.get(..FILE_LIMIT as usize).unwrap_or(bytes);
     let mut reader = Reader::new(alloc);
@@ -57,7 +57,7 @@ fn judged_first(alloc: Global, bytes: &[u8], failure: Failure) -> Failure {
     }
 }
 
-/// The failure of a text on standard input of which these bytes were read, and that came to this.
+/// The failure after reading standard input with this result, if it failed or the text is too large.
 fn unread(alloc: Global, bytes: &[u8], read: &io::Result<usize>) -> Failure {
     match read {
         Err(error) if error.kind() == ErrorKind::OutOfMemory => Failure::new(Cause::Memory),
@@ -65,12 +65,12 @@ fn unread(alloc: Global, bytes: &[u8], read: &io::Result<usize>) -> Failure {
         Ok(_) => judged_first(
             alloc,
             bytes,
-            Failure::file_since(alloc, "SYSIN", "the text has more than 16777216 bytes"),
+            Failure::file_since(alloc, "SYSIN", "the text is larger than 16777216 bytes"),
         ),
     }
 }
 
-/// Whether all bytes of a text were read.
+/// Whether the whole text was read.
 fn is_read(read: &io::Result<usize>) -> bool {
     match read {
         Ok(count) => *count as u64 <= FILE_LIMIT,
@@ -78,8 +78,8 @@ fn is_read(read: &io::Result<usize>) -> bool {
     }
 }
 
-/// The bytes of a text on standard input. Where that fails, or gives more bytes than a file may have, what it gave before that is
-/// judged first.
+/// The text on standard input. If reading fails or the text is too large, a refusal of the bytes before that takes
+/// precedence.
 pub fn standard_text<R: Read + Drop>(alloc: Global, input: R) -> Result<Vec<u8>, Failure> {
     let mut bytes = Vec::new(alloc);
     let read = input.take(FILE_LIMIT + 1).read_to_end(&mut bytes);
@@ -90,7 +90,7 @@ pub fn standard_text<R: Read + Drop>(alloc: Global, input: R) -> Result<Vec<u8>,
     }
 }
 
-/// The texts with these bytes, under these paths.
+/// The texts with these paths and contents.
 pub fn texts_of<'a>(
     alloc: Global,
     paths: &[&'a str],
@@ -106,7 +106,7 @@ pub fn texts_of<'a>(
     texts.whole()
 }
 
-/// A failure with these lines on it, where there was memory for them.
+/// A failure with this explanation, if there was memory for it.
 pub fn explained(failure: Failure, lines: Result<String, Memory>) -> Failure
     ensures { result.cause ≡ failure.cause }
 {
@@ -116,7 +116,7 @@ pub fn explained(failure: Failure, lines: Result<String, Memory>) -> Failure
     }
 }
 
-/// The segments of a text, after these.
+/// Adds the segments of a text.
 fn add_segments(alloc: Global, segments: &mut Vec<Segment>, text: &[u8]) -> Result<(), Failure> {
     let mut reader = Reader::new(alloc);
     reader.feed(text)?;
@@ -126,7 +126,7 @@ fn add_segments(alloc: Global, segments: &mut Vec<Segment>, text: &[u8]) -> Resu
     Ok(())
 }
 
-/// The failure of a text with what is told of its place.
+/// Explains the failure of a text.
 fn told_of_text(alloc: Global, failure: Failure, text: Text<'_>) -> Failure {
     let lines = match &failure.cause {
         Cause::Text(fault) => text_lines(alloc, text, *fault),
@@ -135,7 +135,7 @@ fn told_of_text(alloc: Global, failure: Failure, text: Text<'_>) -> Failure {
     explained(failure, lines)
 }
 
-/// The segments of these texts, judged in their order. `shows` says whether the place of a refusal is told.
+/// The segments of these texts, in order. If `shows`, explains a refusal.
 pub fn segments_of(
     alloc: Global,
     texts: &[Text<'_>],
@@ -154,14 +154,14 @@ pub fn segments_of(
     Ok(segments)
 }
 
-/// A program that was linked: its segments, the primitives first, and its image.
+/// A linked program: its segments, beginning with the primitives, and its image.
 #[derive(Drop)]
 pub struct LinkedProgram {
     pub segments: Vec<Segment>,
     pub image: Image,
 }
 
-/// The failure of segments of these texts that can't be linked.
+/// The failure of texts that can't be linked.
 fn unlinked(
     alloc: Global,
     texts: &[Text<'_>],
@@ -177,7 +177,7 @@ fn unlinked(
     }
 }
 
-/// The program of these texts after the primitives. `shows` says whether the place of a refusal is told.
+/// Links these texts after the primitives. If `shows`, explains a refusal.
 pub fn linked(alloc: Global, texts: &[Text<'_>], shows: bool) -> Result<LinkedProgram, Failure> {
     let segments = after_primitives(alloc, segments_of(alloc, texts, shows)?)?;
     match link(alloc, segments.as_slice()) {
@@ -186,7 +186,7 @@ pub fn linked(alloc: Global, texts: &[Text<'_>], shows: bool) -> Result<LinkedPr
     }
 }
 
-/// The program of the texts with these bytes, under these paths. `shows` says whether the place of a refusal is told.
+/// Parses and links the texts with these paths and contents. If `shows`, explains a refusal.
 pub fn program_of<'a>(
     alloc: Global,
     paths: &[&'a str],

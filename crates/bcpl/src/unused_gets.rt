@@ -1,16 +1,16 @@
-//! Files of `--get` that no GET reaches.
+//! Warnings about files of `--get` that no GET can reach.
 
 use bc_word::Memory;
 use bcpl_cli::{Library, Sources};
 use std::alloc::Global;
 
-/// Why a GET of this name reaches no file of `--get` with this index; none where it does.
+/// Why no GET can reach the file at this index of `--get`; `None` if one can.
 fn reason(given: &Sources<'_>, at: usize, name: &str) -> Option<&'static str> {
     let is_basic = name == "LIBHDR" || name == "BLIB";
     let is_further = name == "EXTHDR" || name == "EXTLIB";
     let has_further = given.library == Library::Further;
     if is_basic || is_further && has_further {
-        return Some("it is the library's own always");
+        return Some("this name always means the library's own file");
     }
     let is_earlier = given.gets.iter().take(at).any(|get| get.name == name);
     if is_earlier {
@@ -20,8 +20,8 @@ fn reason(given: &Sources<'_>, at: usize, name: &str) -> Option<&'static str> {
     }
 }
 
-/// The lines of warnings on the files of `--get` that no GET reaches, since the first source of a name counts. Memory is answered
-/// where a growth was refused.
+/// The warnings about files of `--get` that no GET can reach, because the first source of a name counts. `Memory` if
+/// an allocation fails.
 pub fn ignored_gets(alloc: Global, given: &Sources<'_>) -> Result<String, Memory> {
     let mut told = String::new(alloc);
     for (at, get) in given.gets.iter().enumerate() {

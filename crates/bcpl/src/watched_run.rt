@@ -1,4 +1,4 @@
-//! Runs that are watched: the files of their trace and of their profile.
+//! The files for the trace and the profile of a run.
 
 use bcpl_cli::{Failure, RunOrder, WatchOrder, Written, is_one_file};
 use bcpl_trace::Window;
@@ -6,23 +6,23 @@ use std::alloc::Global;
 use std::io::Write;
 use std::rt::Files;
 
-/// The files that what is noted of a run goes to.
+/// The files for the records of a run.
 #[derive(Drop)]
 pub struct Notes<W: Write + Drop> {
     pub trace: Option<Written<W>>,
     profile: Option<Written<W>>,
 }
 
-/// What is noted of a run when it has ended.
+/// What there is to write after a run.
 #[derive(Clone, Copy)]
 pub struct Last<'t> {
-    /// Whether each line of the trace could be written.
+    /// Whether every line of the trace was written.
     pub is_whole: bool,
     /// The text of the profile.
     pub profile: &'t str,
 }
 
-/// The instructions that are traced, if any are.
+/// The instructions to trace, if any.
 pub fn window_of(order: &WatchOrder<'_>) -> Option<Window> {
     match order.trace {
         Some(_) => Some(Window {
@@ -33,12 +33,12 @@ pub fn window_of(order: &WatchOrder<'_>) -> Option<Window> {
     }
 }
 
-/// Whether anything of a run is noted.
+/// Whether the run is recorded in any way.
 pub fn is_watched(order: &WatchOrder<'_>) -> bool {
     order.trace.is_some() || order.profile.is_some()
 }
 
-/// Refuses a file for what is noted of a run that is one of its texts.
+/// Refuses a file for a trace or profile that is one of the texts.
 fn spare<F: Files>(
     rt: &F,
     alloc: Global,
@@ -49,7 +49,11 @@ fn spare<F: Files>(
         return Ok(());
     };
     if texts.iter().any(|text| is_one_file(rt, path, text)) {
-        return Err(Failure::file_since(alloc, path, "this is one of the texts, and would be lost"));
+        return Err(Failure::file_since(
+            alloc,
+            path,
+            "this is one of the texts, so it can't be an output too",
+        ));
     }
     Ok(())
 }
@@ -61,14 +65,14 @@ fn spare_trace<F: Files>(rt: &F, alloc: Global, order: &WatchOrder<'_>) -> Resul
             Err(Failure::file_since(
                 alloc,
                 profile,
-                "the trace and the profile can't be one file",
+                "the trace and the profile can't be the same file",
             ))
         }
         _ => Ok(()),
     }
 }
 
-/// Refuses files for what is noted of a run that are one of its texts, or one file.
+/// Refuses files for trace and profile that are one of the texts or the same file.
 pub fn spare_texts<F: Files>(rt: &F, alloc: Global, order: &RunOrder<'_>) -> Result<(), Failure> {
     spare(rt, alloc, order.watch.trace, order.texts.as_slice())?;
     spare(rt, alloc, order.watch.profile, order.texts.as_slice())?;
@@ -90,14 +94,14 @@ fn begun<W: Write + Drop, F: Files<File = W>>(
     }
 }
 
-/// Leaves a file as it was, if it was begun.
+/// Leaves a file that was begun as it was before.
 fn abandon<W: Write + Drop, F: Files<File = W>>(rt: &F, written: Option<Written<W>>) {
     if let Some(written) = written {
         written.abandon(rt);
     }
 }
 
-/// Ends a file of this path, unless it has a failure.
+/// Completes the file with this path, unless writing it failed.
 fn end<W: Write + Drop, F: Files<File = W>>(
     rt: &F,
     alloc: Global,
@@ -114,7 +118,7 @@ fn end<W: Write + Drop, F: Files<File = W>>(
     }
 }
 
-/// Ends the trace, if there is one, unless a line of it could not be written.
+/// Completes the trace, if there is one, unless one of its lines could not be written.
 fn end_trace<W: Write + Drop, F: Files<File = W>>(
     rt: &F,
     alloc: Global,
@@ -154,7 +158,7 @@ fn end_profile<W: Write + Drop, F: Files<File = W>>(
 }
 
 impl<W: Write + Drop> Notes<W> {
-    /// Begins the files that are asked for.
+    /// Begins the files that are ordered.
     pub fn begin<F: Files<File = W>>(
         rt: &F,
         alloc: Global,
@@ -170,7 +174,7 @@ impl<W: Write + Drop> Notes<W> {
         }
     }
 
-    /// Ends the files, unless a line of the trace could not be written.
+    /// Completes the files, unless a line of the trace could not be written.
     pub fn finish<F: Files<File = W>>(
         self,
         rt: &F,

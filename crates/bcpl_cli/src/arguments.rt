@@ -1,4 +1,4 @@
-//! The words of the command line.
+//! The orders that a command line can give, and the reading of its arguments into one.
 
 ghost use Rattle.std.specs.Prelude.{◌≡◌};
 ghost use Rattle.bcpl_cli.specs.declared.arguments.BadWords.TheVariants as bad_words;
@@ -9,29 +9,30 @@ use crate::reading::Reading;
 use clap::{ArgMatches, Error};
 use std::alloc::{AllocError, Global};
 
-/// A stream's name and the path of its file.
+/// A stream or a GET name, with the path of its file.
 #[derive(Clone, Copy)]
 pub struct Binding<'a> {
     pub name: &'a str,
     pub path: &'a str,
 }
 
-/// What is noted of a run.
+/// What `run` records about a run.
 #[derive(Clone, Copy)]
 pub struct WatchOrder<'a> {
-    /// The file that the trace goes to, if it is wanted.
+    /// The file for the trace, if any.
     pub trace: Option<&'a str>,
-    /// The first instruction of the trace, counted from 1 on.
+    /// The first instruction of the trace, counted from 1.
     pub from: u64,
-    /// How many instructions are traced.
+    /// The number of instructions to trace.
     pub count: u64,
-    /// The file that the profile goes to, if it is wanted.
+    /// The file for the profile, if any.
     pub profile: Option<&'a str>,
 }
 
-/// What `run` is to do.
+/// The arguments of `run`.
 #[derive(Drop)]
 pub struct RunOrder<'a> {
+    /// The limit on instructions.
     pub steps: u64,
     pub watch: WatchOrder<'a>,
     pub inputs: Vec<Binding<'a>>,
@@ -40,30 +41,30 @@ pub struct RunOrder<'a> {
     pub places: Places,
 }
 
-/// What `asm` is to do.
+/// The arguments of `asm`.
 #[derive(Drop)]
 pub struct AssembleOrder<'a> {
     pub texts: Vec<&'a str>,
     pub places: Places,
 }
 
-/// When the place of a refusal is told after its first line.
+/// When a refusal is explained after its first line.
 #[derive(Clone, Copy)]
 pub enum Places {
     /// Always.
     Always,
-    /// Where standard error is a terminal.
+    /// If standard error is a terminal.
     OnTerminal,
     /// Never.
     Never,
 }
 
-/// Which library stands before a program's files.
+/// Which library precedes the files of a program.
 #[derive(Clone, Copy)]
 pub enum Library {
     /// LIBHDR and BLIB.
     Basic,
-    /// EXTHDR and EXTLIB too.
+    /// EXTHDR and EXTLIB as well.
     Further,
 }
 
@@ -71,120 +72,124 @@ pub enum Library {
 #[derive(Drop)]
 pub struct Sources<'a> {
     pub library: Library,
-    /// The files that sources get by name.
+    /// The files for GET, by name.
     pub gets: Vec<Binding<'a>>,
-    /// The sources that become a segment each.
+    /// The sources, each of which becomes a segment.
     pub files: Vec<&'a str>,
 }
 
-/// What `build` is to do.
+/// The arguments of `build`.
 #[derive(Drop)]
 pub struct BuildOrder<'a> {
-    /// The file that the segments' text goes to.
+    /// The file for the text of the segments.
     pub out: &'a str,
-    /// The file that the certificate goes to, if it is wanted.
+    /// The file for the certificate, if any.
     pub certificate: Option<&'a str>,
     pub sources: Sources<'a>,
     pub places: Places,
-    /// Whether to warn of what is lawful and likely wrong.
+    /// Whether to warn about valid code that is probably a mistake.
     pub warns: bool,
 }
 
-/// What `interpret` is to do.
+/// The arguments of `interpret`.
 #[derive(Drop)]
 pub struct InterpretOrder<'a> {
-    /// The most turns of the run.
+    /// The number of turns after which the run is cut off.
     pub turns: u64,
     pub sources: Sources<'a>,
     pub inputs: Vec<Binding<'a>>,
     pub outputs: Vec<Binding<'a>>,
     pub places: Places,
-    /// Whether to warn of what is lawful and likely wrong.
+    /// Whether to warn about valid code that is probably a mistake.
     pub warns: bool,
 }
 
 /// What `show` lists.
 #[derive(Clone, Copy)]
 pub enum Listing {
+    /// The tokens of the source.
     Tokens,
+    /// The tree, in canonical layout.
     Tree,
+    /// The meaning of names.
     Scopes,
+    /// The source lines with their code.
     Code,
 }
 
-/// What `show` is to do.
+/// The arguments of `show`.
 #[derive(Drop)]
 pub struct ShowOrder<'a> {
     pub listing: Listing,
-    /// The library, the files that sources get by name, and the one source that is listed.
+    /// The library, the files for GET, and the one source to list.
     pub sources: Sources<'a>,
     pub places: Places,
 }
 
-/// What `list` is to do.
+/// The arguments of `list`.
 #[derive(Drop)]
 pub struct ListOrder<'a> {
-    /// The file of the texts' certificate, if it is given.
+    /// The file with the certificate of the texts, if any.
     pub certificate: Option<&'a str>,
     pub texts: Vec<&'a str>,
     pub places: Places,
 }
 
-/// What `explain` is to do.
+/// The arguments of `explain`.
 #[derive(Drop)]
 pub struct ExplainOrder<'a> {
-    /// The file that the report goes to; standard output, where there is none.
+    /// The file for the report, or `None` for standard output.
     pub out: Option<&'a str>,
     pub sources: Sources<'a>,
     pub places: Places,
 }
 
-/// What `check` is to do.
+/// The arguments of `check`.
 #[derive(Drop)]
 pub struct CheckOrder<'a> {
     pub certificate: &'a str,
-    /// The texts that the certificate is to be about.
+    /// The texts that must contain the certified code.
     pub texts: Vec<&'a str>,
     pub places: Places,
 }
 
-/// What the words ask for.
+/// What a command line orders.
 #[derive(Drop)]
 pub enum Order<'a> {
-    /// To run the text on standard input: there were no words.
+    /// Run the text on standard input: there are no arguments.
     RunInput,
-    /// To build a program.
+    /// Build a program.
     Build(BuildOrder<'a>),
-    /// To list what the compiler sees in a source.
+    /// List what the compiler sees in a source.
     Show(ShowOrder<'a>),
-    /// To report why the code of sources is of least size.
+    /// Explain why the code of the sources is as short as possible.
     Explain(ExplainOrder<'a>),
-    /// To list the image of texts.
+    /// List the image of texts.
     List(ListOrder<'a>),
-    /// To print the words that texts become.
+    /// Print the words of the image of texts.
     Assemble(AssembleOrder<'a>),
-    /// To run texts.
+    /// Run texts.
     Run(RunOrder<'a>),
-    /// To run sources by what they mean.
+    /// Run sources by their meaning.
     Interpret(InterpretOrder<'a>),
-    /// To check a certificate.
+    /// Check a certificate.
     Check(CheckOrder<'a>),
-    /// To convert old sources.
+    /// Convert old sources.
     Convert(ConvertOrder<'a>),
 }
 
-/// Why the words ask for nothing.
+/// Why a command line is invalid.
 #[derive(Drop)]
 pub enum BadWords<'a> {
-    /// What the reader of the words says, which may be help that was asked for.
+    /// A message of the argument parser, which may be help that was requested.
     Said(Error),
-    /// This word is none that its option takes.
+    /// An option, a binding or the listing of `show` has an invalid value.
     Option {
         word: &'a str,
-        /// What the option takes.
+        /// What the option accepts.
         takes: &'static str,
     },
-    /// An allocation was refused.
+    /// An allocation failed.
     Memory,
 }
 
@@ -196,31 +201,31 @@ impl From<AllocError> for BadWords<'_> {
     }
 }
 
-/// What each option takes whose words are judged here.
-const PLACES_TAKES: &str = "--places takes always, never or auto, as in --places always";
+/// What the options accept whose values are checked here, and not by the argument parser.
+const PLACES_TAKES: &str = "--places takes always, never or auto, for example --places always";
 
 const LIBRARY_TAKES: &str =
-    "--library takes ext, the further library; without the option there is LIBHDR alone";
+    "--library takes ext, the further library EXTLIB; without this option only BLIB is linked";
 
 const LISTING_TAKES: &str =
-    "show lists tokens, tree, scopes or code, as in bcpl show code hello.bcpl";
+    "show lists tokens, tree, scopes or code, for example bcpl show code hello.bcpl";
 
 const GET_TAKES: &str =
-    "--get takes NAME=PATH: the name that stands behind GET, and the file's path, as in --get defs=defs.bcpl";
+    "--get takes NAME=PATH, the name after GET and the path of the file, for example --get defs=defs.bcpl";
 
 const IN_TAKES: &str =
-    "--in takes NAME=PATH: the stream's name and the file's path, as in --in DATA=data.txt";
+    "--in takes NAME=PATH, the name of the stream and the path of the file, for example --in DATA=data.txt";
 
 const TO_TAKES: &str =
-    "--to takes NAME=PATH: the stream's name and the file's path, as in --to LIST=list.txt";
+    "--to takes NAME=PATH, the name of the stream and the path of the file, for example --to LIST=list.txt";
 
-/// How many instructions are traced, where the words don't say.
+/// The default number of instructions to trace.
 const DEFAULT_COUNT: u64 = 1_000;
 
-/// The most turns of a run by the meaning, where the words don't say.
+/// The default limit on the turns of `interpret`.
 const DEFAULT_TURNS: u64 = 100_000_000;
 
-/// When places are told, by the words; a word that is none of the three asks for nothing.
+/// The value of `--places`. An invalid value is noted in `reading`.
 pub(crate) fn when_told(reading: &mut Reading<'_, '_>) -> Places {
     match reading.word("places") {
         None | Some("auto") => {}
@@ -231,7 +236,7 @@ pub(crate) fn when_told(reading: &mut Reading<'_, '_>) -> Places {
     Places::OnTerminal
 }
 
-/// Which library the words want; a word that is none asks for nothing.
+/// The value of `--library`. An invalid value is noted in `reading`.
 fn library_of(reading: &mut Reading<'_, '_>) -> Library {
     match reading.word("library") {
         None => {}
@@ -241,7 +246,7 @@ fn library_of(reading: &mut Reading<'_, '_>) -> Library {
     Library::Basic
 }
 
-/// What is to be listed; a word that is no listing's asks for nothing.
+/// The listing that `show` is to print. An invalid one is noted in `reading`.
 fn listing_of(reading: &mut Reading<'_, '_>) -> Listing {
     match reading.word("LISTING") {
         Some("tokens") => {}
@@ -253,7 +258,7 @@ fn listing_of(reading: &mut Reading<'_, '_>) -> Listing {
     Listing::Tokens
 }
 
-/// The sources that the words name.
+/// The sources that the arguments name.
 fn sources_of<'a>(reading: &mut Reading<'_, 'a>) -> Sources<'a> {
     Sources {
         library: library_of(reading),
@@ -262,7 +267,7 @@ fn sources_of<'a>(reading: &mut Reading<'_, 'a>) -> Sources<'a> {
     }
 }
 
-/// What the words after `interpret` ask for.
+/// Reads the arguments of `interpret`.
 fn interpret_order<'a>(reading: &mut Reading<'_, 'a>) -> InterpretOrder<'a> {
     InterpretOrder {
         turns: reading.number("turns", DEFAULT_TURNS),
@@ -274,7 +279,7 @@ fn interpret_order<'a>(reading: &mut Reading<'_, 'a>) -> InterpretOrder<'a> {
     }
 }
 
-/// What the words after `run` say of what is noted.
+/// Reads the options of `run` that ask for a trace or a profile.
 fn watch_order<'a>(reading: &Reading<'_, 'a>) -> WatchOrder<'a> {
     WatchOrder {
         trace: reading.word("trace"),
@@ -284,7 +289,7 @@ fn watch_order<'a>(reading: &Reading<'_, 'a>) -> WatchOrder<'a> {
     }
 }
 
-/// What the words after `run` ask for.
+/// Reads the arguments of `run`.
 fn run_order<'a>(reading: &mut Reading<'_, 'a>) -> RunOrder<'a> {
     RunOrder {
         steps: reading.number("steps", 0),
@@ -296,7 +301,7 @@ fn run_order<'a>(reading: &mut Reading<'_, 'a>) -> RunOrder<'a> {
     }
 }
 
-/// What the words after `asm` ask for.
+/// Reads the arguments of `asm`.
 fn assemble_order<'a>(reading: &mut Reading<'_, 'a>) -> AssembleOrder<'a> {
     AssembleOrder {
         texts: reading.words("TEXT"),
@@ -304,7 +309,7 @@ fn assemble_order<'a>(reading: &mut Reading<'_, 'a>) -> AssembleOrder<'a> {
     }
 }
 
-/// What the words after `build` ask for.
+/// Reads the arguments of `build`.
 fn build_order<'a>(reading: &mut Reading<'_, 'a>) -> BuildOrder<'a> {
     BuildOrder {
         out: reading.word("out").unwrap_or(""),
@@ -315,7 +320,7 @@ fn build_order<'a>(reading: &mut Reading<'_, 'a>) -> BuildOrder<'a> {
     }
 }
 
-/// What the words after `show` ask for.
+/// Reads the arguments of `show`.
 fn show_order<'a>(reading: &mut Reading<'_, 'a>) -> ShowOrder<'a> {
     ShowOrder {
         listing: listing_of(reading),
@@ -324,7 +329,7 @@ fn show_order<'a>(reading: &mut Reading<'_, 'a>) -> ShowOrder<'a> {
     }
 }
 
-/// What the words after `explain` ask for.
+/// Reads the arguments of `explain`.
 fn explain_order<'a>(reading: &mut Reading<'_, 'a>) -> ExplainOrder<'a> {
     ExplainOrder {
         out: reading.word("out"),
@@ -333,7 +338,7 @@ fn explain_order<'a>(reading: &mut Reading<'_, 'a>) -> ExplainOrder<'a> {
     }
 }
 
-/// What the words after `list` ask for.
+/// Reads the arguments of `list`.
 fn list_order<'a>(reading: &mut Reading<'_, 'a>) -> ListOrder<'a> {
     ListOrder {
         certificate: reading.word("cert"),
@@ -342,7 +347,7 @@ fn list_order<'a>(reading: &mut Reading<'_, 'a>) -> ListOrder<'a> {
     }
 }
 
-/// What the words after `check` ask for.
+/// Reads the arguments of `check`.
 fn check_order<'a>(reading: &mut Reading<'_, 'a>) -> CheckOrder<'a> {
     CheckOrder {
         certificate: reading.word("CERT").unwrap_or(""),
@@ -351,7 +356,7 @@ fn check_order<'a>(reading: &mut Reading<'_, 'a>) -> CheckOrder<'a> {
     }
 }
 
-/// What the words after this command ask for.
+/// Reads the arguments of the command with this name. The last case is `build`.
 fn order_of<'a>(command: &str, reading: &mut Reading<'_, 'a>) -> Order<'a> {
     match command {
         "asm" => Order::Assemble(assemble_order(reading)),
@@ -366,7 +371,7 @@ fn order_of<'a>(command: &str, reading: &mut Reading<'_, 'a>) -> Order<'a> {
     }
 }
 
-/// What the words of a command ask for that were found to be the program's.
+/// Reads a command line that the argument parser accepted.
 fn asked<'a>(alloc: Global, matches: &ArgMatches<'a>) -> Result<Order<'a>, BadWords<'a>> {
     let Some((command, matches)) = matches.subcommand() else {
         return Ok(Order::RunInput);
@@ -379,7 +384,12 @@ fn asked<'a>(alloc: Global, matches: &ArgMatches<'a>) -> Result<Order<'a>, BadWo
     }
 }
 
-/// What these words, without the program's name, ask for.
+/// Reads a command line, without the program's name.
+///
+/// # Errors
+///
+/// `BadWords::Said` if the argument parser rejects it or prints help, `BadWords::Option` if an option has an invalid
+/// value, and `BadWords::Memory` if an allocation fails.
 pub fn wanted<'a>(alloc: Global, words: &'a [&'a str]) -> Result<Order<'a>, BadWords<'a>> {
     if words.is_empty() {
         return Ok(Order::RunInput);

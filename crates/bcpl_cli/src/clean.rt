@@ -1,24 +1,24 @@
-//! What goes to a terminal, without the control bytes that could do anything there.
+//! A writer that keeps control characters from a terminal.
 
 use std::io;
 use std::io::Write;
 
-/// How many bytes go at once.
+/// The most bytes written at a time.
 const PIECE: usize = 256;
 
-/// The byte before a control character from 128 on in UTF-8.
+/// In UTF-8, the first byte of the control characters 128 to 159.
 const HIGH: u8 = 0xC2;
 
-/// A writer that, where it is a terminal, shows control bytes as `?`. Line breaks and tabs stay.
+/// A writer that, on a terminal, replaces control characters by `?`. Line feeds and tabs are kept.
 #[derive(Drop)]
 pub struct Clean<W: Write + Drop> {
     out: W,
     is_terminal: bool,
-    /// The byte that was written last.
+    /// The last byte written.
     last: u8,
 }
 
-/// What is shown for a byte after another one.
+/// The byte to write for `byte`, which follows `last`.
 fn shown(last: u8, byte: u8) -> u8 {
     let is_low = byte < b' ' && byte != b'\n' && byte != b'\t' || byte == 0x7F;
     let is_high = last == HIGH && (0x80..0xA0).contains(&byte);
@@ -26,7 +26,7 @@ fn shown(last: u8, byte: u8) -> u8 {
 }
 
 impl<W: Write + Drop> Clean<W> {
-    /// Of this writer, which is a terminal or not.
+    /// Wraps `out`. If `is_terminal` is false, all bytes pass unchanged.
     pub fn new(out: W, is_terminal: bool) -> Clean<W> {
         Clean {
             out,

@@ -1,98 +1,101 @@
-//! The program's commands, with their arguments and help.
+//! The table of commands: their arguments, options and help texts.
 
 use crate::grammar::{Argument, Described, Form, Rule, with_commands};
 use crate::version::VERSION;
 use clap::Command;
 use std::alloc::{AllocError, Global};
 
-/// The option that says when places are told.
+/// When explanations of a refusal are printed.
 const PLACES: Argument = Argument {
     name: "places",
     form: Form::Option("WHEN"),
     rule: Rule::Free,
-    help: "Tell the place of a refusal and what to do: always, never, or auto, which is on a terminal",
+    help: "Explain refusals after their first line: always, never or auto (on a terminal) [default: auto]",
 };
 
-/// The option that puts a further library before the files.
+/// A further library, compiled after BLIB and before the files.
 const LIBRARY: Argument = Argument {
     name: "library",
     form: Form::Option("LIBRARY"),
     rule: Rule::Free,
-    help: "A further library in front of the files: ext, which has EXTHDR and EXTLIB",
+    help: "Also link this library: ext (EXTLIB, declared by EXTHDR)",
 };
 
-/// The option that names a file for GET.
+/// A file for GET.
 const GET: Argument = Argument {
     name: "get",
     form: Form::Repeated("NAME=PATH"),
     rule: Rule::Free,
-    help: "A file that sources get by GET \"NAME\"; LIBHDR is the library's own always",
+    help: "Use file PATH for GET \"NAME\" (LIBHDR is always the built-in header)",
 };
 
-/// The options that name further streams.
+/// A further input stream.
 const IN: Argument = Argument {
     name: "in",
     form: Form::Repeated("NAME=PATH"),
     rule: Rule::Free,
-    help: "A further input: the file PATH, under the name NAME",
+    help: "Attach file PATH as the input stream NAME",
 };
 
+/// A further output stream.
 const TO: Argument = Argument {
     name: "to",
     form: Form::Repeated("NAME=PATH"),
     rule: Rule::Free,
-    help: "A further output: the file PATH, under the name NAME",
+    help: "Attach file PATH as the output stream NAME",
 };
 
-/// The sources, of which there is at least one.
+/// One or more sources.
 const FILES: Argument = Argument {
     name: "FILE",
     form: Form::Words("FILE", 1),
     rule: Rule::Required,
-    help: "The sources, a section each",
+    help: "BCPL source files, one section each",
 };
 
-/// The texts, of which there is at least one.
+/// One or more texts.
 const TEXTS: Argument = Argument {
     name: "TEXT",
     form: Form::Words("TEXT", 1),
     rule: Rule::Required,
-    help: "The INTCODE texts, linked in their order",
+    help: "INTCODE text files, linked in this order",
 };
 
+/// Suppresses warnings.
 const NO_WARNINGS: Argument = Argument {
     name: "no-warnings",
     form: Form::Flag,
     rule: Rule::Free,
-    help: "Don't warn of what is lawful and likely wrong",
+    help: "Don't warn about valid code that is probably a mistake",
 };
 
 const BUILD: Described = Described {
     name: "build",
-    about: "Compiles BCPL sources to INTCODE text, with a certificate that their code is of least size",
-    more: "Each FILE is a section and becomes a segment; the library BLIB stands in front of them as the first segment,\n\
-           and GET \"LIBHDR\" declares what it has. With --library ext the library EXTLIB stands behind it, and\n\
-           GET \"EXTHDR\" declares what both have. Behind `ok` are printed the numbers of segments and of entries of the\n\
-           certificate, and the address at which the stack begins.\n\n\
+    about: "Compiles BCPL sources to INTCODE text and certifies that the code is as short as possible",
+    more: "Each FILE is one section and becomes one segment. The library BLIB is compiled first, as the first segment;\n\
+           sources declare it with GET \"LIBHDR\". With --library ext, EXTLIB follows it; GET \"EXTHDR\" declares both.\n\n\
+           On success, prints `ok`, the number of segments, the number of certificate entries, and the address at which\n\
+           the stack begins.\n\n\
+           Exit status: 0 success, 1 refused, 3 invalid arguments.\n\n\
            Example:\n  bcpl build --out hello.int --cert hello.cert hello.bcpl",
     arguments: &[
         Argument {
             name: "out",
             form: Form::Lettered("OUT", 'o'),
             rule: Rule::Required,
-            help: "The file that the INTCODE text goes to",
+            help: "Write the INTCODE text to this file",
         },
         Argument {
             name: "cert",
             form: Form::Option("CERT"),
             rule: Rule::Free,
-            help: "The file that the certificate of least size goes to",
+            help: "Write the certificate to this file",
         },
         Argument {
             name: "get",
             form: Form::Repeated("NAME=PATH"),
             rule: Rule::Free,
-            help: "A file that sources get by GET \"NAME\"; the first source of a name counts, so LIBHDR is the library's own always",
+            help: "Use file PATH for GET \"NAME\" (the first source of a name counts, and LIBHDR is always the built-in header)",
         },
         LIBRARY,
         PLACES,
@@ -103,19 +106,20 @@ const BUILD: Described = Described {
 
 const SHOW: Described = Described {
     name: "show",
-    about: "Lists what the compiler makes of a source: its tokens, its tree, its scopes, or its code",
-    more: "tokens: each token with its line and column, and where a line break stands for a semicolon.\n\
-           tree:   the section laid out in its canonical spelling, which builds to the same code.\n\
-           scopes: the frame of each routine; statics, tables and strings; globals, and what sets them.\n\
-           code:   each line of the source, and below it its INTCODE with the words and rules of each root; without\n\
-           \x20       its comments it is the file's segment.\n\n\
+    about: "Lists the tokens, the syntax tree, the scopes or the code of a source",
+    more: "tokens: each token with its line and column, and the line breaks that count as semicolons\n\
+           tree:   the section in canonical layout, which compiles to the same code\n\
+           scopes: the frame of each routine; statics, tables and strings; globals and what sets them\n\
+           code:   each source line followed by its INTCODE, with the size and rules of each expression; without its\n\
+           \x20       comments, the listing is the file's segment\n\n\
+           Exit status: 0 success, 1 refused, 3 invalid arguments.\n\n\
            Example:\n  bcpl show code hello.bcpl",
     arguments: &[
         Argument {
             name: "LISTING",
             form: Form::Word("LISTING"),
             rule: Rule::Required,
-            help: "tokens, tree, scopes or code",
+            help: "What to list: tokens, tree, scopes or code",
         },
         GET,
         LIBRARY,
@@ -124,25 +128,26 @@ const SHOW: Described = Described {
             name: "FILE",
             form: Form::Word("FILE"),
             rule: Rule::Required,
-            help: "The source",
+            help: "The BCPL source file",
         },
     ],
 };
 
 const EXPLAIN: Described = Described {
     name: "explain",
-    about: "Reports, as a page of HTML, why no code of a source's expressions is shorter",
-    more: "Beside each line of each FILE stands its code. An expression, a test or an assignment opens: its tree, with the\n\
-           least words of each node as a value, as a second operand, to jump on false and on true; the rules that its code\n\
-           was made by; and all rules that apply, with the words that each would lead to. Behind that come the words by\n\
-           routine, the rules, and what is proved and was checked. The page needs nothing else.\n\n\
+    about: "Writes an HTML page that explains why no expression of a source has shorter code",
+    more: "The page shows each source line next to its code. Click an expression, a test or an assignment to see its tree,\n\
+           with the fewest words of each node as a value, as a second operand, and as a jump on false or on true; the\n\
+           rules that produced its code; and every rule that applies, with the size it would lead to. Tables of sizes by\n\
+           routine, of rules, and of what is proved and checked follow. The page is self-contained.\n\n\
+           Exit status: 0 success, 1 refused, 3 invalid arguments.\n\n\
            Example:\n  bcpl explain --out hello.html hello.bcpl",
     arguments: &[
         Argument {
             name: "out",
             form: Form::Lettered("REPORT", 'o'),
             rule: Rule::Free,
-            help: "The file that the page goes to; without it, standard output, where that is no terminal",
+            help: "Write the page to this file [default: standard output, unless that is a terminal]",
         },
         GET,
         LIBRARY,
@@ -153,17 +158,18 @@ const EXPLAIN: Described = Described {
 
 const LIST: Described = Described {
     name: "list",
-    about: "Links INTCODE texts behind the primitives and lists the image, word by word",
-    more: "Each word from the boot on has a line: its address, the word, and the item that it is of. A label has a line of its\n\
-           own, with the global that it is of and what jumps to it; strings and tables are told. With --cert each expression,\n\
-           test and assignment that the certificate lists is marked where it begins.\n\n\
+    about: "Links INTCODE texts after the primitives and lists the image word by word",
+    more: "Lists each word, beginning with the boot code: its address, its value, and its INTCODE item. Each label has a\n\
+           separate line with its global and the jumps to it; strings and tables are shown as such. With --cert, the\n\
+           listing marks where each expression, test and assignment of the certificate begins.\n\n\
+           Exit status: 0 success, 1 refused, 3 invalid arguments.\n\n\
            Example:\n  bcpl list --cert hello.cert hello.int",
     arguments: &[
         Argument {
             name: "cert",
             form: Form::Option("CERT"),
             rule: Rule::Free,
-            help: "The certificate of the texts, which is checked first",
+            help: "Check this certificate of the texts first, and mark its entries",
         },
         PLACES,
         TEXTS,
@@ -172,17 +178,21 @@ const LIST: Described = Described {
 
 const ASSEMBLE: Described = Described {
     name: "asm",
-    about: "Links INTCODE texts behind the primitives and prints the words of the store",
-    more: "The words from address 0 up to the stack base are printed, one a line, in decimal.\n\nExample:\n  bcpl asm hello.int",
+    about: "Links INTCODE texts after the primitives and prints the words of the store",
+    more: "Prints the words from address 0 up to the base of the stack, one per line, in decimal.\n\n\
+           Exit status: 0 success, 1 refused, 3 invalid arguments.\n\n\
+           Example:\n  bcpl asm hello.int",
     arguments: &[PLACES, TEXTS],
 };
 
 const RUN: Described = Described {
     name: "run",
-    about: "Links INTCODE texts behind the primitives and runs them",
-    more: "Input 1 is standard input, under the name SYSIN; output 1 is standard output, under the name SYSPRINT.\n\
-           A run that ends otherwise than by finishing is told on standard error, with status 2.\n\n\
-           With --trace or --profile the run is the same, and slower: what is noted goes to files, also where it doesn't finish.\n\n\
+    about: "Links INTCODE texts after the primitives and runs them",
+    more: "Input 1 is standard input, named SYSIN; output 1 is standard output, named SYSPRINT.\n\n\
+           With --trace or --profile the run does the same, only slower; these files are written even if the run does\n\
+           not finish.\n\n\
+           Exit status: 0 the program finished, 1 refused, 2 the run ended in another way (reported on standard error),\n\
+           3 invalid arguments.\n\n\
            Examples:\n  bcpl run --steps 1000000 --in DATA=data.txt hello.int\n\
            \x20 bcpl run --steps 1000000 --trace hello.trace --from 100 --count 20 --profile hello.profile hello.int",
     arguments: &[
@@ -190,7 +200,7 @@ const RUN: Described = Described {
             name: "steps",
             form: Form::Number("N"),
             rule: Rule::Required,
-            help: "The most instructions that are carried out",
+            help: "Stop after N instructions",
         },
         IN,
         TO,
@@ -200,44 +210,45 @@ const RUN: Described = Described {
             name: "trace",
             form: Form::Option("FILE"),
             rule: Rule::Free,
-            help: "A file that gets a line for each instruction: the registers behind it, and what it wrote",
+            help: "Write a line for each instruction to this file: the registers after it, and what it wrote",
         },
         Argument {
             name: "from",
             form: Form::Number("N"),
             rule: Rule::With("trace"),
-            help: "The first instruction that is traced, counted from 1 on; without it the first one",
+            help: "Start the trace at instruction N, counted from 1 [default: 1]",
         },
         Argument {
             name: "count",
             form: Form::Number("M"),
             rule: Rule::With("trace"),
-            help: "How many instructions are traced; without it 1,000",
+            help: "Trace M instructions [default: 1000]",
         },
         Argument {
             name: "profile",
             form: Form::Option("FILE"),
             rule: Rule::Free,
-            help: "A file that gets how often each instruction was carried out, and the ten hottest routines",
+            help: "Write to this file how often each instruction ran, and the ten hottest routines",
         },
     ],
 };
 
 const INTERPRET: Described = Described {
     name: "interpret",
-    about: "Runs BCPL sources by what they mean, and tells the first access to a cell that isn't there",
-    more: "The sources are built as by `build`, and run without their code. Where this run ends, `run` does the same with the\n\
-           built text: that is a theorem. Where it meets a wild cell (one that was never set is read, one that isn't there is\n\
-           read or written, or what is no routine is called), it stops and tells which, and where: on a terminal or not, unless\n\
-           --places never stands there.\n\n\
-           A turn is a call, a GOTO, or a loop's way back. Streams are as for `run`.\n\n\
+    about: "Runs BCPL sources by their meaning and reports the first wild cell",
+    more: "Compiles the sources as `build` does, then runs their meaning instead of their code. If this run ends, `run` does\n\
+           the same with the built text: that is a theorem. The run stops at the first wild cell: reading a\n\
+           cell that was never set, reading or writing a cell that does not exist, or calling something that is not a\n\
+           routine. What happened and where is printed unless --places never is given, on a terminal or not.\n\n\
+           A turn is a call, a GOTO, or one jump back in a loop. Streams work as in `run`.\n\n\
+           Exit status: 0 the program finished, 1 refused, 2 the run ended in another way, 3 invalid arguments.\n\n\
            Example:\n  bcpl interpret hello.bcpl",
     arguments: &[
         Argument {
             name: "turns",
             form: Form::Number("N"),
             rule: Rule::Free,
-            help: "The most turns that are taken; without it 100,000,000",
+            help: "Stop after N turns [default: 100000000]",
         },
         LIBRARY,
         GET,
@@ -251,9 +262,10 @@ const INTERPRET: Described = Described {
 
 const CHECK: Described = Described {
     name: "check",
-    about: "Checks a certificate of least size, and that texts have the code that it lists",
-    more: "A yes says of each expression, test and assignment of the certificate that no derivation from the rule table\n\
-           has fewer words. Behind `ok` are printed the number of entries and the sum of their words.\n\n\
+    about: "Checks a certificate of least size, and compares it with INTCODE texts",
+    more: "If the certificate is accepted, no derivation from the rule table needs fewer words, for any expression, test\n\
+           or assignment in it. Prints `ok`, the number of entries, and the sum of their words.\n\n\
+           Exit status: 0 accepted, 1 refused, 3 invalid arguments.\n\n\
            Example:\n  bcpl check hello.cert hello.int",
     arguments: &[
         PLACES,
@@ -261,25 +273,26 @@ const CHECK: Described = Described {
             name: "CERT",
             form: Form::Word("CERT"),
             rule: Rule::Required,
-            help: "The certificate",
+            help: "The certificate file",
         },
         Argument {
             name: "TEXT",
             form: Form::Words("TEXT", 0),
             rule: Rule::Free,
-            help: "The INTCODE texts that it is to be about",
+            help: "INTCODE text files that must contain the certified code",
         },
     ],
 };
 
 const CONVERT: Described = Described {
     name: "convert",
-    about: "Writes sources in an old dialect of BCPL in this one",
-    more: "Only what differs is replaced: comments and layout stay, and a source in this dialect comes back as it is.\n\
-           What can't be converted is told, all of it at once, with what to do by hand; the rest is converted all the\n\
-           same, and the status is 1. Several FILEs, headers among them, are taken for one program: where one of them\n\
-           needs EXTHDR, those that get the library's header get it. In OLD each line has a name of the library that the\n\
-           sources were written for, and behind blanks the name that it has here.\n\n\
+    about: "Converts sources from an older dialect of BCPL to this one",
+    more: "Replaces only what differs: comments and layout stay, and a source in this dialect is unchanged. Reports\n\
+           everything that can't be converted, each with what to do by hand; the rest is converted anyway.\n\n\
+           Several FILEs, headers included, are treated as one program: if one of them needs EXTHDR, every file that gets\n\
+           the library's header gets EXTHDR. Each line of OLD has a name from the library that the sources were written\n\
+           for, blanks, and its name in this library.\n\n\
+           Exit status: 0 all converted, 1 refused or something is left to do by hand, 3 invalid arguments.\n\n\
            Examples:\n  bcpl convert --out queens.bcpl queens.old\n\
            \x20 bcpl convert --in-place header main.bcpl tables.bcpl",
     arguments: &[
@@ -287,77 +300,81 @@ const CONVERT: Described = Described {
             name: "FILE",
             form: Form::Word("FILE"),
             rule: Rule::Required,
-            help: "The old source",
+            help: "The source file to convert",
         },
         Argument {
             name: "FURTHER",
             form: Form::Words("FILE", 0),
             rule: Rule::With("PLACE"),
-            help: "Further sources of its program, which want --in-place or --out-dir",
+            help: "Further files of the same program; requires --in-place or --out-dir",
         },
         Argument {
             name: "out",
             form: Form::Lettered("OUT", 'o'),
             rule: Rule::Without(&["in-place", "out-dir"]),
-            help: "The file that the source in this dialect goes to, in place of standard output",
+            help: "Write the result to this file instead of standard output",
         },
         Argument {
             name: "in-place",
             form: Form::Flag,
             rule: Rule::OneOf("PLACE"),
-            help: "Replace each FILE by what it becomes, and keep what it was as FILE.old",
+            help: "Overwrite each FILE with its result, and keep the original as FILE.old",
         },
         Argument {
             name: "out-dir",
             form: Form::Option("FOLDER"),
             rule: Rule::OneOf("PLACE"),
-            help: "The folder that what each FILE becomes goes to, under its name",
+            help: "Write the result of each FILE to this folder, under the same name",
         },
         Argument {
             name: "header",
             form: Form::Option("HEADER"),
             rule: Rule::Free,
-            help: "The header that sources get in place of the library's: libhdr or exthdr; without it, what they need",
+            help: "Make sources get this header: libhdr or exthdr [default: the one they need]",
         },
         Argument {
             name: "library",
             form: Form::Option("OLD"),
             rule: Rule::Free,
-            help: "A file with names of an old library, and what they are here",
+            help: "A file that maps names of an old library to names of this one",
         },
         PLACES,
     ],
 };
 
-/// The commands on sources, on texts, and the others. Help lists them in this order.
+/// The commands on sources. Help lists the three tables in this order.
 const ON_SOURCES: [Described; 3] = [BUILD, SHOW, EXPLAIN];
 
+/// The commands on texts.
 const ON_TEXTS: [Described; 3] = [LIST, ASSEMBLE, RUN];
 
+/// The other commands.
 const OTHERS: [Described; 3] = [INTERPRET, CHECK, CONVERT];
 
-/// The program with its commands on sources.
+/// Adds the commands on sources.
 fn on_sources<'a>(alloc: Global, program: Command<'a>) -> Result<Command<'a>, AllocError> {
     with_commands(alloc, program, &ON_SOURCES)
 }
 
-/// The program with its commands on texts.
+/// Adds the commands on texts.
 fn on_texts<'a>(alloc: Global, program: Command<'a>) -> Result<Command<'a>, AllocError> {
     with_commands(alloc, program, &ON_TEXTS)
 }
 
-/// The program with its other commands.
+/// Adds the other commands.
 fn others<'a>(alloc: Global, program: Command<'a>) -> Result<Command<'a>, AllocError> {
     with_commands(alloc, program, &OTHERS)
 }
 
-/// The program, as the reader of its words has it.
+/// The command-line parser for the program. Fails only if an allocation fails.
 pub fn program<'a>(alloc: Global) -> Result<Command<'a>, AllocError> {
     let program = Command::new(alloc, "bcpl")
-        .about("Compiles BCPL to INTCODE, and assembles, links and runs it")
+        .about("Compiles BCPL to INTCODE; assembles, links and runs INTCODE")
         .after_help(
-            "With no words at all, the INTCODE text on standard input is run for at most 1,000,000 instructions,\n\
-             with an empty input.\n\n\
+            "Without arguments, runs the INTCODE text on standard input for at most 1,000,000 instructions, with an empty\n\
+             input. `bcpl COMMAND --help` describes a command.\n\n\
+             Exit status: 0 success, 1 refused (with a line on standard error), 2 a run that ended in another way than\n\
+             by finishing, 3 invalid arguments.\n\n\
              Example:\n  bcpl build --out hello.int hello.bcpl\n  bcpl run --steps 1000000 hello.int",
         )
         .version(VERSION)

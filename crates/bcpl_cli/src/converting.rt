@@ -1,48 +1,48 @@
-//! The words after `convert`.
+//! The arguments of `convert`.
 
 use crate::arguments::{Places, when_told};
 use crate::reading::Reading;
 
-/// Where what sources become is to go.
+/// Where the results of `convert` go.
 #[derive(Clone, Copy)]
 pub enum ConvertTo<'a> {
     /// To standard output. There is one source.
     Standard,
-    /// To the file of this path. There is one source.
+    /// To the file with this path. There is one source.
     File(&'a str),
-    /// To files of the same names in the folder of this path.
+    /// To files of the same names in this folder.
     Folder(&'a str),
-    /// To the places of the sources themselves, which are kept beside them.
+    /// To the paths of the sources themselves. The originals are kept beside them.
     Source,
 }
 
-/// The header of the library that the words choose.
+/// Which header of the library the sources get.
 #[derive(Clone, Copy)]
 pub enum ConvertHeader {
     /// LIBHDR.
     Basic,
     /// EXTHDR.
     Further,
-    /// The one that the sources together need.
+    /// The one that the sources need together.
     Needed,
 }
 
-/// What `convert` is to do.
+/// The arguments of `convert`.
 #[derive(Drop)]
 pub struct ConvertOrder<'a> {
-    /// The files of the old sources, which are those of one program.
+    /// The files of the old sources, which belong to one program.
     pub files: Vec<&'a str>,
     pub to: ConvertTo<'a>,
-    /// The file of the names of an old library, if there is one.
+    /// The file that maps names of an old library, if any.
     pub library: Option<&'a str>,
     pub header: ConvertHeader,
     pub places: Places,
 }
 
-/// What the option takes.
-const HEADER_TAKES: &str = "--header takes libhdr or exthdr, as in --header exthdr";
+/// What `--header` accepts.
+const HEADER_TAKES: &str = "--header takes libhdr or exthdr, for example --header exthdr";
 
-/// Which header the words choose; a word that is none asks for nothing.
+/// The value of `--header`. An invalid value is noted in `reading`.
 fn header_of(reading: &mut Reading<'_, '_>) -> ConvertHeader {
     match reading.word("header") {
         None => {}
@@ -53,7 +53,7 @@ fn header_of(reading: &mut Reading<'_, '_>) -> ConvertHeader {
     ConvertHeader::Needed
 }
 
-/// Where what the sources become is to go.
+/// Where the results go.
 fn place_of<'a>(reading: &Reading<'_, 'a>) -> ConvertTo<'a> {
     match (reading.word("out"), reading.word("out-dir")) {
         (Some(path), _) => ConvertTo::File(path),
@@ -63,14 +63,14 @@ fn place_of<'a>(reading: &Reading<'_, 'a>) -> ConvertTo<'a> {
     }
 }
 
-/// The old sources: the first one, and the further ones.
+/// All source files, the first one and the others.
 fn files_of<'a>(reading: &mut Reading<'_, 'a>) -> Vec<&'a str> {
     let mut files = reading.words("FILE");
     reading.add_words(&mut files, "FURTHER");
     files
 }
 
-/// What the words after `convert` ask for.
+/// Reads the arguments of `convert`.
 pub fn convert_order<'a>(reading: &mut Reading<'_, 'a>) -> ConvertOrder<'a> {
     ConvertOrder {
         files: files_of(reading),

@@ -1,4 +1,4 @@
-//! What the program says where it does not do what it was asked for.
+//! Why a command failed: the first line of the message, further lines, and the exit status.
 
 ghost use Rattle.std.specs.Prelude.{◌≡◌};
 ghost use Rattle.bcpl_cli.specs.Statuses.{cause_status, untold};
@@ -17,66 +17,66 @@ use bc_word::Memory;
 use std::alloc::{AllocError, AllocFailed, Global};
 use std::{fmt, io};
 
-/// A wild access, with the address of the cell or the value that was called.
+/// An access that makes a run wild.
 #[derive(Clone, Copy)]
 pub enum Wild {
-    /// A cell was read that was never set.
+    /// A cell was read that was never set, at this address.
     Unset(u16),
-    /// A cell was read that isn't there.
+    /// A cell was read that does not exist, at this address.
     Dead(u16),
-    /// A cell was to be written that isn't there.
+    /// A cell was to be written that does not exist, at this address.
     NoCell(u16),
-    /// What was called is no routine.
+    /// The value that was called is not a routine.
     NotRoutine(u16),
-    /// A frame has no room.
+    /// A routine was called whose frame, beginning at this address, would pass the end of the store.
     FrameTooLarge(u64),
 }
 
-/// Why a command was not done. Its text is what stands after `bcpl: `.
+/// Why a command failed. Its `Display` text is what follows `bcpl: ` in the first line.
 #[derive(Drop)]
 pub struct Failure {
     pub cause: Cause,
-    /// Further lines for people, each ended by a line break.
+    /// Further lines of explanation, each ended by a line feed.
     pub told: Option<String>,
 }
 
-/// What kept a command from being done.
+/// The cause of a failure.
 #[derive(Drop)]
 pub enum Cause {
     /// A text was refused.
     Text(TextError),
-    /// A program was not built.
+    /// A program was refused.
     Build(BuildError),
-    /// A certificate was not written, because memory ran out.
+    /// The certificate was not written because memory ran out.
     Certificate,
     /// A certificate was refused.
     Check(CheckFault),
-    /// Texts don't have the code of a certificate.
+    /// The texts do not contain the certified code.
     Against(Mismatch),
-    /// Segments were not linked.
+    /// The segments could not be linked.
     Link(LinkError),
     /// The streams of a run were refused.
     Streams(StreamsError),
-    /// The file of this path can't be opened, read or written, or is too large.
+    /// The file with this path can't be opened, read or written, is too large, or must not be overwritten.
     File(String),
-    /// A run ended otherwise than by finishing.
+    /// A run ended in another way than by finishing.
     Ended(End),
     /// A run by the meaning was cut off.
     TurnsSpent,
     /// A run by the meaning met a wild cell.
     Wild(Wild),
-    /// So many things in an old source can't be converted, and are to be done by hand.
+    /// This many things in an old source can't be converted automatically.
     ByHand(usize),
-    /// An allocation was refused.
+    /// An allocation failed.
     Memory,
 }
 
-/// What is said of a path that is empty, instead of a reason.
+/// What is printed for an empty path, instead of a reason.
 const NO_PATH: &str =
-    "the path of this file is empty: an option or a word that names a file has nothing in it\n";
+    "the path of this file is empty: an option or an argument that names a file is empty\n";
 
 impl Failure {
-    /// The failure of a cause of which nothing more is told.
+    /// A failure without further lines.
     pub fn new(cause: Cause) -> Failure
         ensures { result ≡ untold cause }
     {
@@ -93,7 +93,7 @@ impl Failure {
         }
     }
 
-    /// The failure of the file of this path, or of a standard stream of this name.
+    /// The failure of the file with this path, or of the standard stream with this name.
     pub fn file(alloc: Global, path: &str) -> Failure {
         match String::from_str(alloc, path) {
             Ok(path) => Failure::new(Cause::File(path)),
@@ -101,7 +101,7 @@ impl Failure {
         }
     }
 
-    /// That of the file of this path, with the reason.
+    /// The failure of the file with this path, for this reason.
     pub fn file_since(alloc: Global, path: &str, reason: &str) -> Failure {
         let told = if path.is_empty() {
             format!(in alloc; "{NO_PATH}")
@@ -114,7 +114,8 @@ impl Failure {
         }
     }
 
-    /// That of a call on the file of this path which failed so.
+    /// The failure of the file with this path after an I/O error. If that error is a failed allocation, the cause is
+    /// `Memory`.
     pub fn io(alloc: Global, error: &io::Error, path: &str) -> Failure {
         if error.kind() == io::ErrorKind::OutOfMemory {
             return Failure::new(Cause::Memory);
@@ -125,7 +126,7 @@ impl Failure {
         }
     }
 
-    /// The status that the program ends with.
+    /// The exit status of the program: 1 or 2.
     pub fn status(&self) -> u8
         ensures { result ≡ cause_status self.now.cause }
     {
@@ -135,7 +136,8 @@ impl Failure {
         }
     }
 
-    /// Whether the further lines are told wherever standard error goes: they are half of the answer.
+    /// Whether the further lines are always printed, even if standard error is no terminal: for these causes the
+    /// first line alone says too little.
     pub fn is_told_always(&self) -> bool {
         matches!(
             &self.cause,
@@ -143,7 +145,7 @@ impl Failure {
         )
     }
 
-    /// The further lines, each ended by a line break; none where nothing more is told.
+    /// The further lines, each ended by a line feed, or an empty string.
     pub fn told(&self) -> &str {
         match &self.told {
             Some(told) => told.as_str(),
@@ -200,6 +202,7 @@ impl From<StreamsError> for Failure {
     }
 }
 
+/// Prints how a run ended.
 fn write_end<W: fmt::Write>(f: &mut fmt::Formatter<W>, end: End) -> fmt::Result {
     match end {
         End::Finished => write!(f, "ended Finished"),
@@ -213,6 +216,7 @@ fn write_end<W: fmt::Write>(f: &mut fmt::Formatter<W>, end: End) -> fmt::Result 
     }
 }
 
+/// Prints a wild access.
 fn write_wild<W: fmt::Write>(f: &mut fmt::Formatter<W>, wild: Wild) -> fmt::Result {
     match wild {
         Wild::Unset(address) => write!(f, "wild 1 Unset {address}"),

@@ -1,46 +1,46 @@
-//! Commands with their arguments, as a table has them, and what the reader of the words makes of these.
+//! Tables of commands and their arguments, and their translation for the argument parser.
 
 use clap::{Arg, ArgAction, Command, value_parser};
 use std::alloc::{AllocError, Global};
 
-/// How an argument stands among the words, with what help calls its value. An option stands after `--` and its name.
+/// How an argument is written, with the name that help gives to its value. Options are written `--NAME`.
 #[derive(Clone, Copy)]
 pub enum Form {
-    /// A word by its place.
+    /// A positional argument.
     Word(&'static str),
-    /// Words by their place, at least so many.
+    /// Positional arguments, at least this many.
     Words(&'static str, usize),
-    /// An option that takes nothing.
+    /// An option without a value.
     Flag,
-    /// An option that takes a word.
+    /// An option with a value.
     Option(&'static str),
-    /// An option that takes a word, and has a letter too.
+    /// An option with a value, and a one-letter form.
     Lettered(&'static str, char),
-    /// An option that takes a word each time that it stands there.
+    /// An option with a value that may be repeated.
     Repeated(&'static str),
-    /// An option that takes a number.
+    /// An option with a number.
     Number(&'static str),
 }
 
-/// What holds for an argument beside others.
+/// How an argument depends on others.
 #[derive(Clone, Copy)]
 pub enum Rule {
-    /// It may stand there or not.
+    /// It is optional.
     Free,
-    /// It must stand there.
+    /// It is required.
     Required,
-    /// Where it stands, this argument or one of this group stands too.
+    /// It requires this argument, or one of this group.
     With(&'static str),
-    /// Where it stands, none of these stands.
+    /// It excludes all of these.
     Without(&'static [&'static str]),
-    /// Of this group one stands there at most.
+    /// It belongs to this group, at most one of which may be given.
     OneOf(&'static str),
 }
 
-/// An argument of a command.
+/// An argument or option of a command.
 #[derive(Clone, Copy)]
 pub struct Argument {
-    /// Its name, by which it is read.
+    /// The name under which it is read.
     pub name: &'static str,
     pub form: Form,
     pub rule: Rule,
@@ -52,22 +52,22 @@ pub struct Argument {
 pub struct Described {
     pub name: &'static str,
     pub about: &'static str,
-    /// What help says after the arguments.
+    /// The help after the list of arguments.
     pub more: &'static str,
     pub arguments: &'static [Argument],
 }
 
-/// An argument that adds its words to those before.
+/// An argument whose values accumulate.
 fn appending<'a>(arg: Arg<'a>, value: &'a str) -> Arg<'a> {
     arg.value_name(value).action(ArgAction::Append)
 }
 
-/// An argument that takes a number.
+/// An argument whose value is a number.
 fn numbered<'a>(arg: Arg<'a>, value: &'a str) -> Arg<'a> {
     arg.value_name(value).value_parser(value_parser!(u64))
 }
 
-/// An argument with its form, after its name.
+/// Gives an argument its form.
 fn formed<'a>(form: Form, arg: Arg<'a>) -> Arg<'a> {
     match form {
         Form::Word(value) | Form::Option(value) => arg.value_name(value),
@@ -79,7 +79,7 @@ fn formed<'a>(form: Form, arg: Arg<'a>) -> Arg<'a> {
     }
 }
 
-/// Whether an argument with this form is an option.
+/// Whether an argument of this form is an option.
 fn is_option(form: Form) -> bool {
     !matches!(form, Form::Word(_) | Form::Words(_, _))
 }
@@ -94,7 +94,7 @@ fn named<'a>(alloc: Global, argument: &Argument) -> Arg<'a> {
     }
 }
 
-/// An argument with its rule.
+/// Gives an argument its rule.
 fn ruled<'a>(rule: Rule, arg: Arg<'a>) -> Result<Arg<'a>, AllocError> {
     match rule {
         Rule::Free => Ok(arg),
@@ -105,13 +105,13 @@ fn ruled<'a>(rule: Rule, arg: Arg<'a>) -> Result<Arg<'a>, AllocError> {
     }
 }
 
-/// What the reader of the words makes of an argument.
+/// Translates an argument for the parser.
 fn arg_of<'a>(alloc: Global, argument: &Argument) -> Result<Arg<'a>, AllocError> {
     let arg = formed(argument.form, named(alloc, argument));
     ruled(argument.rule, arg)
 }
 
-/// What the reader of the words makes of a command.
+/// Translates a command for the parser.
 fn command_of<'a>(alloc: Global, described: &Described) -> Result<Command<'a>, AllocError> {
     let mut args = Vec::new(alloc);
     for argument in described.arguments {
@@ -124,7 +124,7 @@ fn command_of<'a>(alloc: Global, described: &Described) -> Result<Command<'a>, A
         .args(args)
 }
 
-/// A command with these below it.
+/// Adds the commands to `above`. Fails only if an allocation fails.
 pub fn with_commands<'a>(
     alloc: Global,
     above: Command<'a>,

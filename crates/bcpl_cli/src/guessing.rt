@@ -1,20 +1,20 @@
-//! What words that ask for nothing may have been meant for.
+//! Guesses what an invalid command line was meant to say.
 
 use crate::arguments::{BadWords, Places};
 use clap::error::ErrorKind;
 
-/// What words that ask for nothing lack.
+/// What is probably missing from an invalid command line.
 #[derive(Clone, Copy)]
 pub enum Guess<'a> {
-    /// A command: this word stands in its place.
+    /// A command: this argument is in its place.
     Command(&'a str),
     /// `--steps`, after `run` and with this text.
     Steps(&'a str),
     /// `--out`, after `build` and with this source.
     Out(&'a str),
-    /// `--out` before this text, which stands after a source.
+    /// `--out` before this text, which follows a source.
     OutOf { text: &'a str, source: &'a str },
-    /// A number in digits after this option.
+    /// Decimal digits as the number of this option.
     Digits(&'a str),
     /// A second dash before this option.
     Dash(&'a str),
@@ -23,15 +23,15 @@ pub enum Guess<'a> {
 /// The options that take a number.
 const NUMBERED: [&str; 4] = ["--steps", "--turns", "--from", "--count"];
 
-/// What the name of a source ends in.
+/// The usual ending of a source's file name.
 const SOURCE: &str = ".bcpl";
 
-/// Whether an option stands among the words that begins so.
+/// Whether an argument begins with this option.
 fn has_option(words: &[&str], option: &str) -> bool {
     words.iter().any(|word| word.starts_with(option))
 }
 
-/// The last word, if it is no option and not the first one.
+/// The last argument, if it is no option and not the first argument.
 fn last_file<'a>(words: &[&'a str]) -> Option<&'a str> {
     match words.last() {
         Some(word) if words.len() > 1 && !word.starts_with('-') => Some(word),
@@ -39,7 +39,7 @@ fn last_file<'a>(words: &[&'a str]) -> Option<&'a str> {
     }
 }
 
-/// The word before the last one, if it is a source's name and the last one is no source's.
+/// The argument before the last one, if it ends in `.bcpl` and the last one does not.
 fn source_before<'a>(words: &[&'a str], last: &str) -> Option<&'a str> {
     let (_, front) = words.split_last()?;
     match front.last() {
@@ -48,7 +48,7 @@ fn source_before<'a>(words: &[&'a str], last: &str) -> Option<&'a str> {
     }
 }
 
-/// What a `build` of this last file lacks, which has no `--out`.
+/// What a `build` without `--out` is missing, if `file` is its last argument.
 fn out_for<'a>(words: &[&'a str], file: &'a str) -> Guess<'a> {
     match source_before(words, file) {
         Some(source) => Guess::OutOf { text: file, source },
@@ -56,7 +56,7 @@ fn out_for<'a>(words: &[&'a str], file: &'a str) -> Guess<'a> {
     }
 }
 
-/// What these words lack, after which something must stand.
+/// What a command is missing whose required argument was not given.
 fn lacking<'a>(words: &[&'a str], first: &str) -> Option<Guess<'a>> {
     let file = last_file(words)?;
     match first {
@@ -68,12 +68,12 @@ fn lacking<'a>(words: &[&'a str], first: &str) -> Option<Guess<'a>> {
     }
 }
 
-/// Whether a word is of digits alone.
+/// Whether an argument consists of digits.
 fn is_of_digits(word: &str) -> bool {
     !word.is_empty() && word.bytes().all(|byte| byte.is_ascii_digit())
 }
 
-/// The option that a word is with its number after a `=`, where that has more than digits.
+/// The option in an argument `OPTION=NUMBER` whose number has anything but digits.
 fn unnumbered_within<'a>(word: &'a str) -> Option<&'a str> {
     match word.split_once('=') {
         Some((option, number)) if NUMBERED.contains(&option) && !is_of_digits(number) => {
@@ -83,7 +83,7 @@ fn unnumbered_within<'a>(word: &'a str) -> Option<&'a str> {
     }
 }
 
-/// The first option whose number, after it or after its `=`, has more than digits.
+/// The first option whose number, given after it or after a `=`, has anything but digits.
 fn unnumbered<'a>(words: &[&'a str]) -> Option<&'a str> {
     let mut before = "";
     for word in words {
@@ -99,7 +99,7 @@ fn unnumbered<'a>(words: &[&'a str]) -> Option<&'a str> {
     None
 }
 
-/// The first word that has one dash and more than one letter, as an option with two dashes has.
+/// The first argument that has one dash and several letters, like an option with one dash too few.
 fn with_one_dash<'a>(words: &[&'a str]) -> Option<&'a str> {
     for word in words {
         if word.len() > 2 && word.starts_with('-') && !word.starts_with("--") {
@@ -109,7 +109,8 @@ fn with_one_dash<'a>(words: &[&'a str]) -> Option<&'a str> {
     None
 }
 
-/// What words lack among which one looks like an option that is none: a number that has a sign, or a second dash.
+/// What is missing from a command line with an unknown option: digits in a number (a negative number looks like an
+/// option), or a second dash.
 fn unknown<'a>(words: &[&'a str]) -> Option<Guess<'a>> {
     match unnumbered(words) {
         Some(option) => Some(Guess::Digits(option)),
@@ -117,7 +118,8 @@ fn unknown<'a>(words: &[&'a str]) -> Option<Guess<'a>> {
     }
 }
 
-/// What these words lack, which ask for nothing since they are bad in this way; none where that can't be guessed.
+/// What is probably missing from these arguments, which are invalid for the reason `bad`; `None` if that can't be
+/// guessed.
 pub fn guess_of<'a>(words: &[&'a str], bad: &BadWords<'_>) -> Option<Guess<'a>> {
     let kind = match bad {
         BadWords::Said(error) => error.kind(),
@@ -133,7 +135,7 @@ pub fn guess_of<'a>(words: &[&'a str], bad: &BadWords<'_>) -> Option<Guess<'a>> 
     }
 }
 
-/// When places are told by words that ask for nothing: as the last `--places` says that can be read.
+/// When to explain, for an invalid command line: the last valid value of `--places`, or the default.
 pub fn places_of(words: &[&str]) -> Places {
     let mut places = Places::OnTerminal;
     let mut is_next = false;

@@ -1,10 +1,10 @@
-//! Which command is meant where a file is none that a command takes.
+//! Hints for a file that is not of the kind that the command expects.
 
 use crate::Failure;
 use crate::kinds::{Kind, kind_of};
 use std::alloc::Global;
 
-/// What is wanted where a file is named.
+/// What is expected where a file was named.
 #[derive(Clone, Copy)]
 pub enum Wanted {
     /// A source.
@@ -13,11 +13,11 @@ pub enum Wanted {
     Text,
     /// A certificate.
     Certificate,
-    /// A command, in whose place the file is named.
+    /// The name of a command.
     Command,
 }
 
-/// The path of a file without its ending.
+/// A path without its extension.
 pub fn bare(path: &str) -> &str {
     match path.rsplit_once('.') {
         Some((front, ending)) if !front.is_empty() && !ending.contains('/') => front,
@@ -25,12 +25,12 @@ pub fn bare(path: &str) -> &str {
     }
 }
 
-/// What is said of a file of this path with these bytes, where it looks like something else than is wanted: what it looks like, and which
-/// command takes it. None where it looks as it should, or like nothing that is known.
+/// A hint for a file with this path and content that looks like something other than `wanted`: what it looks like,
+/// and which command accepts it. `None` if it looks as expected, or like nothing known.
 ///
 /// # Errors
 ///
-/// A failure of `Memory` where an allocation was refused.
+/// A failure of `Memory` if an allocation fails.
 pub fn hint(
     alloc: Global,
     wanted: Wanted,
@@ -40,24 +40,24 @@ pub fn hint(
     let bare = bare(path);
     Ok(match (kind_of(bytes), wanted) {
         (Some(Kind::Wide), _) => Some(format!(in alloc;
-            "{path} is in UTF-16, by the byte order mark that it begins with: save it as plain text, in ASCII or UTF-8"
+            "{path} begins with a UTF-16 byte order mark: save it as plain text, in ASCII or UTF-8"
         )?),
         (Some(Kind::Returns), Wanted::Source) => Some(format!(in alloc;
-            "{path} has carriage returns and no line feed, so it is one line here: save it with line feeds"
+            "{path} has carriage returns and no line feeds, so it counts as one line: save it with line feeds"
         )?),
         (Some(Kind::Source | Kind::Returns), Wanted::Text | Wanted::Command) => Some(
             format!(in alloc;
-                "{path} looks like BCPL source: `bcpl build {path} -o {bare}.int` makes the text that run takes, `bcpl interpret {path}` runs it at once"
+                "{path} looks like BCPL source: `bcpl build {path} -o {bare}.int` makes a text for `bcpl run`, `bcpl interpret {path}` runs it directly"
             )?,
         ),
         (Some(Kind::Source | Kind::Returns), Wanted::Certificate) => Some(format!(in alloc;
-            "{path} looks like BCPL source: `bcpl build {path} -o {bare}.int --cert {bare}.cert` makes a certificate of it"
+            "{path} looks like BCPL source: `bcpl build {path} -o {bare}.int --cert {bare}.cert` builds it with a certificate"
         )?),
         (Some(Kind::Text), Wanted::Source | Wanted::Command) => Some(format!(in alloc;
             "{path} looks like INTCODE text: `bcpl run --steps 1000000 {path}` runs it"
         )?),
         (Some(Kind::Text), Wanted::Certificate) => Some(format!(in alloc;
-            "{path} looks like INTCODE text: the certificate stands in front of it, as in `bcpl check CERT {path}`"
+            "{path} looks like INTCODE text: the certificate comes before it, as in `bcpl check CERT {path}`"
         )?),
         (Some(Kind::Certificate), Wanted::Source | Wanted::Text | Wanted::Command) => {
             Some(format!(in alloc;

@@ -1,21 +1,21 @@
-//! What a file looks like: by its first bytes, and by its line ends.
+//! Guesses the kind of a file from its first bytes and its line ends.
 
-/// What a file is likely to be.
+/// What a file probably is.
 #[derive(Clone, Copy)]
 pub enum Kind {
-    /// A source in BCPL, in this dialect or an old one.
+    /// BCPL source, in this dialect or an old one.
     Source,
-    /// A text of INTCODE.
+    /// INTCODE text.
     Text,
-    /// A certificate of least size.
+    /// A certificate.
     Certificate,
-    /// Text in UTF-16, with a byte order mark.
+    /// UTF-16 text with a byte order mark.
     Wide,
-    /// A source whose lines end by carriage returns alone.
+    /// A source whose lines end in carriage returns only.
     Returns,
 }
 
-/// The words that begin a source, in capitals.
+/// The words that can begin a source, in upper case.
 const BEGINNINGS: [&[u8]; 7] = [
     b"GET",
     b"LET",
@@ -26,10 +26,10 @@ const BEGINNINGS: [&[u8]; 7] = [
     b"NEEDS",
 ];
 
-/// How many bytes of a text are looked at.
+/// How many bytes are checked to recognise INTCODE.
 const LOOKED_AT: usize = 400;
 
-/// What these bytes of a file look like; none where they look like nothing that is known.
+/// What a file with these bytes probably is; `None` if it looks like nothing known.
 pub fn kind_of(bytes: &[u8]) -> Option<Kind> {
     if bytes.starts_with(b"\xFF\xFE") || bytes.starts_with(b"\xFE\xFF") {
         Some(Kind::Wide)
@@ -48,12 +48,12 @@ pub fn kind_of(bytes: &[u8]) -> Option<Kind> {
     }
 }
 
-/// Whether these bytes have carriage returns, and no line feed.
+/// Whether there are carriage returns and no line feed.
 fn has_returns_alone(bytes: &[u8]) -> bool {
     bytes.contains(&b'\r') && !bytes.contains(&b'\n')
 }
 
-/// What stands after the first place of these bytes in a text; nothing where they stand nowhere.
+/// The text after the first occurrence of `close`, or an empty one if there is none.
 fn following<'t>(text: &'t [u8], close: &[u8]) -> &'t [u8] {
     let at = text
         .windows(close.len().max(1))
@@ -64,7 +64,7 @@ fn following<'t>(text: &'t [u8], close: &[u8]) -> &'t [u8] {
     }
 }
 
-/// The text after blanks and comments of a source.
+/// The text after leading blanks and comments of BCPL.
 fn after_comments(text: &[u8]) -> &[u8] {
     let mut rest = text;
     for _ in 0..text.len() {
@@ -82,7 +82,7 @@ fn after_comments(text: &[u8]) -> &[u8] {
     rest
 }
 
-/// Whether the first word of a text begins a source.
+/// Whether the first word of a text can begin a source.
 fn begins_source(text: &[u8]) -> bool {
     let rest = after_comments(text);
     let count = rest
@@ -95,7 +95,7 @@ fn begins_source(text: &[u8]) -> bool {
         .any(|known| known.eq_ignore_ascii_case(word))
 }
 
-/// Whether this byte can stand in an item of INTCODE, or between two.
+/// Whether this byte can occur in an INTCODE item or between items.
 fn is_of_item(byte: u8) -> bool {
     byte.is_ascii_whitespace()
         || byte.is_ascii_digit()
@@ -119,7 +119,7 @@ fn is_of_item(byte: u8) -> bool {
         )
 }
 
-/// Whether a text begins with what can be items of INTCODE alone, and has some number.
+/// Whether the text begins like INTCODE: only bytes of items, and at least one digit.
 fn begins_text(text: &[u8]) -> bool {
     let mut is_comment = false;
     let mut has_digit = false;

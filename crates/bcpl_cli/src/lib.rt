@@ -1,8 +1,10 @@
-//! The words of the command line, and what they ask for.
+//! The command line of the program: its arguments, its failures and its files.
 //!
-//! Why a command was not done: the first line of what the program says, and its status.
-//!
-//! Files that are read up to a size, files that are written whole or not at all, and what a file looks like.
+//! - Reading arguments: `wanted` turns them into an `Order`; `guess_of` and `hint` guess what an invalid one was
+//!   meant to be.
+//! - Failing: a `Failure` has the first line of the message, further lines, and the exit status.
+//! - Files: `contents` reads one up to a limit, `Written` writes one completely or not at all, `kind_of` guesses what
+//!   one is.
 #![tactic(auto)]
 
 mod arguments;

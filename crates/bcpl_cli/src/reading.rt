@@ -1,19 +1,19 @@
-//! What the words of a command say, argument by argument.
+//! The values of parsed arguments, with the faults that the argument parser does not check for.
 
 use crate::arguments::{BadWords, Binding};
 use clap::ArgMatches;
 use std::alloc::Global;
 
-/// What is wrong with words that the reader of the words let pass.
+/// A fault in arguments that the parser accepted.
 #[derive(Clone, Copy)]
 enum Fault<'a> {
-    /// This word is none that its option takes.
+    /// The value of an option is invalid.
     Option { word: &'a str, takes: &'static str },
-    /// An allocation was refused.
+    /// An allocation failed.
     Memory,
 }
 
-/// The words of a command that are being read. The first fault is kept; what is read from then on counts for nothing.
+/// The arguments of a command. The first fault is kept; values read after it are meaningless.
 #[derive(Drop)]
 pub struct Reading<'m, 'a> {
     alloc: Global,
@@ -22,6 +22,7 @@ pub struct Reading<'m, 'a> {
 }
 
 impl<'m, 'a> Reading<'m, 'a> {
+    /// Begins to read these matches.
     pub fn new(alloc: Global, matches: &'m ArgMatches<'a>) -> Reading<'m, 'a> {
         Reading {
             alloc,
@@ -30,34 +31,34 @@ impl<'m, 'a> Reading<'m, 'a> {
         }
     }
 
-    /// Keeps a fault, unless there was one before.
+    /// Keeps a fault, unless there is one already.
     fn note(&mut self, fault: Fault<'a>) {
         if self.fault.is_none() {
             self.fault = Some(fault);
         }
     }
 
-    /// This word is none that its option takes.
+    /// Notes that `word` is invalid; `takes` says what its option accepts.
     pub fn refuse(&mut self, word: &'a str, takes: &'static str) {
         self.note(Fault::Option { word, takes });
     }
 
-    /// The word of an argument, if it stands there.
+    /// The value of an argument, if it is given.
     pub fn word(&self, name: &str) -> Option<&'a str> {
         self.matches.get_str(name)
     }
 
-    /// The number of an argument; this one, where none stands there.
+    /// The number of an argument, or `otherwise` if it isn't given.
     pub fn number(&self, name: &str, otherwise: u64) -> u64 {
         self.matches.get_one::<u64>(name).unwrap_or(otherwise)
     }
 
-    /// Whether an option that takes nothing stands there.
+    /// Whether an option without a value is given.
     pub fn flag(&self, name: &str) -> bool {
         self.matches.get_flag(name)
     }
 
-    /// Adds the words of an argument, in their order.
+    /// Adds the values of an argument to `words`, in order.
     pub fn add_words(&mut self, words: &mut Vec<&'a str>, name: &str) {
         let found = self.matches.get_strs(name).unwrap_or(&[]);
         if words.extend_from_slice(found).is_err() {
@@ -65,14 +66,14 @@ impl<'m, 'a> Reading<'m, 'a> {
         }
     }
 
-    /// The words of an argument, in their order.
+    /// The values of an argument, in order.
     pub fn words(&mut self, name: &str) -> Vec<&'a str> {
         let mut words = Vec::new(self.alloc);
         self.add_words(&mut words, name);
         words
     }
 
-    /// Adds a binding, cut at its first `=`.
+    /// Splits `word` at its first `=` and adds the binding; without a `=` it is invalid.
     fn add_binding(&mut self, bindings: &mut Vec<Binding<'a>>, word: &'a str, takes: &'static str) {
         let Some((name, path)) = word.split_once('=') else {
             return self.refuse(word, takes);
@@ -82,7 +83,7 @@ impl<'m, 'a> Reading<'m, 'a> {
         }
     }
 
-    /// The bindings of an option; `takes` says what it takes.
+    /// The bindings of an option; `takes` says what it accepts.
     pub fn bindings(&mut self, name: &str, takes: &'static str) -> Vec<Binding<'a>> {
         let mut bindings = Vec::new(self.alloc);
         let matches = self.matches;
@@ -92,7 +93,7 @@ impl<'m, 'a> Reading<'m, 'a> {
         bindings
     }
 
-    /// Whether there was a fault.
+    /// The first fault, if there was one.
     pub fn end(self) -> Result<(), BadWords<'a>> {
         match self.fault {
             None => Ok(()),

@@ -1,4 +1,5 @@
-//! How refusals are printed: the part that refused, the refusal's number and name, and its fields.
+//! The first lines of refusals: the part, the number and name of the refusal, and its fields. Other tools parse these
+//! lines, so they never change.
 
 use bc_build::{BuildError, GenError, LexError, ParseError, ScopeFault};
 use bc_cert::{CheckFault, Mismatch};
@@ -7,6 +8,7 @@ use bc_machine::StreamsError;
 use bc_text::TextError;
 use std::fmt;
 
+/// Prints a refusal of a text.
 pub fn write_text<W: fmt::Write>(f: &mut fmt::Formatter<W>, fault: TextError) -> fmt::Result {
     match fault {
         TextError::BadCharacter(at) => write!(f, "text 1 BadCharacter {at}"),
@@ -19,6 +21,7 @@ pub fn write_text<W: fmt::Write>(f: &mut fmt::Formatter<W>, fault: TextError) ->
     }
 }
 
+/// Prints a refusal of the linker.
 pub fn write_link<W: fmt::Write>(f: &mut fmt::Formatter<W>, fault: LinkError) -> fmt::Result {
     match fault {
         LinkError::LabelUnset(segment, label) => {
@@ -38,6 +41,7 @@ pub fn write_link<W: fmt::Write>(f: &mut fmt::Formatter<W>, fault: LinkError) ->
     }
 }
 
+/// Prints a refusal of streams.
 pub fn write_streams<W: fmt::Write>(f: &mut fmt::Formatter<W>, fault: StreamsError) -> fmt::Result {
     match fault {
         StreamsError::NameTwice => write!(f, "streams 1 NameTwice"),
@@ -46,7 +50,7 @@ pub fn write_streams<W: fmt::Write>(f: &mut fmt::Formatter<W>, fault: StreamsErr
     }
 }
 
-/// A refusal that names a file and an offset in it.
+/// Prints a refusal of the lexer with a file and a byte offset.
 fn write_place<W: fmt::Write>(
     f: &mut fmt::Formatter<W>,
     name: &str,
@@ -56,6 +60,7 @@ fn write_place<W: fmt::Write>(
     write!(f, "lex {name} {file} {at}")
 }
 
+/// Prints a refusal of the lexer.
 fn write_lex<W: fmt::Write>(f: &mut fmt::Formatter<W>, fault: LexError) -> fmt::Result {
     match fault {
         LexError::BadCharacter(file, at) => write_place(f, "1 BadCharacter", file, at),
@@ -70,6 +75,7 @@ fn write_lex<W: fmt::Write>(f: &mut fmt::Formatter<W>, fault: LexError) -> fmt::
     }
 }
 
+/// Prints a refusal of the parser.
 fn write_parse<W: fmt::Write>(f: &mut fmt::Formatter<W>, fault: ParseError) -> fmt::Result {
     match fault {
         ParseError::Expected(token) => write!(f, "parse 1 Expected {token}"),
@@ -80,7 +86,7 @@ fn write_parse<W: fmt::Write>(f: &mut fmt::Formatter<W>, fault: ParseError) -> f
     }
 }
 
-/// A refusal that names a name.
+/// Prints a refusal with a name.
 fn write_name<W: fmt::Write>(f: &mut fmt::Formatter<W>, refusal: &str, name: &[u8]) -> fmt::Result {
     write!(f, "scope {refusal} ")?;
     for byte in name {
@@ -89,6 +95,7 @@ fn write_name<W: fmt::Write>(f: &mut fmt::Formatter<W>, refusal: &str, name: &[u
     Ok(())
 }
 
+/// Prints a refusal of the scopes.
 fn write_scope<W: fmt::Write>(f: &mut fmt::Formatter<W>, fault: &ScopeFault) -> fmt::Result {
     match fault {
         ScopeFault::Undeclared(name) => write_name(f, "1 Undeclared", name),
@@ -105,6 +112,7 @@ fn write_scope<W: fmt::Write>(f: &mut fmt::Formatter<W>, fault: &ScopeFault) -> 
     }
 }
 
+/// Prints a refusal of the code generator.
 fn write_gen<W: fmt::Write>(f: &mut fmt::Formatter<W>, fault: GenError) -> fmt::Result {
     match fault {
         GenError::TooManyLabels => write!(f, "gen 1 TooManyLabels"),
@@ -112,6 +120,7 @@ fn write_gen<W: fmt::Write>(f: &mut fmt::Formatter<W>, fault: GenError) -> fmt::
     }
 }
 
+/// Prints a refusal of a build.
 pub fn write_build<W: fmt::Write>(f: &mut fmt::Formatter<W>, fault: &BuildError) -> fmt::Result {
     match fault {
         BuildError::Lex(_, fault) => write_lex(f, *fault),
@@ -123,6 +132,7 @@ pub fn write_build<W: fmt::Write>(f: &mut fmt::Formatter<W>, fault: &BuildError)
     }
 }
 
+/// Prints a refusal of a certificate.
 pub fn write_check<W: fmt::Write>(f: &mut fmt::Formatter<W>, fault: CheckFault) -> fmt::Result {
     match fault {
         CheckFault::Header => write!(f, "check 1 Header"),
@@ -138,6 +148,7 @@ pub fn write_check<W: fmt::Write>(f: &mut fmt::Formatter<W>, fault: CheckFault) 
     }
 }
 
+/// Prints a mismatch between a certificate and texts.
 pub fn write_against<W: fmt::Write>(f: &mut fmt::Formatter<W>, mismatch: Mismatch) -> fmt::Result {
     match mismatch {
         Mismatch::CodeDiffers(entry) => write!(f, "against 1 CodeDiffers {entry}"),

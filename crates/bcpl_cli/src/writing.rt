@@ -1,4 +1,4 @@
-//! Files that are written whole or not at all.
+//! Files that are either written completely or left as they were.
 
 use crate::Failure;
 use std::alloc::Global;
@@ -8,32 +8,32 @@ use std::os::unix::fs::MetadataExt;
 use std::rt::Files;
 use std::{fs, io};
 
-/// What stands after the name of a file while it is written; a number follows where files of such names are there.
+/// The suffix of a file's name while it is written; a number follows if such a file exists.
 const UNFINISHED: &str = ".unfinished";
 
-/// How many such names are tried.
+/// How many names are tried.
 const NAMES: usize = 100;
 
-/// A file that is being written. Where it takes the place of a plain file, or of none, the bytes go to a new file beside it,
-/// which takes its name at the end; a device, a pipe or what a link leads to is written to as it is.
+/// A file that is being written. To replace a regular file, or to create one, the bytes go to a new file beside it,
+/// which is renamed at the end. A device, a pipe or the target of a link is written directly.
 #[derive(Drop)]
 pub struct Written<W: Write + Drop> {
     out: BufWriter<W>,
-    /// The path of the file beside it, if there is one.
+    /// The path of the new file, if there is one.
     beside: Option<String>,
 }
 
-/// What stands at this path now.
+/// What a path refers to.
 enum Standing {
     /// Nothing.
     Nothing,
-    /// A plain file.
+    /// A regular file.
     Plain(Metadata),
     /// A device, a pipe, a folder or a link.
     Other,
 }
 
-/// What stands at this path now; links are not followed.
+/// What the path refers to now, without following links.
 fn what_stands<F: Files>(rt: &F, path: &str) -> Standing {
     match fs::symlink_metadata(rt, path) {
         Ok(found) if found.is_file() => Standing::Plain(found),
@@ -42,7 +42,7 @@ fn what_stands<F: Files>(rt: &F, path: &str) -> Standing {
     }
 }
 
-/// A new file beside that of this path, with its own path.
+/// A new file beside the one with this path, and the new file's path.
 fn new_beside<F: Files>(rt: &F, alloc: Global, path: &str) -> Result<(String, F::File), Failure> {
     for number in 0..NAMES {
         let beside = if number == 0 {
@@ -56,10 +56,10 @@ fn new_beside<F: Files>(rt: &F, alloc: Global, path: &str) -> Result<(String, F:
             Err(error) => return Err(Failure::io(alloc, &error, path)),
         }
     }
-    Err(Failure::file_since(alloc, path, "too many unfinished files stand beside it"))
+    Err(Failure::file_since(alloc, path, "there are too many unfinished files beside it"))
 }
 
-/// Refuses a plain file that can't be written to.
+/// Fails if this regular file can't be written.
 fn is_open_to_writing<F: Files>(rt: &F, alloc: Global, path: &str) -> Result<(), Failure> {
     match OpenOptions::new().write(true).open(rt, path) {
         Ok(_) => Ok(()),
@@ -68,7 +68,12 @@ fn is_open_to_writing<F: Files>(rt: &F, alloc: Global, path: &str) -> Result<(),
 }
 
 impl<W: Write + Drop> Written<W> {
-    /// Begins to write the file of this path. A plain file keeps its permissions.
+    /// Begins to write the file with this path. An existing regular file keeps its permissions.
+    ///
+    /// # Errors
+    ///
+    /// A failure of this file if it can't be written or no new file can be created, and one of `Memory` if an
+    /// allocation fails.
     pub fn begin<F: Files<File = W>>(
         rt: &F,
         alloc: Global,
@@ -101,13 +106,13 @@ impl<W: Write + Drop> Written<W> {
         }
     }
 
-    /// What its bytes are written to.
+    /// The buffered file.
     pub fn out(&mut self) -> &mut BufWriter<W> {
         &mut self.out
     }
 
-    /// The failure of the file of this path, to which something could not be written: with the reason, where the system still gives one as
-    /// what is kept is handed on once more.
+    /// The failure of the file with this path after a failed write. It includes the reason if the system still
+    /// reports one when the buffer is flushed once more.
     pub fn failure(&mut self, alloc: Global, path: &str) -> Failure {
         match self.out.flush() {
             Ok(()) => Failure::file(alloc, path),
@@ -115,14 +120,15 @@ impl<W: Write + Drop> Written<W> {
         }
     }
 
-    /// Gives the file up: what was written beside it is removed.
+    /// Gives up: removes the unfinished file.
     pub fn abandon<F: Files>(self, rt: &F) {
         if let Some(beside) = &self.beside {
             let _ = fs::remove_file(rt, beside.as_str());
         }
     }
 
-    /// Ends the file, which has its name from now on.
+    /// Completes the file and gives it its name. Fails if it can't be flushed or renamed; the unfinished file is then
+    /// removed.
     pub fn finish<F: Files>(self, rt: &F, alloc: Global, path: &str) -> Result<(), Failure> {
         let Written { mut out, beside } = self;
         if let Err(error) = out.flush() {
@@ -144,7 +150,8 @@ impl<W: Write + Drop> Written<W> {
     }
 }
 
-/// Whether these two paths lead to one file, links followed; not where one leads to none.
+/// Whether two paths lead to the same file, following links. If one of them can't be read, whether the paths are
+/// equal.
 pub fn is_one_file<F: Files>(rt: &F, one: &str, other: &str) -> bool {
     match (fs::metadata(rt, one), fs::metadata(rt, other)) {
         (Ok(one), Ok(other)) => one.dev() == other.dev() && one.ino() == other.ino(),
@@ -152,7 +159,7 @@ pub fn is_one_file<F: Files>(rt: &F, one: &str, other: &str) -> bool {
     }
 }
 
-/// The path among these that leads to a file to which one before it leads, too; none where they lead to a file each.
+/// The first path that leads to the same file as an earlier one; `None` if all files differ.
 pub fn named_twice<'a, F: Files>(rt: &F, paths: &[&'a str]) -> Option<&'a str> {
     for (number, path) in paths.iter().enumerate() {
         for other in paths.iter().take(number) {
@@ -164,8 +171,8 @@ pub fn named_twice<'a, F: Files>(rt: &F, paths: &[&'a str]) -> Option<&'a str> {
     None
 }
 
-/// Whether writing to `path` would lose what the file `other` has, or what is written to it: both lead to one file, links followed, which is
-/// no device.
+/// Whether writing to `path` would overwrite the file `other`, or what is written to it: both lead to the same file,
+/// following links, and it is no device.
 pub fn would_lose<F: Files>(rt: &F, path: &str, other: &str) -> bool {
     let is_device = match fs::metadata(rt, path) {
         Ok(found) => !found.is_file(),

@@ -1,4 +1,4 @@
-//! The rules of a derivation at the nodes of its root.
+//! The rules that a derivation uses at the nodes of its root.
 
 use crate::parts::{ANY, At, PUSH, count, drops, parts};
 use bc_core::{CoreExp, Root, operand};
@@ -6,7 +6,7 @@ use bc_rules_defs::{Aim, Derivation, Mode, Rule, Takes};
 use bc_word::Memory;
 use std::alloc::Global;
 
-/// The rules that a derivation has at a node, one for each aim that it has the node for.
+/// The rules that a derivation uses at a node, at most one for each aim.
 #[derive(Clone, Copy)]
 pub struct Chosen {
     any: Option<Rule>,
@@ -16,7 +16,7 @@ pub struct Chosen {
 }
 
 impl Chosen {
-    /// No rules, as at a node that a rule above takes as its operand or number, or drops as a 0.
+    /// No rules. A node has none if a rule above it takes it as an operand or a number, or drops it as a 0.
     pub fn nothing() -> Chosen {
         Chosen {
             any: None,
@@ -26,7 +26,7 @@ impl Chosen {
         }
     }
 
-    /// Whether there are none.
+    /// Whether there are no rules.
     pub fn is_nothing(self) -> bool {
         self.any.is_none()
             && self.push.is_none()
@@ -44,6 +44,7 @@ impl Chosen {
         }
     }
 
+    /// Sets the rule for an aim.
     fn set(&mut self, aim: Aim, rule: Rule) {
         match aim {
             Aim::Gets(Mode::Any) => self.any = Some(rule),
@@ -54,7 +55,7 @@ impl Chosen {
     }
 }
 
-/// The top of the only tree of a root at this level.
+/// The top node of a value or a test at this level.
 pub fn top(level: u16, e: &CoreExp) -> At<'_> {
     At {
         e,
@@ -63,7 +64,7 @@ pub fn top(level: u16, e: &CoreExp) -> At<'_> {
     }
 }
 
-/// The tops of the trees of an assignment at this level: the value's and the address's.
+/// The top nodes of an assignment at this level: the value's and the address's.
 pub fn sides<'e>(level: u16, value: &'e CoreExp, address: &'e CoreExp) -> [At<'e>; 2] {
     let level = match operand(address) {
         Some(_) => u64::from(level),
@@ -84,7 +85,7 @@ pub fn sides<'e>(level: u16, value: &'e CoreExp, address: &'e CoreExp) -> [At<'e
     ]
 }
 
-/// How many nodes a root has.
+/// The number of nodes of a root.
 fn nodes_of(root: &Root) -> usize {
     match root {
         Root::Value { expression, .. } | Root::Test { expression, .. } => count(expression),
@@ -92,7 +93,7 @@ fn nodes_of(root: &Root) -> usize {
     }
 }
 
-/// A derivation of an expression that is to be followed.
+/// A derivation that is to be followed.
 #[derive(Clone, Copy)]
 struct Step<'e> {
     at: At<'e>,
@@ -100,7 +101,7 @@ struct Step<'e> {
     derivation: &'e Derivation,
 }
 
-/// The derivations that are to be followed. Where a growth was refused, that is kept.
+/// A stack of derivations that are to be followed. Once an allocation has failed, its contents are void.
 #[derive(Drop)]
 struct Steps<'e> {
     waiting: Vec<Step<'e>>,
@@ -108,7 +109,7 @@ struct Steps<'e> {
 }
 
 impl<'e> Steps<'e> {
-    /// Puts a part's derivation on the stack, where it is there.
+    /// Pushes the derivation of a part, if both exist.
     fn wait(&mut self, at: Option<&At<'e>>, aim: Aim, derivation: Option<&'e Derivation>) {
         if let (Some(at), Some(derivation)) = (at, derivation) {
             let step = Step {
@@ -122,7 +123,7 @@ impl<'e> Steps<'e> {
         }
     }
 
-    /// Puts the derivations of these parts on the stack, for these aims.
+    /// Pushes the derivations of these parts, for these aims.
     fn wait_for(&mut self, uses: &[(usize, Aim)], parts: &[At<'e>], given: &'e [Derivation]) {
         for (index, used) in uses.iter().enumerate() {
             let (part, aim) = *used;
@@ -130,14 +131,14 @@ impl<'e> Steps<'e> {
         }
     }
 
-    /// Puts the derivations of all parts on the stack, as values.
+    /// Pushes the derivations of all parts, as values.
     fn wait_for_all(&mut self, parts: &[At<'e>], given: &'e [Derivation]) {
         for (index, part) in parts.iter().enumerate() {
             self.wait(Some(part), ANY, given.get(index));
         }
     }
 
-    /// Puts the derivations of the parts that are taken on the stack, in the order of the code.
+    /// Pushes the derivations of the parts that a rule takes, in the order of the code.
     fn wait_taken(&mut self, takes: Takes, parts: &[At<'e>], given: &'e [Derivation]) {
         match takes {
             Takes::Nothing => {}
@@ -155,7 +156,7 @@ impl<'e> Steps<'e> {
         }
     }
 
-    /// Puts the derivations below a step on the stack.
+    /// Pushes the derivations of a step's parts.
     fn below(&mut self, alloc: Global, step: Step<'e>) {
         let given = step.derivation.parts.as_slice();
         match step.derivation.rule {
@@ -171,7 +172,7 @@ impl<'e> Steps<'e> {
         }
     }
 
-    /// The first steps of a root's derivation: of an assignment those of its sides, in the order of the code.
+    /// Pushes the first steps of a root's derivation. An assignment has one for each side, in the order of the code.
     fn begin(&mut self, root: &'e Root, derivation: &'e Derivation) {
         match root {
             Root::Value { level, expression } => {
@@ -199,21 +200,21 @@ impl<'e> Steps<'e> {
     }
 }
 
-/// The parts of a condition, whose test jumps on false.
+/// The parts of a conditional expression whose test jumps on false.
 const BY_FALSE: [(usize, Aim); 3] = [(0, Aim::Jumps(false)), (1, ANY), (2, ANY)];
 
-/// Those of one whose test jumps on true.
+/// The parts of a conditional expression whose test jumps on true.
 const BY_TRUE: [(usize, Aim); 3] = [(0, Aim::Jumps(true)), (2, ANY), (1, ANY)];
 
-/// Notes a step's rule at its node.
+/// Records the rule of a step at its node.
 fn note(found: &mut Vec<Chosen>, step: Step<'_>) {
     if let Some(chosen) = found.get_mut(step.at.node()) {
         chosen.set(step.aim, step.derivation.rule);
     }
 }
 
-/// For each node of a root, parts before wholes, the rules that a derivation of the root has there. Memory is answered where a growth
-/// was refused.
+/// The rules that a derivation of the root uses at each node. Parts come before the node that contains them. `Memory`
+/// if an allocation fails.
 pub fn chosen_rules(
     alloc: Global,
     root: &Root,

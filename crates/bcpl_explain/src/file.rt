@@ -1,6 +1,6 @@
-//! A file on the page: its lines with their code, its data, and its words by routine.
+//! The part of the page about a file: its lines with their code, its data, and the sizes of its routines.
 
-use crate::html::{Html, Part};
+use crate::html::{Fragment, Html};
 use crate::items::{add_data, add_items};
 use crate::locals::Locals;
 use crate::names::{GlobalName, Names, globals_of};
@@ -13,14 +13,14 @@ use bc_rules_defs::Entry;
 use bc_text_items::Item;
 use bc_word::Memory;
 use bcpl_show::{
-    Marks, Outline, Owner, Program, Purpose, leaves_of, words_of_items, words_of_pieces,
+    CodeListing, Marks, Outline, Owner, Purpose, leaves_of, words_of_items, words_of_pieces,
 };
 use std::alloc::Global;
 
-/// Where a line goes on below itself, it has at most so many free columns in front, and two.
+/// The largest indentation, in columns, of the continuation lines of a long source line.
 const MOST_FREE: u64 = 16;
 
-/// How many columns are free before a line's text, with a tab to each eighth.
+/// The number of blank columns before a line's text, at most `MOST_FREE`. A tab goes to the next multiple of eight.
 fn free_columns(text: &[u8]) -> u64 {
     let mut columns: u64 = 0;
     for byte in text {
@@ -33,47 +33,50 @@ fn free_columns(text: &[u8]) -> u64 {
     columns.min(MOST_FREE)
 }
 
-/// Says so where other lines' code stands between what ends here, if anything does, and what begins there.
+/// Marks that code of other lines comes between the item before `following`, if there is one, and the item at `from`.
 fn add_gap(html: &mut Html, following: Option<usize>, from: usize) {
     match following {
         Some(following) if following != from => {
-            html.mark("<div class=\"gap\">behind the code of other lines:</div>")
+            html.mark("<div class=\"gap\">after the code of other lines:</div>")
         }
         _ => {}
     }
 }
 
-/// Adds the items of an entry's root, of so many words, and below them why it has these, with these names.
+/// Adds the items of an entry, whose size is `words`, and the explanation that opens below them.
 fn add_entry(html: &mut Html, entry: &Entry, words: u64, items: &[Item], names: Names<'_, '_>) {
     html.mark("<details class=\"root\"><summary>");
     add_items(html, items);
     html.all(&[
-        Part::Mark("<span class=\"words\">"),
-        Part::Words(words),
-        Part::Mark("</span></summary>\n"),
+        Fragment::Mark("<span class=\"words\">"),
+        Fragment::Words(words),
+        Fragment::Mark("</span></summary>\n"),
     ]);
     add_root(html, entry, words, names);
     html.mark("</details>\n");
 }
 
-/// What the report of a file stands on.
+/// What the part about a file is computed from.
 #[derive(Drop)]
 pub struct Basis<'p, 's> {
     ground: Ground<'p, 's>,
     marks: Marks,
-    /// The names of the places, by their labels from 1 on.
+    /// The names of the places, in the order of their labels.
     names: Vec<&'s [u8]>,
 }
 
-/// The files of a program with their lines, and the leaves of its section. Memory is answered where a growth was refused.
-fn ground_of<'p, 's>(alloc: Global, program: Program<'p, 's>) -> Result<Ground<'p, 's>, Memory> {
+/// The files of a program with their lines, and the leaves of its section. `Memory` if an allocation fails.
+fn ground_of<'p, 's>(
+    alloc: Global,
+    program: CodeListing<'p, 's>,
+) -> Result<Ground<'p, 's>, Memory> {
     let leaves = leaves_of(alloc, program.tokens)?;
     Ground::new(alloc, program.files, program.main, leaves)
 }
 
 impl<'p, 's> Basis<'p, 's> {
-    /// That of a file of a program. Memory is answered where a growth was refused.
-    pub fn new(alloc: Global, program: Program<'p, 's>) -> Result<Basis<'p, 's>, Memory> {
+    /// The basis for the part about a program's file. `Memory` if an allocation fails.
+    pub fn new(alloc: Global, program: CodeListing<'p, 's>) -> Result<Basis<'p, 's>, Memory> {
         let outline = Outline::new(alloc, program.section)?;
         let marks = Marks::new(alloc, &outline, program.items.len(), program.entries)?;
         let ground = ground_of(alloc, program)?;
@@ -86,23 +89,24 @@ impl<'p, 's> Basis<'p, 's> {
     }
 }
 
-/// A file that is reported on.
+/// The part of the page about a file.
 #[derive(Drop)]
 pub struct File<'b, 'p, 's> {
-    program: Program<'p, 's>,
+    program: CodeListing<'p, 's>,
     basis: &'b Basis<'p, 's>,
     globals: Vec<GlobalName<'s>>,
     locals: Locals<'s>,
-    /// The runs in the order of the code, and by their lines.
+    /// The runs of items, in the order of the code.
     runs: Vec<Run>,
+    /// The same runs, by source line.
     placed: Placed,
 }
 
 impl<'b, 'p, 's> File<'b, 'p, 's> {
-    /// What is reported of a file of a program, which stands on this. Memory is answered where a growth was refused.
+    /// The part about a file of a program. `Memory` if an allocation fails.
     pub fn new(
         alloc: Global,
-        program: Program<'p, 's>,
+        program: CodeListing<'p, 's>,
         basis: &'b Basis<'p, 's>,
     ) -> Result<File<'b, 'p, 's>, Memory> {
         let globals = globals_of(alloc, program.section)?;
@@ -125,7 +129,7 @@ impl<'b, 'p, 's> File<'b, 'p, 's> {
         all.get(run.from..run.to).unwrap_or(&[])
     }
 
-    /// The words of a root's code.
+    /// The size of a root's code, in words.
     fn words_of(&self, alloc: Global, index: usize) -> Result<u64, Memory> {
         match self.program.entries.get(index) {
             Some(entry) => {
@@ -142,7 +146,7 @@ impl<'b, 'p, 's> File<'b, 'p, 's> {
         }
     }
 
-    /// The names where the root of this entry stands.
+    /// The names at the root of this entry.
     fn names_of(&self, index: usize) -> Names<'_, 's> {
         Names {
             places: self.basis.names.as_slice(),
@@ -152,22 +156,22 @@ impl<'b, 'p, 's> File<'b, 'p, 's> {
         }
     }
 
-    /// Adds items that don't open, and what they are.
+    /// Adds items that don't open, with a description.
     fn add_plain(html: &mut Html, items: &[Item], what: &str) {
         html.mark("<div class=\"own\">");
         add_items(html, items);
         html.all(&[
-            Part::Mark("<span>"),
-            Part::Tell(what),
-            Part::Mark("</span></div>\n"),
+            Fragment::Mark("<span>"),
+            Fragment::Tell(what),
+            Fragment::Mark("</span></div>\n"),
         ]);
     }
 
-    /// Adds a root's items, and below them why it has these.
+    /// Adds the items of a root, with their explanation.
     fn add_root(&self, html: &mut Html, index: usize, run: Run) {
         let items = self.items_of(run);
         if !run.is_first {
-            return File::add_plain(html, items, "the same, behind a VALOF");
+            return File::add_plain(html, items, "continued after a VALOF");
         }
         if let Some(entry) = self.program.entries.get(index) {
             let found = self.words_of(html.alloc(), index);
@@ -176,7 +180,7 @@ impl<'b, 'p, 's> File<'b, 'p, 's> {
         }
     }
 
-    /// Adds a run's items.
+    /// Adds the items of a run.
     fn add_run(&self, html: &mut Html, run: Run) {
         match run.owner {
             Owner::Root(index) => self.add_root(html, index, run),
@@ -189,7 +193,7 @@ impl<'b, 'p, 's> File<'b, 'p, 's> {
         }
     }
 
-    /// Begins a line of a source; its code follows.
+    /// Begins a source line; its code follows.
     fn begin_line(&self, html: &mut Html, spot: Spot) {
         let text = self.basis.ground.line(spot);
         let (path, sign) = match self.basis.ground.path_elsewhere(spot) {
@@ -197,15 +201,15 @@ impl<'b, 'p, 's> File<'b, 'p, 's> {
             None => ("", ""),
         };
         html.all(&[
-            Part::Mark("<div class=\"line\"><pre class=\"source\"><span class=\"number\">"),
-            Part::Tell(path),
-            Part::Mark(sign),
-            Part::Number(spot.line as u64),
-            Part::Mark("</span><span style=\"--in:"),
-            Part::Number(free_columns(text)),
-            Part::Mark("\">"),
-            Part::Say(text),
-            Part::Mark("</span></pre><div class=\"code\">\n"),
+            Fragment::Mark("<div class=\"line\"><pre class=\"source\"><span class=\"number\">"),
+            Fragment::Tell(path),
+            Fragment::Mark(sign),
+            Fragment::Number(spot.line as u64),
+            Fragment::Mark("</span><span style=\"--in:"),
+            Fragment::Number(free_columns(text)),
+            Fragment::Mark("\">"),
+            Fragment::Say(text),
+            Fragment::Mark("</span></pre><div class=\"code\">\n"),
         ]);
     }
 
@@ -235,7 +239,7 @@ impl<'b, 'p, 's> File<'b, 'p, 's> {
         if self.placed.others.is_empty() {
             return;
         }
-        html.mark("<h3>What it gets from other files</h3>\n");
+        html.mark("<h3>Code from other files</h3>\n");
         for other in &self.placed.others {
             self.begin_line(html, other.spot);
             self.add_run(html, other.run);
@@ -248,33 +252,33 @@ impl<'b, 'p, 's> File<'b, 'p, 's> {
         if self.placed.data.is_empty() {
             return;
         }
-        html.mark("<h3>Data, and globals that are set</h3>\n");
+        html.mark("<h3>Data and globals</h3>\n");
         for run in &self.placed.data {
             self.add_run(html, *run);
         }
     }
 
-    /// Adds the file's report, with this number among the files.
+    /// Adds the part about the file. `number` is its index among the files.
     pub fn add(&self, html: &mut Html, number: usize) {
         html.all(&[
-            Part::Mark("<h2 id=\"file"),
-            Part::Number(number as u64),
-            Part::Mark("\">"),
-            Part::Tell(self.program.files.path(self.program.main)),
-            Part::Mark("</h2>\n"),
+            Fragment::Mark("<h2 id=\"file"),
+            Fragment::Number(number as u64),
+            Fragment::Mark("\">"),
+            Fragment::Tell(self.program.files.path(self.program.main)),
+            Fragment::Mark("</h2>\n"),
         ]);
         self.add_lines(html);
         self.add_others(html);
         self.add_own_data(html);
     }
 
-    /// The words of a run's items.
+    /// The size of a run's items, in words.
     fn words_of_run(&self, html: &mut Html, run: Run) -> u64 {
         let found = words_of_items(html.alloc(), self.items_of(run));
         html.counted(found)
     }
 
-    /// Takes a run into the totals.
+    /// Adds a run to the totals.
     fn count_run(&self, html: &mut Html, run: Run, totals: &mut Totals<'s>) {
         match run.owner {
             Owner::Root(index) => {
@@ -291,7 +295,7 @@ impl<'b, 'p, 's> File<'b, 'p, 's> {
         }
     }
 
-    /// Begins the totals of a routine, where what is at this index of the commands' own is what a routine begins with.
+    /// Begins the totals of a routine, if the command's items at this index are the beginning of one.
     fn begin_routine(&self, html: &mut Html, index: usize, totals: &mut Totals<'s>) {
         match self.basis.marks.own.get(index) {
             Some(own) if own.what == Purpose::Routine => {
@@ -301,7 +305,7 @@ impl<'b, 'p, 's> File<'b, 'p, 's> {
         }
     }
 
-    /// The words of the file by routine, and how often each rule is used.
+    /// The sizes of the file's routines, and the number of uses of each rule.
     pub fn totals(&self, html: &mut Html) -> Totals<'s> {
         let mut totals = Totals::new(html.alloc());
         for run in &self.runs {

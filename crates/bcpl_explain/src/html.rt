@@ -1,18 +1,20 @@
+//! A page of HTML while it is written.
 use bc_rules_defs::Rule;
 use bc_word::Memory;
 use bcpl_show::unit;
 use std::alloc::Global;
 use std::str;
 
-/// What is added to a page.
+/// A part of a page.
 #[derive(Clone, Copy)]
-pub enum Part<'a> {
+pub enum Fragment<'a> {
     /// Markup.
     Mark(&'a str),
-    /// Text.
+    /// Text, which is escaped.
     Tell(&'a str),
-    /// Bytes as text.
+    /// Bytes of text, which are escaped.
     Say(&'a [u8]),
+    /// A number.
     Number(u64),
     /// A number of words.
     Words(u64),
@@ -20,7 +22,7 @@ pub enum Part<'a> {
     Rule(Rule),
 }
 
-/// A page of HTML that is being written. Where a growth was refused, that is kept, and what is added from then on counts for nothing.
+/// A page while it is written. Once an allocation has failed, its text is void.
 #[derive(Drop)]
 pub struct Html {
     alloc: Global,
@@ -29,6 +31,7 @@ pub struct Html {
 }
 
 impl Html {
+    /// An empty page.
     pub fn new(alloc: Global) -> Html {
         Html {
             alloc,
@@ -37,16 +40,17 @@ impl Html {
         }
     }
 
+    /// The allocator of the page.
     pub fn alloc(&self) -> Global {
         self.alloc
     }
 
-    /// A growth was refused to what is written here.
+    /// Notes that an allocation failed.
     pub fn refuse(&mut self) {
         self.is_refused = true;
     }
 
-    /// What was counted; 0 where a growth was refused.
+    /// A number, or 0 after noting that an allocation failed.
     pub fn counted(&mut self, found: Result<u64, Memory>) -> u64 {
         match found {
             Ok(count) => count,
@@ -57,7 +61,7 @@ impl Html {
         }
     }
 
-    /// Adds markup.
+    /// Adds markup as it is.
     pub fn mark(&mut self, markup: &str) {
         if self.text.extend_from_slice(markup.as_bytes()).is_err() {
             self.refuse();
@@ -71,8 +75,8 @@ impl Html {
         }
     }
 
-    /// Adds bytes as text: signs of markup by their names, and a question mark for each byte of what is no UTF-8, and for each other byte
-    /// that means no sign.
+    /// Adds bytes as text. Escapes the signs of markup. Writes a question mark for each control character, and for
+    /// each byte from 128 on if the text is not valid UTF-8.
     pub fn say(&mut self, bytes: &[u8]) {
         let is_text = str::from_utf8(bytes).is_ok();
         for byte in bytes {
@@ -80,7 +84,7 @@ impl Html {
         }
     }
 
-    /// Adds a byte as text, which is of a text of UTF-8 or not.
+    /// Adds a byte of a text, which is valid UTF-8 or not.
     fn sign(&mut self, byte: u8, is_text: bool) {
         match byte {
             b'<' => self.mark("&lt;"),
@@ -92,7 +96,7 @@ impl Html {
         }
     }
 
-    /// Adds text.
+    /// Adds text, escaped.
     pub fn tell(&mut self, text: &str) {
         self.say(text.as_bytes());
     }
@@ -105,51 +109,52 @@ impl Html {
         self.mark(digits.as_str());
     }
 
-    /// Adds a number of words.
+    /// Adds a number of words, with the unit.
     pub fn words(&mut self, words: u64) {
         self.number(words);
         self.mark(" ");
         self.mark(unit(words));
     }
 
-    /// Adds a rule's name.
+    /// Adds the name of a rule.
     fn rule(&mut self, rule: Rule) {
         self.push(rule.letter());
         self.number(u64::from(rule.number()));
     }
 
-    fn part(&mut self, part: Part<'_>) {
+    /// Adds a part.
+    fn part(&mut self, part: Fragment<'_>) {
         match part {
-            Part::Mark(markup) => self.mark(markup),
-            Part::Tell(text) => self.tell(text),
-            Part::Say(bytes) => self.say(bytes),
-            Part::Number(number) => self.number(number),
-            Part::Words(words) => self.words(words),
-            Part::Rule(rule) => self.rule(rule),
+            Fragment::Mark(markup) => self.mark(markup),
+            Fragment::Tell(text) => self.tell(text),
+            Fragment::Say(bytes) => self.say(bytes),
+            Fragment::Number(number) => self.number(number),
+            Fragment::Words(words) => self.words(words),
+            Fragment::Rule(rule) => self.rule(rule),
         }
     }
 
-    /// Adds these, one after the other.
-    pub fn all(&mut self, parts: &[Part<'_>]) {
+    /// Adds these parts in order.
+    pub fn all(&mut self, parts: &[Fragment<'_>]) {
         for part in parts {
             self.part(*part);
         }
     }
 
-    /// Adds text between the tags of an element.
+    /// Adds an element with this tag and text.
     pub fn element<'t>(&mut self, tag: &'t str, text: &'t str) {
         self.all(&[
-            Part::Mark("<"),
-            Part::Mark(tag),
-            Part::Mark(">"),
-            Part::Tell(text),
-            Part::Mark("</"),
-            Part::Mark(tag),
-            Part::Mark(">"),
+            Fragment::Mark("<"),
+            Fragment::Mark(tag),
+            Fragment::Mark(">"),
+            Fragment::Tell(text),
+            Fragment::Mark("</"),
+            Fragment::Mark(tag),
+            Fragment::Mark(">"),
         ]);
     }
 
-    /// The text of the page. Memory is answered where a growth was refused.
+    /// The text of the page, or `Memory` if an allocation failed.
     pub fn into_text(self) -> Result<Vec<u8>, Memory> {
         if self.is_refused {
             return Err(Memory);
@@ -158,7 +163,7 @@ impl Html {
     }
 }
 
-/// Whether a byte means itself in a text, of UTF-8 or not.
+/// Whether a byte of a text is written as it is. `is_text` is whether the text is valid UTF-8.
 fn is_shown(byte: u8, is_text: bool) -> bool {
     match byte {
         b'\t' | 32..=126 => true,

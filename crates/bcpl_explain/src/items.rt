@@ -1,11 +1,11 @@
 //! Items of INTCODE on the page.
 
-use crate::html::{Html, Part};
+use crate::html::{Fragment, Html};
 use crate::names::place_name;
 use bc_show::ShownItem;
 use bc_text_items::Item;
 
-/// Adds an item, a label bold.
+/// Adds an item. Labels are bold.
 fn add_item(html: &mut Html, item: &Item) {
     let shown = ShownItem(item);
     let Ok(text) = format!(in html.alloc(); "{shown}") else {
@@ -17,7 +17,7 @@ fn add_item(html: &mut Html, item: &Item) {
     }
 }
 
-/// Adds items, with a blank between each two.
+/// Adds items, separated by blanks.
 pub fn add_items(html: &mut Html, items: &[Item]) {
     if items.is_empty() {
         return html.mark("<span class=\"inside\">no code</span>");
@@ -34,7 +34,7 @@ pub fn add_items(html: &mut Html, items: &[Item]) {
     html.mark("</code>");
 }
 
-/// The label of the place that an item begins, or whose address it puts into a global.
+/// The label of a place that begins at an item, or whose address the item puts into a global.
 fn label_begun(item: &Item) -> Option<u16> {
     match item {
         Item::Label(label) => Some(label.get()),
@@ -43,21 +43,22 @@ fn label_begun(item: &Item) -> Option<u16> {
     }
 }
 
-/// What ends an item that another one follows: that begins a line of its own, or goes on.
+/// What comes between an item and the next one, which begins a new line or not.
 fn between(begins_line: bool) -> &'static str {
     if begins_line { "</code></div>\n" } else { " " }
 }
 
-/// Begins a line of data, of the place with this name.
+/// Begins a line of data, for the place with this name.
 fn begin_data(html: &mut Html, name: &[u8]) {
     html.all(&[
-        Part::Mark("<div class=\"data\"><span class=\"name\">"),
-        Part::Say(name),
-        Part::Mark("</span><code>"),
+        Fragment::Mark("<div class=\"data\"><span class=\"name\">"),
+        Fragment::Say(name),
+        Fragment::Mark("</span><code>"),
     ]);
 }
 
-/// Adds data, and globals that are set: a line for each place, with its name. `names` has those of the places, by their labels from 1 on.
+/// Adds data, and globals that are set: a line for each place. `names` has the names of the places, in the order of
+/// their labels.
 pub fn add_data(html: &mut Html, items: &[Item], names: &[&[u8]]) {
     let mut is_first = true;
     for item in items {

@@ -1,4 +1,5 @@
-//! A report in HTML: for each line of a source its code, and for each root why no derivation has fewer words.
+//! The page of HTML that `bcpl explain` writes: each source line with its code, and for each root why no derivation
+//! has fewer words.
 #![tactic(auto)]
 
 mod chosen;

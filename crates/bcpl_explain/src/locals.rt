@@ -1,4 +1,4 @@
-//! The names of a routine's cells, by a walk over the trees of a section in text order.
+//! The names of cells in frames, found by a walk over the tree of a section in text order.
 
 use bc_core::{CoreExp, Root};
 use bc_parse_tree::{Block, Command, Constant, Declaration, Definition, Exp, Item, Label, Section};
@@ -10,39 +10,39 @@ use std::alloc::Global;
 /// The offset of the first parameter.
 const PARAMETERS: u16 = 2;
 
-/// What a part of a text is the scope of.
+/// What a scope belongs to.
 #[derive(Clone, Copy)]
-enum Kind {
-    /// A routine: it has a frame of its own.
+enum CellKind {
+    /// A routine, which has a new frame.
     Routine,
     /// The parameter at this offset.
     Parameter(u16),
-    /// A variable, whose first value is that of the root at this leaf.
+    /// A variable. The root at this leaf assigns its first value.
     Variable(usize),
 }
 
-/// The scope of a name: the leaves from one on, up to another.
+/// A scope, as a range of leaves.
 #[derive(Clone, Copy)]
 struct Local<'s> {
     name: &'s [u8],
     from: usize,
     to: usize,
-    kind: Kind,
+    kind: CellKind,
 }
 
-/// The scopes of a section's parameters and variables, those around before those within.
+/// The scopes of a section's parameters and variables. An outer scope comes before the inner ones.
 #[derive(Drop)]
 pub struct Locals<'s> {
-    /// How many leaves were met.
+    /// The number of leaves met so far.
     leaves: usize,
     locals: Vec<Local<'s>>,
-    /// For each leaf the offset of the cell that the root there assigns to.
+    /// For each leaf, the offset of the cell to which the root there assigns.
     offsets: Vec<Option<u16>>,
-    /// Whether a growth was refused.
+    /// Whether an allocation failed.
     is_refused: bool,
 }
 
-/// The offset of the cell that a root assigns to.
+/// The offset of the cell to which a root assigns.
 fn offset_of(root: &Root) -> Option<u16> {
     match root {
         Root::Assign {
@@ -54,8 +54,7 @@ fn offset_of(root: &Root) -> Option<u16> {
 }
 
 impl<'s> Locals<'s> {
-    /// The scopes of a section whose code has these entries, at the leaves that the marks have. Memory is answered where a growth was
-    /// refused.
+    /// The scopes of a section with these entries, whose leaves are in `marks`. `Memory` if an allocation fails.
     pub fn new(
         alloc: Global,
         section: &Section<'s>,
@@ -79,7 +78,7 @@ impl<'s> Locals<'s> {
         Ok(locals)
     }
 
-    /// Notes to which offset a root at a leaf assigns, unless one there did before.
+    /// Records the offset to which the root at a leaf assigns. The first root at a leaf counts.
     fn note(&mut self, leaf: usize, offset: Option<u16>) {
         if let Some(noted) = self.offsets.get_mut(leaf) {
             if noted.is_none() {
@@ -89,24 +88,24 @@ impl<'s> Locals<'s> {
     }
 
     /// The offset of a cell.
-    fn offset(&self, kind: Kind) -> Option<u16> {
+    fn offset(&self, kind: CellKind) -> Option<u16> {
         match kind {
-            Kind::Routine => None,
-            Kind::Parameter(offset) => Some(offset),
-            Kind::Variable(leaf) => self.offsets.get(leaf).copied().flatten(),
+            CellKind::Routine => None,
+            CellKind::Parameter(offset) => Some(offset),
+            CellKind::Variable(leaf) => self.offsets.get(leaf).copied().flatten(),
         }
     }
 
-    /// The name of the cell at this offset after a scope, where before it the cell has this name, or none.
+    /// The name of the cell at this offset inside a scope. `name` is its name outside.
     fn name_after(&self, local: &Local<'s>, name: &'s [u8], offset: u16) -> &'s [u8] {
         match local.kind {
-            Kind::Routine => b"",
+            CellKind::Routine => b"",
             kind if name.is_empty() && self.offset(kind) == Some(offset) => local.name,
             _ => name,
         }
     }
 
-    /// The name of the cell at this offset, at a leaf; nothing where it has none.
+    /// The name of the cell at this offset at a leaf, or an empty text.
     pub fn name_at(&self, leaf: usize, offset: u16) -> &'s [u8] {
         let mut name: &'s [u8] = b"";
         for local in &self.locals {
@@ -117,12 +116,13 @@ impl<'s> Locals<'s> {
         name
     }
 
+    /// Passes a leaf.
     fn leaf(&mut self) {
         self.leaves = self.leaves.saturating_add(1);
     }
 
-    /// A scope begins at the next leaf.
-    fn open(&mut self, name: &'s [u8], kind: Kind) {
+    /// Begins a scope at the next leaf.
+    fn open(&mut self, name: &'s [u8], kind: CellKind) {
         let local = Local {
             name,
             from: self.leaves,
@@ -134,7 +134,7 @@ impl<'s> Locals<'s> {
         }
     }
 
-    /// The scopes from this one on end before the next leaf, where they didn't before.
+    /// Ends the scopes from this index on before the next leaf, unless they have ended.
     fn close(&mut self, first: usize) {
         let leaves = self.leaves;
         for local in self.locals.iter_mut().skip(first) {
@@ -209,26 +209,27 @@ impl<'s> Locals<'s> {
         }
     }
 
-    /// The scopes of the variables of a LET begin, all before its values.
+    /// Begins the scopes of all variables of a LET, before its values.
     fn open_all(&mut self, list: &[Definition<'s>]) {
         for definition in list {
             match definition {
                 Definition::Variables(names, _) => {
                     for name in names {
-                        self.open(*name, Kind::Variable(usize::MAX));
+                        self.open(*name, CellKind::Variable(usize::MAX));
                     }
                 }
-                Definition::Vector(name, _) => self.open(*name, Kind::Variable(usize::MAX)),
+                Definition::Vector(name, _) => self.open(*name, CellKind::Variable(usize::MAX)),
                 Definition::Function(_, _, _) | Definition::Routine(_, _, _) => {}
             }
         }
     }
 
-    /// The variable with this index among the scopes has its first value from the root at the next leaf; gives the index after it.
+    /// Records that the variable at this index gets its first value from the root at the next leaf. Returns the next
+    /// index.
     fn set(&mut self, index: usize) -> usize {
         let leaf = self.leaves;
         if let Some(local) = self.locals.get_mut(index) {
-            local.kind = Kind::Variable(leaf);
+            local.kind = CellKind::Variable(leaf);
         }
         index.saturating_add(1)
     }
@@ -242,7 +243,7 @@ impl<'s> Locals<'s> {
         }
     }
 
-    /// A definition, whose variables have the scopes from this index on; gives the index after them.
+    /// Walks over a definition, whose variables begin at this index of the scopes. Returns the index after them.
     #[cycle(walking)]
     fn definition(&mut self, first: usize, definition: &Definition<'s>) -> usize {
         match definition {
@@ -272,7 +273,7 @@ impl<'s> Locals<'s> {
         }
     }
 
-    /// The first values of the variables from this index on; gives the index after them.
+    /// Walks over the first values of the variables from this index on. Returns the index after them.
     #[cycle(walking)]
     fn values(&mut self, first: usize, values: &[Exp<'s>]) -> usize {
         let mut next = first;
@@ -283,14 +284,14 @@ impl<'s> Locals<'s> {
         next
     }
 
-    /// The name and the parameters of a routine; gives the index of its scope.
+    /// Passes the name and parameters of a routine. Returns the index of its scope.
     fn head(&mut self, name: &'s [u8], parameters: &[&'s [u8]]) -> usize {
         let first = self.locals.len();
-        self.open(name, Kind::Routine);
+        self.open(name, CellKind::Routine);
         self.leaf();
         let mut offset = PARAMETERS;
         for parameter in parameters {
-            self.open(*parameter, Kind::Parameter(offset));
+            self.open(*parameter, CellKind::Parameter(offset));
             self.leaf();
             offset = offset.saturating_add(1);
         }
@@ -317,7 +318,7 @@ impl<'s> Locals<'s> {
         }
     }
 
-    /// A command that holds no others.
+    /// Walks over a command that contains no others.
     #[cycle(walking)]
     fn single(&mut self, command: &Command<'s>) {
         match command {
@@ -343,7 +344,7 @@ impl<'s> Locals<'s> {
         }
     }
 
-    /// A command that tests, or chooses.
+    /// Walks over a command with a test or a choice.
     #[cycle(walking)]
     fn guarded(&mut self, command: &Command<'s>) {
         match command {
@@ -384,7 +385,7 @@ impl<'s> Locals<'s> {
                 body,
             } => {
                 let first = self.locals.len();
-                self.open(*variable, Kind::Variable(self.leaves));
+                self.open(*variable, CellKind::Variable(self.leaves));
                 self.leaf();
                 self.expression(start);
                 self.expression(limit);

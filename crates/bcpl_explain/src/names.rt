@@ -12,16 +12,20 @@ pub struct GlobalName<'s> {
     name: &'s [u8],
 }
 
-/// The names of the places, by their labels from 1 on, those of the globals, and those of the cells at the leaf where a root stands.
+/// The names that are shown in the tree of a root.
 #[derive(Clone, Copy)]
 pub struct Names<'k, 's> {
+    /// The names of the places, in the order of their labels.
     pub places: &'k [&'s [u8]],
+    /// The names of the globals.
     pub globals: &'k [GlobalName<'s>],
+    /// The names of the cells.
     pub locals: &'k Locals<'s>,
+    /// The leaf of the root.
     pub leaf: Option<usize>,
 }
 
-/// The name of the place with this label; nothing where there is none.
+/// The name of the place with this label, or an empty text.
 pub fn place_name<'s>(places: &[&'s [u8]], label: u16) -> &'s [u8] {
     let index = usize::from(label).saturating_sub(1);
     match places.get(index) {
@@ -30,7 +34,7 @@ pub fn place_name<'s>(places: &[&'s [u8]], label: u16) -> &'s [u8] {
     }
 }
 
-/// The name of the global with this number; nothing where it has none.
+/// The name of the global with this number, or an empty text.
 pub fn global_name<'s>(globals: &[GlobalName<'s>], number: u16) -> &'s [u8] {
     for global in globals {
         if global.number == number {
@@ -40,7 +44,7 @@ pub fn global_name<'s>(globals: &[GlobalName<'s>], number: u16) -> &'s [u8] {
     b""
 }
 
-/// The name of the cell at this offset; nothing where it has none.
+/// The name of the cell at this offset, or an empty text.
 pub fn cell_name<'s>(names: Names<'_, 's>, offset: u16) -> &'s [u8] {
     match names.leaf {
         Some(leaf) => names.locals.name_at(leaf, offset),
@@ -48,7 +52,7 @@ pub fn cell_name<'s>(names: Names<'_, 's>, offset: u16) -> &'s [u8] {
     }
 }
 
-/// Puts the globals of a list after those that are there, where their numbers are written as such. Memory is answered where a growth was refused.
+/// Adds the globals of a list whose numbers are written as such. `Memory` if an allocation fails.
 fn add_globals<'s>(globals: &mut Vec<GlobalName<'s>>, list: &[Constant<'s>]) -> Result<(), Memory> {
     for constant in list {
         if let Exp::Number(number) = &constant.value {
@@ -61,8 +65,8 @@ fn add_globals<'s>(globals: &mut Vec<GlobalName<'s>>, list: &[Constant<'s>]) -> 
     Ok(())
 }
 
-/// The globals that a section declares outside of its routines, where their numbers are written as such. Memory is answered where a growth
-/// was refused.
+/// The globals that a section declares outside its routines with numbers written as such. `Memory` if an allocation
+/// fails.
 pub fn globals_of<'s>(alloc: Global, section: &Section<'s>) -> Result<Vec<GlobalName<'s>>, Memory> {
     let mut globals = Vec::new(alloc);
     for declaration in &section.declarations {

@@ -1,7 +1,7 @@
-//! A node of a root's tree on the page: its least words, all rules that apply with theirs, and the rules that the derivation has there.
+//! The row of a node: its least words, all rules that apply, and the rules that the derivation uses there.
 
 use crate::chosen::Chosen;
-use crate::html::{Html, Part};
+use crate::html::{Fragment, Html};
 use crate::names::{Names, cell_name, global_name, place_name};
 use crate::parts::{ANY, At, PUSH};
 use crate::rules::{AIMS, add_name, add_told_name};
@@ -9,36 +9,41 @@ use bc_candidates::{Beginning, Candidates};
 use bc_core::CoreExp;
 use bc_rules_defs::{Aim, Rule};
 
-/// A node of the tree: its expression, and how deep it stands.
+/// A node, and its depth in the tree.
 #[derive(Clone, Copy)]
 pub struct Row<'e> {
+    /// The node.
     pub at: At<'e>,
+    /// Its depth.
     pub depth: u64,
 }
 
-/// What is known of a node: the rules that apply, those of the derivation, and the names of places, globals and cells.
+/// What is known about a node.
 #[derive(Clone, Copy)]
-pub struct Known<'k, 's> {
+pub struct NodeContext<'k, 's> {
+    /// The rules that apply.
     pub candidates: &'k Candidates,
+    /// The rules that the derivation uses.
     pub chosen: Chosen,
+    /// The names of places, globals and cells.
     pub names: Names<'k, 's>,
 }
 
 /// Adds the name of a place, a global or a cell.
 fn add_known_name(html: &mut Html, name: &[u8]) {
     html.all(&[
-        Part::Mark(" <span class=\"name\">"),
-        Part::Say(name),
-        Part::Mark("</span>"),
+        Fragment::Mark(" <span class=\"name\">"),
+        Fragment::Say(name),
+        Fragment::Mark("</span>"),
     ]);
 }
 
 /// Adds a letter and a number.
 fn add_address(html: &mut Html, letter: &str, number: u16) {
-    html.all(&[Part::Mark(letter), Part::Number(u64::from(number))]);
+    html.all(&[Fragment::Mark(letter), Fragment::Number(u64::from(number))]);
 }
 
-/// Adds what stands at a node itself, without its parts.
+/// Adds a node without its parts.
 fn add_sign(html: &mut Html, e: &CoreExp) {
     match e {
         CoreExp::Num(number) => html.number(u64::from(number.get())),
@@ -55,7 +60,7 @@ fn add_sign(html: &mut Html, e: &CoreExp) {
     }
 }
 
-/// The name of a place, a global or a cell; nothing for another node.
+/// The name of a place, a global or a cell, or an empty text for another node.
 fn known_name<'s>(e: &CoreExp, names: Names<'_, 's>) -> &'s [u8] {
     match e {
         CoreExp::Place(label) => place_name(names.places, *label),
@@ -65,7 +70,7 @@ fn known_name<'s>(e: &CoreExp, names: Names<'_, 's>) -> &'s [u8] {
     }
 }
 
-/// Adds what stands at a node itself, with the name of a place, a global or a cell.
+/// Adds a node without its parts, with its name if it has one.
 fn add_head(html: &mut Html, e: &CoreExp, names: Names<'_, '_>) {
     html.mark("<code>");
     add_sign(html, e);
@@ -88,7 +93,7 @@ fn least(beginnings: &[Beginning]) -> Option<u64> {
     best
 }
 
-/// The tag of a cell; another one where the derivation has the node for its aim.
+/// The tag of a cell, which is highlighted if the derivation uses the node for its aim.
 fn cell_tag(is_used: bool) -> &'static str {
     if is_used {
         "<td class=\"used\">"
@@ -97,7 +102,7 @@ fn cell_tag(is_used: bool) -> &'static str {
     }
 }
 
-/// The tag of a rule; of the chosen one with a sign.
+/// The tag of a rule. The chosen one has a mark.
 fn rule_tag(is_chosen: bool) -> &'static str {
     if is_chosen {
         " <span class=\"chosen\">&#9670;&nbsp;"
@@ -111,21 +116,25 @@ fn add_beginning(html: &mut Html, beginning: &Beginning, chosen: Option<Rule>) {
     html.mark(rule_tag(chosen == Some(beginning.rule)));
     add_name(html, beginning.rule);
     html.all(&[
-        Part::Mark("&nbsp;"),
-        Part::Number(beginning.words),
-        Part::Mark("</span>"),
+        Fragment::Mark("&nbsp;"),
+        Fragment::Number(beginning.words),
+        Fragment::Mark("</span>"),
     ]);
 }
 
-/// Adds the least words; a dash where there is no code.
+/// Adds the least words, or a dash if there is no code.
 fn add_least(html: &mut Html, words: Option<u64>) {
     match words {
-        Some(words) => html.all(&[Part::Mark("<b>"), Part::Number(words), Part::Mark("</b>")]),
+        Some(words) => html.all(&[
+            Fragment::Mark("<b>"),
+            Fragment::Number(words),
+            Fragment::Mark("</b>"),
+        ]),
         None => html.mark("&ndash;"),
     }
 }
 
-/// Adds the least words for an aim, and all rules that apply with theirs, the chosen one marked.
+/// Adds the cell of an aim: the least words, and all rules that apply, with the chosen one marked.
 fn add_cell(html: &mut Html, beginnings: &[Beginning], chosen: Option<Rule>) {
     html.mark(cell_tag(chosen.is_some()));
     add_least(html, least(beginnings));
@@ -135,7 +144,7 @@ fn add_cell(html: &mut Html, beginnings: &[Beginning], chosen: Option<Rule>) {
     html.mark("</td>");
 }
 
-/// Adds the rules that the derivation has at a node, the outermost first.
+/// Adds the rules that the derivation uses at a node, the outermost first.
 fn add_chain(html: &mut Html, chosen: Chosen) {
     if chosen.is_nothing() {
         return html.mark("<span class=\"inside\">no code of its own</span>");
@@ -152,24 +161,24 @@ fn add_chain(html: &mut Html, chosen: Chosen) {
     }
 }
 
-/// Adds a node's row.
-pub fn add_row(html: &mut Html, row: Row<'_>, known: Known<'_, '_>) {
+/// Adds the row of a node.
+pub fn add_row(html: &mut Html, row: Row<'_>, known: NodeContext<'_, '_>) {
     html.all(&[
-        Part::Mark("<tr><th style=\"--depth:"),
-        Part::Number(row.depth.min(24)),
-        Part::Mark("\">"),
+        Fragment::Mark("<tr><th style=\"--depth:"),
+        Fragment::Number(row.depth.min(24)),
+        Fragment::Mark("\">"),
     ]);
     add_head(html, row.at.e, known.names);
     html.all(&[
-        Part::Mark("</th><td>"),
-        Part::Number(row.at.level),
-        Part::Mark("</td>"),
+        Fragment::Mark("</th><td>"),
+        Fragment::Number(row.at.level),
+        Fragment::Mark("</td>"),
     ]);
     add_rules(html, known);
 }
 
-/// Adds what is known of a node's rules, up to the end of its row.
-fn add_rules(html: &mut Html, known: Known<'_, '_>) {
+/// Adds the cells with the rules of a node, and ends its row.
+fn add_rules(html: &mut Html, known: NodeContext<'_, '_>) {
     for aim in AIMS {
         add_cell(
             html,

@@ -1,21 +1,24 @@
-//! The parts of an expression, and which of them are derived.
+//! The parts of an expression with their nodes and levels.
 
 use bc_core::CoreExp;
 use bc_rules_defs::{Aim, Mode, is_zero};
 use bc_word::Memory;
 use std::alloc::Global;
 
-/// A value.
+/// The aim of a value.
 pub const ANY: Aim = Aim::Gets(Mode::Any);
 
-/// A value that is pushed.
+/// The aim of a second operand.
 pub const PUSH: Aim = Aim::Gets(Mode::Push);
 
-/// An expression in a root: so many nodes stand before its end, itself among them, and its level.
+/// An expression in a root.
 #[derive(Clone, Copy)]
 pub struct At<'e> {
+    /// The expression.
     pub e: &'e CoreExp,
+    /// The index after its node. Its parts come before it.
     pub end: usize,
+    /// Its level.
     pub level: u64,
 }
 
@@ -26,7 +29,7 @@ impl At<'_> {
     }
 }
 
-/// How many nodes an expression has.
+/// The number of nodes of an expression.
 #[cycle(counting)]
 pub fn count(e: &CoreExp) -> usize {
     match e {
@@ -53,6 +56,7 @@ pub fn count(e: &CoreExp) -> usize {
     }
 }
 
+/// The number of nodes of several expressions.
 #[cycle(counting)]
 fn count_all(arguments: &[CoreExp]) -> usize {
     let mut all: usize = 0;
@@ -62,7 +66,7 @@ fn count_all(arguments: &[CoreExp]) -> usize {
     all
 }
 
-/// These parts with their levels.
+/// These parts with their levels, as a list.
 fn collected<'e>(
     alloc: Global,
     list: &[(&'e CoreExp, u64)],
@@ -74,7 +78,7 @@ fn collected<'e>(
     Ok(parts)
 }
 
-/// The parts of a call with their levels, the first one at this level.
+/// The parts of a call, with levels that begin at this one.
 fn of_call<'e>(
     alloc: Global,
     arguments: &'e [CoreExp],
@@ -110,7 +114,7 @@ fn levelled<'e>(alloc: Global, of: At<'e>) -> Result<Vec<(&'e CoreExp, u64)>, Me
     }
 }
 
-/// The parts of an expression, in the order of the tree. Memory is answered where a growth was refused.
+/// The parts of an expression, in the order of the tree. `Memory` if an allocation fails.
 pub fn parts<'e>(alloc: Global, of: At<'e>) -> Result<Vec<At<'e>>, Memory> {
     let levelled = levelled(alloc, of)?;
     let mut end = of.end.saturating_sub(1);
@@ -124,7 +128,7 @@ pub fn parts<'e>(alloc: Global, of: At<'e>) -> Result<Vec<At<'e>>, Memory> {
     Ok(found)
 }
 
-/// Whether the second operand of an operator is a 0.
+/// Whether this is a dyadic operator with a 0 on the right, which some rules drop.
 pub fn drops(e: &CoreExp) -> bool {
     match e {
         CoreExp::Bin(_, _, right) => is_zero(right),

@@ -1,4 +1,4 @@
-//! The runs of a segment by the lines of the sources.
+//! The runs of a segment, by source line.
 
 use crate::runs::Run;
 use bc_lex_tokens::Token;
@@ -6,17 +6,21 @@ use bc_word::Memory;
 use bcpl_show::{Files, Lines, Marks, Owner};
 use std::alloc::Global;
 
-/// A line of a file, by its number from 1 on.
+/// A line of a file. Lines are counted from 1.
 #[derive(Clone, Copy, PartialEq, Eq)]
 pub struct Spot {
+    /// The index of the file.
     pub file: usize,
+    /// The number of the line.
     pub line: usize,
 }
 
-/// A run that stands at a line of another file than the section's own.
+/// A run that belongs to a line of another file.
 #[derive(Clone, Copy)]
 pub struct Other {
+    /// The line.
     pub spot: Spot,
+    /// The run.
     pub run: Run,
 }
 
@@ -31,6 +35,7 @@ pub struct Ground<'p, 's> {
 }
 
 impl<'p, 's> Ground<'p, 's> {
+    /// Finds the lines of all files. `Memory` if an allocation fails.
     pub fn new(
         alloc: Global,
         files: Files<'p, 's>,
@@ -49,7 +54,7 @@ impl<'p, 's> Ground<'p, 's> {
         })
     }
 
-    /// How many lines the section's file has.
+    /// The number of lines of the section's file.
     pub fn count(&self) -> usize {
         match self.lines.get(self.main) {
             Some(lines) => lines.count(self.files.text(self.main)),
@@ -73,7 +78,7 @@ impl<'p, 's> Ground<'p, 's> {
         }
     }
 
-    /// The path of the file of a line, where that isn't the section's.
+    /// The path of a line's file, unless it is the section's.
     pub fn path_elsewhere(&self, spot: Spot) -> Option<&'p str> {
         if spot.file == self.main {
             None
@@ -82,7 +87,7 @@ impl<'p, 's> Ground<'p, 's> {
         }
     }
 
-    /// The text of a leaf; nothing where there is none.
+    /// The text of a leaf, or an empty text if there is no such leaf.
     pub fn leaf(&self, index: usize) -> &'s [u8] {
         match self.leaves.get(index) {
             Some(token) => token.text,
@@ -99,7 +104,7 @@ impl<'p, 's> Ground<'p, 's> {
         Ok(texts)
     }
 
-    /// The line at which a leaf stands.
+    /// The line of a leaf.
     fn spot_of(&self, leaf: usize) -> Option<Spot> {
         match self.leaves.get(leaf) {
             Some(token) => self.spot_in(token.file, token.start),
@@ -107,7 +112,7 @@ impl<'p, 's> Ground<'p, 's> {
         }
     }
 
-    /// The line of a file at which a byte stands.
+    /// The line of a byte in a file.
     fn spot_in(&self, file: usize, start: usize) -> Option<Spot> {
         match self.lines.get(file) {
             Some(lines) => Some(Spot {
@@ -139,18 +144,20 @@ fn spot_of(ground: &Ground<'_, '_>, marks: &Marks, owner: Owner) -> Option<Spot>
     }
 }
 
-/// The runs of a segment: those of each line of the section's file, by its number; those of other files; and the section's own. Where a
-/// growth was refused, that is kept.
+/// The runs of a segment, by line. Once an allocation has failed, they are void.
 #[derive(Drop)]
 pub struct Placed {
+    /// The runs of each line of the section's file; index 0 is unused.
     pub at_lines: Vec<Vec<Run>>,
+    /// The runs of other files.
     pub others: Vec<Other>,
+    /// The runs of the section itself.
     pub data: Vec<Run>,
     is_refused: bool,
 }
 
 impl Placed {
-    /// Nothing yet, of a file with so many lines.
+    /// No runs yet, for a file with this number of lines.
     fn new(alloc: Global, count: usize) -> Placed {
         let mut at_lines = Vec::new(alloc);
         let mut is_refused = false;
@@ -167,20 +174,20 @@ impl Placed {
         }
     }
 
-    /// Notes whether a growth was refused.
+    /// Notes a failed allocation.
     fn note(&mut self, is_refused: bool) {
         if is_refused {
             self.is_refused = true;
         }
     }
 
-    /// Adds a run at a line of another file.
+    /// Adds a run of a line of another file.
     fn add_other(&mut self, spot: Spot, run: Run) {
         let is_refused = self.others.push(Other { spot, run }).is_err();
         self.note(is_refused);
     }
 
-    /// Adds a run at a line of the section's file.
+    /// Adds a run of a line of the section's file.
     fn add_own(&mut self, spot: Spot, run: Run) {
         match self.at_lines.get_mut(spot.line) {
             Some(runs) => {
@@ -191,13 +198,13 @@ impl Placed {
         }
     }
 
-    /// Adds a run that is the section's own.
+    /// Adds a run of the section itself.
     fn add_data(&mut self, run: Run) {
         let is_refused = self.data.push(run).is_err();
         self.note(is_refused);
     }
 
-    /// Adds a run at its line.
+    /// Adds a run to its line.
     fn add(&mut self, ground: &Ground<'_, '_>, marks: &Marks, run: Run) {
         match spot_of(ground, marks, run.owner) {
             Some(spot) if spot.file == ground.main => self.add_own(spot, run),
@@ -206,7 +213,7 @@ impl Placed {
         }
     }
 
-    /// These runs by their lines. Memory is answered where a growth was refused.
+    /// These runs, by line. `Memory` if an allocation fails.
     pub fn of(
         alloc: Global,
         runs: &[Run],

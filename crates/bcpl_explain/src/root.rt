@@ -1,9 +1,9 @@
-//! Why a root has the code that it has: its tree, with the rules of each node.
+//! The explanation of a root's code: its tree, with the rules of each node.
 
 use crate::chosen::{Chosen, chosen_rules, sides, top};
-use crate::html::{Html, Part};
+use crate::html::{Fragment, Html};
 use crate::names::Names;
-use crate::node::{Known, Row, add_row};
+use crate::node::{NodeContext, Row, add_row};
 use crate::parts::{At, parts};
 use crate::rules::{AIMS, add_name, aim_words};
 use bc_candidates::{Candidates, candidates};
@@ -12,8 +12,7 @@ use bc_rules_defs::{Entry, Rule};
 use bc_word::Memory;
 use std::alloc::Global;
 
-/// What is known of the nodes of a root, in their order: the rules that apply, those of the derivation, and the names of places, globals and
-/// cells.
+/// What is known about the nodes of a root, in order: the rules that apply, those of the derivation, and names.
 #[derive(Clone, Copy)]
 struct Nodes<'k, 's> {
     candidates: &'k [Candidates],
@@ -21,7 +20,7 @@ struct Nodes<'k, 's> {
     names: Names<'k, 's>,
 }
 
-/// Puts trees on a stack, so that the first one is on top.
+/// Pushes trees on a stack, so that the first one is on top.
 fn wait<'e>(waiting: &mut Vec<Row<'e>>, trees: &[At<'e>], depth: u64) -> Result<(), Memory> {
     for at in trees.iter().rev() {
         waiting.push(Row { at: *at, depth })?;
@@ -29,14 +28,14 @@ fn wait<'e>(waiting: &mut Vec<Row<'e>>, trees: &[At<'e>], depth: u64) -> Result<
     Ok(())
 }
 
-/// Adds a node's row, where something is known of it.
+/// Adds the row of a node, if anything is known about it.
 fn add_known(html: &mut Html, row: Row<'_>, nodes: Nodes<'_, '_>) {
     let node = row.at.node();
     match (nodes.candidates.get(node), nodes.chosen.get(node)) {
         (Some(candidates), Some(chosen)) => add_row(
             html,
             row,
-            Known {
+            NodeContext {
                 candidates,
                 chosen: *chosen,
                 names: nodes.names,
@@ -46,7 +45,7 @@ fn add_known(html: &mut Html, row: Row<'_>, nodes: Nodes<'_, '_>) {
     }
 }
 
-/// The rows of the tops of a root's trees, the first one on top.
+/// The rows of the top nodes of a root's trees, the first one on top of the stack.
 fn top_rows<'e>(alloc: Global, root: &'e Root) -> Result<Vec<Row<'e>>, Memory> {
     let mut waiting = Vec::new(alloc);
     match root {
@@ -65,13 +64,13 @@ fn top_rows<'e>(alloc: Global, root: &'e Root) -> Result<Vec<Row<'e>>, Memory> {
     Ok(waiting)
 }
 
-/// Puts the parts of a row's node on the stack.
+/// Pushes the parts of a row's node.
 fn wait_parts<'e>(alloc: Global, waiting: &mut Vec<Row<'e>>, row: Row<'e>) -> Result<(), Memory> {
     let parts = parts(alloc, row.at)?;
     wait(waiting, parts.as_slice(), row.depth.saturating_add(1))
 }
 
-/// Adds the rows of a root's nodes, wholes before parts.
+/// Adds the rows of a root's nodes. A node comes before its parts.
 fn add_rows(html: &mut Html, root: &Root, nodes: Nodes<'_, '_>) {
     let alloc = html.alloc();
     let Ok(rows) = top_rows(alloc, root) else {
@@ -89,7 +88,7 @@ fn add_rows(html: &mut Html, root: &Root, nodes: Nodes<'_, '_>) {
     }
 }
 
-/// What a root is.
+/// What kind of root this is.
 fn kind_of(root: &Root) -> &'static str {
     match root {
         Root::Value { .. } => "An expression, as a value",
@@ -99,55 +98,56 @@ fn kind_of(root: &Root) -> &'static str {
     }
 }
 
-/// The words of storing A in the cell at this offset, or of loading it from there.
+/// The size of an instruction that stores A in the cell at this offset or loads it, in words.
 fn cell_words(offset: u64) -> u64 {
     if offset <= 511 { 1 } else { 2 }
 }
 
-/// Adds why an assignment at a level has its rule, with which its code has so many words.
+/// Explains why an assignment at this level has its rule. `words` is the size of its code.
 fn add_assignment(html: &mut Html, rule: Rule, level: u64, words: u64) {
     html.mark("<p><span class=\"chosen\">&#9670;&nbsp;");
     add_name(html, rule);
     html.all(&[
-        Part::Mark("&nbsp;"),
-        Part::Number(words),
-        Part::Mark("</span> "),
+        Fragment::Mark("&nbsp;"),
+        Fragment::Number(words),
+        Fragment::Mark("</span> "),
     ]);
     match rule {
         Rule::A2 => add_either(html, level, words),
         _ => html.mark(why_alone(rule)),
     }
-    html.mark(" The trees are those of the value and of the address.</p>\n");
+    html.mark(" The trees below are those of the value and of the address.</p>\n");
 }
 
-/// Why a rule of assignments alone applies.
+/// Why A1 or A3 is the only rule that applies.
 fn why_alone(rule: Rule) -> &'static str {
     match rule {
         Rule::A1 =>
-            "The address is an operand, so this rule alone applies: the value, and one instruction that stores it.",
+            "The address is an operand, so only this rule applies: the code of the value, and one instruction that stores it.",
         _ =>
-            "The address is no operand, and the order of the work matters: so this rule alone applies, and both wait in cells.",
+            "The address isn't an operand and the order of evaluation matters, so only this rule applies: value and address are both kept in cells.",
     }
 }
 
-/// Adds why A2 was taken where A3 applies, too.
+/// Explains why A2 was chosen although A3 applies too. A3 needs one more store and load, each of a cell at the next
+/// level.
 fn add_either(html: &mut Html, level: u64, words: u64) {
     let both = cell_words(level.saturating_add(1)).saturating_mul(2);
     add_name(html, Rule::A3);
     html.all(&[
-        Part::Mark("&nbsp;"),
-        Part::Number(words.saturating_add(both)),
-        Part::Mark(
-            " Value and address may be worked out in either order, so that one of them waits in a cell. By A3, which applies too, both wait.",
+        Fragment::Mark("&nbsp;"),
+        Fragment::Number(words.saturating_add(both)),
+        Fragment::Mark(
+            " Value and address may be evaluated in either order, so only one of them is kept in a cell. By A3, which applies too, both are.",
         ),
     ]);
 }
 
-/// The head of a tree's table, whose words lead to what is said of them.
+/// The head of a tree's table, with links to the explanations.
 const HEAD: &str = "<div class=\"wide\"><table class=\"tree\">\n\
     <thead><tr><th rowspan=\"2\"><a href=\"#node\">node</a></th>\
     <th rowspan=\"2\"><a href=\"#level\">level</a></th>\
-    <th colspan=\"4\"><a href=\"#least\">least words, and those by each rule that applies</a></th>\
+    <th colspan=\"4\"><a href=\"#least\">fewest words, and the words with each rule</a></th>\
     <th rowspan=\"2\"><a href=\"#chain\">rules of this code</a></th></tr>\n<tr>";
 
 /// Adds the head of a tree's table.
@@ -159,21 +159,21 @@ fn add_heads(html: &mut Html) {
     html.mark("</tr></thead>\n<tbody>\n");
 }
 
-/// Adds what a root is, and of an assignment why it has its rule.
+/// Adds what kind of root this is and, for an assignment, why it has its rule.
 fn add_kind(html: &mut Html, entry: &Entry, words: u64) {
     html.all(&[
-        Part::Mark("<p>"),
-        Part::Tell(kind_of(&entry.root)),
-        Part::Mark(", in "),
-        Part::Words(words),
-        Part::Mark(". No derivation has fewer.</p>\n"),
+        Fragment::Mark("<p>"),
+        Fragment::Tell(kind_of(&entry.root)),
+        Fragment::Mark(", in "),
+        Fragment::Words(words),
+        Fragment::Mark(". No derivation has fewer.</p>\n"),
     ]);
     if let Root::Assign { level, .. } = &entry.root {
         add_assignment(html, entry.derivation.rule, u64::from(*level), words);
     }
 }
 
-/// Adds the rows of the tree of an entry's root, whose nodes have these rules that apply.
+/// Adds the rows of an entry's root. `candidates` has the rules that apply at each node.
 fn add_tree(html: &mut Html, entry: &Entry, candidates: &[Candidates], names: Names<'_, '_>) {
     let Ok(chosen) = chosen_rules(html.alloc(), &entry.root, &entry.derivation) else {
         return html.refuse();
@@ -186,8 +186,8 @@ fn add_tree(html: &mut Html, entry: &Entry, candidates: &[Candidates], names: Na
     add_rows(html, &entry.root, nodes);
 }
 
-/// Adds why a root has the code that it has, in so many words: its tree, a node a row, with the least words of each for the four aims, the
-/// rules that its derivation has there, and all that apply.
+/// Explains the code of an entry's root, whose size is `words`: its tree, with a row for each node. The row has the
+/// least words for each of the four aims, all rules that apply, and the rules of the derivation.
 pub fn add_root(html: &mut Html, entry: &Entry, words: u64, names: Names<'_, '_>) {
     let Ok(of_nodes) = candidates(html.alloc(), &entry.root) else {
         return html.refuse();

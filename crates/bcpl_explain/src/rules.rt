@@ -1,6 +1,6 @@
-//! The rule table in words.
+//! The rule table as text.
 
-use crate::html::{Html, Part};
+use crate::html::{Fragment, Html};
 use bc_rules_defs::{Aim, Mode, RULES, Rule};
 
 /// The four aims, in the order of a certificate's numbers.
@@ -11,7 +11,7 @@ pub const AIMS: [Aim; 4] = [
     Aim::Jumps(true),
 ];
 
-/// What an aim is called.
+/// The name of an aim.
 pub fn aim_words(aim: Aim) -> &'static str {
     match aim {
         Aim::Gets(Mode::Any) => "as a value",
@@ -21,7 +21,7 @@ pub fn aim_words(aim: Aim) -> &'static str {
     }
 }
 
-/// What a rule is for.
+/// The uses of a rule.
 fn aims_of(rule: Rule) -> &'static str {
     match rule {
         Rule::V1 => "a second operand",
@@ -35,7 +35,7 @@ fn aims_of(rule: Rule) -> &'static str {
     }
 }
 
-/// Where a rule applies.
+/// The expressions to which a rule applies.
 fn place_of(rule: Rule) -> &'static str {
     match rule {
         Rule::V0 => "any expression e",
@@ -61,23 +61,23 @@ fn place_of(rule: Rule) -> &'static str {
     }
 }
 
-/// Where a rule of tests or assignments applies, or one that asks for no more than an operator.
+/// The same for the rules of tests and assignments, and for rules that apply to any operator.
 fn place_of_test(rule: Rule) -> &'static str {
     match rule {
         Rule::J2 | Rule::J3 => "a & b",
         Rule::J4 | Rule::J5 => "a | b",
-        Rule::J6 => "e with neither NOT nor & nor | on top",
+        Rule::J6 => "e with no NOT, & or | at the top",
         Rule::J7 => "a number",
         Rule::J8 => "c = 0, 0 = c",
         Rule::J9 => "c NE 0, 0 NE c",
         Rule::A1 => "the address an operand o",
-        Rule::A2 => "the address none, value and address free",
-        Rule::A3 => "the address none",
+        Rule::A2 => "the address not an operand; value and address free",
+        Rule::A3 => "the address not an operand",
         _ => "a op b",
     }
 }
 
-/// The code that a rule makes of that of its parts.
+/// The code of a rule, from the code of its parts.
 fn code_of(rule: Rule) -> &'static str {
     match rule {
         Rule::V0 => "Push(e)",
@@ -106,7 +106,7 @@ fn code_of(rule: Rule) -> &'static str {
     }
 }
 
-/// That of a rule of tests or assignments.
+/// The same for the rules of tests and assignments.
 fn code_of_test(rule: Rule) -> &'static str {
     match rule {
         Rule::J1 => "on false True(e, t), on true False(e, t)",
@@ -115,7 +115,7 @@ fn code_of_test(rule: Rule) -> &'static str {
         Rule::J4 => "True(a, t) True(b, t)",
         Rule::J5 => "True(a, 1) False(b, t) 1:",
         Rule::J6 => "on false Any(e) F t, on true Any(e) T t",
-        Rule::J7 => "J t if its truth is this, else nothing",
+        Rule::J7 => "J t if it has this truth value, else nothing",
         Rule::J8 => "on false Any(c) T t, on true Any(c) F t",
         Rule::J9 => "on false Any(c) F t, on true Any(c) T t",
         Rule::A1 => "Any(value) S o",
@@ -125,69 +125,69 @@ fn code_of_test(rule: Rule) -> &'static str {
     }
 }
 
-/// Adds a rule's name, which leads to its line of the table.
+/// Adds the name of a rule, with a link to its line of the table.
 pub fn add_name(html: &mut Html, rule: Rule) {
     html.all(&[
-        Part::Mark("<a href=\"#"),
-        Part::Rule(rule),
-        Part::Mark("\">"),
-        Part::Rule(rule),
-        Part::Mark("</a>"),
+        Fragment::Mark("<a href=\"#"),
+        Fragment::Rule(rule),
+        Fragment::Mark("\">"),
+        Fragment::Rule(rule),
+        Fragment::Mark("</a>"),
     ]);
 }
 
-/// Adds a rule's name as `add_name` does, with where it applies and its code, which a browser tells of it.
+/// Adds the name of a rule like `add_name`, with a tooltip that says where it applies and which code it has.
 pub fn add_told_name(html: &mut Html, rule: Rule) {
     html.all(&[
-        Part::Mark("<a href=\"#"),
-        Part::Rule(rule),
-        Part::Mark("\" title=\""),
-        Part::Tell(place_of(rule)),
-        Part::Mark(": "),
-        Part::Tell(code_of(rule)),
-        Part::Mark("\">"),
-        Part::Rule(rule),
-        Part::Mark("</a>"),
+        Fragment::Mark("<a href=\"#"),
+        Fragment::Rule(rule),
+        Fragment::Mark("\" title=\""),
+        Fragment::Tell(place_of(rule)),
+        Fragment::Mark(": "),
+        Fragment::Tell(code_of(rule)),
+        Fragment::Mark("\">"),
+        Fragment::Rule(rule),
+        Fragment::Mark("</a>"),
     ]);
 }
 
-/// Adds a rule's line, with how often it is used.
+/// Adds the line of a rule, with its number of uses.
 fn add_line(html: &mut Html, rule: Rule, count: u64) {
     html.all(&[
-        Part::Mark("<tr id=\""),
-        Part::Rule(rule),
-        Part::Mark("\"><th>"),
-        Part::Rule(rule),
-        Part::Mark("</th><td>"),
-        Part::Tell(aims_of(rule)),
-        Part::Mark("</td><td>"),
-        Part::Tell(place_of(rule)),
+        Fragment::Mark("<tr id=\""),
+        Fragment::Rule(rule),
+        Fragment::Mark("\"><th>"),
+        Fragment::Rule(rule),
+        Fragment::Mark("</th><td>"),
+        Fragment::Tell(aims_of(rule)),
+        Fragment::Mark("</td><td>"),
+        Fragment::Tell(place_of(rule)),
     ]);
     html.all(&[
-        Part::Mark("</td><td><code>"),
-        Part::Tell(code_of(rule)),
-        Part::Mark("</code></td><td>"),
-        Part::Number(count),
-        Part::Mark("</td></tr>\n"),
+        Fragment::Mark("</td><td><code>"),
+        Fragment::Tell(code_of(rule)),
+        Fragment::Mark("</code></td><td>"),
+        Fragment::Number(count),
+        Fragment::Mark("</td></tr>\n"),
     ]);
 }
 
 /// The head of the rule table.
 const HEAD: &str = "<h2 id=\"rules\">The rules</h2>\n\
-    <p>Each expression, test and assignment has code by these rules and no others.</p>\n\
+    <p>The code of every expression, test and assignment is made by these rules and no others.</p>\n\
     <div class=\"wide\"><table class=\"rules\">\n<thead><tr><th>rule</th><th>for</th><th>where</th>\
     <th>code</th><th>used here</th></tr></thead>\n<tbody>\n";
 
-/// What the words of the table mean.
+/// The explanation of the table.
 const MEANINGS: &str =
-    "<p>s is the level, t the label to which a test jumps, and 1 and 2 are labels of the rule's own. \
-    Any(a) is the code of a as a value, Push(a) as a second operand, and m(a) as what the whole is for; False(a, t) and \
-    True(a, t) jump to t where a is false or true. An operand is what one instruction takes: a number, the address of a cell, also \
-    with a number added, or of a place, or the content of the cell at such an address. Free are two expressions that may be worked out in \
-    either order: in neither stands a call or a VALOF, or one of them is a number or such an address. A mirror does the same with its \
-    operands exchanged, as &lt; and &gt;.</p>\n";
+    "<p>s is the level, t the label to which a test jumps, and 1 and 2 are labels of the rule itself. \
+    Any(a) is the code of a as a value, Push(a) as a second operand, and m(a) in the use that the whole has. False(a, t) and \
+    True(a, t) jump to t if a is false or true. An operand is what a single instruction can take: a number; the address of a cell, with or \
+    without a number added; the address of a place; or the contents of the cell at such an address. Two expressions are free if they may \
+    be evaluated in either order: neither has a call or a VALOF in it, or one of them is a number or such an address. The mirror of an \
+    operator gives the same result with its operands exchanged, as &gt; does for &lt;.</p>\n";
 
-/// Adds the rule table, with how often each rule is used.
+/// Adds the rule table, with the number of uses of each rule.
 pub fn add_table(html: &mut Html, used: &[u64; 34]) {
     html.mark(HEAD);
     for (rule, count) in RULES.iter().zip(used.iter()) {

@@ -1,22 +1,24 @@
-//! The code of a segment as runs of items that have one owner.
+//! The code of a segment, as runs of items with the same owner.
 
 use bc_rules_defs::Entry;
 use bc_word::Memory;
 use bcpl_show::{Marks, Owner};
 use std::alloc::Global;
 
-/// Items beside one another that have one owner.
+/// Consecutive items with the same owner.
 #[derive(Clone, Copy)]
 pub struct Run {
-    /// The index of the first item, and that after the last.
+    /// The index of the first item.
     pub from: usize,
+    /// The index after the last item.
     pub to: usize,
+    /// The owner of the items.
     pub owner: Owner,
-    /// Whether no run before it has the same owner.
+    /// Whether no earlier run has the same owner.
     pub is_first: bool,
 }
 
-/// Runs that are being found. Where a growth was refused, that is kept.
+/// The runs found so far. Once an allocation has failed, they are void.
 #[derive(Drop)]
 struct Finding {
     found: Vec<Run>,
@@ -24,6 +26,7 @@ struct Finding {
 }
 
 impl Finding {
+    /// Adds a run.
     fn push(&mut self, from: usize, to: usize, owner: Owner) {
         let run = Run {
             from,
@@ -36,7 +39,7 @@ impl Finding {
         }
     }
 
-    /// Adds an empty run of each root that owns no items, at the place of its code.
+    /// Adds an empty run for each root without items, where its code would be.
     fn add_empty(&mut self, entries: &[Entry], owns: &[bool]) {
         for (index, entry) in entries.iter().enumerate() {
             let item = entry.item as usize;
@@ -47,7 +50,7 @@ impl Finding {
         }
     }
 
-    /// Takes an item into the last run, where that has the same owner.
+    /// Extends the last run by an item, if it has the same owner. Returns whether it does.
     fn goes_on(&mut self, index: usize, owner: Owner) -> bool {
         match self.found.last_mut() {
             Some(run) if run.owner == owner && run.to == index => {
@@ -58,7 +61,7 @@ impl Finding {
         }
     }
 
-    /// Adds an item to the last run, where that has the same owner, else as a run of its own.
+    /// Adds an item to the last run if it has the same owner, otherwise as a new run.
     fn add_item(&mut self, index: usize, owner: Owner) {
         if !self.goes_on(index, owner) {
             self.push(index, index.saturating_add(1), owner);
@@ -66,7 +69,7 @@ impl Finding {
     }
 }
 
-/// Whether a run is its root's first. What was met is in `met`. The runs of other owners are their only ones.
+/// Whether this is the first run of its owner. `met` has the roots met so far. Other owners have a single run.
 fn meet(met: &mut Vec<bool>, owner: Owner) -> bool {
     if let Owner::Root(index) = owner {
         if let Some(is_met) = met.get_mut(index) {
@@ -78,7 +81,7 @@ fn meet(met: &mut Vec<bool>, owner: Owner) -> bool {
     true
 }
 
-/// The empty runs, and after them those of the items. Which roots own items is noted.
+/// The empty runs, followed by the runs of the items. Records in `owns` which roots have items.
 fn found_runs(alloc: Global, marks: &Marks, entries: &[Entry], owns: &mut Vec<bool>) -> Finding {
     let mut runs = Finding {
         found: Vec::new(alloc),
@@ -94,8 +97,8 @@ fn found_runs(alloc: Global, marks: &Marks, entries: &[Entry], owns: &mut Vec<bo
     runs
 }
 
-/// The runs of a segment with these entries, in the order of its code. A root without items has an empty run. Memory is answered where a
-/// growth was refused.
+/// The runs of a segment with these entries, in the order of the code. A root without items has an empty run.
+/// `Memory` if an allocation fails.
 pub fn runs(alloc: Global, marks: &Marks, entries: &[Entry]) -> Result<Vec<Run>, Memory> {
     let mut owns = vec![in alloc; false; entries.len()]?;
     let runs = found_runs(alloc, marks, entries, &mut owns);

@@ -1,7 +1,8 @@
-//! How a report looks.
+//! The style of the page.
 
-/// The styles: two columns, one where there is little room, and there each node of a tree below the other; light or dark, as the reader wants it,
-/// in blue and brown, which differ in lightness too, with a sign wherever a colour tells something; on paper light, with what is open open.
+/// The style sheet. The page has two columns, or one on narrow screens, where the nodes of a tree are stacked. It is
+/// light or dark, as the reader prefers. Its blue and brown also differ in lightness, and every colour with a meaning
+/// comes with a sign. On paper it is light, and shows the trees that are open.
 pub const STYLE: &str = "
 :root { color-scheme: light dark; --ground: #ffffff; --text: #1a1a1a; --faint: #595959; --line: #d4d4d4; --chosen: #0b5394; --marked: #dcebf8; --own: #7a4300; }
 @media (prefers-color-scheme: dark) {

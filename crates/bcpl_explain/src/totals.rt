@@ -1,14 +1,14 @@
-//! What the roots of a file come to, by routine and by rule.
+//! The sizes of a file's routines, and how often each rule is used.
 
-use crate::html::{Html, Part};
+use crate::html::{Fragment, Html};
 use bc_rules_defs::{Derivation, RULES, Rule};
 use std::alloc::Global;
 
-/// The head of the words by routine.
+/// The head of the table of sizes.
 const HEAD: &str = "<h3>Words by routine</h3>\n<div class=\"wide\"><table class=\"totals\">\n\
     <tr><th>routine</th><th>expressions, tests, assignments</th><th>commands</th><th>all</th></tr>\n";
 
-/// The words of a routine: those of its roots, and those of its commands' own.
+/// The sizes of a routine's roots and commands, in words.
 #[derive(Clone, Copy)]
 struct Routine<'s> {
     name: &'s [u8],
@@ -16,16 +16,17 @@ struct Routine<'s> {
     commands: u64,
 }
 
-/// How many words there are, and how often each rule is used.
+/// The sizes of a file's parts, in words, and the uses of rules.
 #[derive(Drop)]
 pub struct Totals<'s> {
     routines: Vec<Routine<'s>>,
     data: u64,
-    /// How often each rule is used, in the order of the table.
+    /// The number of uses of each rule, in the order of the table.
     used: [u64; 34],
 }
 
 impl<'s> Totals<'s> {
+    /// No words and no uses.
     pub fn new(alloc: Global) -> Totals<'s> {
         Totals {
             routines: Vec::new(alloc),
@@ -34,7 +35,7 @@ impl<'s> Totals<'s> {
         }
     }
 
-    /// A routine begins.
+    /// Begins a routine.
     pub fn begin(&mut self, html: &mut Html, name: &'s [u8]) {
         let routine = Routine {
             name,
@@ -46,26 +47,26 @@ impl<'s> Totals<'s> {
         }
     }
 
-    /// Words of a root of the routine that began last.
+    /// Adds the words of a root to the current routine.
     pub fn add_root(&mut self, words: u64) {
         if let Some(routine) = self.routines.last_mut() {
             routine.roots = routine.roots.saturating_add(words);
         }
     }
 
-    /// Words of a command's own, of the routine that began last.
+    /// Adds the words of a command's own items to the current routine.
     pub fn add_own(&mut self, words: u64) {
         if let Some(routine) = self.routines.last_mut() {
             routine.commands = routine.commands.saturating_add(words);
         }
     }
 
-    /// Words of data.
+    /// Adds words of data.
     pub fn add_data(&mut self, words: u64) {
         self.data = self.data.saturating_add(words);
     }
 
-    /// A use of a rule.
+    /// Counts a use of a rule.
     fn note(&mut self, rule: Rule) {
         for (count, other) in self.used.iter_mut().zip(RULES.iter()) {
             if *other == rule {
@@ -74,7 +75,7 @@ impl<'s> Totals<'s> {
         }
     }
 
-    /// The uses of the rules of a derivation.
+    /// Counts the uses of rules in a derivation.
     pub fn note_all(&mut self, derivation: &Derivation) {
         self.note(derivation.rule);
         for part in &derivation.parts {
@@ -82,45 +83,45 @@ impl<'s> Totals<'s> {
         }
     }
 
-    /// Adds to these numbers how often each rule is used.
+    /// Adds the uses of each rule to these numbers.
     pub fn add_uses(&self, used: &mut [u64; 34]) {
         for (all, own) in used.iter_mut().zip(self.used.iter()) {
             *all = all.saturating_add(*own);
         }
     }
 
-    /// Adds a line of the table: what it is about, and the words of roots, of commands, and all.
+    /// Adds a line of the table: a name, the words of roots and commands, and their sum.
     fn add_line(html: &mut Html, name: &[u8], roots: u64, commands: u64) {
         html.all(&[
-            Part::Mark("<tr><th>"),
-            Part::Say(name),
-            Part::Mark("</th><td>"),
-            Part::Number(roots),
-            Part::Mark("</td><td>"),
-            Part::Number(commands),
-            Part::Mark("</td><td>"),
-            Part::Number(roots.saturating_add(commands)),
-            Part::Mark("</td></tr>\n"),
+            Fragment::Mark("<tr><th>"),
+            Fragment::Say(name),
+            Fragment::Mark("</th><td>"),
+            Fragment::Number(roots),
+            Fragment::Mark("</td><td>"),
+            Fragment::Number(commands),
+            Fragment::Mark("</td><td>"),
+            Fragment::Number(roots.saturating_add(commands)),
+            Fragment::Mark("</td></tr>\n"),
         ]);
     }
 
-    /// Adds the lines of what has no words of roots: the data, and the whole segment.
+    /// Adds the lines of the data and of the whole segment.
     fn add_sums(&self, html: &mut Html, roots: u64, commands: u64) {
         let all = roots.saturating_add(commands).saturating_add(self.data);
         html.all(&[
-            Part::Mark("<tr><th>data</th><td></td><td></td><td>"),
-            Part::Number(self.data),
-            Part::Mark("</td></tr>\n<tr class=\"sum\"><th>the segment</th><td>"),
-            Part::Number(roots),
-            Part::Mark("</td><td>"),
-            Part::Number(commands),
-            Part::Mark("</td><td>"),
-            Part::Number(all),
-            Part::Mark("</td></tr>\n"),
+            Fragment::Mark("<tr><th>data</th><td></td><td></td><td>"),
+            Fragment::Number(self.data),
+            Fragment::Mark("</td></tr>\n<tr class=\"sum\"><th>the segment</th><td>"),
+            Fragment::Number(roots),
+            Fragment::Mark("</td><td>"),
+            Fragment::Number(commands),
+            Fragment::Mark("</td><td>"),
+            Fragment::Number(all),
+            Fragment::Mark("</td></tr>\n"),
         ]);
     }
 
-    /// Adds the words by routine.
+    /// Adds the table of sizes.
     pub fn add_routines(&self, html: &mut Html) {
         html.mark(HEAD);
         let mut roots: u64 = 0;

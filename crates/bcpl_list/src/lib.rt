@@ -1,4 +1,4 @@
-//! A listing of a linked program: each word of its image with its address, its item, and what speaks of it.
+//! The listing of a linked program: each word of its image with its address, its item, and what refers to it.
 #![tactic(auto)]
 
 mod listing;
@@ -6,4 +6,4 @@ mod page;
 mod references;
 mod strings;
 
-pub use listing::{Note, Program, image_listing};
+pub use listing::{LinkedProgram, Note, image_listing};

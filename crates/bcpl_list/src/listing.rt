@@ -1,3 +1,5 @@
+//! The listing as a whole: the boot code, the globals, and the segments item by item.
+
 use crate::page::Page;
 use crate::references::{Manner, Reference, of_label, references};
 use crate::strings::{run_after, say_bytes};
@@ -7,43 +9,47 @@ use bc_word::{Memory, Word};
 use bcpl_segments::{addresses, instruction, is_long, library_name};
 use std::alloc::Global;
 
-/// What is said of the code that begins at an item.
+/// A note on the code that begins at an item.
 #[derive(Clone, Copy)]
 pub struct Note<'p> {
-    /// The segment, as they are counted in the program.
+    /// The index of the segment in the program.
     pub segment: usize,
+    /// The index of the item in its segment.
     pub item: usize,
+    /// The text of the note.
     pub said: &'p str,
 }
 
-/// A program that was linked.
+/// A linked program.
 #[derive(Clone, Copy)]
-pub struct Program<'p> {
+pub struct LinkedProgram<'p> {
+    /// The segments, beginning with the primitives.
     pub segments: &'p [Segment],
-    /// What each segment is called, in their order.
+    /// The names of the segments, in order.
     pub names: &'p [&'p str],
+    /// The image of the segments.
     pub image: &'p Image,
-    /// Notes in the order of segments and items.
+    /// The notes, in the order of segments and items.
     pub notes: &'p [Note<'p>],
 }
 
-/// The cell of global 0.
+/// The address of global 0.
 const FIRST_CELL: usize = 8;
 
-/// How many globals there are.
+/// The number of globals.
 const GLOBALS: usize = 512;
 
-/// What the words of the boot do.
+/// What the words of the boot code do.
 const BOOT: [&str; 3] = [
-    "the routine of global 1",
-    "is called, with its frame at 2",
-    "the run is finished",
+    "load the routine in global 1",
+    "call it, with its frame at 2",
+    "finish the run",
 ];
 
-/// How many that speak of a label are told in a line.
+/// The largest number of references to a label in one line.
 const IN_A_LINE: usize = 4;
 
-/// That a global is set.
+/// An item that sets a global.
 #[derive(Clone, Copy, PartialEq, Eq, PartialOrd, Ord)]
 struct Setting {
     number: u16,
@@ -51,7 +57,7 @@ struct Setting {
     segment: usize,
 }
 
-/// A segment that is listed: its items, where each stands, and what speaks of its labels.
+/// A segment with the address of each item and the references to its labels.
 #[derive(Drop)]
 struct Listed<'p> {
     segment: usize,
@@ -60,17 +66,17 @@ struct Listed<'p> {
     references: Vec<Reference>,
 }
 
-/// A listing that is being written.
+/// The listing while it is written.
 #[derive(Drop)]
 struct Listing<'p> {
     alloc: Global,
     page: Page,
-    program: Program<'p>,
-    /// How many of the notes were told.
+    program: LinkedProgram<'p>,
+    /// The number of notes written so far.
     told: usize,
 }
 
-/// The word at an address; 0 where there is none.
+/// The word at an address, or 0 if there is none.
 fn word_at(image: &Image, address: usize) -> u16 {
     match image.words.as_slice().get(address) {
         Some(word) => word.get(),
@@ -78,7 +84,7 @@ fn word_at(image: &Image, address: usize) -> u16 {
     }
 }
 
-/// The library's name for a global, and the sign after it; nothing where it has none.
+/// The library's name for a global and a separator, or two empty texts.
 fn known_name(number: u16) -> (&'static str, &'static str) {
     match library_name(number) {
         Some(name) => (name, ", "),
@@ -101,7 +107,7 @@ fn is_jump(function: Function) -> bool {
     )
 }
 
-/// The byte that shares its word with the byte before the item with this index.
+/// The item with this index, if it is a byte that shares the word at `address` with the byte before it.
 fn second_byte(listed: &Listed<'_>, index: usize, address: usize) -> Option<u8> {
     let next = listed.addresses.as_slice().get(index)?;
     match listed.items.get(index)? {
@@ -117,7 +123,7 @@ fn is_second_byte(listed: &Listed<'_>, index: usize, last: Option<usize>) -> boo
 }
 
 impl<'p> Listing<'p> {
-    /// Begins the line of a word: its address, and itself.
+    /// Begins the line of a word: its address and value.
     fn begin_word(&mut self, address: usize) {
         let word = word_at(self.program.image, address);
         self.page.add_column(address);
@@ -125,13 +131,13 @@ impl<'p> Listing<'p> {
         self.page.add_column(usize::from(word));
     }
 
-    /// Begins a line that belongs to no word, with its item to follow.
+    /// Begins a line for an item that takes no words.
     fn begin_alone(&mut self) {
         self.page.add("             ");
         self.page.begin_item();
     }
 
-    /// A word of the boot.
+    /// Adds a word of the boot code.
     fn add_boot_word(&mut self, address: usize, said: &str) {
         let word = Word::new(word_at(self.program.image, address));
         let following = Word::new(word_at(self.program.image, address.saturating_add(1)));
@@ -145,7 +151,7 @@ impl<'p> Listing<'p> {
         self.page.end_line();
     }
 
-    /// The boot's words.
+    /// Adds the boot code.
     fn add_boot(&mut self) {
         self.page
             .add("/ boot\n/ addr   word  item           / what it is\n");
@@ -154,7 +160,7 @@ impl<'p> Listing<'p> {
         }
     }
 
-    /// The globals that are set, by their numbers.
+    /// The items that set globals, sorted by number.
     fn settings(&self) -> Result<Vec<Setting>, Memory> {
         let mut settings = Vec::new(self.alloc);
         for (segment, listed) in self.program.segments.iter().enumerate() {
@@ -172,7 +178,7 @@ impl<'p> Listing<'p> {
         Ok(settings)
     }
 
-    /// The cells of the globals that are set.
+    /// Adds the cells of the globals that are set.
     fn add_globals(&mut self) {
         let last = FIRST_CELL.saturating_add(GLOBALS).saturating_sub(1);
         self.page.add("\n/ globals that are set; their cells are ");
@@ -186,13 +192,14 @@ impl<'p> Listing<'p> {
         }
     }
 
+    /// Adds the cells of these globals.
     fn add_settings(&mut self, settings: &[Setting]) {
         for setting in settings {
             self.add_setting(*setting);
         }
     }
 
-    /// The cell of a global that is set, with the library's name for it, if it has one.
+    /// Adds the cell of a global that is set, with the library's name for it, if any.
     fn add_setting(&mut self, setting: Setting) {
         let number = usize::from(setting.number);
         let (known, sign) = known_name(setting.number);
@@ -211,22 +218,22 @@ impl<'p> Listing<'p> {
         self.page.end_line();
     }
 
-    /// What a segment is called.
+    /// The name of a segment.
     fn name_of(&self, segment: usize) -> &'p str {
         match self.program.names.get(segment) {
             Some(name) => name,
-            None => "without a name",
+            None => "unnamed",
         }
     }
 
-    /// A note.
+    /// Adds a note.
     fn add_note(&mut self, said: &str) {
         self.page.add("/ ");
         self.page.add(said);
         self.page.end_line();
     }
 
-    /// Tells the notes on the items up to this one that were not told.
+    /// Adds the notes up to this item that were not added yet.
     fn add_notes(&mut self, segment: usize, item: usize) {
         let notes = self.program.notes;
         for index in self.told..notes.len() {
@@ -239,7 +246,7 @@ impl<'p> Listing<'p> {
         }
     }
 
-    /// Says that this speaks of a label.
+    /// Adds a reference to a label.
     fn say_use(&mut self, reference: Reference) {
         let at = reference.at;
         match reference.manner {
@@ -249,14 +256,14 @@ impl<'p> Listing<'p> {
         }
     }
 
-    /// Says that the operation with this letter at an address speaks of a label.
+    /// Adds the operation with this letter at this address.
     fn say_operation(&mut self, letter: char, at: usize) {
         self.page.say("");
         self.page.add_sign(letter);
         self.page.say_number(" at ", at);
     }
 
-    /// Says what speaks of a label.
+    /// Adds the references to a label.
     fn say_uses(&mut self, references: &[Reference]) {
         for (index, reference) in references.iter().enumerate() {
             if index > 0 {
@@ -266,7 +273,7 @@ impl<'p> Listing<'p> {
         }
     }
 
-    /// Further lines on what speaks of a label.
+    /// Adds further lines with references to a label.
     fn add_uses(&mut self, references: &[Reference]) {
         for some in references.chunks(IN_A_LINE) {
             self.begin_alone();
@@ -275,7 +282,7 @@ impl<'p> Listing<'p> {
         }
     }
 
-    /// A label, what it is of, and in the same line or those after it what speaks of it.
+    /// Adds a label: what it labels, and the references to it in the same line or in further ones.
     fn add_label(&mut self, listed: &Listed<'p>, index: usize, label: u16) {
         self.begin_alone();
         self.page.add_number(usize::from(label));
@@ -292,7 +299,7 @@ impl<'p> Listing<'p> {
         self.add_uses(others);
     }
 
-    /// Says what the bytes or words of data are that stand after a label; nothing where there are none.
+    /// Describes the bytes or words of data after a label, if there are any.
     fn say_run(&mut self, run: &[Item]) {
         match run.first() {
             Some(Item::Byte(_)) => say_bytes(&mut self.page, run),
@@ -301,7 +308,7 @@ impl<'p> Listing<'p> {
         }
     }
 
-    /// Says that so many words of data stand there.
+    /// Describes a run of words of data.
     fn say_words(&mut self, count: usize) {
         self.page.say_number("", count);
         self.page.say(if count == 1 {
@@ -311,20 +318,20 @@ impl<'p> Listing<'p> {
         });
     }
 
-    /// Says at which address a label stands, if it has one, after this word.
+    /// Adds `word` and the address of a label, if it has one.
     fn say_address(&mut self, segment: usize, label: Word, word: &str) {
         if let Some(address) = address_of(self.program.image, segment, label) {
             self.page.say_number(word, usize::from(address));
         }
     }
 
-    /// Says where an operation on a label jumps to, or which address it takes.
+    /// Adds the target of a jump, or the address that an operation uses.
     fn say_target(&mut self, segment: usize, function: Function, label: Word) {
         let word = if is_jump(function) { "to " } else { "at " };
         self.say_address(segment, label, word);
     }
 
-    /// Says of a global how the library calls it, if it does, and what it begins as, if it is set.
+    /// Describes a global: its number, its name in the library, and its initial value if it is set.
     fn say_global(&mut self, number: u16) {
         let index = usize::from(number);
         let begins = word_at(self.program.image, FIRST_CELL.saturating_add(index));
@@ -334,12 +341,11 @@ impl<'p> Listing<'p> {
             self.page.say(name);
         }
         if index < GLOBALS && begins != 0 {
-            self.page
-                .say_number(", which begins as ", usize::from(begins));
+            self.page.say_number(", initially ", usize::from(begins));
         }
     }
 
-    /// Says what an operation or a word of data has to do with.
+    /// Describes the label or global of an operation or a word of data.
     fn say_of(&mut self, segment: usize, item: &Item) {
         match item {
             Item::Operation {
@@ -358,7 +364,7 @@ impl<'p> Listing<'p> {
         }
     }
 
-    /// An item that has words, where it stands at this address.
+    /// Adds an item that takes words, at this address.
     fn add_operation(&mut self, segment: usize, item: &Item, address: usize) {
         self.begin_word(address);
         self.page.begin_item();
@@ -371,13 +377,13 @@ impl<'p> Listing<'p> {
         }
     }
 
-    /// A byte as an item.
+    /// Adds a byte as an item.
     fn add_byte(&mut self, front: &str, byte: u8) {
         self.page.add(front);
         self.page.add_number(usize::from(byte));
     }
 
-    /// A byte, and the one that shares its word.
+    /// Adds a byte, and the one that shares its word.
     fn add_bytes(&mut self, first: u8, second: Option<u8>, address: usize) {
         self.begin_word(address);
         self.page.begin_item();
@@ -388,7 +394,7 @@ impl<'p> Listing<'p> {
         self.page.end_line();
     }
 
-    /// An item at this address, with this index.
+    /// Adds an item, with its index and its address.
     fn add_at(&mut self, listed: &Listed<'p>, index: usize, item: &Item, address: usize) {
         match item {
             Item::Label(label) => self.add_label(listed, index, label.get()),
@@ -401,7 +407,7 @@ impl<'p> Listing<'p> {
         }
     }
 
-    /// The item with this index.
+    /// Adds the item with this index.
     fn add(&mut self, listed: &Listed<'p>, index: usize) {
         let item = listed.items.get(index);
         let address = listed.addresses.as_slice().get(index).copied();
@@ -411,7 +417,7 @@ impl<'p> Listing<'p> {
         }
     }
 
-    /// What there is to know of a segment before it is listed.
+    /// Collects what is needed to list a segment.
     fn listed(
         &self,
         segment: usize,
@@ -428,19 +434,19 @@ impl<'p> Listing<'p> {
         })
     }
 
-    /// The line before a segment, which begins at this address.
+    /// Adds the line before a segment, which begins at this address.
     fn add_head(&mut self, segment: usize, start: usize) {
         let name = self.name_of(segment);
         self.page.add("\n/ segment ");
         self.page.add_number(segment);
         self.page.add(", ");
         self.page.add(name);
-        self.page.add(": from ");
+        self.page.add(": begins at ");
         self.page.add_number(start);
-        self.page.add(" on\n");
+        self.page.add("\n");
     }
 
-    /// The items of a segment.
+    /// Adds the items of a segment.
     fn add_items(&mut self, listed: &Listed<'p>) {
         let mut last = None;
         for index in 0..listed.items.len() {
@@ -458,7 +464,7 @@ impl<'p> Listing<'p> {
         self.add_notes(listed.segment, listed.items.len());
     }
 
-    /// A segment.
+    /// Adds a segment.
     fn add_segment(&mut self, segment: usize, items: &'p [Item]) {
         let start = match self.program.image.places.as_slice().get(segment) {
             Some(place) => usize::from(place.start.get()),
@@ -471,7 +477,7 @@ impl<'p> Listing<'p> {
         }
     }
 
-    /// The end of the image.
+    /// Adds the end of the image.
     fn add_end(&mut self) {
         let base = self.program.image.stack_base.get();
         self.page.add("\n/ the stack begins at ");
@@ -480,10 +486,10 @@ impl<'p> Listing<'p> {
     }
 }
 
-/// A listing of a program that was linked: the boot, the cells of the globals that are set, and the segments, each word on a line of its
-/// own with its address, the word, the item that it is of, and what is said of it. A label stands on a line of its own, with what is
-/// after it and what speaks of it; two bytes share a word. Memory is answered where a growth was refused.
-pub fn image_listing(alloc: Global, program: Program<'_>) -> Result<String, Memory> {
+/// The listing of a linked program: the boot code, the cells of the globals that are set, and the segments. Each word
+/// has a line with its address, its value, its item and a description. A label has a separate line, with what it
+/// labels and the references to it. Two bytes share a word. `Memory` if an allocation fails.
+pub fn image_listing(alloc: Global, program: LinkedProgram<'_>) -> Result<String, Memory> {
     let mut listing = Listing {
         alloc,
         page: Page::new(alloc),

@@ -1,24 +1,27 @@
+//! The text of a listing while it is written, with its columns.
+
 use bc_show::ShownItem;
 use bc_text_items::Item;
 use bc_word::Memory;
 use std::alloc::Global;
 
-/// How many columns an item takes at the least of which something is said.
+/// The smallest number of columns of an item that has a description.
 const ITEM: usize = 14;
 
-/// A listing's lines, each of which may have an item and what is said of it. Where a growth was refused, that is kept, and what is added
-/// from then on counts for nothing.
+/// The lines of a listing. A line may have an item with a description. Once an allocation has failed, the text is
+/// void.
 #[derive(Drop)]
 pub struct Page {
     text: String,
-    /// Where the item of this line begins.
+    /// Where the item of this line begins, in bytes.
     item: usize,
-    /// Where what is said of it begins, if something is.
+    /// Where its description begins, in bytes, if it has one.
     said: Option<usize>,
     is_refused: bool,
 }
 
 impl Page {
+    /// An empty page.
     pub fn new(alloc: Global) -> Page {
         Page {
             text: String::new(alloc),
@@ -28,44 +31,47 @@ impl Page {
         }
     }
 
-    /// A growth was refused to what is written here.
+    /// Notes that an allocation failed.
     pub fn refuse(&mut self) {
         self.is_refused = true;
     }
 
+    /// Adds a text.
     pub fn add(&mut self, text: &str) {
         if self.text.push_str(text).is_err() {
             self.refuse();
         }
     }
 
+    /// Adds a character.
     pub fn add_sign(&mut self, sign: char) {
         if self.text.push(sign).is_err() {
             self.refuse();
         }
     }
 
+    /// Adds a number.
     pub fn add_number(&mut self, number: usize) {
         if write!(self.text, "{number}").is_err() {
             self.refuse();
         }
     }
 
-    /// Adds a number that ends at the sixth column from here on.
+    /// Adds a number, right-aligned in six columns.
     pub fn add_column(&mut self, number: usize) {
         if write!(self.text, "{number:>6}").is_err() {
             self.refuse();
         }
     }
 
-    /// Adds a byte by its two hexadecimal digits.
+    /// Adds a byte as two hexadecimal digits.
     pub fn add_digits(&mut self, byte: u8) {
         if write!(self.text, "{byte:02x}").is_err() {
             self.refuse();
         }
     }
 
-    /// Adds what an item is.
+    /// Adds an item in INTCODE.
     pub fn add_item(&mut self, item: &Item) {
         let shown = ShownItem(item);
         if write!(self.text, "{shown}").is_err() {
@@ -73,14 +79,14 @@ impl Page {
         }
     }
 
-    /// Begins the item of a line; the item follows.
+    /// Begins the item of a line.
     pub fn begin_item(&mut self) {
         self.add("  ");
         self.item = self.text.len();
         self.said = None;
     }
 
-    /// Begins what is said of the line's item, in a column after it.
+    /// Begins the description of the line's item, in its column.
     fn begin_said(&mut self) {
         let taken = self.text.len().saturating_sub(self.item);
         for _ in taken..ITEM {
@@ -90,7 +96,7 @@ impl Page {
         self.said = Some(self.text.len());
     }
 
-    /// Adds to what is said of the line's item.
+    /// Adds to the description of the line's item.
     pub fn say(&mut self, text: &str) {
         if self.said.is_none() {
             self.begin_said();
@@ -98,13 +104,13 @@ impl Page {
         self.add(text);
     }
 
-    /// Adds a number to it, after this text.
+    /// Adds a text and a number to the description.
     pub fn say_number(&mut self, text: &str, number: usize) {
         self.say(text);
         self.add_number(number);
     }
 
-    /// How many bytes that takes so far.
+    /// The length of the description so far, in bytes.
     pub fn said(&self) -> usize {
         match self.said {
             Some(start) => self.text.len().saturating_sub(start),
@@ -112,11 +118,12 @@ impl Page {
         }
     }
 
+    /// Ends the line.
     pub fn end_line(&mut self) {
         self.add("\n");
     }
 
-    /// The text. Memory is answered where a growth was refused.
+    /// The text, or `Memory` if an allocation failed.
     pub fn into_text(self) -> Result<String, Memory> {
         if self.is_refused {
             return Err(Memory);

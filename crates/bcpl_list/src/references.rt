@@ -1,24 +1,26 @@
-//! What speaks of a segment's labels.
+//! The references to the labels of a segment.
 
 use bc_text_items::{Base, Function, Item};
 use bc_word::Memory;
 use std::alloc::Global;
 
-/// How an item speaks of a label.
+/// How an item refers to a label.
 #[derive(Clone, Copy, PartialEq, Eq, PartialOrd, Ord)]
 pub enum Manner {
-    /// A global begins with its address.
+    /// A global has the label's address.
     Global,
-    /// An operation has it, with this letter.
+    /// An operation uses it. This is the letter of its function.
     Operation(char),
-    /// A word holds its address.
+    /// A word of data has its address.
     Data,
 }
 
-/// That an item speaks of a label.
+/// A reference to a label.
 #[derive(Clone, Copy, PartialEq, Eq, PartialOrd, Ord)]
 pub struct Reference {
+    /// The label.
     pub label: u16,
+    /// How the item refers to it.
     pub manner: Manner,
     /// The address of the item, or the number of the global.
     pub at: usize,
@@ -38,7 +40,7 @@ fn letter(function: Function) -> char {
     }
 }
 
-/// How an item at this address speaks of a label, if it does.
+/// The reference of an item at this address, if it has one.
 fn reference_of(item: &Item, address: usize) -> Option<Reference> {
     match item {
         Item::Global { number, label } => Some(Reference {
@@ -65,8 +67,7 @@ fn reference_of(item: &Item, address: usize) -> Option<Reference> {
     }
 }
 
-/// What speaks of the labels of these items, which stand at these addresses: label by label. Memory is answered where a growth was
-/// refused.
+/// The references of these items, which have these addresses, sorted by label. `Memory` if an allocation fails.
 pub fn references(
     alloc: Global,
     items: &[Item],
@@ -82,7 +83,7 @@ pub fn references(
     Ok(found)
 }
 
-/// Those among them that speak of this label.
+/// The references to this label, in sorted references.
 pub fn of_label(references: &[Reference], label: u16) -> &[Reference] {
     let from = references.partition_point(|reference| reference.label < label);
     let to = references.partition_point(|reference| reference.label <= label);

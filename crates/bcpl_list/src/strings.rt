@@ -1,12 +1,12 @@
-//! Bytes as text.
+//! Descriptions of strings and other runs of bytes.
 
 use crate::page::Page;
 use bc_text_items::Item;
 
-/// How long what is told of a string may grow before the rest is left out.
+/// The width, in bytes, at which the text of a string is cut.
 const WIDTH: usize = 60;
 
-/// The index after the last of the items that are like this one: bytes beside bytes, words of data beside such.
+/// The index after the run of items of one kind that begins at `from`: bytes, or words of data.
 fn end_of_run(items: &[Item], from: usize) -> usize {
     let mut end = from;
     let is_byte = matches!(items.get(from), Some(Item::Byte(_)));
@@ -24,7 +24,7 @@ fn end_of_run(items: &[Item], from: usize) -> usize {
     end
 }
 
-/// The bytes, or the words of data, that stand after the item with this index.
+/// The bytes or the words of data that follow the item with this index.
 pub fn run_after(items: &[Item], index: usize) -> &[Item] {
     let following = index.saturating_add(1);
     match items.get(following..end_of_run(items, following)) {
@@ -33,7 +33,7 @@ pub fn run_after(items: &[Item], index: usize) -> &[Item] {
     }
 }
 
-/// Adds a byte as BCPL spells it.
+/// Adds a byte as BCPL spells it in a string.
 fn add_byte(page: &mut Page, byte: u8) {
     match byte {
         b'\n' => page.add("*N"),
@@ -45,13 +45,13 @@ fn add_byte(page: &mut Page, byte: u8) {
     }
 }
 
-/// Adds a byte by its number.
+/// Adds a byte in hexadecimal.
 fn add_code(page: &mut Page, byte: u8) {
     page.add("\\x");
     page.add_digits(byte);
 }
 
-/// The byte that an item is.
+/// The byte of an item, if it is one.
 fn byte_of(item: &Item) -> Option<u8> {
     match item {
         Item::Byte(byte) => Some(*byte),
@@ -59,7 +59,7 @@ fn byte_of(item: &Item) -> Option<u8> {
     }
 }
 
-/// Whether a run of bytes is a string: its first byte is the number of the others.
+/// Whether a run of bytes is a string, that is, its first byte is the number of the others.
 fn is_string(items: &[Item]) -> bool {
     let Some((first, others)) = items.split_first() else {
         return false;
@@ -70,7 +70,7 @@ fn is_string(items: &[Item]) -> bool {
     }
 }
 
-/// Says what a run of bytes is: a string with its front, or bytes.
+/// Describes a run of bytes: a string with its text, or just bytes.
 pub fn say_bytes(page: &mut Page, items: &[Item]) {
     let count = items.len();
     if is_string(items) {
@@ -83,7 +83,7 @@ pub fn say_bytes(page: &mut Page, items: &[Item]) {
     }
 }
 
-/// Adds the bytes of a string, as far as the line goes, and the sign at its end.
+/// Adds the text of a string, cut at `WIDTH`, and the closing quote.
 fn add_front(page: &mut Page, items: &[Item]) {
     for item in items.iter().skip(1) {
         if page.said() >= WIDTH {

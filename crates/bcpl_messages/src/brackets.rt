@@ -1,3 +1,5 @@
+//! The brackets that are open at a token, and messages on missing parentheses and mistaken tags.
+
 use crate::draft::{Draft, Fill};
 use crate::sides::closed_in_front;
 use crate::trial_parse::{Change, Reach, reached};
@@ -7,12 +9,12 @@ use bc_word::Memory;
 use bcpl_places::Span;
 use std::alloc::Global;
 
-/// The tag of a section bracket: what stands after its two signs.
+/// The tag of a section bracket: its text after the two signs.
 fn tag<'s>(token: &Token<'s>) -> &'s [u8] {
     token.text.get(2..).unwrap_or(b"")
 }
 
-/// The tag of the section bracket at a place.
+/// The tag of the section bracket at an index.
 pub fn tag_at<'s>(tokens: &[Token<'s>], place: usize) -> &'s [u8] {
     match tokens.get(place) {
         Some(token) => tag(token),
@@ -20,12 +22,12 @@ pub fn tag_at<'s>(tokens: &[Token<'s>], place: usize) -> &'s [u8] {
     }
 }
 
-/// Whether a closing bracket with this tag closes the section that the token at a place opens, and none around it.
+/// Whether a closing bracket with this tag closes the section that the token at an index opens, and none around it.
 fn is_last(tokens: &[Token<'_>], place: usize, name: &[u8]) -> bool {
     name.is_empty() || tag_at(tokens, place) == name
 }
 
-/// Takes off the sections that a bracket with this tag closes.
+/// Removes the sections that a closing bracket with this tag closes.
 fn close(open: &mut Vec<usize>, tokens: &[Token<'_>], name: &[u8]) {
     for _ in 0..open.len() {
         match open.pop() {
@@ -35,8 +37,8 @@ fn close(open: &mut Vec<usize>, tokens: &[Token<'_>], name: &[u8]) {
     }
 }
 
-/// The indexes of the section brackets that are open before the token `end`, outermost first. Memory is answered where a
-/// growth was refused.
+/// The indexes of the section brackets that are open before the token `end`, outermost first. Returns `Memory` if an
+/// allocation fails.
 pub fn open_before(alloc: Global, tokens: &[Token<'_>], end: usize) -> Result<Vec<usize>, Memory> {
     let mut open = Vec::new(alloc);
     for index in 0..end.min(tokens.len()) {
@@ -49,13 +51,13 @@ pub fn open_before(alloc: Global, tokens: &[Token<'_>], end: usize) -> Result<Ve
     Ok(open)
 }
 
-/// The same, for a message.
+/// The same for a draft, which records that memory ran out.
 pub fn open_at(draft: &mut Draft, tokens: &[Token<'_>], end: usize) -> Vec<usize> {
     let alloc = draft.alloc();
     draft.found(open_before(alloc, tokens, end), Vec::new(alloc))
 }
 
-/// The innermost bracket, round or of a section, that is open before a place.
+/// The innermost open bracket before an index: a parenthesis or a section bracket.
 fn open_bracket(tokens: &[Token<'_>], index: usize) -> Option<usize> {
     let mut closed: usize = 0;
     for count in 1..index.saturating_add(1) {
@@ -67,7 +69,7 @@ fn open_bracket(tokens: &[Token<'_>], index: usize) -> Option<usize> {
     None
 }
 
-/// Whether the innermost bracket that is open before a place is a round one.
+/// Whether the innermost open bracket before an index is a parenthesis.
 pub fn is_in_round(tokens: &[Token<'_>], index: usize) -> bool {
     match open_bracket(tokens, index) {
         Some(open) => is_at(tokens, open, Symbol::OpenBracket),
@@ -75,7 +77,8 @@ pub fn is_in_round(tokens: &[Token<'_>], index: usize) -> bool {
     }
 }
 
-/// Whether more is read than the token at a place with a `)` before it, and what is refused then is no further `)`.
+/// Whether a `)` before the token at an index makes the parser accept more than that token, and the next refused token
+/// isn't another `)`.
 fn lacks_round(draft: &mut Draft, tokens: &[Token<'_>], index: usize) -> bool {
     let change = Change::Insert(TokenKind::Symbol(Symbol::CloseBracket));
     let reach = reached(draft, tokens, index, change);
@@ -86,7 +89,8 @@ fn lacks_round(draft: &mut Draft, tokens: &[Token<'_>], index: usize) -> bool {
     reach.is_after(index) && !is_closed_twice
 }
 
-/// What is said where a `(` is open before a place that is refused, and a `)` helps there: the `(` is told.
+/// The help where a `(` is open before a refused token and a `)` makes the parser get further. Adds the `(` as a
+/// related place.
 pub fn help_for_round(
     draft: &mut Draft,
     tokens: &[Token<'_>],
@@ -105,11 +109,11 @@ pub fn help_for_round(
     Some("write the ) that closes it")
 }
 
-/// Says of the bracket with a tag at a place that a blank was likely meant after its signs.
+/// Sets the help for a bracket whose tag was probably meant as a separate word.
 pub fn say_blank(draft: &mut Draft, tokens: &[Token<'_>], place: usize) {
     if let Some(bracket) = tokens.get(place) {
         draft.help(
-            "{} is a bracket with the tag {}: write a blank behind its {}",
+            "{} is a bracket with the tag {}; write a space after {}",
             &[
                 Fill::Shown(bracket.text),
                 Fill::Shown(tag(bracket)),
@@ -119,7 +123,8 @@ pub fn say_blank(draft: &mut Draft, tokens: &[Token<'_>], place: usize) {
     }
 }
 
-/// Whether more is read than the token at a place with the tag of this bracket as a word after it; no if it has none.
+/// Whether the parser gets past the token at an index if the tag of this bracket is a separate word. False if it has no
+/// tag.
 fn is_glued(draft: &mut Draft, tokens: &[Token<'_>], index: usize, open: usize) -> bool {
     let name = tag_at(tokens, open);
     if name.is_empty() {
@@ -133,8 +138,8 @@ fn is_glued(draft: &mut Draft, tokens: &[Token<'_>], index: usize, open: usize) 
     reached(draft, tokens, following, Change::Insert(kind)).is_after(index)
 }
 
-/// Says so where the section that a place stands in is opened by a bracket with a tag, and with a blank after its signs more is read;
-/// whether that is so.
+/// If the parser gets further when the tag of the innermost open section bracket is a separate word, sets a help that
+/// says so. Returns whether it does.
 pub fn says_tag(draft: &mut Draft, tokens: &[Token<'_>], index: usize) -> bool {
     let Some(open) = open_at(draft, tokens, index).last().copied() else {
         return false;

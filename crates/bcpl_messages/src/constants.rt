@@ -1,4 +1,4 @@
-//! Why an expression is no constant.
+//! Reasons why an expression isn't a constant.
 
 use crate::declared::{Declared, meaning_of};
 use crate::draft::Draft;
@@ -6,25 +6,25 @@ use crate::syntax::{list_word, name_of};
 use crate::words::is_symbol;
 use bc_lex_tokens::{Symbol, Token, TokenKind};
 
-/// Why an expression is none.
+/// A reason why an expression isn't a constant.
 #[derive(Clone, Copy)]
 pub enum Reason {
-    /// The name at the token with this index has no value that is known there, by its declaration.
+    /// The name at the token with this index is not a constant there, as its declaration shows.
     Name(usize, Declared),
-    /// It has a division or a remainder, and nothing else that could keep it from being one.
+    /// It contains a division or a remainder, and nothing else that could keep it from being a constant.
     Division,
 }
 
-/// What is said of a name that a list with this word, or something else, declares, and that is no constant.
+/// The sentence on a name that isn't a constant, by the word of the list that declares it, if a list does.
 fn sentence_on(word: Option<Symbol>) -> &'static str {
     match word {
-        Some(Symbol::Static) => "is declared here by STATIC, and is no constant",
-        Some(Symbol::Global) => "is declared here by GLOBAL, and is no constant",
-        _ => "is declared here, and is no constant",
+        Some(Symbol::Static) => "is declared here by STATIC, and is not a constant",
+        Some(Symbol::Global) => "is declared here by GLOBAL, and is not a constant",
+        _ => "is declared here, and is not a constant",
     }
 }
 
-/// Why a name that is declared so is no constant at another place; none where it may be one.
+/// The declaration, if it shows that the name isn't a constant where it is used; `None` if the name may be a constant.
 fn judged(
     draft: &mut Draft,
     tokens: &[Token<'_>],
@@ -41,7 +41,7 @@ fn judged(
     (declared.index > used).then_some(declared)
 }
 
-/// Why the name at the token with this index is no constant; none where that isn't seen, or where no name stands there.
+/// Why the name at the token with this index isn't a constant; `None` if that isn't visible or the token isn't a name.
 fn reason_at(draft: &mut Draft, tokens: &[Token<'_>], index: usize) -> Option<Declared> {
     let name = name_of(tokens.get(index))?;
     let meaning = meaning_of(draft.alloc(), tokens, index, name);
@@ -54,7 +54,7 @@ fn divides(token: &Token<'_>) -> bool {
     is_symbol(token, Symbol::Divide) || is_symbol(token, Symbol::Remainder)
 }
 
-/// The signs and words that a constant is mostly made of.
+/// The symbols that constants are usually made of.
 const OF_CONSTANTS: [Symbol; 9] = [
     Symbol::Plus,
     Symbol::Minus,
@@ -67,7 +67,8 @@ const OF_CONSTANTS: [Symbol; 9] = [
     Symbol::False,
 ];
 
-/// Whether a token can stand in the constant of a name: a number, a character, another name, or one of these signs and words.
+/// Whether a token can be part of the constant of the name `own`: a number, a character, another name, or one of
+/// `OF_CONSTANTS`.
 fn is_of_constant(token: &Token<'_>, own: &[u8]) -> bool {
     match token.kind {
         TokenKind::Number(_) | TokenKind::Character(_) => true,
@@ -77,7 +78,7 @@ fn is_of_constant(token: &Token<'_>, own: &[u8]) -> bool {
     }
 }
 
-/// Whether these tokens, which begin at this index, can be no constant for no other reason than a division by 0.
+/// Whether only a division by 0 can keep these tokens from being a constant. They begin at the index `first`.
 fn divides_by_zero(all: &[Token<'_>], first: usize, tokens: &[Token<'_>]) -> bool {
     let own = match all.get(first.wrapping_sub(2)) {
         Some(token) => token.text,
@@ -91,7 +92,7 @@ fn divides_by_zero(all: &[Token<'_>], first: usize, tokens: &[Token<'_>]) -> boo
     tokens.iter().any(divides)
 }
 
-/// Why the expression of the tokens from `first` to `last` is no constant; none where that isn't seen.
+/// Why the expression of the tokens from `first` to `last` isn't a constant; `None` if that isn't visible.
 pub fn reason_of(
     draft: &mut Draft,
     tokens: &[Token<'_>],

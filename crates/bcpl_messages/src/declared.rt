@@ -1,4 +1,4 @@
-//! Where a name is declared that means nothing at the place where it is used.
+//! Finds the declaration of a name that isn't in scope where it is used, by scanning the tokens.
 
 use crate::brackets::open_before;
 use crate::words::is_at;
@@ -6,7 +6,7 @@ use bc_lex_tokens::{Symbol, Token, TokenKind};
 use bc_word::Memory;
 use std::alloc::Global;
 
-/// What the names declare that stand next.
+/// What the next names declare.
 #[derive(Clone, Copy)]
 enum Listed {
     Nothing,
@@ -21,7 +21,7 @@ enum Listed {
 
 /// How a name is declared.
 #[derive(Clone, Copy)]
-enum Kind {
+enum DeclarationKind {
     Defined,
     Parameter,
     Counter,
@@ -29,11 +29,12 @@ enum Kind {
     Label,
 }
 
-/// Where a name is declared, and what is said of it after the name.
+/// The place where a name is declared, and the sentence that follows the name.
 #[derive(Clone, Copy)]
 pub struct Declared {
     /// The index of the token.
     pub index: usize,
+    /// The sentence on the declaration, without the name.
     pub sentence: &'static str,
 }
 
@@ -66,7 +67,7 @@ fn following(listed: Listed, token: &Token<'_>) -> Listed {
     }
 }
 
-/// Whether an entry of a list, or a command, begins with the token at a place.
+/// Whether an entry of a list, or a command, begins with the token at an index.
 fn begins(tokens: &[Token<'_>], place: usize) -> bool {
     let Some(before) = place.checked_sub(1) else {
         return true
@@ -81,26 +82,26 @@ fn begins(tokens: &[Token<'_>], place: usize) -> bool {
         || is_at(tokens, before, Symbol::Colon)
 }
 
-/// How the name at a place is declared there, if it is, given what the tokens before it list.
-fn kind_at(tokens: &[Token<'_>], place: usize, listed: Listed) -> Option<Kind> {
+/// How the name at an index is declared there, given what the tokens before it list. `None` if it isn't declared there.
+fn kind_at(tokens: &[Token<'_>], place: usize, listed: Listed) -> Option<DeclarationKind> {
     let next = place.saturating_add(1);
     match listed {
-        Listed::Defined => Some(Kind::Defined),
-        Listed::Parameters => Some(Kind::Parameter),
-        Listed::Counter => Some(Kind::Counter),
+        Listed::Defined => Some(DeclarationKind::Defined),
+        Listed::Parameters => Some(DeclarationKind::Parameter),
+        Listed::Counter => Some(DeclarationKind::Counter),
         Listed::Constants => {
             let has_value = is_at(tokens, next, Symbol::Equal)
                 || is_at(tokens, next, Symbol::Colon);
-            (has_value && begins(tokens, place)).then_some(Kind::Constant)
+            (has_value && begins(tokens, place)).then_some(DeclarationKind::Constant)
         }
         Listed::Nothing => {
             let is_label = is_at(tokens, next, Symbol::Colon) && begins(tokens, place);
-            is_label.then_some(Kind::Label)
+            is_label.then_some(DeclarationKind::Label)
         }
     }
 }
 
-/// The section bracket that is open before a place, with so many others open within it, if there is one.
+/// The section bracket that is open before an index and contains `within` other open brackets, if there is one.
 fn bracket_around(
     alloc: Global,
     tokens: &[Token<'_>],
@@ -114,7 +115,7 @@ fn bracket_around(
     })
 }
 
-/// Whether a section bracket is open before a place.
+/// Whether a section bracket is open before an index.
 fn is_open(
     alloc: Global,
     tokens: &[Token<'_>],
@@ -125,16 +126,16 @@ fn is_open(
     Ok(open.iter().any(|other| *other == bracket))
 }
 
-/// Whether the block in which a name is declared has the place where it is used, too.
+/// Whether the block in which a name is declared also contains the place where it is used.
 fn encloses(
     alloc: Global,
     tokens: &[Token<'_>],
     declared: usize,
     used: usize,
-    kind: Kind,
+    kind: DeclarationKind,
 ) -> Result<bool, Memory> {
     let within = match kind {
-        Kind::Constant => 1,
+        DeclarationKind::Constant => 1,
         _ => 0,
     };
     match bracket_around(alloc, tokens, declared, within)? {
@@ -143,24 +144,24 @@ fn encloses(
     }
 }
 
-/// What is said of a declaration at one place whose name is used at another.
-fn sentence_on(kind: Kind, is_enclosed: bool, is_after: bool) -> &'static str {
+/// The sentence on a declaration whose name is used elsewhere.
+fn sentence_on(kind: DeclarationKind, is_enclosed: bool, is_after: bool) -> &'static str {
     match kind {
-        Kind::Parameter => "is a parameter here, known in this routine alone",
-        Kind::Counter => "is declared here for a FOR, and known in it alone",
-        Kind::Label => "is a label here, of another routine or an inner block",
-        Kind::Defined | Kind::Constant => {
+        DeclarationKind::Parameter => "is a parameter here, in scope only in this routine",
+        DeclarationKind::Counter => "is the variable of a FOR here, in scope only in that FOR",
+        DeclarationKind::Label => "is a label here, in another routine or an inner block",
+        DeclarationKind::Defined | DeclarationKind::Constant => {
             if is_enclosed && is_after {
-                "is declared here, behind its use"
+                "is declared here, after its use"
             } else {
-                "is declared here, within another block"
+                "is declared here, in another block"
             }
         }
     }
 }
 
-/// Where a name is declared that means nothing at the token with this index: the first declaration of a block that has the token, else
-/// the first of all. Memory is answered where a growth was refused.
+/// The declaration of a name that isn't in scope at the token with this index: the first one whose block contains the
+/// token, else the first of all. Returns `Memory` if an allocation fails.
 pub fn declaration_of(
     alloc: Global,
     tokens: &[Token<'_>],
@@ -177,7 +178,9 @@ pub fn declaration_of(
                     index: place,
                     sentence: sentence_on(kind, is_enclosed, place > used),
                 };
-                if is_enclosed && matches!(kind, Kind::Defined | Kind::Constant) {
+                if is_enclosed
+                    && matches!(kind, DeclarationKind::Defined | DeclarationKind::Constant)
+                {
                     return Ok(Some(found));
                 }
                 first = first.or(Some(found));
@@ -188,15 +191,15 @@ pub fn declaration_of(
     Ok(first)
 }
 
-/// Whether an entry of this kind at a place stands in the list of names that the place where its name is used is in, too.
+/// Whether an entry of this kind is in the same list of names as the place where its name is used.
 fn shares_list(
     alloc: Global,
     tokens: &[Token<'_>],
     declared: usize,
     used: usize,
-    kind: Kind,
+    kind: DeclarationKind,
 ) -> Result<bool, Memory> {
-    let Kind::Constant = kind else {
+    let DeclarationKind::Constant = kind else {
         return Ok(false)
     };
     let list = bracket_around(alloc, tokens, declared, 0)?;
@@ -207,9 +210,9 @@ fn shares_list(
     })
 }
 
-/// Where a name is likely declared that has a meaning at the token with this index: after it in the list of names that has the token, or
-/// else the nearest declaration before it that its block has, or else the first after it. Memory is answered where a growth was
-/// refused.
+/// The probable declaration of a name that is in scope at the token with this index. A later entry of the list that
+/// contains the token comes first, then the nearest earlier declaration whose block contains it, then the first later
+/// one. Returns `Memory` if an allocation fails.
 pub fn meaning_of(
     alloc: Global,
     tokens: &[Token<'_>],

@@ -1,4 +1,4 @@
-//! A message that is being made.
+//! A message while it is being composed.
 
 use crate::message::{Message, Note};
 use crate::words::push_shown;
@@ -6,20 +6,24 @@ use bc_word::Memory;
 use bcpl_places::Span;
 use std::alloc::Global;
 
-/// What a place of a sentence is filled with.
+/// What fills a `{}` of a sentence.
 #[derive(Clone, Copy)]
 pub enum Fill<'a> {
+    /// This text.
     Text(&'a str),
-    /// The text of a token, cut where it is long.
+    /// The text of a token, cut off if it is long.
     Shown(&'a [u8]),
+    /// This number in decimal.
     Number(u64),
 }
 
+/// Appends a number in decimal.
 fn add_number(text: &mut String, number: u64) -> Result<(), Memory> {
     write!(text, "{number}")?;
     Ok(())
 }
 
+/// Appends what fills one `{}`.
 fn add_part(text: &mut String, part: Fill<'_>) -> Result<(), Memory> {
     match part {
         Fill::Text(added) => Ok(text.push_str(added)?),
@@ -28,7 +32,7 @@ fn add_part(text: &mut String, part: Fill<'_>) -> Result<(), Memory> {
     }
 }
 
-/// Adds the part with this index, where there is one.
+/// Appends the part with this index, if there is one.
 fn add_nth(text: &mut String, parts: &[Fill<'_>], index: usize) -> Result<(), Memory> {
     match parts.get(index) {
         Some(part) => add_part(text, *part),
@@ -36,7 +40,8 @@ fn add_nth(text: &mut String, parts: &[Fill<'_>], index: usize) -> Result<(), Me
     }
 }
 
-/// Adds a sentence, in which each `{}` is the place of the next of these parts. Memory is answered where a growth was refused.
+/// Appends a sentence in which each `{}` is replaced by the next of these parts. Returns `Memory` if an allocation
+/// fails.
 pub fn add_sentence(text: &mut String, sentence: &str, parts: &[Fill<'_>]) -> Result<(), Memory> {
     let mut at: usize = 0;
     for piece in sentence.split("{}") {
@@ -49,7 +54,7 @@ pub fn add_sentence(text: &mut String, sentence: &str, parts: &[Fill<'_>]) -> Re
     Ok(())
 }
 
-/// A message that is being made. Where memory was refused, that is kept, and what is said from then on counts for nothing.
+/// A message while it is being composed. It remembers a failed allocation; once one has failed, its contents are void.
 #[derive(Drop)]
 pub struct Draft {
     alloc: Global,
@@ -58,7 +63,7 @@ pub struct Draft {
 }
 
 impl Draft {
-    /// Nothing was said yet of a refusal of this main.
+    /// An empty message about a refusal of this main.
     pub fn new(alloc: Global, main: usize) -> Draft {
         Draft {
             alloc,
@@ -73,16 +78,17 @@ impl Draft {
         }
     }
 
+    /// The allocator of the message.
     pub fn alloc(&self) -> Global {
         self.alloc
     }
 
-    /// Memory was refused.
+    /// Records that an allocation failed.
     pub fn refuse(&mut self) {
         self.is_refused = true;
     }
 
-    /// What was found; this, where memory was refused.
+    /// The result, or `otherwise` after recording that memory ran out.
     pub fn found<T: Drop>(&mut self, found: Result<T, Memory>, otherwise: T) -> T {
         match found {
             Ok(found) => found,
@@ -93,24 +99,24 @@ impl Draft {
         }
     }
 
-    /// The refusal is of another main.
+    /// Sets the main that is refused.
     pub fn set_main(&mut self, main: usize) {
         self.message.main = main;
     }
 
-    /// The refusal is at this place.
+    /// Sets the place of the fault.
     pub fn place(&mut self, span: Span) {
         self.message.span = Some(span);
     }
 
-    /// Adds to the sentence on what is wrong.
+    /// Appends to the sentence on what is wrong.
     pub fn say(&mut self, sentence: &str, parts: &[Fill<'_>]) {
         if add_sentence(&mut self.message.sentence, sentence, parts).is_err() {
             self.refuse();
         }
     }
 
-    /// A sentence that is to be a part of others.
+    /// A filled sentence, as text to be inserted into others.
     pub fn filled(&mut self, sentence: &str, parts: &[Fill<'_>]) -> String {
         let mut text = String::new(self.alloc);
         if add_sentence(&mut text, sentence, parts).is_err() {
@@ -119,13 +125,13 @@ impl Draft {
         text
     }
 
-    /// Says what one may have meant, in place of what was said of that before.
+    /// Sets the help, replacing an earlier one.
     pub fn help(&mut self, sentence: &str, parts: &[Fill<'_>]) {
         let help = self.filled(sentence, parts);
         self.message.help = Some(help);
     }
 
-    /// Adds a further place, and what stands there.
+    /// Adds a related place and what is there.
     pub fn note(&mut self, span: Span, sentence: &str, parts: &[Fill<'_>]) {
         let sentence = self.filled(sentence, parts);
         if self.message.notes.push(Note { span, sentence }).is_err() {
@@ -133,7 +139,7 @@ impl Draft {
         }
     }
 
-    /// The message. Memory is answered where it was refused.
+    /// The finished message. Returns `Memory` if an allocation failed.
     pub fn into_message(self) -> Result<Message, Memory> {
         if self.is_refused {
             return Err(Memory);
@@ -141,7 +147,7 @@ impl Draft {
         Ok(self.message)
     }
 
-    /// The message; none where nothing was said. Memory is answered where it was refused.
+    /// The finished message, or `None` if its sentence is empty. Returns `Memory` if an allocation failed.
     pub fn end(self) -> Result<Option<Message>, Memory> {
         let is_empty = self.message.sentence.is_empty();
         let message = self.into_message()?;

@@ -1,8 +1,10 @@
+//! What could appear instead of a refused token. The answer comes from trying candidates with the parser itself.
+
 use crate::draft::Draft;
 use crate::trial_parse::{Change, is_whole, reached};
 use bc_lex_tokens::{Symbol, Token, TokenKind};
 
-/// The symbols that are told one by one where they could stand, as a sentence quotes them, those that tell most first.
+/// The symbols that are listed where they could appear, each as a sentence quotes it, the most informative ones first.
 const TOLD: [(Symbol, &str); 16] = [
     (Symbol::Assign, "`:=`"),
     (Symbol::Do, "DO"),
@@ -22,10 +24,10 @@ const TOLD: [(Symbol, &str); 16] = [
     (Symbol::Semicolon, "`;`"),
 ];
 
-/// The most things that are told.
+/// At most this many things are listed.
 const MOST: usize = 4;
 
-/// Whether a token of this kind could stand there.
+/// Whether a token of this kind could appear before the token at an index.
 fn could_stand(
     draft: &mut Draft,
     tokens: &[Token<'_>],
@@ -35,30 +37,30 @@ fn could_stand(
     reached(draft, tokens, index, Change::Insert(kind)).is_read()
 }
 
-/// Whether a symbol could stand before the token at the place.
+/// Whether a symbol could appear before the token at an index.
 pub fn could_be(draft: &mut Draft, tokens: &[Token<'_>], index: usize, symbol: Symbol) -> bool {
     could_stand(draft, tokens, index, TokenKind::Symbol(symbol))
 }
 
-/// Whether a name could stand before the token at the place, and no other expression and no command.
+/// Whether a name could appear before the token at an index, but no other expression and no command.
 pub fn could_be_name(draft: &mut Draft, tokens: &[Token<'_>], index: usize) -> bool {
     could_stand(draft, tokens, index, TokenKind::Name(b"N"))
         && !could_stand(draft, tokens, index, TokenKind::Number(0))
         && !could_be(draft, tokens, index, Symbol::Return)
 }
 
-/// The kinds of constructs that could begin at a place.
+/// The kinds of constructs that could begin before a token.
 #[derive(Clone, Copy)]
 struct Beginnings {
     declaration: bool,
     command: bool,
     expression: bool,
     name: bool,
-    /// An expression that stands in front could go on.
+    /// An operator: the expression before it could continue.
     operator: bool,
 }
 
-/// What could begin at a place.
+/// The kinds of constructs that could begin before the token at an index.
 fn what_begins(draft: &mut Draft, tokens: &[Token<'_>], index: usize) -> Beginnings {
     Beginnings {
         declaration: could_be(draft, tokens, index, Symbol::Let),
@@ -69,7 +71,7 @@ fn what_begins(draft: &mut Draft, tokens: &[Token<'_>], index: usize) -> Beginni
     }
 }
 
-/// Whether a symbol goes without saying beside what could begin there.
+/// Whether a symbol need not be listed, given the constructs that could begin there.
 fn is_hidden(symbol: Symbol, begun: Beginnings) -> bool {
     match symbol {
         Symbol::Let => begun.declaration,
@@ -81,14 +83,14 @@ fn is_hidden(symbol: Symbol, begun: Beginnings) -> bool {
     }
 }
 
-/// Adds a thing, where it is wanted.
+/// Appends a thing to the list if it belongs there.
 fn add(draft: &mut Draft, things: &mut Vec<&'static str>, is_wanted: bool, thing: &'static str) {
     if is_wanted && things.push(thing).is_err() {
         draft.refuse();
     }
 }
 
-/// Adds the symbols that could stand before the token at the place.
+/// Appends the symbols that could appear before the token at an index.
 fn add_symbols(
     draft: &mut Draft,
     things: &mut Vec<&'static str>,
@@ -104,7 +106,7 @@ fn add_symbols(
     }
 }
 
-/// Whether a pair of section brackets could stand before the token at the place, and no command.
+/// Whether a pair of section brackets could appear before the token at an index, but no command.
 fn could_be_section(
     draft: &mut Draft,
     tokens: &[Token<'_>],
@@ -114,7 +116,7 @@ fn could_be_section(
     !begun.command && reached(draft, tokens, index, Change::InsertSection).is_read()
 }
 
-/// Adds the constructs that could begin before the token at the place.
+/// Appends the constructs that could begin before the token.
 fn add_constructs(draft: &mut Draft, things: &mut Vec<&'static str>, begun: Beginnings) {
     let is_expression = begun.expression && !begun.command;
     let is_name = begun.name && !begun.expression && !begun.command;
@@ -124,7 +126,7 @@ fn add_constructs(draft: &mut Draft, things: &mut Vec<&'static str>, begun: Begi
     add(draft, things, is_name, "a name");
 }
 
-/// The things that could stand before the token at the place.
+/// The things that could appear before the token at an index, in words.
 fn things(draft: &mut Draft, tokens: &[Token<'_>], index: usize) -> Vec<&'static str> {
     let mut things: Vec<&'static str> = Vec::new(draft.alloc());
     let begun = what_begins(draft, tokens, index);
@@ -138,14 +140,14 @@ fn things(draft: &mut Draft, tokens: &[Token<'_>], index: usize) -> Vec<&'static
     things
 }
 
-/// Says what could stand before the token at the place, as "an expression" or "`DO` or `:=`", where that is known. It is found by
-/// trying, with the parser itself.
+/// Adds to the sentence what could appear before the token at an index, as "; expected an expression or `)`". Adds
+/// nothing if nothing is known.
 pub fn say_wanted(draft: &mut Draft, tokens: &[Token<'_>], index: usize) {
     let things = things(draft, tokens, index);
     let count = things.len();
     for (number, thing) in things.iter().enumerate() {
         let front = if number == 0 {
-            "; here could stand "
+            "; expected "
         } else if number.saturating_add(1) == count {
             " or "
         } else {

@@ -1,10 +1,11 @@
-//! Section brackets that stand in comments.
+//! Section brackets that are inside comments.
 
 use crate::read::Read;
 use bcpl_places::Span;
 use bstr::ByteSlice;
 
-/// Where this sign stands last in the comments before the token with this index, or after the last token.
+/// The last occurrence of this sign in the comments directly before the token with this index. An index past the end asks
+/// for the comments after the last token.
 fn hidden_in_front(read: Read<'_, '_>, index: usize, sign: &str) -> Option<Span> {
     let before = read.tokens.get(index.checked_sub(1)?)?;
     let text = read.source(before.file);
@@ -22,7 +23,8 @@ fn hidden_in_front(read: Read<'_, '_>, index: usize, sign: &str) -> Option<Span>
     })
 }
 
-/// Where this sign stands last in the comments after the token `first` and before the token `second`, which may be the end.
+/// The last occurrence of this sign in the comments after the token `first` and before the token `second`, which may be
+/// the end.
 pub fn hidden_between(read: Read<'_, '_>, first: usize, second: usize, sign: &str) -> Option<Span> {
     let mut found = None;
     for index in first..second {

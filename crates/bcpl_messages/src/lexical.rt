@@ -1,61 +1,63 @@
+//! Messages for faults of the lexer.
+
 use crate::draft::{Draft, Fill};
 use bc_lex::{LexError, Source};
 use bcpl_places::{Get, Span, gets_of};
 
-/// What is said of a byte that begins no token.
+/// The help for a byte that begins no token.
 const BYTES: [(u8, &str); 12] = [
     (
         b'{',
-        "a block is opened by $( and closed by $); bcpl convert brings old sources across",
+        "open a block with $( and close it with $); use bcpl convert for old sources",
     ),
-    (b'}', "a block is closed by $)"),
+    (b'}', "close a block with $)"),
     (
         b'_',
-        "a name has letters, digits and dots; in a name, a dot can stand for the underscore",
+        "a name has letters, digits and dots; use a dot instead of the underscore",
     ),
     (
         b'%',
-        "the byte I of the string S is GETBYTE(S, I), and PUTBYTE(S, I, C) sets it; the remainder is REM",
+        "GETBYTE(S, I) is byte I of the string S, and PUTBYTE(S, I, C) sets it; REM is the remainder",
     ),
     (
         b'#',
-        "octal digits stand behind #, as in #17, and hexadecimal ones behind #X, as in #XFF",
+        "write octal digits after #, as in #17, and hexadecimal digits after #X, as in #XFF",
     ),
     (
         b'[',
-        "an element of a vector is written V!I, and brackets are ( and )",
+        "write an element of a vector as V!I, and parentheses as ( and )",
     ),
     (
         b']',
-        "an element of a vector is written V!I, and brackets are ( and )",
+        "write an element of a vector as V!I, and parentheses as ( and )",
     ),
     (
         b'\\',
-        "NOT is written ~ or NOT, and a line goes on without a sign for it",
+        "write NOT as ~ or NOT; a line needs no sign to continue",
     ),
     (
         b'?',
-        "there is no sign for any value; write a number. A choice of two values is B -> X, Y",
+        "BCPL has no sign for an arbitrary value: write a number; write a choice of two values as B -> X, Y",
     ),
-    (b'^', "exclusive or is written NEQV"),
+    (b'^', "write NEQV for exclusive or"),
     (
         b'$',
-        "a block is opened by $( and closed by $), without a blank between the two signs",
+        "open a block with $( and close it with $), with no space between the two signs",
     ),
     (
         b'.',
-        "a name begins with a letter, and there are no numbers with a point",
+        "a name begins with a letter, and numbers have no decimal point",
     ),
 ];
 
-/// What a byte that begins no token may have been meant for.
+/// What to write instead of a byte that begins no token.
 fn help_for_byte(text: &[u8], at: usize) -> Option<&'static str> {
     let rest = text.get(at..).unwrap_or(b"");
     if rest.starts_with(b"\xEF\xBB\xBF") {
         return Some("the file begins with a byte order mark; save it as plain text without one");
     }
     if rest.starts_with(b"#include") {
-        return Some("a file is got by GET, as in GET \"LIBHDR\"");
+        return Some("include a file with GET, as in GET \"LIBHDR\"");
     }
     let first = rest.first().copied().unwrap_or(0);
     for (byte, help) in &BYTES {
@@ -64,17 +66,15 @@ fn help_for_byte(text: &[u8], at: usize) -> Option<&'static str> {
         }
     }
     if first >= 128 {
-        Some(
-            "outside strings, characters and comments only plain ASCII letters and signs can stand",
-        )
+        Some("outside strings, characters and comments, use only ASCII letters, digits and signs")
     } else if first < 32 {
-        Some("a control character stands here; save the file as plain text")
+        Some("this is a control character; save the file as plain text")
     } else {
         None
     }
 }
 
-/// How many bytes the character has that begins here.
+/// The size in bytes of the UTF-8 character that begins here.
 fn character_size(text: &[u8], at: usize) -> usize {
     let first = text.get(at).copied().unwrap_or(0);
     let size = match first {
@@ -86,7 +86,7 @@ fn character_size(text: &[u8], at: usize) -> usize {
     size
 }
 
-/// How many bytes a number has that begins here.
+/// The size in bytes of the number that begins here.
 fn number_size(text: &[u8], at: usize) -> usize {
     let rest = text.get(at..).unwrap_or(b"");
     let mut size: usize = 0;
@@ -99,7 +99,7 @@ fn number_size(text: &[u8], at: usize) -> usize {
     size.max(1)
 }
 
-/// How far after the sign of a character constant another one stands on its line, if one does.
+/// How many bytes are between the quote of a character constant and the next quote on its line, if there is one.
 fn closing(text: &[u8], at: usize) -> Option<usize> {
     let rest = text.get(at.saturating_add(1)..)?;
     let end = rest
@@ -111,40 +111,40 @@ fn closing(text: &[u8], at: usize) -> Option<usize> {
     }
 }
 
-/// The sentence on a character constant that is none, and its help.
+/// The sentence and the help for a malformed character constant.
 fn no_character(text: &[u8], at: usize) -> (&'static str, &'static str) {
     match closing(text, at) {
         Some(0) => (
-            "no character stands between these signs",
+            "there is no character between these quotes",
             "a character constant has one character or one escape, as in 'A' or '*N'; the empty string is \"\"",
         ),
         Some(_) => (
-            "more than one character stands between these signs",
-            "a character constant has one character or one escape, as in 'A' or '*N'; longer texts stand in strings, as \"AB\"",
+            "there is more than one character between these quotes",
+            "a character constant has one character or one escape, as in 'A' or '*N'; write longer texts as strings, as in \"AB\"",
         ),
         None => (
             "this character constant is not closed",
-            "it has one character or one escape between its signs, as in 'A' or '*N'; longer texts stand in strings, as \"AB\"",
+            "it has one character or one escape between its quotes, as in 'A' or '*N'; write longer texts as strings, as in \"AB\"",
         ),
     }
 }
 
-/// The sentence on what is not closed, and its help.
+/// The sentence and the help for a comment, string or character constant that isn't closed.
 fn unterminated(text: &[u8], at: usize) -> (&'static str, &'static str) {
     match text.get(at).copied().unwrap_or(0) {
         b'"' => (
-            "this string is not closed in its line",
-            "a string ends with \" on the line on which it begins; *N in it stands for a line break, and *\" for the sign itself",
+            "this string is not closed on its line",
+            "end a string with \" on the line where it begins; inside it, *N is a line break and *\" is a quote",
         ),
         b'\'' => no_character(text, at),
         _ => (
             "this comment is not closed",
-            "it ends with */, and comments don't nest",
+            "close it with */; comments don't nest",
         ),
     }
 }
 
-/// The span of this many bytes from a place on.
+/// The span of this many bytes from an offset on.
 fn span(file: usize, at: usize, size: usize) -> Span {
     Span {
         file,
@@ -153,7 +153,7 @@ fn span(file: usize, at: usize, size: usize) -> Span {
     }
 }
 
-/// Whether this name is meant for the header of the library: LIBHDR in any letters, and perhaps with an ending.
+/// Whether this name probably means the library's header: LIBHDR in any case, perhaps with a file extension.
 fn is_libhdr(name: &[u8]) -> bool {
     let bare = match name.iter().position(|byte| *byte == b'.') {
         Some(dot) => name.get(..dot).unwrap_or(name),
@@ -162,24 +162,24 @@ fn is_libhdr(name: &[u8]) -> bool {
     bare.eq_ignore_ascii_case(b"LIBHDR")
 }
 
-/// Says what to do where GET names no source, whose name is this.
+/// Sets the help for a GET of this name, which no source has.
 fn help_for_get(draft: &mut Draft, name: &[u8]) {
     if is_libhdr(name) {
         draft.help(
-            "the header of the library is LIBHDR, in capitals; bcpl convert brings old sources across",
+            "the library's header is LIBHDR, in upper case; use bcpl convert for old sources",
             &[],
         );
     } else if name == b"EXTHDR".as_slice() {
-        draft.help("it is the header of a further library: --library ext", &[]);
-    } else {
         draft.help(
-            "say which file it is, by --get {}=PATH",
-            &[Fill::Shown(name)],
+            "this is the header of a further library; add --library ext",
+            &[],
         );
+    } else {
+        draft.help("name the file with --get {}=PATH", &[Fill::Shown(name)]);
     }
 }
 
-/// Tells of a GET that names no source.
+/// Describes a GET that names no source.
 fn tell_missing(draft: &mut Draft, file: usize, get: &Get<'_>) {
     let size = get.end.saturating_sub(get.start);
     draft.place(span(file, get.start, size));
@@ -187,7 +187,7 @@ fn tell_missing(draft: &mut Draft, file: usize, get: &Get<'_>) {
     help_for_get(draft, get.name);
 }
 
-/// Tells of a GET without the name of a source, or with one that none has.
+/// Describes a GET that has no name, or one that no source has.
 fn tell_get(draft: &mut Draft, site: Site<'_>) {
     let Site { text, file, at } = site;
     let alloc = draft.alloc();
@@ -198,29 +198,29 @@ fn tell_get(draft: &mut Draft, site: Site<'_>) {
         }
     }
     draft.place(span(file, at, 3));
-    draft.say("behind GET stands no string with the name of a source", &[]);
-    draft.help("it is written GET \"LIBHDR\"", &[]);
+    draft.say("GET needs a string with the name of a source", &[]);
+    draft.help("write GET and a name, as in GET \"LIBHDR\"", &[]);
 }
 
-/// Tells of an escape that there isn't.
+/// Describes an unknown escape.
 fn tell_escape(draft: &mut Draft, site: Site<'_>) {
     let Site { text, file, at } = site;
     let following = text.get(at.saturating_add(1)).copied().unwrap_or(0);
     draft.place(span(file, at, 2));
     if following.is_ascii_graphic() {
-        draft.say("no escape is written *{}", &[Fill::Shown(&[following])]);
+        draft.say("*{} is not an escape", &[Fill::Shown(&[following])]);
     } else if following == b' ' {
-        draft.say("no escape is written by * and a blank", &[]);
+        draft.say("* followed by a space is not an escape", &[]);
     } else {
-        draft.say("no escape is written so", &[]);
+        draft.say("this is not an escape", &[]);
     }
     draft.help(
-        "behind * stands N, T, S, B, P, C, a quote or *; the sign * itself is written **",
+        "after *, write N, T, S, B, P, C, a quote or *; write ** for the sign * itself",
         &[],
     );
 }
 
-/// Where a fault stands: the text of its file, the file, and the offset.
+/// The place of a fault: the text of its file, the file's index, and the offset.
 #[derive(Clone, Copy)]
 struct Site<'s> {
     text: &'s [u8],
@@ -228,7 +228,7 @@ struct Site<'s> {
     at: usize,
 }
 
-/// The place of a fault.
+/// The place of a fault; `None` if memory ran out.
 fn site_of<'s>(sources: &[Source<'s>], fault: LexError) -> Option<Site<'s>> {
     let (file, at) = match fault {
         LexError::BadCharacter(file, at)
@@ -248,7 +248,7 @@ fn site_of<'s>(sources: &[Source<'s>], fault: LexError) -> Option<Site<'s>> {
     Some(Site { text, file, at })
 }
 
-/// What is said of a fault: how many bytes it has, the sentence, and the help, if there is one.
+/// The size of a fault in bytes, its sentence, and its help if it has one.
 fn said_of(site: Site<'_>, fault: LexError) -> (usize, &'static str, Option<&'static str>) {
     let Site { text, at, .. } = site;
     match fault {
@@ -259,25 +259,23 @@ fn said_of(site: Site<'_>, fault: LexError) -> (usize, &'static str, Option<&'st
         ),
         LexError::NumberTooLarge(..) => (
             number_size(text, at),
-            "this number is over 65535, the greatest that a word holds",
-            Some(
-                "a word has 16 bits; a greater number is kept in two words, or as its digits in a vector",
-            ),
+            "this number is greater than 65535, the largest that a word holds",
+            Some("a word has 16 bits; keep a larger number in two words, or as digits in a vector"),
         ),
         LexError::StringTooLong(..) => (
             1,
             "this string has more than 255 characters",
-            Some("its length is kept in one byte; write it as two strings, one behind the other"),
+            Some("its length must fit in one byte; write two strings, one after the other"),
         ),
         LexError::GetTooDeep(..) => (
             3,
-            "this GET stands in a file that eight GETs led to, and no ninth is followed",
-            Some("perhaps two files get each other"),
+            "this GET is in a file that eight nested GETs led to, and a ninth is not followed",
+            Some("perhaps two files GET each other"),
         ),
         LexError::TooManyTokens(..) => (
             1,
-            "this is the 60001st word or sign of the file, with what it gets, and 60000 is the most",
-            Some("cut the program into several files, which share routines by GLOBAL"),
+            "this is the 60001st word or sign of the file and the files that it gets; the limit is 60000",
+            Some("split the program into several files that share routines by GLOBAL"),
         ),
         _ => {
             let (sentence, help) = unterminated(text, at);
@@ -286,7 +284,7 @@ fn said_of(site: Site<'_>, fault: LexError) -> (usize, &'static str, Option<&'st
     }
 }
 
-/// Tells of any other fault.
+/// Describes any other fault.
 fn tell_fault(draft: &mut Draft, site: Site<'_>, fault: LexError) {
     let (size, sentence, help) = said_of(site, fault);
     draft.place(span(site.file, site.at, size));
@@ -296,7 +294,7 @@ fn tell_fault(draft: &mut Draft, site: Site<'_>, fault: LexError) {
     }
 }
 
-/// Tells of a text that has no tokens.
+/// Describes a fault of the lexer.
 pub fn tell_lexical(draft: &mut Draft, sources: &[Source<'_>], fault: LexError) {
     let Some(site) = site_of(sources, fault) else {
         return;

@@ -1,5 +1,5 @@
-//! What the program says of a refusal beside its first line: the place, a sentence on what is wrong, further places, and what
-//! one may have meant.
+//! The lines that follow the first line of a refusal of sources: the place, a sentence on what is wrong, related
+//! places, and a help.
 #![tactic(auto)]
 
 mod brackets;

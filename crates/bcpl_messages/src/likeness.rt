@@ -1,3 +1,5 @@
+//! Names that resemble a name that isn't in scope.
+
 use bc_lex_tokens::{Symbol, Token, TokenKind};
 use bc_word::Memory;
 use std::alloc::Global;
@@ -6,7 +8,8 @@ use strsim::osa_distance;
 /// The longest names that are compared letter by letter.
 const LONGEST: usize = 32;
 
-/// The reserved word that this name is in small or mixed letters; none where it is none.
+/// The reserved word that this name spells in lower or mixed case; `None` if there is none, or if the name is upper
+/// case.
 pub fn reserved_word(alloc: Global, name: &[u8]) -> Result<Option<String>, Memory> {
     let mut capital = String::new(alloc);
     for byte in name {
@@ -18,8 +21,8 @@ pub fn reserved_word(alloc: Global, name: &[u8]) -> Result<Option<String>, Memor
     })
 }
 
-/// How unlike two names are: 0 where they differ in the case of letters alone, else how many letters must be changed, or
-/// exchanged with the next one.
+/// The distance between two names: 0 if they differ only in case, else how many letters must be changed, inserted,
+/// removed, or swapped with the next one. `usize::MAX` if they aren't compared.
 fn unlikeness(alloc: Global, one: &[u8], other: &[u8]) -> Result<usize, Memory> {
     if one.eq_ignore_ascii_case(other) {
         return Ok(0);
@@ -33,7 +36,7 @@ fn unlikeness(alloc: Global, one: &[u8], other: &[u8]) -> Result<usize, Memory> 
     }
 }
 
-/// How unlike a name may be that is offered for one of this length.
+/// The greatest distance of a suggestion for a name of this length.
 fn most_unlike(length: usize) -> usize {
     match length {
         0..=2 => 0,
@@ -42,13 +45,13 @@ fn most_unlike(length: usize) -> usize {
     }
 }
 
-/// Whether a name may be offered for another: it is none of those that were passed over.
+/// Whether a name may be suggested: it isn't the name itself, nor one that was already considered.
 fn is_offered(known: &[u8], name: &[u8], passed: &[&[u8]]) -> bool {
     known != name && !passed.iter().any(|other| *other == known)
 }
 
-/// The name among the tokens which is most like this one, if any is like it; the first of equals, and none of those that were passed
-/// over. Memory is answered where a growth was refused.
+/// The name among the tokens that resembles this one most, or `None` if none is near enough. Of equally near names it
+/// is the first; those in `passed` are skipped. Returns `Memory` if an allocation fails.
 pub fn nearest<'s>(
     alloc: Global,
     tokens: &[Token<'s>],

@@ -1,3 +1,6 @@
+//! Messages for errors of the linker, and for a main with too many labels. They find the routines concerned by
+//! compiling the mains again.
+
 use crate::draft::{Draft, Fill};
 use crate::read::Read;
 use crate::words::{is_symbol, shown};
@@ -16,13 +19,15 @@ use std::alloc::Global;
 /// A routine that sets a global.
 #[derive(Clone, Copy)]
 struct Setter<'s> {
-    /// The main that has it.
+    /// The index of the main that has it.
     main: usize,
+    /// The name of the routine.
     name: &'s [u8],
+    /// The span of its name.
     span: Span,
 }
 
-/// The indexes of the tokens that name the routines of a section, in the order in which they stand.
+/// The indexes of the tokens that name the routines of a section, in text order.
 fn routine_names(alloc: Global, tokens: &[Token<'_>]) -> Result<Vec<usize>, Memory> {
     let mut names = Vec::new(alloc);
     for index in 2..tokens.len() {
@@ -36,7 +41,7 @@ fn routine_names(alloc: Global, tokens: &[Token<'_>]) -> Result<Vec<usize>, Memo
     Ok(names)
 }
 
-/// The translation of tokens; none of a section that is refused itself.
+/// The translation of tokens; `None` if they are refused.
 fn core_of(alloc: Global, tokens: &[Token<'_>]) -> Result<Option<Core>, Memory> {
     if tokens.len() > 60_000 {
         return Ok(None);
@@ -47,7 +52,7 @@ fn core_of(alloc: Global, tokens: &[Token<'_>]) -> Result<Option<Core>, Memory> 
     Ok(resolve(alloc, &section).ok())
 }
 
-/// The tokens of a main; none of one that has none.
+/// The tokens of a main; `None` if the lexer refuses it.
 fn tokens_of<'s>(alloc: Global, sources: &[Source<'s>], main: usize) -> Option<Vec<Token<'s>>> {
     if main < sources.len() {
         lex(alloc, sources, main).ok()
@@ -56,7 +61,8 @@ fn tokens_of<'s>(alloc: Global, sources: &[Source<'s>], main: usize) -> Option<V
     }
 }
 
-/// The global that each routine of a section sets, if it sets one, in their order.
+/// For each routine of a section, in text order, the global that it sets, if it sets one. Empty if the section is
+/// refused.
 fn globals_of(alloc: Global, tokens: &[Token<'_>]) -> Result<Vec<Option<u16>>, Memory> {
     let mut globals = Vec::new(alloc);
     if let Some(core) = core_of(alloc, tokens)? {
@@ -69,7 +75,7 @@ fn globals_of(alloc: Global, tokens: &[Token<'_>]) -> Result<Vec<Option<u16>>, M
     Ok(globals)
 }
 
-/// Whether a routine that sets this global, if it sets one, sets the one of this number.
+/// Whether the global that a routine sets, if any, has this number.
 fn is_number(global: Option<u16>, number: u16) -> bool {
     match global {
         Some(global) => global == number,
@@ -86,7 +92,7 @@ fn setter_at<'s>(read: Read<'_, 's>, index: usize) -> Setter<'s> {
     }
 }
 
-/// Adds the routines among the tokens of a main that set the global of this number. Memory is answered where a growth was refused.
+/// Adds the routines of a main that set the global with this number. Returns `Memory` if an allocation fails.
 fn add_among<'s>(
     setters: &mut Vec<Setter<'s>>,
     alloc: Global,
@@ -103,7 +109,7 @@ fn add_among<'s>(
     Ok(())
 }
 
-/// Adds the routines of a main that set the global of this number. None of a main that is refused itself.
+/// The same for a main that is still to be read. Adds nothing if the main is refused.
 fn add_setters<'s>(
     setters: &mut Vec<Setter<'s>>,
     alloc: Global,
@@ -124,7 +130,7 @@ fn add_setters<'s>(
     }
 }
 
-/// The routines of all mains that set the global of this number.
+/// The routines of all mains that set the global with this number.
 fn setters_of<'s>(
     alloc: Global,
     sources: &[Source<'s>],
@@ -146,20 +152,22 @@ fn is_library_main(sources: &[Source<'_>], main: usize) -> bool {
     }
 }
 
-/// What is to be done where a routine sets a global that another one sets: one of the library, perhaps, and of the same name.
+/// The help where two routines set the same global: whether the other one is the library's, and whether it has the same
+/// name.
 fn help_for_twice(is_of_library: bool, is_of_name: bool) -> &'static str {
     match (is_of_library, is_of_name) {
         (true, true) => {
-            "the library has a routine of this name: give yours another one, where it is declared and where it is called"
+            "the library has a routine of this name; rename yours where it is declared and where it is called"
         }
-        (true, false) => "the number is that of a routine of the library: from 100 on all are free",
+        (true, false) =>
+            "a routine of the library has this number; the numbers from 100 on are free",
         (false, _) => {
-            "a routine that is declared while its name means a global sets that global; one of all files does so"
+            "a routine that is declared while its name means a global sets that global; only one routine of all files may do so"
         }
     }
 }
 
-/// Says that a routine sets a global which another one sets, whose main may be the library's.
+/// Describes two routines that set the same global. `is_of_library` says that the first one is the library's.
 fn say_twice(
     draft: &mut Draft,
     first: &Setter<'_>,
@@ -170,7 +178,7 @@ fn say_twice(
     draft.set_main(second.main);
     draft.place(second.span);
     draft.say(
-        "the routine {} sets the global {}, which another routine sets already",
+        "the routine {} sets the global {}, which another routine already sets",
         &[Fill::Shown(second.name), Fill::Number(u64::from(number))],
     );
     draft.note(first.span, "the other routine", &[]);
@@ -178,7 +186,7 @@ fn say_twice(
     draft.help(help_for_twice(is_of_library, is_of_name), &[]);
 }
 
-/// Tells of a global that two routines set.
+/// Describes a global that two routines set.
 fn tell_twice(draft: &mut Draft, sources: &[Source<'_>], mains: &[usize], number: u16) {
     let alloc = draft.alloc();
     let setters = setters_of(alloc, sources, mains, number);
@@ -189,7 +197,7 @@ fn tell_twice(draft: &mut Draft, sources: &[Source<'_>], mains: &[usize], number
     }
 }
 
-/// How many words the segment of a main takes; none of a main that is refused itself.
+/// How many words the segment of a main takes; `None` if the main is refused.
 fn size_of(alloc: Global, sources: &[Source<'_>], main: usize) -> Result<Option<usize>, Memory> {
     let Some(tokens) = tokens_of(alloc, sources, main) else {
         return Ok(None)
@@ -222,7 +230,7 @@ fn sizes_of(
     Ok(sizes)
 }
 
-/// Tells of segments that take more words than there are.
+/// Describes segments that take more words than a machine has.
 fn tell_sizes(draft: &mut Draft, sources: &[Source<'_>], mains: &[usize]) {
     let alloc = draft.alloc();
     let sizes = draft.found(sizes_of(alloc, sources, mains), Vec::new(alloc));
@@ -230,7 +238,7 @@ fn tell_sizes(draft: &mut Draft, sources: &[Source<'_>], mains: &[usize]) {
     draft.say("{}", &[Fill::Text(sentence.as_str())]);
 }
 
-/// Tells of segments that can't be linked.
+/// Describes an error of the linker.
 pub fn tell_linking(draft: &mut Draft, sources: &[Source<'_>], mains: &[usize], fault: LinkError) {
     match fault {
         LinkError::GlobalTwice(number) => tell_twice(draft, sources, mains, number.get()),
@@ -239,7 +247,7 @@ pub fn tell_linking(draft: &mut Draft, sources: &[Source<'_>], mains: &[usize], 
     }
 }
 
-/// Whether a word or a sign makes labels in the code.
+/// Whether a token makes labels in the code.
 fn makes_labels(token: &Token<'_>) -> bool {
     match token.kind {
         TokenKind::Symbol(symbol) => matches!(
@@ -269,7 +277,7 @@ fn labels_among(tokens: &[Token<'_>]) -> usize {
     tokens.iter().filter(|token| makes_labels(token)).count()
 }
 
-/// The one with more of two: what had the most before, if there is any, or what begins at this place.
+/// The better of two pairs of an index and a count: `best`, unless `count` is greater.
 fn more(best: Option<(usize, usize)>, start: usize, count: usize) -> Option<(usize, usize)> {
     match best {
         Some((_, most)) if count <= most => best,
@@ -277,7 +285,7 @@ fn more(best: Option<(usize, usize)>, start: usize, count: usize) -> Option<(usi
     }
 }
 
-/// The index of the token that names the routine with the most words and signs that make labels, and their number.
+/// The index of the token that names the routine with the most label-making tokens, and their number.
 fn most_labels(alloc: Global, tokens: &[Token<'_>]) -> Result<Option<(usize, usize)>, Memory> {
     let names = routine_names(alloc, tokens)?;
     let mut best: Option<(usize, usize)> = None;
@@ -292,22 +300,23 @@ fn most_labels(alloc: Global, tokens: &[Token<'_>]) -> Result<Option<(usize, usi
     Ok(best)
 }
 
-/// What is said of a main whose code has too many labels, whatever its routines are.
-const TOO_MANY_LABELS: &str = "the code of the file, with what it gets, has more than 20000 labels";
+/// The sentence on a main whose code has too many labels.
+const TOO_MANY_LABELS: &str =
+    "the code of the file, with the files that it gets, has more than 20000 labels";
 
-/// Tells of the routine of a main that has the most words and signs that make labels, and of their number.
+/// Points out the routine of a main with the most label-making tokens, and their number.
 fn tell_busiest(draft: &mut Draft, read: Read<'_, '_>) {
     let most = most_labels(draft.alloc(), read.tokens);
     if let Some((index, count)) = draft.found(most, None) {
         draft.place(read.place(index));
         draft.say(
-            "; of its routines this one has the most words and signs that make labels, {}",
+            "; this routine has the most words and signs that make labels: {}",
             &[Fill::Number(count as u64)],
         );
     }
 }
 
-/// Tells of a main whose code has too many labels.
+/// Describes a main whose code has too many labels.
 pub fn tell_labels(draft: &mut Draft, sources: &[Source<'_>], main: usize) {
     draft.say(TOO_MANY_LABELS, &[]);
     if let Some(tokens) = tokens_of(draft.alloc(), sources, main) {
@@ -319,7 +328,7 @@ pub fn tell_labels(draft: &mut Draft, sources: &[Source<'_>], main: usize) {
         tell_busiest(draft, read);
     }
     draft.help(
-        "cut it into several files, which share routines by GLOBAL",
+        "split it into several files that share routines by GLOBAL",
         &[],
     );
 }

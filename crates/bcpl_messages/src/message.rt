@@ -1,3 +1,5 @@
+//! The message of a refused build: [`message_of`] chooses the module that explains the error.
+
 use crate::draft::Draft;
 use crate::lexical::tell_lexical;
 use crate::linking::{tell_labels, tell_linking};
@@ -9,38 +11,38 @@ use bc_word::Memory;
 use bcpl_places::Span;
 use std::alloc::Global;
 
-/// A further place that belongs to a refusal.
+/// A related place of a refusal.
 #[derive(Drop)]
 pub struct Note {
-    /// Where it is.
+    /// The place.
     pub span: Span,
-    /// What stands there.
+    /// What is at this place.
     pub sentence: String,
 }
 
-/// What is said of a refusal.
+/// What the program says about a refusal, after its first line.
 #[derive(Drop)]
 pub struct Message {
-    /// Where it is; none where it is at no one place.
+    /// The place of the fault; `None` if it has no single place.
     pub span: Option<Span>,
-    /// The index of the source that was compiled.
+    /// The index of the main that was being compiled.
     pub main: usize,
     /// What is wrong, without a full stop.
     pub sentence: String,
-    /// Further places.
+    /// Related places.
     pub notes: Vec<Note>,
-    /// What one may have meant.
+    /// What to do, or what the author may have meant.
     pub help: Option<String>,
 }
 
 impl Message {
-    /// Says what one may have meant. Memory is answered where a growth was refused.
+    /// Sets the help. Returns `Memory` if an allocation fails.
     fn set_help(&mut self, alloc: Global, help: &str) -> Result<(), Memory> {
         self.help = Some(String::from_str(alloc, help)?);
         Ok(())
     }
 
-    /// This message with a help, if there is one. Memory is answered where a growth was refused.
+    /// This message with the help set, if one is given. Returns `Memory` if an allocation fails.
     pub fn helped(self, alloc: Global, help: Option<&str>) -> Result<Message, Memory> {
         let mut message = self;
         if let Some(help) = help {
@@ -50,7 +52,7 @@ impl Message {
     }
 }
 
-/// The main that was refused; the first one, where it is the program.
+/// The index of the refused main; 0 for an error that concerns the whole program.
 fn main_of(error: &BuildError) -> usize {
     match error {
         BuildError::Lex(main, _) => *main,
@@ -61,8 +63,8 @@ fn main_of(error: &BuildError) -> usize {
     }
 }
 
-/// What is to be said of this refusal of a build of these sources, `mains` being the indexes of those that were to become a
-/// segment each; none where nothing more is known. Memory is answered where a growth was refused.
+/// The message for a failed build of these sources. `mains` has the indexes of the sources that become a segment each.
+/// Returns `None` if nothing can be added to the first line, and `Memory` if an allocation fails.
 pub fn message_of(
     alloc: Global,
     sources: &[Source<'_>],

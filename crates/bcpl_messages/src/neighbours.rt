@@ -1,14 +1,14 @@
-//! Tokens side by side, and tokens by themselves, that are known mistakes.
+//! Known mistakes that are recognized by a refused token and the tokens next to it.
 
 use crate::brackets::is_in_round;
 use crate::words::{back, is_at, is_symbol};
 use bc_lex_tokens::{Symbol, Token, TokenKind};
 
-/// What is said of two spellings side by side.
+/// The helps for two adjacent spellings.
 const PAIRS: [(&[u8], &[u8], &str); 21] = [
-    (b"=", b"=", "equality is written with one ="),
-    (b"=", b"<", "at most is written <="),
-    (b"=", b">", "at least is written >="),
+    (b"=", b"=", "write equality with a single ="),
+    (b"=", b"<", "write <= for at most"),
+    (b"=", b">", "write >= for at least"),
     (
         b"FOR",
         b"LET",
@@ -17,79 +17,79 @@ const PAIRS: [(&[u8], &[u8], &str); 21] = [
     (
         b"FOR",
         b"(",
-        "FOR counts from one value to another, without brackets, as in FOR I = 0 TO 9 DO ..",
+        "write FOR without parentheses, as in FOR I = 0 TO 9 DO ..",
     ),
-    (b"~", b"=", "unequal is written ~= or NE"),
-    (b"!", b"=", "unequal is written ~= or NE"),
+    (b"~", b"=", "write ~= or NE for not equal"),
+    (b"!", b"=", "write ~= or NE for not equal"),
     (
         b"<",
         b">",
-        "unequal is written ~= or NE, and shifts << and >>",
+        "write ~= or NE for not equal, and << or >> for a shift",
     ),
     (
         b"<",
         b"=",
-        "unequal is written ~= or NE, and shifts << and >>",
+        "write ~= or NE for not equal, and << or >> for a shift",
     ),
     (
         b">",
         b">",
-        "unequal is written ~= or NE, and shifts << and >>",
+        "write ~= or NE for not equal, and << or >> for a shift",
     ),
     (
         b">",
         b"=",
-        "unequal is written ~= or NE, and shifts << and >>",
+        "write ~= or NE for not equal, and << or >> for a shift",
     ),
     (b"+", b"+", "to add to X, write X := X + 1"),
     (b"+", b"=", "to add to X, write X := X + 1"),
-    (b"-", b"-", "to take from X, write X := X - 1"),
-    (b"-", b"=", "to take from X, write X := X - 1"),
+    (b"-", b"-", "to subtract from X, write X := X - 1"),
+    (b"-", b"=", "to subtract from X, write X := X - 1"),
     (b"*", b"=", "to multiply X, write X := X * 2"),
     (b"/", b"=", "to divide X, write X := X / 2"),
-    (b"&", b"&", "and is written with one &"),
-    (b"|", b"|", "or is written with one |"),
+    (b"&", b"&", "write and with a single &"),
+    (b"|", b"|", "write or with a single |"),
     (
         b"DO",
         b";",
-        "a command stands behind DO; one that does nothing is written $( $)",
+        "a command must follow DO; write $( $) for one that does nothing",
     ),
     (
         b"THEN",
         b";",
-        "a command stands behind THEN; one that does nothing is written $( $)",
+        "a command must follow THEN; write $( $) for one that does nothing",
     ),
 ];
 
-/// What is said of a spelling, whatever stands after it.
+/// The helps for a spelling, whatever follows it.
 const FIRSTS: [(&[u8], &str); 7] = [
     (
         b"RETURN",
-        "RETURN gives no value; a function gives that of the expression behind its =, as in LET F(X) = VALOF $( .. RESULTIS X $)",
+        "RETURN returns no value; a function's value is the expression after its =, as in LET F(X) = VALOF $( .. RESULTIS X $)",
     ),
     (
         b"MANIFEST",
-        "the names stand between $( and $), as in MANIFEST $( N = 10; M = 20 $)",
+        "put the names between $( and $), as in MANIFEST $( N = 10; M = 20 $)",
     ),
     (
         b"STATIC",
-        "the names stand between $( and $), as in STATIC $( N = 10; M = 20 $)",
+        "put the names between $( and $), as in STATIC $( N = 10; M = 20 $)",
     ),
     (
         b"GLOBAL",
-        "the names stand between $( and $), as in GLOBAL $( N:100; M:101 $)",
+        "put the names between $( and $), as in GLOBAL $( N:100; M:101 $)",
     ),
     (
         b"NEXT",
-        "FOR has no NEXT: its body is one command, or a block of several, $( .. $)",
+        "FOR has no NEXT; its body is one command, or a block $( .. $) of several",
     ),
     (
         b"next",
-        "FOR has no NEXT: its body is one command, or a block of several, $( .. $)",
+        "FOR has no NEXT; its body is one command, or a block $( .. $) of several",
     ),
     (
         b"Next",
-        "FOR has no NEXT: its body is one command, or a block of several, $( .. $)",
+        "FOR has no NEXT; its body is one command, or a block $( .. $) of several",
     ),
 ];
 
@@ -98,36 +98,39 @@ const RELATIONS: [&[u8]; 12] = [
     b"<", b"<=", b">", b">=", b"=", b"~=", b"LE", b"GE", b"EQ", b"NE", b"LS", b"GR",
 ];
 
-/// What is said of a name that is an operator or a bracket in other languages.
+/// The helps for names that are operators or brackets in other languages.
 const NAMES: [(&[u8], &str); 8] = [
-    (b"MOD", "the remainder is written REM"),
-    (b"mod", "the remainder is written REM"),
-    (b"XOR", "exclusive or is written NEQV"),
-    (b"xor", "exclusive or is written NEQV"),
-    (b"BEGIN", "a block is opened by $( and closed by $)"),
-    (b"begin", "a block is opened by $( and closed by $)"),
-    (b"END", "a block is closed by $)"),
-    (b"end", "a block is closed by $)"),
+    (b"MOD", "write REM for the remainder"),
+    (b"mod", "write REM for the remainder"),
+    (b"XOR", "write NEQV for exclusive or"),
+    (b"xor", "write NEQV for exclusive or"),
+    (b"BEGIN", "open a block with $( and close it with $)"),
+    (b"begin", "open a block with $( and close it with $)"),
+    (b"END", "close a block with $)"),
+    (b"end", "close a block with $)"),
 ];
 
+/// The help for a command where an expression is needed.
 const COMMAND: &str =
-    "this begins a command; where an expression stands, write VALOF $( .. RESULTIS E $)";
+    "this begins a command; to use commands in an expression, write VALOF $( .. RESULTIS E $)";
 
+/// The help for a declaration after commands.
 const DECLARATION: &str =
-    "the declarations of a block stand in front of its commands, apart by ; or line breaks; open a block by $( for further ones";
+    "put a block's declarations before its commands, separated by ; or line breaks; to declare more, open another block with $(";
 
+/// The help for REPEAT and its variants without a command.
 const REPEATED: &str =
-    "it stands behind its command, as in $( .. $) REPEAT or $( .. $) REPEATUNTIL E";
+    "write it after its command, as in $( .. $) REPEAT or $( .. $) REPEATUNTIL E";
 
-/// What is said of a symbol that is refused by itself.
+/// The helps for a refused symbol, whatever surrounds it.
 const SYMBOLS: [(Symbol, &str); 21] = [
     (
         Symbol::Else,
-        "ELSE and OR belong to TEST .. THEN .. ELSE; an IF has no second command, and the operator or is written |",
+        "ELSE and OR belong to TEST .. THEN .. ELSE; an IF has no second command; write | for the operator or",
     ),
     (
         Symbol::And,
-        "AND goes on with a declaration that LET begins; the operator and is written &",
+        "AND continues a declaration that LET begins; write & for the operator and",
     ),
     (Symbol::Let, DECLARATION),
     (Symbol::Manifest, DECLARATION),
@@ -145,15 +148,15 @@ const SYMBOLS: [(Symbol, &str); 21] = [
     (Symbol::OpenSection, COMMAND),
     (
         Symbol::Vector,
-        "a vector is declared by LET V = VEC K, alone in its definition",
+        "declare a vector as LET V = VEC K, with nothing else in its definition",
     ),
-    (Symbol::ResultIs, "RESULTIS stands in VALOF $( .. $)"),
+    (Symbol::ResultIs, "RESULTIS belongs in VALOF $( .. $)"),
     (Symbol::Repeat, REPEATED),
     (Symbol::RepeatWhile, REPEATED),
     (Symbol::RepeatUntil, REPEATED),
 ];
 
-/// How a token is spelled; nothing where there is none.
+/// The text of a token; empty if there is none.
 fn text_of<'s>(token: Option<&Token<'s>>) -> &'s [u8] {
     match token {
         Some(token) => token.text,
@@ -161,23 +164,19 @@ fn text_of<'s>(token: Option<&Token<'s>>) -> &'s [u8] {
     }
 }
 
-/// What is said of two tokens without a blank between them: how the first one begins, how the second one may, and the help. Where
-/// nothing means the second one, it begins with a letter, a digit or a quote.
+/// The helps for two tokens with no space between them: how the first one begins, how the second one may begin, and the
+/// help. If no bytes are given for the second one, it begins with a letter, a digit or a quote.
 const GLUED: [(&[u8], &[u8], &str); 3] = [
     (
         b"#",
         b"89",
-        "octal digits, which stand behind #, go from 0 to 7; a decimal number has no #",
+        "the octal digits after # are 0 to 7; write a decimal number without #",
     ),
-    (
-        b"0",
-        b"xX",
-        "hexadecimal digits stand behind #X, as in #X1F",
-    ),
-    (b"\"", b"", "a quote within a string is written *\""),
+    (b"0", b"xX", "write hexadecimal digits after #X, as in #X1F"),
+    (b"\"", b"", "write a quote in a string as *\""),
 ];
 
-/// Whether a spelling begins with one of these bytes; where there are none, with a letter, a digit or a quote.
+/// Whether a spelling begins with one of these bytes; if there are none, with a letter, a digit or a quote.
 fn begins_with(spelling: &[u8], bytes: &[u8]) -> bool {
     match spelling.first() {
         Some(byte) if bytes.is_empty() => byte.is_ascii_alphanumeric() || *byte == b'"',
@@ -186,7 +185,7 @@ fn begins_with(spelling: &[u8], bytes: &[u8]) -> bool {
     }
 }
 
-/// What is said of two spellings that stand without a blank between them.
+/// The help for two spellings with no space between them.
 fn help_for_glued(before: &[u8], at: &[u8]) -> Option<&'static str> {
     for (front, bytes, help) in &GLUED {
         if before.starts_with(*front) && begins_with(at, *bytes) {
@@ -217,7 +216,7 @@ fn is_relation(found: &[u8]) -> bool {
     RELATIONS.iter().any(|relation| *relation == found)
 }
 
-/// What these rows say of a spelling.
+/// The help for a spelling in these rows.
 fn help_in_rows(rows: &[(&[u8], &'static str)], spelling: &[u8]) -> Option<&'static str> {
     for (known, help) in rows {
         if is_same(known, spelling) {
@@ -227,12 +226,12 @@ fn help_in_rows(rows: &[(&[u8], &'static str)], spelling: &[u8]) -> Option<&'sta
     None
 }
 
-/// Whether two spellings are the same.
+/// Whether two spellings are equal.
 fn is_same(one: &[u8], other: &[u8]) -> bool {
     one == other
 }
 
-/// What is said of two spellings side by side, if they are a known pair.
+/// The help for two adjacent spellings, if they are a known pair.
 fn help_for_known(before: &[u8], at: &[u8]) -> Option<&'static str> {
     for (first, second, help) in &PAIRS {
         if is_same(first, before) && is_same(second, at) {
@@ -242,7 +241,7 @@ fn help_for_known(before: &[u8], at: &[u8]) -> Option<&'static str> {
     None
 }
 
-/// What is said of two spellings side by side.
+/// The help for two adjacent spellings.
 fn help_for_pair(before: &[u8], at: &[u8]) -> Option<&'static str> {
     let help = help_for_known(before, at).or(help_in_rows(&FIRSTS, before));
     if help.is_none() && is_relation(at) {
@@ -252,14 +251,14 @@ fn help_for_pair(before: &[u8], at: &[u8]) -> Option<&'static str> {
     }
 }
 
-/// What is said where VEC ends its line.
+/// The help where VEC ends its line.
 pub const VECTOR_WITHOUT_SIZE: &str =
-    "perhaps VEC lacks its size, and this line was read as that: LET V = VEC 10";
+    "perhaps VEC has no size, and this line was read as the size; write LET V = VEC 10";
 
-/// In how many tokens before a place the begin of its line is looked for.
+/// How many tokens before an index are searched for the beginning of its line.
 const LOOK_BACK: usize = 12;
 
-/// The place of the token that begins the line of the one at a place, if it is near.
+/// The index of the token that begins the line of the one at `index`, if it is near.
 fn begin_of_line(tokens: &[Token<'_>], index: usize) -> Option<usize> {
     for count in 0..LOOK_BACK {
         let place = index.checked_sub(count)?;
@@ -270,7 +269,8 @@ fn begin_of_line(tokens: &[Token<'_>], index: usize) -> Option<usize> {
     None
 }
 
-/// Whether VEC ends the line before that of a place, so that the name which begins this line was read as the vector's size.
+/// Whether VEC ends the line before that of an index, so that the name at the beginning of this line was read as the
+/// vector's size.
 fn is_after_open_vector(tokens: &[Token<'_>], index: usize) -> bool {
     match begin_of_line(tokens, index) {
         Some(begin) => {
@@ -280,7 +280,7 @@ fn is_after_open_vector(tokens: &[Token<'_>], index: usize) -> bool {
     }
 }
 
-/// What is said where a line was read on after VEC, or two tokens stand without a blank between them.
+/// The help where a line was read as the size of a VEC, or two tokens have no space between them.
 fn help_for_number(tokens: &[Token<'_>], index: usize) -> Option<&'static str> {
     let before = back(tokens, index, 1)?;
     let at = tokens.get(index)?;
@@ -293,11 +293,11 @@ fn help_for_number(tokens: &[Token<'_>], index: usize) -> Option<&'static str> {
     }
 }
 
-/// What is said of a `*` that means the cell at an address.
+/// The help for a `*` that was meant as indirection.
 pub const POINTER: &str =
-    "the cell at P is written !P; a line that begins with * goes on with the one in front of it";
+    "write !P for the cell at P; a line that begins with * continues the line before it";
 
-/// Whether a `*` begins the line of the token before a place.
+/// Whether a `*` begins the line of the token before an index.
 pub fn is_after_star(tokens: &[Token<'_>], index: usize) -> bool {
     match begin_of_line(tokens, index.wrapping_sub(1)) {
         Some(begin) => is_at(tokens, begin, Symbol::Multiply),
@@ -305,30 +305,30 @@ pub fn is_after_star(tokens: &[Token<'_>], index: usize) -> bool {
     }
 }
 
-/// Whether a `*` stands at a place, and a name after it.
+/// Whether there is a `*` at an index, followed by a name.
 fn is_pointer(tokens: &[Token<'_>], index: usize) -> bool {
     is_at(tokens, index, Symbol::Multiply) && is_name(tokens.get(index.saturating_add(1)))
 }
 
-/// What is said of a `:=` that is refused, by what stands before it.
+/// The help for a refused `:=`, by what comes before it.
 fn help_for_assign(tokens: &[Token<'_>], index: usize) -> Option<&'static str> {
     if is_after_star(tokens, index) {
         Some(POINTER)
     } else if is_in_round(tokens, index) {
         Some(
-            "an assignment is a command, not a value: assign in front, or use VALOF $( .. RESULTIS E $); to compare, write =",
+            "an assignment is a command, not a value; assign first, or use VALOF $( .. RESULTIS E $); to compare, write =",
         )
     } else {
         None
     }
 }
 
-/// What is said of a `:=`, a `)` or a `*` that is refused, by what stands around it.
+/// The help for a refused `:=`, `)` or `*`, by what surrounds it.
 fn help_for_sign(tokens: &[Token<'_>], index: usize) -> Option<&'static str> {
     if is_at(tokens, index, Symbol::Assign) {
         help_for_assign(tokens, index)
     } else if is_at(tokens, index, Symbol::CloseBracket) && !is_in_round(tokens, index) {
-        Some("this ) closes nothing: each ( in front of it is closed")
+        Some("this ) closes nothing; every ( before it is closed")
     } else if is_pointer(tokens, index) {
         Some(POINTER)
     } else {
@@ -336,30 +336,30 @@ fn help_for_sign(tokens: &[Token<'_>], index: usize) -> Option<&'static str> {
     }
 }
 
-/// Whether two names stand after LET or AND, the second of them at a place.
+/// Whether LET or AND and a name come before the name at an index, as in a declaration with a type.
 fn is_typed(tokens: &[Token<'_>], index: usize) -> bool {
     is_let(back(tokens, index, 2)) && is_name(back(tokens, index, 1)) && is_name(tokens.get(index))
 }
 
-/// Whether these two symbols stand side by side, the first of them at a place.
+/// Whether these two symbols are adjacent, the first of them at an index.
 fn are_at(tokens: &[Token<'_>], place: usize, one: Symbol, other: Symbol) -> bool {
     is_at(tokens, place, one) && is_at(tokens, place.wrapping_add(1), other)
 }
 
-/// What is said of known mistakes that have a further token before a place and the one before it, or after it.
+/// The help for known mistakes of three tokens, or of a refused token and the one after it.
 fn help_for_further(tokens: &[Token<'_>], index: usize) -> Option<&'static str> {
     if is_typed(tokens, index) {
-        Some("a variable has no type, and is declared by LET X = 1")
+        Some("variables have no types; declare one as LET X = 1")
     } else if are_at(tokens, index.wrapping_sub(2), Symbol::Minus, Symbol::Minus) {
-        Some("to take from X, write X := X - 1")
+        Some("to subtract from X, write X := X - 1")
     } else if are_at(tokens, index, Symbol::Semicolon, Symbol::Else) {
-        Some("no ; stands in front of ELSE")
+        Some("write no ; before ELSE")
     } else {
         None
     }
 }
 
-/// What is said of the tokens around a place that are known mistakes.
+/// The help for known mistakes around a refused token.
 pub fn help_for_neighbours(tokens: &[Token<'_>], index: usize) -> Option<&'static str> {
     let before = text_of(back(tokens, index, 1));
     let of_pair = help_for_pair(before, text_of(tokens.get(index)));
@@ -369,12 +369,12 @@ pub fn help_for_neighbours(tokens: &[Token<'_>], index: usize) -> Option<&'stati
         .or(help_for_sign(tokens, index))
 }
 
-/// What is said of a name that is an operator or a bracket in other languages.
+/// The help for a name that is an operator or a bracket in other languages.
 pub fn help_for_name(name: &[u8]) -> Option<&'static str> {
     help_in_rows(&NAMES, name)
 }
 
-/// What is said of the token that is refused by itself.
+/// The help for a refused token, whatever surrounds it.
 pub fn help_for_token(token: Option<&Token<'_>>) -> Option<&'static str> {
     let token = token?;
     for (symbol, help) in &SYMBOLS {

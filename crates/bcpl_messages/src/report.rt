@@ -1,3 +1,5 @@
+//! A message as lines of text, with excerpts of the sources.
+
 use crate::draft::{Fill, add_sentence};
 use crate::message::{Message, Note};
 use bc_lex::Source;
@@ -5,16 +7,17 @@ use bc_word::Memory;
 use bcpl_places::{Excerpt, Span, column_at, line_at, way_to};
 use std::alloc::Global;
 
-/// The sources of a program, and under which paths they are told.
+/// The sources of a program, with the paths under which they are printed.
 #[derive(Clone, Copy)]
 pub struct Named<'a, 's> {
+    /// All sources.
     pub sources: &'a [Source<'s>],
-    /// The path of each source, in their order.
+    /// The path of each source, in the order of `sources`.
     pub paths: &'a [&'a str],
 }
 
 impl<'a, 's> Named<'a, 's> {
-    /// The text of a source; nothing for one that isn't there.
+    /// The text of a source; empty if there is no such source.
     fn text(&self, file: usize) -> &'s [u8] {
         match self.sources.get(file) {
             Some(source) => source.text,
@@ -22,7 +25,7 @@ impl<'a, 's> Named<'a, 's> {
         }
     }
 
-    /// The path of a source.
+    /// The path of a source; empty if there is none.
     fn path(&self, file: usize) -> &'a str {
         match self.paths.get(file) {
             Some(path) => path,
@@ -31,7 +34,7 @@ impl<'a, 's> Named<'a, 's> {
     }
 }
 
-/// The lines that a message is told in.
+/// The printed lines, as they are being built.
 #[derive(Drop)]
 struct Told<'a, 's> {
     alloc: Global,
@@ -40,12 +43,12 @@ struct Told<'a, 's> {
 }
 
 impl Told<'_, '_> {
-    /// Adds a sentence, in which each `{}` is the place of the next of these parts.
+    /// Appends a sentence in which each `{}` is replaced by the next of these parts.
     fn say(&mut self, sentence: &str, parts: &[Fill<'_>]) -> Result<(), Memory> {
         add_sentence(&mut self.lines, sentence, parts)
     }
 
-    /// Adds `PATH:LINE:COLUMN: `.
+    /// Appends `PATH:LINE:COLUMN: `.
     fn add_position(&mut self, span: Span) -> Result<(), Memory> {
         let text = self.named.text(span.file);
         let at = span.start.min(text.len());
@@ -63,7 +66,7 @@ impl Told<'_, '_> {
         )
     }
 
-    /// Adds the line on which a place stands, with a mark below it.
+    /// Appends the line of a span, with a mark below it.
     fn add_excerpt(&mut self, span: Span) -> Result<(), Memory> {
         let text = self.named.text(span.file);
         let line = line_at(text, span.start.min(text.len()));
@@ -72,14 +75,14 @@ impl Told<'_, '_> {
         Ok(())
     }
 
-    /// Adds a place with a sentence, and its line.
+    /// Appends a position with a sentence, and the line there.
     fn add_place(&mut self, span: Span, sentence: &str) -> Result<(), Memory> {
         self.add_position(span)?;
         self.say("{}\n", &[Fill::Text(sentence)])?;
         self.add_excerpt(span)
     }
 
-    /// Adds a GET that led to a file.
+    /// Appends the line for a GET that led to a file.
     fn add_get(&mut self, get: Span) -> Result<(), Memory> {
         let text = self.named.text(get.file);
         let number = line_at(text, get.start.min(text.len())).number;
@@ -90,7 +93,7 @@ impl Told<'_, '_> {
         )
     }
 
-    /// Adds GETs.
+    /// Appends these GETs.
     fn add_gets(&mut self, gets: &[Span]) -> Result<(), Memory> {
         for get in gets {
             self.add_get(*get)?;
@@ -98,13 +101,13 @@ impl Told<'_, '_> {
         Ok(())
     }
 
-    /// Adds the GETs that led to a file.
+    /// Appends the GETs that led from a main to a file.
     fn add_way(&mut self, main: usize, file: usize) -> Result<(), Memory> {
         let way = way_to(self.alloc, self.named.sources, main, file)?;
         self.add_gets(way.as_slice())
     }
 
-    /// Adds what is wrong, with its place, if it has one.
+    /// Appends what is wrong, with its position if it has one.
     fn add_first(&mut self, message: &Message) -> Result<(), Memory> {
         let sentence = message.sentence.as_str();
         match message.span {
@@ -116,13 +119,13 @@ impl Told<'_, '_> {
         }
     }
 
-    /// Adds a further place.
+    /// Appends a related place.
     fn add_note(&mut self, note: &Note) -> Result<(), Memory> {
         self.say("  ", &[])?;
         self.add_place(note.span, note.sentence.as_str())
     }
 
-    /// Adds what one may have meant.
+    /// Appends the help, if there is one.
     fn add_help(&mut self, help: &Option<String>) -> Result<(), Memory> {
         match help {
             Some(help) => self.say("  help: {}\n", &[Fill::Text(help.as_str())]),
@@ -130,6 +133,7 @@ impl Told<'_, '_> {
         }
     }
 
+    /// Appends all lines of a message.
     fn add_all(&mut self, message: &Message) -> Result<(), Memory> {
         self.add_first(message)?;
         for note in &message.notes {
@@ -139,8 +143,8 @@ impl Told<'_, '_> {
     }
 }
 
-/// The lines that a message is told in: the place with the sentence, the line with a mark, the GETs that led there, further places,
-/// and the help. Memory is answered where a growth was refused.
+/// The lines of a message: position and sentence, the source line with a mark, the GETs that led there, related places,
+/// and the help. Returns `Memory` if an allocation fails.
 pub fn told_lines(
     alloc: Global,
     named: Named<'_, '_>,

@@ -1,3 +1,6 @@
+//! Messages for faults of the scopes: names without a meaning, misplaced commands, expressions that must be constant or
+//! assignable, and exceeded limits.
+
 use crate::constants::{Reason, reason_of};
 use crate::declared::{Declared, declaration_of};
 use crate::draft::{Draft, Fill};
@@ -19,18 +22,18 @@ use bc_word::Memory;
 use bcpl_places::gets_of;
 use std::alloc::Global;
 
-/// What is said of a fault: the words before a name and after it, and a help.
+/// What is said of a fault: the sentence before and after a name, and the help.
 #[derive(Clone, Copy)]
 struct Said<'a> {
     front: &'static str,
-    /// The name; nothing, where there is none.
+    /// The name; empty if there is none.
     name: &'a [u8],
     following: &'static str,
     help: Option<&'static str>,
 }
 
 impl<'a> Said<'a> {
-    /// A sentence without a name, and a help.
+    /// A sentence without a name, with a help.
     fn plain(sentence: &'static str, help: &'static str) -> Said<'a> {
         Said {
             front: sentence,
@@ -40,7 +43,7 @@ impl<'a> Said<'a> {
         }
     }
 
-    /// Says so.
+    /// Adds the sentence to a draft, and sets the help.
     fn say(&self, draft: &mut Draft) {
         draft.say(
             "{}{}{}",
@@ -56,69 +59,69 @@ impl<'a> Said<'a> {
     }
 }
 
-/// What is said where a word may not stand: the word, the sentence and the help.
+/// Words that are misplaced: the word, the sentence and the help.
 const MISPLACED: [(Symbol, &str, &str); 8] = [
     (
         Symbol::Break,
-        "BREAK stands in no loop",
-        "it leaves the innermost loop of the same routine and VALOF; a SWITCHON is left by ENDCASE",
+        "this BREAK is not in a loop",
+        "BREAK leaves the innermost loop of the same routine and VALOF; leave a SWITCHON with ENDCASE",
     ),
     (
         Symbol::Loop,
-        "LOOP stands in no loop",
-        "it goes on with the next turn of the innermost loop of the same routine and VALOF",
+        "this LOOP is not in a loop",
+        "LOOP starts the next iteration of the innermost loop of the same routine and VALOF",
     ),
     (
         Symbol::EndCase,
-        "ENDCASE stands in no SWITCHON",
-        "it leaves the innermost SWITCHON of the same routine and VALOF",
+        "this ENDCASE is not in a SWITCHON",
+        "ENDCASE leaves the innermost SWITCHON of the same routine and VALOF",
     ),
     (
         Symbol::ResultIs,
-        "RESULTIS stands in no VALOF",
-        "a routine gives a value by F(..) = VALOF $( .. RESULTIS E $)",
+        "this RESULTIS is not in a VALOF",
+        "to return a value, declare the routine as F(..) = VALOF $( .. RESULTIS E $)",
     ),
     (
         Symbol::Return,
-        "RETURN stands in no routine of BE",
-        "a VALOF is left by RESULTIS",
+        "this RETURN is not in a routine declared with BE",
+        "leave a VALOF with RESULTIS",
     ),
     (
         Symbol::Case,
-        "this CASE stands in no SWITCHON's own list",
-        "a CASE can't stand in a block within the list",
+        "this CASE is not directly in the list of a SWITCHON",
+        "put each CASE directly in the list of a SWITCHON, not in a block within it",
     ),
     (
         Symbol::Default,
-        "this DEFAULT stands in no SWITCHON's own list",
-        "a DEFAULT can't stand in a block within the list",
+        "this DEFAULT is not directly in the list of a SWITCHON",
+        "put each DEFAULT directly in the list of a SWITCHON, not in a block within it",
     ),
     (
         Symbol::Goto,
-        "this GOTO goes to no label that it can go to",
-        "a GOTO goes to a label of a list around it, in the same routine and not out of a VALOF",
+        "this GOTO names no label that it can reach",
+        "a GOTO can reach the labels of the command lists around it, in the same routine, but can't leave a VALOF",
     ),
 ];
 
-/// What is said of a declaration that may not stand outside routines.
+/// The sentence on a variable or a vector that is declared outside routines.
 const OUTSIDE: &str = "variables and vectors can't be declared outside routines";
 
-/// What to do about one.
+/// The help for it.
 const INSTEAD: &str =
-    "LET declares routines alone there; STATIC $( N = 0 $) declares a cell for the whole run, which can hold the address of a vector, too";
+    "outside routines, LET can declare only routines; write STATIC $( N = 0 $) for a cell that lasts the whole run, which can also hold a vector's address";
 
-/// What is said of a name that may not stand after a word: the word, the sentence and the help.
+/// Names that are misplaced after a word: the word, the sentence and the help.
 const MISNAMED: [(Symbol, &str, &str); 3] = [
     (
         Symbol::Goto,
-        "this is no label that GOTO can go to here",
-        "a GOTO goes to a label of a list around it, in the same routine and not out of a VALOF",
+        "this is not a label that GOTO can reach from here",
+        "a GOTO can reach the labels of the command lists around it, in the same routine, but can't leave a VALOF",
     ),
     (Symbol::Let, OUTSIDE, INSTEAD),
     (Symbol::And, OUTSIDE, INSTEAD),
 ];
 
-/// What these rows say of a token, if they do.
+/// What these rows say about a token, if it is in one.
 fn said_in_rows<'a>(
     rows: &[(Symbol, &'static str, &'static str)],
     token: Option<&Token<'_>>,
@@ -132,37 +135,42 @@ fn said_in_rows<'a>(
     None
 }
 
-/// What is said where the token of this index, a word or a name, may not stand.
+/// What is said where the token with this index, a word or a name, is misplaced.
 fn misplaced<'a>(tokens: &[Token<'_>], index: usize) -> Said<'a> {
     let of_word = said_in_rows(&MISPLACED, tokens.get(index));
     match of_word.or(said_in_rows(&MISNAMED, back(tokens, index, 1))) {
         Some(said) => said,
         None => Said::plain(
-            "a label is no value, and has no address",
-            "GOTO alone takes a label; what is called is a routine",
+            "a label is not a value and has no address",
+            "use a label only after GOTO; only a routine can be called",
         ),
     }
 }
 
-/// What is said of a fault with a name.
+/// What is said of a fault that has a name; `None` for other faults.
 fn said_of_name(fault: &ScopeFault) -> Option<Said<'_>> {
     let (front, name, following, help) = match fault {
-        ScopeFault::Undeclared(name) => ("no declaration gives ", name, " a meaning here", None),
+        ScopeFault::Undeclared(name) => ("no declaration of ", name, " is in scope here", None),
         ScopeFault::DeclaredTwice(name) => (
             "",
             name,
             " is declared twice in one declaration",
             Some(
-                "LET .. AND .. is one declaration, and so are a list of parameters and the labels of one list",
+                "LET .. AND .. is one declaration; so are a parameter list, and the labels of one command list",
             ),
         ),
         ScopeFault::DynamicFree(name) => (
             "",
             name,
-            " belongs to a routine around this one, which may not be active",
-            Some("hand it over as an argument, or declare it by STATIC or GLOBAL"),
+            " belongs to an enclosing routine, which may not be active here",
+            Some("pass it as an argument, or declare it as STATIC or GLOBAL"),
         ),
-        ScopeFault::GlobalNumber(name) => ("the number of the global ", name, " is over 511", None),
+        ScopeFault::GlobalNumber(name) => (
+            "the number of the global ",
+            name,
+            " is greater than 511",
+            None,
+        ),
         _ => return None,
     };
     Some(Said {
@@ -173,28 +181,28 @@ fn said_of_name(fault: &ScopeFault) -> Option<Said<'_>> {
     })
 }
 
-/// What is said of a fault without a name, which stands at the token of this index.
+/// What is said of a fault without a name, at the token with this index.
 fn said_of<'a>(fault: &ScopeFault, tokens: &[Token<'_>], index: usize) -> Option<Said<'a>> {
     let (sentence, help) = match fault {
         ScopeFault::NotConstant => (
-            "this is no constant",
-            "a constant has numbers, characters, TRUE, FALSE, names from MANIFEST and operators alone, and no division by 0",
+            "this is not a constant",
+            "use only numbers, characters, TRUE, FALSE, MANIFEST names and operators in a constant, and no division by 0",
         ),
         ScopeFault::NotAssignable => (
             "this has no cell, so it can't be assigned to and has no address",
-            "variables, statics, globals, !E and E1!E2 have one; a manifest, a routine and the value of an expression have none",
+            "variables, statics, globals, !E and E1!E2 have a cell; manifest constants, routines and the values of expressions have none",
         ),
         ScopeFault::FrameTooLarge => (
             "a routine of this file has more than 32768 cells in its frame",
-            "large vectors can be shared: declare one outside, by a global that holds its address",
+            "share large vectors between routines: declare each once, and keep its address in a global",
         ),
         ScopeFault::CaseTwice => (
-            "a case with this value, or a DEFAULT, stands in this SWITCHON before",
-            "each value has one CASE, and a list has one DEFAULT",
+            "this SWITCHON already has a CASE with this value, or a DEFAULT",
+            "give each value one CASE, and each list one DEFAULT",
         ),
         ScopeFault::TooManyPlaces => (
             "the file has more than 8000 routines, statics, tables and strings",
-            "cut it into several files, which share routines by GLOBAL",
+            "split it into several files that share routines by GLOBAL",
         ),
         ScopeFault::Misplaced => return Some(misplaced(tokens, index)),
         _ => return None,
@@ -202,7 +210,7 @@ fn said_of<'a>(fault: &ScopeFault, tokens: &[Token<'_>], index: usize) -> Option
     Some(Said::plain(sentence, help))
 }
 
-/// Whether the text of the main gets the header of the library.
+/// Whether the text of the main gets the library's header.
 fn gets_library(draft: &mut Draft, read: Read<'_, '_>) -> bool {
     let alloc = draft.alloc();
     let gets = gets_of(alloc, read.source(read.main));
@@ -210,7 +218,7 @@ fn gets_library(draft: &mut Draft, read: Read<'_, '_>) -> bool {
     gets.iter().any(|get| get.name == b"LIBHDR".as_slice())
 }
 
-/// The place of the first fault of these tokens; none where they have none, or where it isn't known.
+/// The place of the first fault of these tokens; `None` if they have none, or the place isn't known.
 fn first_fault(alloc: Global, tokens: &[Token<'_>]) -> Result<Option<FaultPlace>, Memory> {
     if tokens.len() > 60_000 {
         return Ok(None);
@@ -224,7 +232,7 @@ fn first_fault(alloc: Global, tokens: &[Token<'_>]) -> Result<Option<FaultPlace>
     }
 }
 
-/// Whether the first fault of changed tokens is none at this place.
+/// Whether changed tokens have no fault, or their first fault is at another index.
 fn is_mended(draft: &mut Draft, changed: &[Token<'_>], place: usize) -> bool {
     let fault = first_fault(draft.alloc(), changed);
     match draft.found(fault, None) {
@@ -233,7 +241,7 @@ fn is_mended(draft: &mut Draft, changed: &[Token<'_>], place: usize) -> bool {
     }
 }
 
-/// Whether a name has a meaning at a place where another one has none, and where no fault stands in front.
+/// Whether a name would be in scope at an index where another one isn't. No fault comes before the index.
 fn is_known<'s>(draft: &mut Draft, tokens: &[Token<'s>], place: usize, name: &'s [u8]) -> bool {
     let alloc = draft.alloc();
     let changed = replaced(alloc, tokens, place, TokenKind::Name(name));
@@ -241,7 +249,7 @@ fn is_known<'s>(draft: &mut Draft, tokens: &[Token<'s>], place: usize, name: &'s
     is_mended(draft, changed.as_slice(), place)
 }
 
-/// Adds the second place of a fault, or the numbers that belong to it.
+/// Adds the second place of a fault as a related place, or the number that belongs to it as a help.
 fn add_second(draft: &mut Draft, read: Read<'_, '_>, second: Also) {
     let (sentence, number) = match second {
         Also::Nothing => return,
@@ -252,33 +260,33 @@ fn add_second(draft: &mut Draft, read: Read<'_, '_>, second: Also) {
             u64::from(number),
         ),
         Also::Cells(cells) => (
-            "it has {} cells: vectors, variables, parameters and what is held while it works",
+            "it has {} cells: vectors, variables, parameters and intermediate values",
             cells,
         ),
         Also::Places(places) => (
-            "it has {}; cut it into several files, which share routines by GLOBAL",
+            "it has {}; split it into several files that share routines by GLOBAL",
             places,
         ),
     };
     draft.help(sentence, &[Fill::Number(number)]);
 }
 
-/// Where names are known.
+/// The help on where names are in scope.
 const KNOWN: &str =
-    "a name is known in the block, routine or FOR that declares it, from its declaration on";
+    "a name is in scope in the block, routine or FOR that declares it, from its declaration on";
 
-/// The same, of a routine that is declared after its use.
+/// The same for a routine that is declared after its use.
 const KNOWN_ROUTINE: &str =
-    "a name is known from its declaration on; routines that call each other are one declaration, LET F() .. AND G() ..";
+    "a name is in scope from its declaration on; declare routines that call each other together, as LET F() .. AND G() ..";
 
-/// From where on a name of a MANIFEST has a value.
+/// The help on where a MANIFEST name has a value.
 const BEHIND_ITS_ENTRY: &str =
-    "a name of a MANIFEST is a constant behind its own entry: put that in front of its use";
+    "a MANIFEST name is a constant only after its own entry; put that entry before its use";
 
-/// The most names that are compared with one that means nothing.
+/// At most this many similar names are tried for one that isn't in scope.
 const MOST_LIKE: usize = 4;
 
-/// Adds the place of a declaration, with what is said of the name there.
+/// Adds the place of a declaration, with a sentence on the name.
 fn add_found(draft: &mut Draft, read: Read<'_, '_>, name: &[u8], found: Declared) {
     draft.note(
         read.place(found.index),
@@ -287,7 +295,7 @@ fn add_found(draft: &mut Draft, read: Read<'_, '_>, name: &[u8], found: Declared
     );
 }
 
-/// Adds where a name is declared; whether it is anywhere.
+/// Adds the place where a name is declared, and a help. Returns whether it is declared anywhere.
 fn add_declared(draft: &mut Draft, read: Read<'_, '_>, place: usize, name: &[u8]) -> bool {
     let declaration = declaration_of(draft.alloc(), read.tokens, place, name);
     let Some(found) = draft.found(declaration, None) else {
@@ -304,16 +312,16 @@ fn add_declared(draft: &mut Draft, read: Read<'_, '_>, place: usize, name: &[u8]
     true
 }
 
-/// What the names among the tokens have that are like one that means nothing.
+/// The names among the tokens that resemble one which isn't in scope.
 #[derive(Clone, Copy)]
 struct Like<'s> {
-    /// The one most like it.
+    /// The most similar name.
     first: Option<&'s [u8]>,
-    /// The first of them that is known there.
+    /// The most similar name that is in scope there.
     known: Option<&'s [u8]>,
 }
 
-/// The name that is most like one which means nothing, beside those that were passed over; it is one of them then.
+/// The most similar name that isn't in `passed`, to which it is then added.
 fn next_like<'s>(
     draft: &mut Draft,
     read: Read<'_, 's>,
@@ -328,7 +336,7 @@ fn next_like<'s>(
     Some(near)
 }
 
-/// The first of the names like one which means nothing that is known there, those first that are most like it. It passes over them.
+/// The most similar name that is in scope at an index. Each name that is tried is added to `passed`.
 fn known_like<'s>(
     draft: &mut Draft,
     read: Read<'_, 's>,
@@ -345,7 +353,7 @@ fn known_like<'s>(
     None
 }
 
-/// Goes through the names that are like one which means nothing, those first that are most like it.
+/// Finds the names that resemble one which isn't in scope.
 fn like_names<'s>(draft: &mut Draft, read: Read<'_, 's>, place: usize, name: &[u8]) -> Like<'s> {
     let mut passed: Vec<&'s [u8]> = Vec::new(draft.alloc());
     let known = known_like(draft, read, place, name, &mut passed);
@@ -355,12 +363,12 @@ fn like_names<'s>(draft: &mut Draft, read: Read<'_, 's>, place: usize, name: &[u
     }
 }
 
-/// Adds a name that is like one that means nothing, and known there; else where the one most like it is declared.
+/// Suggests a similar name that is in scope. If there is none, shows where the most similar one is declared.
 fn add_like(draft: &mut Draft, read: Read<'_, '_>, place: usize, name: &[u8]) {
     let like = like_names(draft, read, place, name);
     if let Some(near) = like.known {
         return draft.help(
-            "did you mean {}? Names are as they are written, capitals and small letters apart",
+            "did you mean {}? Names are case-sensitive",
             &[Fill::Shown(near)],
         );
     }
@@ -370,16 +378,16 @@ fn add_like(draft: &mut Draft, read: Read<'_, '_>, place: usize, name: &[u8]) {
         }
     }
     draft.help(
-        "declare it in front of its use; capitals and small letters are told apart",
+        "declare it before you use it; names are case-sensitive",
         &[],
     );
 }
 
-/// Adds what is said of a name that means nothing at a place.
+/// Adds what is known about a name that isn't in scope.
 fn add_undeclared(draft: &mut Draft, read: Read<'_, '_>, place: usize, name: &[u8]) {
     if is_of_library(name) && !gets_library(draft, read) {
         return draft.help(
-            "the library declares it: write GET \"LIBHDR\" at the head of the file",
+            "the library declares it; write GET \"LIBHDR\" at the top of the file",
             &[],
         );
     }
@@ -388,14 +396,14 @@ fn add_undeclared(draft: &mut Draft, read: Read<'_, '_>, place: usize, name: &[u
     }
     if is_of_further_library(name) {
         return draft.help(
-            "the further library has it: GET \"EXTHDR\", and build with --library ext",
+            "the further library declares it; write GET \"EXTHDR\", and build with --library ext",
             &[],
         );
     }
     add_like(draft, read, place, name);
 }
 
-/// Whether the token with this index stands after VEC.
+/// Whether the token with this index follows VEC.
 fn stands_after_vector(tokens: &[Token<'_>], index: usize) -> bool {
     match back(tokens, index, 1) {
         Some(token) => is_symbol(token, Symbol::Vector),
@@ -403,16 +411,16 @@ fn stands_after_vector(tokens: &[Token<'_>], index: usize) -> bool {
     }
 }
 
-/// What is said of a vector's size that is no constant and begins with the token of this index.
+/// The help for a vector's size that isn't a constant and begins at this token.
 fn help_for_size(tokens: &[Token<'_>], index: usize) -> &'static str {
     match tokens.get(index) {
         Some(token) if token.line_before => VECTOR_WITHOUT_SIZE,
         _ =>
-            "the size of a vector is a constant: take the largest that is needed, perhaps by MANIFEST",
+            "the size of a vector must be a constant; use the largest that you need, perhaps as a MANIFEST",
     }
 }
 
-/// Adds that a name, which is used at the token with this index, is no constant by its declaration.
+/// Adds why a name, used at the token with this index, isn't a constant.
 fn add_name(draft: &mut Draft, read: Read<'_, '_>, used: usize, declared: Declared) {
     if declared.index > used {
         draft.help(BEHIND_ITS_ENTRY, &[]);
@@ -420,7 +428,7 @@ fn add_name(draft: &mut Draft, read: Read<'_, '_>, used: usize, declared: Declar
     add_found(draft, read, read.text(used), declared);
 }
 
-/// Adds why an expression is no constant, where that is seen, and what to do.
+/// Adds why an expression isn't a constant, if that is visible, and what to do.
 fn add_reason(draft: &mut Draft, read: Read<'_, '_>, at: TokenSpan) {
     if stands_after_vector(read.tokens, at.first) {
         draft.help(help_for_size(read.tokens, at.first), &[]);
@@ -432,7 +440,7 @@ fn add_reason(draft: &mut Draft, read: Read<'_, '_>, at: TokenSpan) {
     }
 }
 
-/// The name of the last routine whose heading begins before a place.
+/// The name of the last routine whose heading begins before an index.
 fn last_routine<'s>(tokens: &[Token<'s>], place: usize) -> Option<&'s [u8]> {
     let mut name = None;
     for index in 0..place {
@@ -452,36 +460,36 @@ fn is_result(tokens: &[Token<'_>], at: TokenSpan) -> bool {
     }
 }
 
-/// Whether an expression is a name with brackets after it.
+/// Whether an expression is a name followed by parentheses.
 fn is_call(tokens: &[Token<'_>], at: TokenSpan) -> bool {
     name_of(tokens.get(at.first)).is_some()
         && is_at(tokens, at.first.saturating_add(1), Symbol::OpenBracket)
         && is_at(tokens, at.last, Symbol::CloseBracket)
 }
 
-/// What may have been meant by an expression that has no cell.
+/// What may have been meant by an expression without a cell.
 fn help_for_cell(tokens: &[Token<'_>], at: TokenSpan) -> Option<&'static str> {
     let following = at.last.saturating_add(1);
     let is_assigned = is_at(tokens, following, Symbol::Assign);
     if is_assigned && is_after_star(tokens, following) {
         Some(POINTER)
     } else if is_call(tokens, at) {
-        Some("an element of a vector is written V!0, as in V!0 := 1; brackets call a routine")
+        Some("write an element of a vector as V!0, as in V!0 := 1; parentheses call a routine")
     } else if is_assigned && is_result(tokens, at) {
-        Some("a function gives its value by RESULTIS in VALOF $( .. $), or as LET F(X) = E")
+        Some("a function returns its value by RESULTIS in VALOF $( .. $), or as LET F(X) = E")
     } else {
         None
     }
 }
 
-/// Adds what may have been meant by an expression that has no cell, where that is seen.
+/// Adds what may have been meant by an expression without a cell, if that is visible.
 fn add_cell(draft: &mut Draft, read: Read<'_, '_>, at: TokenSpan) {
     if let Some(help) = help_for_cell(read.tokens, at) {
         draft.help(help, &[]);
     }
 }
 
-/// Adds what is said of a fault at a place beside its sentence.
+/// Adds related places and helps to the sentence on a fault.
 fn add_more(draft: &mut Draft, read: Read<'_, '_>, fault: &ScopeFault, found: FaultPlace) {
     add_second(draft, read, found.also);
     let place = found.at.first;
@@ -493,7 +501,7 @@ fn add_more(draft: &mut Draft, read: Read<'_, '_>, fault: &ScopeFault, found: Fa
     }
 }
 
-/// Tells of a fault without a place.
+/// Describes a fault whose place isn't known.
 fn tell_anywhere(draft: &mut Draft, read: Read<'_, '_>, fault: &ScopeFault) {
     let end = read.tokens.len();
     if let Some(said) = said_of_name(fault).or(said_of(fault, read.tokens, end)) {
@@ -501,7 +509,7 @@ fn tell_anywhere(draft: &mut Draft, read: Read<'_, '_>, fault: &ScopeFault) {
     }
 }
 
-/// Tells of a fault at a place.
+/// Describes a fault at a place.
 fn tell_at(draft: &mut Draft, read: Read<'_, '_>, fault: &ScopeFault, found: FaultPlace) {
     let index = found.at.first;
     if let Some(said) = said_of_name(fault).or(said_of(fault, read.tokens, index)) {
@@ -511,7 +519,7 @@ fn tell_at(draft: &mut Draft, read: Read<'_, '_>, fault: &ScopeFault, found: Fau
     }
 }
 
-/// Tells of a fault of the scopes of a main.
+/// Describes a fault of the scopes of a main.
 pub fn tell_scope(draft: &mut Draft, sources: &[Source<'_>], main: usize, fault: &ScopeFault) {
     if main >= sources.len() {
         return;

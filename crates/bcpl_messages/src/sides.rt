@@ -1,4 +1,4 @@
-//! Names and values, or places and values, that are not as many.
+//! Definitions and assignments whose two sides differ in number.
 
 use crate::draft::{Draft, Fill};
 use crate::words::{back, is_at, is_symbol};
@@ -9,23 +9,24 @@ pub fn is_one_of(token: &Token<'_>, symbols: &[Symbol]) -> bool {
     symbols.iter().any(|symbol| is_symbol(token, *symbol))
 }
 
-/// What opens.
+/// The opening brackets.
 const OPENING: [Symbol; 2] = [Symbol::OpenBracket, Symbol::OpenSection];
 
-/// What closes.
+/// The closing brackets.
 const CLOSING: [Symbol; 2] = [Symbol::CloseBracket, Symbol::CloseSection];
 
-/// What a list of names and one of values stand after, and what shows that there are none.
+/// The symbols that end a backward search: LET, AND and `:=` come before a list of values, and `;` shows that there is
+/// none.
 const SIGNS: [Symbol; 4] = [Symbol::Let, Symbol::And, Symbol::Assign, Symbol::Semicolon];
 
-/// What shows that a comma stands before a further definition or assignment, and not of a value.
+/// The symbols which show that a comma is followed by another definition or assignment, not by another value.
 const BEGINNING: [Symbol; 2] = [Symbol::Assign, Symbol::Equal];
 
-/// What stands before a command.
+/// The symbols that precede a command.
 const FRONTS: [Symbol; 4] = [Symbol::Semicolon, Symbol::Colon, Symbol::Do, Symbol::Else];
 
-/// How many brackets are closed after a token that are opened before it, given how many are after the next one; none where the
-/// token opens one that isn't closed.
+/// How many brackets are closed after a token but opened before it, given that number for the next token. `None` if the
+/// token opens a bracket that isn't closed.
 pub fn closed_in_front(closed: usize, token: &Token<'_>) -> Option<usize> {
     if is_one_of(token, &OPENING) {
         closed.checked_sub(1)
@@ -36,8 +37,8 @@ pub fn closed_in_front(closed: usize, token: &Token<'_>) -> Option<usize> {
     }
 }
 
-/// The last LET, AND or `:=` before a place that stands in no bracket closed there; none where a bracket that is open, or `;`,
-/// stands after it.
+/// The index of the last LET, AND or `:=` before an index, skipping closed brackets. `None` if an open bracket or `;`
+/// comes after it.
 fn sign_before(tokens: &[Token<'_>], index: usize) -> Option<usize> {
     let mut closed: usize = 0;
     for count in 1..index.saturating_add(1) {
@@ -54,7 +55,7 @@ fn sign_before(tokens: &[Token<'_>], index: usize) -> Option<usize> {
     None
 }
 
-/// How many commas stand among these tokens outside of brackets.
+/// How many commas are among these tokens, outside brackets.
 fn commas(tokens: &[Token<'_>]) -> usize {
     let mut open: usize = 0;
     let mut count: usize = 0;
@@ -70,7 +71,7 @@ fn commas(tokens: &[Token<'_>]) -> usize {
     count
 }
 
-/// The place of the `=` after the names of a definition; none where there is none before BE.
+/// The index of the `=` after the names of a definition; `None` if there is none before BE.
 fn equal(tokens: &[Token<'_>]) -> Option<usize> {
     let place = tokens.iter().position(|token| is_symbol(token, Symbol::Equal)
         || is_symbol(token, Symbol::Be))?;
@@ -81,7 +82,8 @@ fn equal(tokens: &[Token<'_>]) -> Option<usize> {
     }
 }
 
-/// Where the values end of which the token at this place is one's end: there, or where it is a comma, at the end of its line.
+/// The end of a list of values, given the index after one of them. That is `index` itself or, if a comma is there, the
+/// end of the line.
 fn end_of_values(tokens: &[Token<'_>], index: usize) -> usize {
     let following = index.saturating_add(1);
     let rest = tokens.get(index..).unwrap_or(&[]);
@@ -98,7 +100,7 @@ fn end_of_values(tokens: &[Token<'_>], index: usize) -> usize {
     }
 }
 
-/// Where the command begins whose sign stands at the end of these tokens.
+/// The index at which the command begins whose sign follows these tokens.
 fn begin_of_command(tokens: &[Token<'_>]) -> usize {
     let end = tokens.len();
     let mut closed: usize = 0;
@@ -121,7 +123,7 @@ fn begin_of_command(tokens: &[Token<'_>]) -> usize {
     0
 }
 
-/// How many names stand on the left of `=`, and how many values on the right; or places and values around `:=`.
+/// How many names are on the left of `=` and how many values on the right; or the same for the two sides of `:=`.
 #[derive(Clone, Copy)]
 struct Sides {
     left: usize,
@@ -129,13 +131,13 @@ struct Sides {
     is_assignment: bool,
 }
 
-/// How many entries the list of the tokens from one place up to another has, apart by commas.
+/// How many entries, separated by commas, are among the tokens from `begin` to `end`.
 fn entries(tokens: &[Token<'_>], begin: usize, end: usize) -> usize {
     commas(tokens.get(begin..end).unwrap_or(&[])).saturating_add(1)
 }
 
-/// Where the left side of the sign at this place begins and ends: the places before `:=`, or the names after LET or AND, with
-/// their `=` before the token with this index.
+/// The begin and the end of the left side of this sign: the left sides of `:=`, or the names after LET or AND, if their
+/// `=` is before `index`.
 fn left_of(tokens: &[Token<'_>], sign: usize, index: usize) -> Option<(usize, usize)> {
     if is_at(tokens, sign, Symbol::Assign) {
         return Some((begin_of_command(tokens.get(..sign).unwrap_or(&[])), sign));
@@ -145,13 +147,13 @@ fn left_of(tokens: &[Token<'_>], sign: usize, index: usize) -> Option<(usize, us
     Some((following, following.saturating_add(names)))
 }
 
-/// Whether a further definition or assignment stands among the tokens from one place up to another.
+/// Whether another definition or assignment begins among the tokens from `begin` to `end`.
 fn goes_on(tokens: &[Token<'_>], begin: usize, end: usize) -> bool {
     let further = tokens.get(begin..end).unwrap_or(&[]);
     further.iter().any(|token| is_one_of(token, &BEGINNING))
 }
 
-/// The sides of the sign at this place, with the values up to the token with this index.
+/// The two sides of this sign, with the values up to the token with this index.
 fn sides_of(tokens: &[Token<'_>], sign: usize, index: usize) -> Option<Sides> {
     let (begin, end) = left_of(tokens, sign, index)?;
     let values = end.saturating_add(1);
@@ -166,7 +168,7 @@ fn sides_of(tokens: &[Token<'_>], sign: usize, index: usize) -> Option<Sides> {
     })
 }
 
-/// The sides of the sign before a place, where the names, or the places that are assigned to, are not as many as the values there.
+/// The two sides of the sign before an index, if they differ in number in a way that explains the refused token.
 fn wrong_sides(tokens: &[Token<'_>], index: usize) -> Option<Sides> {
     let sign = sign_before(tokens, index)?;
     let sides = sides_of(tokens, sign, index)?;
@@ -178,15 +180,15 @@ fn wrong_sides(tokens: &[Token<'_>], index: usize) -> Option<Sides> {
     is_wrong.then_some(sides)
 }
 
-/// Says so where the names, or the places that are assigned to, are not as many as the values before this place; whether that is so.
+/// If the two sides before this index differ in number, sets a help that says so. Returns whether they do.
 pub fn says_sides(draft: &mut Draft, tokens: &[Token<'_>], index: usize) -> bool {
     let Some(sides) = wrong_sides(tokens, index) else {
         return false;
     };
     let sentence = if sides.is_assignment {
-        "each place has its value: on the left of := stand {}, on the right {}"
+        "both sides of := need the same number of entries: the left has {}, the right {}"
     } else {
-        "each name has its value: on the left of = stand {}, on the right {}"
+        "both sides of = need the same number of entries: the left has {}, the right {}"
     };
     let left = Fill::Number(sides.left as u64);
     let right = Fill::Number(sides.right as u64);

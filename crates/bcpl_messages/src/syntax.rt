@@ -1,3 +1,6 @@
+//! Messages for faults of the parser: the refused token, what could appear there, and a guess of what was meant.
+//! Guesses come from known mistakes, and from changes after which the parser gets further.
+
 ghost use Rattle.std.specs.Prelude.{slice_get};
 ghost use Rattle.bcpl_messages.specs.Spans.{IsSpanOf};
 
@@ -16,16 +19,17 @@ use bc_lex_tokens::{Symbol, Token, TokenKind};
 use bc_parse::ParseError;
 use bcpl_places::Span;
 
-/// A change that is tried, and what is said where it helps.
+/// A change that is tried, and the help if it makes the parser get further.
 struct Remedy {
-    /// The symbol that stands there.
+    /// The symbol in the source.
     found: Symbol,
-    /// The one that may have been meant.
+    /// The symbol that may have been meant.
     meant: Symbol,
+    /// The help.
     help: &'static str,
 }
 
-/// The changes that are tried at the token that is refused, and at the one before it.
+/// The replacements that are tried at the refused token and the ones before it.
 const REMEDIES: [Remedy; 4] = [
     Remedy {
         found: Symbol::Equal,
@@ -35,21 +39,21 @@ const REMEDIES: [Remedy; 4] = [
     Remedy {
         found: Symbol::Assign,
         meant: Symbol::Equal,
-        help: ":= assigns; to compare, and to declare, write =",
+        help: ":= assigns; to compare or to declare, write =",
     },
     Remedy {
         found: Symbol::Colon,
         meant: Symbol::Equal,
-        help: "a variable is declared by =, as in LET N = 0",
+        help: "declare a variable with =, as in LET N = 0",
     },
     Remedy {
         found: Symbol::Comma,
         meant: Symbol::Semicolon,
-        help: "commands stand apart by ; or a line break, and LET A, B = 1, 2 declares two variables",
+        help: "separate commands by ; or a line break; LET A, B = 1, 2 declares two variables",
     },
 ];
 
-/// The place after the last token of a main; its end where the last one stands in another file.
+/// An empty span after the last token of a main; the end of the main if the last token is in another file.
 fn after_last(tokens: &[Token<'_>], sources: &[Source<'_>], main: usize) -> Span {
     let length = sources.get(main).map_or(0, |source| source.text.len());
     let end = match tokens.last() {
@@ -63,7 +67,7 @@ fn after_last(tokens: &[Token<'_>], sources: &[Source<'_>], main: usize) -> Span
     }
 }
 
-/// The span of a token; of the end where there is no token of this index.
+/// The span of a token; the end of the main if there is no token with this index.
 pub fn span_of(tokens: &[Token<'_>], sources: &[Source<'_>], main: usize, index: usize) -> Span
     ensures { IsSpanOf (slice_get tokens.now index) result }
 {
@@ -77,7 +81,8 @@ pub fn span_of(tokens: &[Token<'_>], sources: &[Source<'_>], main: usize, index:
     }
 }
 
-/// Whether more is read than the token that is refused with a remedy at another, which is the one that the remedy is for.
+/// Whether applying a remedy at the token `at` makes the parser get past the token `refused`. False if the remedy isn't
+/// for that token.
 fn is_remedy(
     draft: &mut Draft,
     tokens: &[Token<'_>],
@@ -92,10 +97,10 @@ fn is_remedy(
     reached(draft, tokens, at, Change::Replace(kind)).is_after(refused)
 }
 
-/// In how many tokens, the one that is refused and those before it, a remedy is looked for.
+/// At how many tokens, from the refused one backwards, a remedy is tried.
 const LOOK_BACK: usize = 12;
 
-/// The help of a remedy that gets further, if there is one.
+/// The help of the first remedy that makes the parser get further, if there is one.
 fn remedied(draft: &mut Draft, tokens: &[Token<'_>], index: usize) -> Option<&'static str> {
     for back in 0..LOOK_BACK {
         for remedy in &REMEDIES {
@@ -107,108 +112,108 @@ fn remedied(draft: &mut Draft, tokens: &[Token<'_>], index: usize) -> Option<&'s
     None
 }
 
-/// What must stand at a place, and before it, for a guess.
+/// What must be at an index, and before it, for a guess to apply.
 #[derive(Clone, Copy)]
 enum Site {
-    /// Anything.
+    /// No condition.
     Any,
-    /// This symbol.
+    /// This symbol is there.
     At(Symbol),
-    /// A name in front.
+    /// A name comes before it.
     AfterName,
-    /// Something on the line of what stands in front.
+    /// It isn't the first token of its line.
     OnLine,
-    /// The same, and a name in front.
+    /// It isn't the first token of its line, and a name comes before it.
     OnLineAfterName,
-    /// A name that begins its line, and a name in front.
+    /// It is a name that begins its line, and a name comes before it.
     BetweenNames,
-    /// DEFAULT in front, or CASE and a constant of one token.
+    /// DEFAULT comes before it, or CASE and a constant of one token.
     AfterCase,
 }
 
 /// What is tried with the parser.
 #[derive(Clone, Copy)]
 enum Trial {
-    /// This symbol could stand before the place.
+    /// This symbol could appear before the token.
     Stands(Symbol),
-    /// A declaration could, and no command.
+    /// A declaration could appear there, but no command.
     StandsOutside,
-    /// With this symbol in front more is read than the token at the place.
+    /// With this symbol inserted before it, the parser gets past the token.
     After(Symbol),
-    /// So with a pair of brackets.
+    /// With a pair of parentheses inserted before it, the parser gets past the token.
     AfterBrackets,
-    /// With a pair of brackets in front the token at the place is read.
+    /// With a pair of parentheses inserted before it, the parser accepts the token.
     AtBrackets,
-    /// So with brackets around the token.
+    /// With parentheses around the token, the parser gets past it.
     Enclosed,
 }
 
-/// A guess of what was meant, by what could stand at a place.
+/// A guess of what was meant: where it applies, how it is tried, and the help.
 struct Guess {
     site: Site,
     trial: Trial,
     help: &'static str,
 }
 
-/// The guesses that are tried first, in their order.
+/// The guesses that are tried first, in this order.
 const FIRST_GUESSES: [Guess; 4] = [
     Guess {
         site: Site::At(Symbol::Do),
         trial: Trial::Stands(Symbol::Return),
-        help: "no command begins with DO; a loop that tests behind its command is written $( .. $) REPEATWHILE E",
+        help: "no command begins with DO; write a loop that tests after its command as $( .. $) REPEATWHILE E",
     },
     Guess {
         site: Site::OnLine,
         trial: Trial::After(Symbol::Semicolon),
-        help: "commands, and declarations, stand apart by ; or a line break",
+        help: "separate commands and declarations by ; or a line break",
     },
     Guess {
         site: Site::OnLineAfterName,
         trial: Trial::Enclosed,
-        help: "what a routine is called with stands in brackets, as in WRITEN(X)",
+        help: "put the arguments of a call in parentheses, as in WRITEN(X)",
     },
     Guess {
         site: Site::Any,
         trial: Trial::Stands(Symbol::Into),
-        help: "a SWITCHON is written SWITCHON E INTO $( CASE 1: .. DEFAULT: .. $)",
+        help: "write SWITCHON E INTO $( CASE 1: .. DEFAULT: .. $)",
     },
 ];
 
-/// Those that are tried after them.
+/// The guesses that are tried next.
 const NEXT_GUESSES: [Guess; 5] = [
     Guess {
         site: Site::Any,
         trial: Trial::Stands(Symbol::Else),
-        help: "TEST has two commands, as in TEST E THEN C ELSE D; with one, write IF E DO C",
+        help: "TEST needs two commands, as in TEST E THEN C ELSE D; for one command, write IF E DO C",
     },
     Guess {
         site: Site::At(Symbol::Comma),
         trial: Trial::Stands(Symbol::Colon),
-        help: "each value has its own: CASE 1: CASE 2: .. for two, and N:K; M:L in GLOBAL",
+        help: "give each value its own entry, as in CASE 1: CASE 2: .. or GLOBAL $( N:K; M:L $)",
     },
     Guess {
         site: Site::AfterName,
         trial: Trial::AfterBrackets,
-        help: "a routine is declared and called with brackets, as in NEWLINE()",
+        help: "declare and call a routine with parentheses, as in NEWLINE()",
     },
     Guess {
         site: Site::BetweenNames,
         trial: Trial::AtBrackets,
-        help: "a routine is declared and called with brackets, as in NEWLINE()",
+        help: "declare and call a routine with parentheses, as in NEWLINE()",
     },
     Guess {
         site: Site::Any,
         trial: Trial::StandsOutside,
-        help: "outside routines stand declarations alone; commands stand in a routine, as in LET START() BE $( .. $)",
+        help: "only declarations are allowed outside routines; put commands in a routine, as in LET START() BE $( .. $)",
     },
 ];
 
-/// Those that are tried at the end.
+/// The guesses that are tried last.
 const LAST_GUESSES: [Guess; 5] = [
     Guess {
         site: Site::OnLine,
         trial: Trial::After(Symbol::Comma),
-        help: "arguments, names and values stand apart by commas, as in F(A, B)",
+        help: "separate arguments, names and values by commas, as in F(A, B)",
     },
     Guess {
         site: Site::Any,
@@ -218,21 +223,21 @@ const LAST_GUESSES: [Guess; 5] = [
     Guess {
         site: Site::Any,
         trial: Trial::Stands(Symbol::Be),
-        help: "a routine is declared by LET F(X) BE .., and one that gives a value by LET F(X) = E",
+        help: "declare a routine as LET F(X) BE .., or as LET F(X) = E if it returns a value",
     },
     Guess {
         site: Site::AfterCase,
         trial: Trial::After(Symbol::Colon),
-        help: "a colon stands behind it, as in CASE 1: WRITES(\"A\")",
+        help: "write a colon after it, as in CASE 1: WRITES(\"A\")",
     },
     Guess {
         site: Site::At(Symbol::CloseSection),
         trial: Trial::Stands(Symbol::Do),
-        help: "a command stands behind it, as in UNTIL E DO C; a loop that tests behind its command is written $( .. $) REPEATUNTIL E",
+        help: "a command must follow, as in UNTIL E DO C; write a loop that tests after its command as $( .. $) REPEATUNTIL E",
     },
 ];
 
-/// Whether a name stands before a place.
+/// Whether a name comes before an index.
 fn is_after_name(tokens: &[Token<'_>], index: usize) -> bool {
     match back(tokens, index, 1) {
         Some(token) => matches!(token.kind, TokenKind::Name(_)),
@@ -240,7 +245,7 @@ fn is_after_name(tokens: &[Token<'_>], index: usize) -> bool {
     }
 }
 
-/// Whether a name that begins its line stands at a place, and a name before it.
+/// Whether the token at an index is a name that begins its line, and a name comes before it.
 fn is_between_names(tokens: &[Token<'_>], index: usize) -> bool {
     let begins_line = match tokens.get(index) {
         Some(token) => token.line_before && matches!(token.kind, TokenKind::Name(_)),
@@ -249,7 +254,7 @@ fn is_between_names(tokens: &[Token<'_>], index: usize) -> bool {
     begins_line && is_after_name(tokens, index)
 }
 
-/// Whether DEFAULT stands before a place, or CASE and one token.
+/// Whether DEFAULT comes before an index, or CASE and one token.
 fn is_after_case(tokens: &[Token<'_>], index: usize) -> bool {
     let is_default = match back(tokens, index, 1) {
         Some(token) => is_symbol(token, Symbol::Default),
@@ -262,7 +267,7 @@ fn is_after_case(tokens: &[Token<'_>], index: usize) -> bool {
         }
 }
 
-/// Whether a token stands at a place, and another one before it on its line.
+/// Whether there is a token at an index which isn't the first of its line.
 fn is_on_line(tokens: &[Token<'_>], index: usize) -> bool {
     match tokens.get(index) {
         Some(token) => index > 0 && !token.line_before,
@@ -270,7 +275,7 @@ fn is_on_line(tokens: &[Token<'_>], index: usize) -> bool {
     }
 }
 
-/// Whether a place is one for a guess.
+/// Whether a guess for this site applies at an index.
 fn is_site(tokens: &[Token<'_>], index: usize, site: Site) -> bool {
     match site {
         Site::Any => true,
@@ -283,22 +288,22 @@ fn is_site(tokens: &[Token<'_>], index: usize, site: Site) -> bool {
     }
 }
 
-/// Whether a declaration could stand at a place, and no command.
+/// Whether a declaration could appear at an index, but no command.
 fn is_outside(draft: &mut Draft, tokens: &[Token<'_>], index: usize) -> bool {
     could_be(draft, tokens, index, Symbol::Let) && !could_be(draft, tokens, index, Symbol::Return)
 }
 
-/// Whether more is read than the token at a place with a change there.
+/// Whether a change makes the parser get past the token at an index.
 fn gets_further(draft: &mut Draft, tokens: &[Token<'_>], index: usize, change: Change) -> bool {
     reached(draft, tokens, index, change).is_after(index)
 }
 
-/// Whether the token at a place is read with a pair of brackets in front.
+/// Whether the parser accepts the token at an index with a pair of parentheses before it.
 fn is_read_with_brackets(draft: &mut Draft, tokens: &[Token<'_>], index: usize) -> bool {
     reached(draft, tokens, index, Change::InsertBrackets).is_past(index)
 }
 
-/// Whether the parser takes what a guess tries.
+/// Whether a trial succeeds at an index.
 fn is_taken(draft: &mut Draft, tokens: &[Token<'_>], index: usize, trial: Trial) -> bool {
     let change = match trial {
         Trial::Stands(symbol) => return could_be(draft, tokens, index, symbol),
@@ -311,7 +316,7 @@ fn is_taken(draft: &mut Draft, tokens: &[Token<'_>], index: usize, trial: Trial)
     gets_further(draft, tokens, index, change)
 }
 
-/// What the first of these guesses that is right says of a place.
+/// The help of the first of these guesses that applies and succeeds.
 fn first_right(
     draft: &mut Draft,
     tokens: &[Token<'_>],
@@ -326,12 +331,12 @@ fn first_right(
     None
 }
 
-/// What the last guesses say of a place.
+/// The help of the last guesses.
 fn last_guess(draft: &mut Draft, tokens: &[Token<'_>], index: usize) -> Option<&'static str> {
     first_right(draft, tokens, index, &LAST_GUESSES)
 }
 
-/// What the guesses after the first ones say of a place.
+/// The help of the guesses after the first ones.
 fn next_guess(draft: &mut Draft, tokens: &[Token<'_>], index: usize) -> Option<&'static str> {
     match first_right(draft, tokens, index, &NEXT_GUESSES) {
         Some(help) => Some(help),
@@ -339,7 +344,7 @@ fn next_guess(draft: &mut Draft, tokens: &[Token<'_>], index: usize) -> Option<&
     }
 }
 
-/// What is said of the place that is refused, by what could stand there.
+/// The help for a refused token, from the guesses.
 fn help_for_place(draft: &mut Draft, tokens: &[Token<'_>], index: usize) -> Option<&'static str> {
     match first_right(draft, tokens, index, &FIRST_GUESSES) {
         Some(help) => Some(help),
@@ -347,10 +352,10 @@ fn help_for_place(draft: &mut Draft, tokens: &[Token<'_>], index: usize) -> Opti
     }
 }
 
-/// The words that a list of names stands after.
+/// The words that precede a list of names.
 const LISTS: [Symbol; 3] = [Symbol::Manifest, Symbol::Static, Symbol::Global];
 
-/// The word of the list of names that is open before a place: MANIFEST, STATIC or GLOBAL, if there is one.
+/// The word of the list of names that is open before an index: MANIFEST, STATIC or GLOBAL, if there is one.
 pub fn list_word(draft: &mut Draft, tokens: &[Token<'_>], index: usize) -> Option<Symbol> {
     let bracket = *open_at(draft, tokens, index).last()?;
     let token = back(tokens, bracket, 1)?;
@@ -362,19 +367,19 @@ pub fn list_word(draft: &mut Draft, tokens: &[Token<'_>], index: usize) -> Optio
     None
 }
 
-/// What is said of a place in a list of names.
+/// The help for a refused token in a list of names.
 fn help_for_list(draft: &mut Draft, tokens: &[Token<'_>], index: usize) -> Option<&'static str> {
     let word = list_word(draft, tokens, index)?;
     if is_at(tokens, index, Symbol::Vector) {
         Some(
-            "such a name has a constant; a routine declares the vector, by LET V = VEC 10, and can keep its address in a static or a global",
+            "a name in this list needs a constant; declare the vector in a routine, as LET V = VEC 10, and keep its address in a static or a global",
         )
     } else if !is_after_name(tokens, index) {
         None
     } else if word.is(Symbol::Global) {
-        Some("each name has its number, as in GLOBAL $( N:100 $)")
+        Some("give each name a number, as in GLOBAL $( N:100 $)")
     } else {
-        Some("each name has its value, as in MANIFEST $( N = 10 $)")
+        Some("give each name a value, as in MANIFEST $( N = 10 $)")
     }
 }
 
@@ -386,10 +391,11 @@ pub fn name_of<'s>(token: Option<&Token<'s>>) -> Option<&'s [u8]> {
     }
 }
 
-/// Says of a name that it is this reserved word in other letters.
+/// Sets the help for a name that is this reserved word in another case. `is_first` says that it is the first token, as
+/// in an old source.
 fn say_reserved<'a>(draft: &mut Draft, name: &'a [u8], word: &'a str, is_first: bool) {
     let old = if is_first {
-        "; bcpl convert brings old sources across"
+        "; use bcpl convert for old sources"
     } else {
         ""
     };
@@ -399,7 +405,8 @@ fn say_reserved<'a>(draft: &mut Draft, name: &'a [u8], word: &'a str, is_first: 
     );
 }
 
-/// Says so of a name that is a reserved word in other letters, or an operator or a bracket in other languages; whether it is.
+/// If a name is a reserved word in another case, or an operator or bracket of other languages, sets a help that says
+/// so. Returns whether it is.
 fn says_name(draft: &mut Draft, name: &[u8], is_first: bool) -> bool {
     let reserved = reserved_word(draft.alloc(), name);
     if let Some(word) = draft.found(reserved, None) {
@@ -415,7 +422,7 @@ fn says_name(draft: &mut Draft, name: &[u8], is_first: bool) -> bool {
     }
 }
 
-/// Says so of a token that is such a name; whether it is.
+/// The same for a token, if it is a name.
 fn says_word(draft: &mut Draft, token: Option<&Token<'_>>, is_first: bool) -> bool {
     match name_of(token) {
         Some(name) => says_name(draft, name, is_first),
@@ -423,7 +430,7 @@ fn says_word(draft: &mut Draft, token: Option<&Token<'_>>, is_first: bool) -> bo
     }
 }
 
-/// Whether a reserved word stands at a place, after something on its line.
+/// Whether there is a reserved word at an index which isn't the first token of its line.
 fn is_word_on_line(tokens: &[Token<'_>], index: usize) -> bool {
     let begins_word = match tokens.get(index) {
         Some(token) => token
@@ -435,7 +442,8 @@ fn is_word_on_line(tokens: &[Token<'_>], index: usize) -> bool {
     begins_word && symbol_at(tokens, index).is_some() && is_on_line(tokens, index)
 }
 
-/// Says so of a reserved word that stands where a name is wanted, and with a name more is read; whether that is so.
+/// If a reserved word appears where a name is needed, and a name there would make the parser get further, sets a help
+/// that says so. Returns whether it does.
 fn says_reserved(draft: &mut Draft, tokens: &[Token<'_>], index: usize) -> bool {
     let Some(token) = tokens.get(index) else {
         return false;
@@ -448,18 +456,18 @@ fn says_reserved(draft: &mut Draft, tokens: &[Token<'_>], index: usize) -> bool 
         return false;
     }
     draft.help(
-        "{} is a reserved word, and can't be a name: write another one",
+        "{} is a reserved word and can't be a name; choose another name",
         &[Fill::Shown(token.text)],
     );
     true
 }
 
-/// Whether what is said of the token at a place by itself comes before all guesses.
+/// Whether the help for the token itself takes precedence over all guesses.
 fn says_all(tokens: &[Token<'_>], index: usize) -> bool {
     is_at(tokens, index, Symbol::Else) || is_at(tokens, index, Symbol::And)
 }
 
-/// What may have been meant, where that is always said in the same words.
+/// The help for a refused token, if it is a fixed text.
 fn help_in_words(draft: &mut Draft, tokens: &[Token<'_>], index: usize) -> Option<&'static str> {
     if !says_all(tokens, index) {
         let guessed = guessed(draft, tokens, index);
@@ -470,7 +478,7 @@ fn help_in_words(draft: &mut Draft, tokens: &[Token<'_>], index: usize) -> Optio
     help_for_token(tokens.get(index))
 }
 
-/// What may have been meant, by trying and by the list that the place is in.
+/// The help found by trying changes, or from the list or the parentheses around the token.
 fn guessed(draft: &mut Draft, tokens: &[Token<'_>], index: usize) -> Option<&'static str> {
     let help = remedied(draft, tokens, index);
     if help.is_some() {
@@ -487,7 +495,7 @@ fn guessed(draft: &mut Draft, tokens: &[Token<'_>], index: usize) -> Option<&'st
     help_for_place(draft, tokens, index)
 }
 
-/// Says what may have been meant, where no known mistake stands around the place.
+/// Sets the help where no known mistake surrounds the refused token.
 fn help_by_trying(draft: &mut Draft, tokens: &[Token<'_>], index: usize) {
     if says_reserved(draft, tokens, index)
         || says_tag(draft, tokens, index)
@@ -500,7 +508,7 @@ fn help_by_trying(draft: &mut Draft, tokens: &[Token<'_>], index: usize) {
     }
 }
 
-/// Says what may have been meant, where tokens can't be read on at this index.
+/// Sets the help for a refused token.
 fn help_for(draft: &mut Draft, tokens: &[Token<'_>], index: usize) {
     let is_first = index == 0;
     if says_word(draft, tokens.get(index), is_first)
@@ -514,7 +522,7 @@ fn help_for(draft: &mut Draft, tokens: &[Token<'_>], index: usize) {
     }
 }
 
-/// What begins a command whose condition goes up to DO or THEN.
+/// The symbols that begin a command whose condition ends at DO or THEN.
 const HEADS: [Symbol; 5] = [
     Symbol::If,
     Symbol::Unless,
@@ -523,7 +531,7 @@ const HEADS: [Symbol; 5] = [
     Symbol::Test,
 ];
 
-/// Whether a condition stands before a place on the line of the token before it.
+/// Whether a condition comes before an index, on the line of the token before it.
 fn is_after_condition(tokens: &[Token<'_>], index: usize) -> bool {
     for count in 1..LOOK_BACK {
         let Some(token) = back(tokens, index, count) else {
@@ -539,7 +547,7 @@ fn is_after_condition(tokens: &[Token<'_>], index: usize) -> bool {
     false
 }
 
-/// Whether a comment that begins with `||` stands after a token, the last one of its line.
+/// Whether a comment that begins with `||` follows a token that ends its line.
 fn is_before_bars(read: Read<'_, '_>, token: &Token<'_>) -> bool {
     let text = read.source(token.file);
     for byte in text.get(token.end..).unwrap_or(b"") {
@@ -550,7 +558,7 @@ fn is_before_bars(read: Read<'_, '_>, token: &Token<'_>) -> bool {
     false
 }
 
-/// Whether what is refused begins a line, and on the line before it a condition ends with a comment that begins with `||`.
+/// Whether the refused token begins a line, and the line before it has a condition followed by a `||` comment.
 fn is_after_bars(read: Read<'_, '_>, index: usize) -> bool {
     let is_commented = match back(read.tokens, index, 1) {
         Some(token) => is_before_bars(read, token),
@@ -559,17 +567,17 @@ fn is_after_bars(read: Read<'_, '_>, index: usize) -> bool {
     is_commented && is_after_condition(read.tokens, index)
 }
 
-/// Tells of the token that can't stand where it stands.
+/// Describes a token that can't appear where it is.
 fn tell_expected(draft: &mut Draft, read: Read<'_, '_>, index: usize) {
     draft.place(read.place(index));
     match read.tokens.get(index) {
-        Some(token) => draft.say("{} can't stand here", &[Fill::Shown(token.text)]),
+        Some(token) => draft.say("{} can't appear here", &[Fill::Shown(token.text)]),
         None => draft.say("the file ends too early", &[]),
     }
     say_wanted(draft, read.tokens, index);
     if is_after_bars(read, index) {
         draft.help(
-            "|| begins a comment, up to the end of its line; or is written |",
+            "|| begins a comment, which ends with its line; write | for or",
             &[],
         );
     } else {
@@ -577,7 +585,7 @@ fn tell_expected(draft: &mut Draft, read: Read<'_, '_>, index: usize) {
     }
 }
 
-/// Says of a section bracket that it is not closed, one of so many that are open: the bracket is told with its tag.
+/// Adds a sentence on an unclosed section bracket, shown with its tag. `count` brackets are open in all.
 fn say_unclosed(draft: &mut Draft, bracket: Option<&Token<'_>>, count: usize) {
     let text: &[u8] = match bracket {
         Some(token) => token.text,
@@ -592,7 +600,7 @@ fn say_unclosed(draft: &mut Draft, bracket: Option<&Token<'_>>, count: usize) {
     draft.say(sentence, &[Fill::Shown(text), Fill::Number(others as u64)]);
 }
 
-/// Whether a token begins its line, with nothing before it.
+/// Whether a token is in the first column of its line.
 fn is_at_margin(read: Read<'_, '_>, token: &Token<'_>) -> bool {
     match read.sources.get(token.file) {
         Some(source) => match token.start.checked_sub(1) {
@@ -603,7 +611,7 @@ fn is_at_margin(read: Read<'_, '_>, token: &Token<'_>) -> bool {
     }
 }
 
-/// Whether the heading of a routine begins with the token at a place: LET or AND, a name and a bracket.
+/// Whether a routine's heading begins at an index: LET or AND, a name and a parenthesis.
 pub fn is_heading(tokens: &[Token<'_>], index: usize) -> bool {
     let bracket = index.saturating_add(2);
     (is_at(tokens, index, Symbol::Let) || is_at(tokens, index, Symbol::And))
@@ -611,7 +619,7 @@ pub fn is_heading(tokens: &[Token<'_>], index: usize) -> bool {
         && is_at(tokens, bracket, Symbol::OpenBracket)
 }
 
-/// The first routine after a place whose heading begins at the margin.
+/// The first routine after an index whose heading begins in the first column.
 fn routine_at_margin(read: Read<'_, '_>, place: usize) -> Option<usize> {
     for (index, token) in read.tokens.iter().enumerate() {
         if index > place && is_heading(read.tokens, index) && is_at_margin(read, token) {
@@ -621,18 +629,18 @@ fn routine_at_margin(read: Read<'_, '_>, place: usize) -> Option<usize> {
     None
 }
 
-/// Tells of the routine that likely shall not stand in the section which this bracket opens, if there is one.
+/// If a routine probably wasn't meant to be inside the section that this bracket opens, points it out.
 fn note_routine(draft: &mut Draft, read: Read<'_, '_>, outermost: usize) {
     if let Some(index) = routine_at_margin(read, outermost) {
         draft.note(
             read.place(index),
-            "a routine begins here, within it: perhaps a $) is missing in front of this line",
+            "a routine begins here, inside it: perhaps a $) is missing before this line",
             &[],
         );
     }
 }
 
-/// Tells of sections that are open at the end.
+/// Describes sections that are open at the end.
 fn tell_unclosed(draft: &mut Draft, read: Read<'_, '_>) {
     let end = read.tokens.len();
     let open = open_at(draft, read.tokens, end);
@@ -642,19 +650,20 @@ fn tell_unclosed(draft: &mut Draft, read: Read<'_, '_>) {
     say_unclosed(draft, read.tokens.get(innermost), count);
     let outermost = open.first().copied().unwrap_or(end);
     if count > 1 {
-        draft.note(read.place(outermost), "the outermost that is open", &[]);
+        draft.note(read.place(outermost), "the outermost open bracket", &[]);
     }
     note_routine(draft, read, outermost);
     if let Some(span) = hidden_between(read, innermost, end, "$)") {
-        draft.note(span, "a $) stands here in a comment", &[]);
+        draft.note(span, "this $) is in a comment", &[]);
     }
     draft.help(
-        "an untagged $) closes the innermost $( , and one with a tag all up to the $( with that tag",
+        "a $) without a tag closes the innermost $( ; a $) with a tag closes all up to the $( with that tag",
         &[],
     );
 }
 
-/// Whether the tag of the `$)` at a place is likely none, but a word: a reserved one, or one with what would go on with it as a name.
+/// Whether the tag of the `$)` at an index was probably meant as a word: it is a reserved word, or `(` or `:=` follows
+/// it.
 fn is_word_after(tokens: &[Token<'_>], index: usize, name: &[u8]) -> bool {
     let next = index.saturating_add(1);
     Symbol::spelled(name).is_some()
@@ -662,21 +671,17 @@ fn is_word_after(tokens: &[Token<'_>], index: usize, name: &[u8]) -> bool {
         || is_at(tokens, next, Symbol::Assign)
 }
 
-/// Tells of a `$)` whose tag no section has that is open, the innermost of which is this.
+/// Describes a `$)` whose tag no open section has. `innermost` is the innermost open one.
 fn tell_tag(draft: &mut Draft, read: Read<'_, '_>, index: usize, innermost: usize) {
     let name = tag_at(read.tokens, index);
     draft.say("no open $( has the tag {}", &[Fill::Shown(name)]);
-    draft.note(
-        read.place(innermost),
-        "the innermost that is open here",
-        &[],
-    );
+    draft.note(read.place(innermost), "the innermost open bracket", &[]);
     if is_word_after(read.tokens, index, name) {
         say_blank(draft, read.tokens, index);
     }
 }
 
-/// Tells of a `$)` that closes nothing.
+/// Describes a `$)` that closes nothing.
 fn tell_not_open(draft: &mut Draft, read: Read<'_, '_>, index: usize) {
     draft.place(read.place(index));
     match open_at(draft, read.tokens, index).last() {
@@ -684,26 +689,23 @@ fn tell_not_open(draft: &mut Draft, read: Read<'_, '_>, index: usize) {
         None => {
             draft.say("this $) closes nothing: no $( is open here", &[]);
             if let Some(span) = hidden_between(read, 0, index, "$(") {
-                draft.note(span, "a $( stands here in a comment", &[]);
+                draft.note(span, "this $( is in a comment", &[]);
             }
         }
     }
 }
 
-/// Tells of a token that stands in too many constructs.
+/// Describes a token at which the nesting is too deep.
 fn tell_too_deep(draft: &mut Draft, read: Read<'_, '_>, index: usize) {
     draft.place(read.place(index));
     draft.say(
-        "more than 200 definitions, commands and expressions stand one within another here, or 400 brackets are open",
+        "the nesting is too deep here: more than 200 definitions, commands and expressions inside one another, or 400 open parentheses",
         &[],
     );
-    draft.help(
-        "give a part a name: a routine of its own, or a variable",
-        &[],
-    );
+    draft.help("move a part of it to a separate routine or variable", &[]);
 }
 
-/// Tells of tokens that are no section.
+/// Describes a fault of the parser.
 pub fn tell_syntax(draft: &mut Draft, sources: &[Source<'_>], main: usize, fault: ParseError) {
     if main >= sources.len() {
         return;

@@ -1,26 +1,28 @@
+//! How far the parser gets with tokens that were changed at one index. Guesses of what was meant are tested this way.
+
 use crate::draft::Draft;
 use bc_lex_tokens::{Symbol, Token, TokenKind};
 use bc_parse::{ParseError, parse};
 use bc_word::Memory;
 use std::alloc::Global;
 
-/// A change of the tokens at a place.
+/// A change of the tokens at an index.
 #[derive(Clone, Copy)]
 pub enum Change {
-    /// This token stands before the one at the place.
+    /// Inserts this token before the one at the index.
     Insert(TokenKind<'static>),
-    /// This token stands instead of that at the place.
+    /// Replaces the token at the index by this one.
     Replace(TokenKind<'static>),
-    /// A pair of section brackets stands before the token at the place.
+    /// Inserts a pair of section brackets before the token at the index.
     InsertSection,
-    /// A pair of round brackets stands there, on the line of the token before it.
+    /// Inserts a pair of parentheses there, on the line of the token before it.
     InsertBrackets,
-    /// Round brackets stand around the token at the place, on the line of the token before it.
+    /// Puts parentheses around the token at the index, on the line of the token before it.
     Enclose,
 }
 
 impl Change {
-    /// How many tokens there are more.
+    /// How many tokens the change adds.
     fn added(self) -> usize {
         match self {
             Change::Replace(_) => 0,
@@ -29,7 +31,7 @@ impl Change {
         }
     }
 
-    /// How many of the tokens at the place are replaced.
+    /// How many of the original tokens the change consumes.
     fn taken(self) -> usize {
         match self {
             Change::Replace(_) | Change::Enclose => 1,
@@ -38,24 +40,24 @@ impl Change {
     }
 }
 
-/// How far changed tokens are read.
+/// How far the parser gets with changed tokens.
 #[derive(Clone, Copy)]
 pub enum Reach {
-    /// The change is refused.
+    /// The change itself is refused.
     Before,
-    /// What is refused is the token with this index, as they were counted before the change.
+    /// The token with this index is refused, counted before the change.
     After(usize),
-    /// All are read.
+    /// Everything is accepted.
     End,
 }
 
 impl Reach {
-    /// Whether the change is read.
+    /// Whether the parser accepts the change itself.
     pub fn is_read(self) -> bool {
         !matches!(self, Reach::Before)
     }
 
-    /// Whether the token with this index is read.
+    /// Whether the parser accepts the token with this index.
     pub fn is_past(self, index: usize) -> bool {
         match self {
             Reach::Before => false,
@@ -64,7 +66,7 @@ impl Reach {
         }
     }
 
-    /// Whether more is read than the token with this index.
+    /// Whether the parser accepts the token with this index and at least one more.
     pub fn is_after(self, index: usize) -> bool {
         match self {
             Reach::Before => false,
@@ -74,7 +76,7 @@ impl Reach {
     }
 }
 
-/// A token of this kind where another one stands.
+/// A token of this kind at the position of another one.
 fn in_place<'s>(kind: TokenKind<'static>, at: &Token<'s>, line_before: bool) -> Token<'s> {
     Token {
         kind,
@@ -86,7 +88,7 @@ fn in_place<'s>(kind: TokenKind<'static>, at: &Token<'s>, line_before: bool) -> 
     }
 }
 
-/// The token at the place, or where it is the end, the last. None where there are no tokens.
+/// The token at the index; the last one if the index is past the end. `None` if there are no tokens.
 fn place_of<'s>(tokens: &[Token<'s>], index: usize) -> Option<Token<'s>> {
     match tokens.get(index) {
         Some(token) => Some(*token),
@@ -94,7 +96,7 @@ fn place_of<'s>(tokens: &[Token<'s>], index: usize) -> Option<Token<'s>> {
     }
 }
 
-/// Adds a symbol where this token stands.
+/// Appends a symbol at the position of this token.
 fn add_symbol<'s>(
     changed: &mut Vec<Token<'s>>,
     symbol: Symbol,
@@ -104,7 +106,7 @@ fn add_symbol<'s>(
     Ok(changed.push(in_place(TokenKind::Symbol(symbol), at, line_before))?)
 }
 
-/// Adds two symbols where this token stands.
+/// Appends two symbols at the position of this token.
 fn add_pair<'s>(
     changed: &mut Vec<Token<'s>>,
     pair: [Symbol; 2],
@@ -116,19 +118,20 @@ fn add_pair<'s>(
     add_symbol(changed, second, at, line_before)
 }
 
-/// Adds a token between round brackets.
+/// Appends a token between parentheses.
 fn add_enclosed<'s>(changed: &mut Vec<Token<'s>>, at: &Token<'s>) -> Result<(), Memory> {
     add_symbol(changed, Symbol::OpenBracket, at, false)?;
     changed.push(*at)?;
     add_symbol(changed, Symbol::CloseBracket, at, false)
 }
 
-/// Section brackets, and round ones.
+/// A pair of section brackets.
 const SECTION: [Symbol; 2] = [Symbol::OpenSection, Symbol::CloseSection];
 
+/// A pair of parentheses.
 const BRACKETS: [Symbol; 2] = [Symbol::OpenBracket, Symbol::CloseBracket];
 
-/// Adds what a change puts at the place of a token.
+/// Appends what a change inserts at the position of a token.
 fn add_change<'s>(
     changed: &mut Vec<Token<'s>>,
     at: &Token<'s>,
@@ -144,7 +147,7 @@ fn add_change<'s>(
     }
 }
 
-/// A token, with this kind where it is the one that is replaced.
+/// A copy of a token, with this kind if it is the one to be replaced.
 fn of_kind<'s>(token: &Token<'s>, kind: TokenKind<'s>, is_it: bool) -> Token<'s> {
     Token {
         kind: if is_it { kind } else { token.kind },
@@ -152,7 +155,7 @@ fn of_kind<'s>(token: &Token<'s>, kind: TokenKind<'s>, is_it: bool) -> Token<'s>
     }
 }
 
-/// The tokens with another one of this kind at a place. Memory is answered where a growth was refused.
+/// The tokens with the kind of one replaced. Returns `Memory` if an allocation fails.
 pub fn replaced<'s>(
     alloc: Global,
     tokens: &[Token<'s>],
@@ -166,7 +169,7 @@ pub fn replaced<'s>(
     Ok(changed)
 }
 
-/// Adds the tokens with a change at a place, where this token stands.
+/// Appends the tokens with a change at an index, at the position of this token.
 fn add_changed<'s>(
     changed: &mut Vec<Token<'s>>,
     tokens: &[Token<'s>],
@@ -180,8 +183,7 @@ fn add_changed<'s>(
     Ok(changed.extend_from_slice(tokens.get(rest..).unwrap_or(&[]))?)
 }
 
-/// How far the tokens are read with a change at a place: the index of the token, counted without the change, which is refused, or
-/// the end where all are read.
+/// How far the parser gets with a change at an index.
 fn read_with(
     alloc: Global,
     tokens: &[Token<'_>],
@@ -196,14 +198,14 @@ fn read_with(
     read_up_to(alloc, changed.as_slice(), index, change.added())
 }
 
-/// Whether the tokens before a place are read by themselves, so that the end could stand there.
+/// Whether the tokens before an index are a complete section, so that the file could end there.
 pub fn is_whole(draft: &mut Draft, tokens: &[Token<'_>], index: usize) -> bool {
     let front = tokens.get(..index).unwrap_or(&[]);
     let read = read_up_to(draft.alloc(), front, index, 0);
     matches!(draft.found(read, Reach::Before), Reach::End)
 }
 
-/// How far tokens are read of which so many are added at a place.
+/// How far the parser gets with tokens of which `added` were added at an index.
 fn read_up_to(
     alloc: Global,
     changed: &[Token<'_>],
@@ -220,7 +222,7 @@ fn read_up_to(
     }
 }
 
-/// The same, for a message.
+/// How far the parser gets with a change at an index; `Before` if memory ran out, which the draft records.
 pub fn reached(draft: &mut Draft, tokens: &[Token<'_>], index: usize, change: Change) -> Reach {
     let read = read_with(draft.alloc(), tokens, index, change);
     draft.found(read, Reach::Before)

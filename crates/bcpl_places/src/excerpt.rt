@@ -1,3 +1,5 @@
+//! A line of a source with a mark below a part of it.
+
 use crate::line::Line;
 use crate::signs::{Sign, signs_of};
 use bc_word::Memory;
@@ -7,27 +9,27 @@ use std::fmt;
 /// The most columns of a line that are shown.
 const MOST: usize = 88;
 
-/// How many columns before the place are shown of a line that is too long.
+/// How many characters before the mark are shown of a line that is too long.
 const IN_FRONT: usize = 40;
 
-/// A line of a source with a mark below a stretch of it, as two lines of text. A line that is too long is cut round the
-/// stretch.
+/// A line of a source with a mark below a stretch of it, displayed as two lines of text. A line that is too long is cut
+/// off around the stretch.
 #[derive(Drop)]
 pub struct Excerpt {
     number: usize,
     /// What is shown of the line.
     shown: Vec<Sign>,
-    /// Whether signs before these are left out.
+    /// Whether characters before these are omitted.
     is_cut_before: bool,
-    /// Whether signs after these are left out.
+    /// Whether characters after these are omitted.
     is_cut_after: bool,
-    /// How many columns of what is shown stand before the mark.
+    /// How many columns of the shown part come before the mark.
     before: usize,
     /// How many columns the mark takes.
     marked: usize,
 }
 
-/// How many columns these signs take.
+/// How many columns these characters take.
 fn width_of(signs: &[Sign]) -> usize {
     let mut width: usize = 0;
     for sign in signs {
@@ -36,14 +38,14 @@ fn width_of(signs: &[Sign]) -> usize {
     width
 }
 
-/// How many of these signs stand before this offset.
+/// How many of these characters begin before this offset.
 fn count_before(signs: &[Sign], at: usize) -> usize {
     signs.iter().filter(|sign| sign.at < at).count()
 }
 
 impl Excerpt {
-    /// The excerpt of this line of the text with a mark from the offset `start` up to `end`; where nothing of that stands in
-    /// the line, below the column at which it would begin. Memory is answered where a growth was refused.
+    /// The excerpt of a line of the text, with a mark from the offset `start` up to `end`. If that stretch has nothing
+    /// on the line, the mark is one column wide. Returns `Memory` if an allocation fails.
     pub fn new(
         alloc: Global,
         text: &[u8],
@@ -81,7 +83,7 @@ impl Excerpt {
     }
 }
 
-/// Writes this character that many times.
+/// Writes this character `count` times.
 fn repeat<W: fmt::Write>(f: &mut fmt::Formatter<W>, character: char, count: usize) -> fmt::Result {
     for _ in 0..count {
         f.write_char(character)?;
@@ -89,7 +91,7 @@ fn repeat<W: fmt::Write>(f: &mut fmt::Formatter<W>, character: char, count: usiz
     Ok(())
 }
 
-/// How many columns the number of a line takes, three at the least.
+/// How many columns a line number takes, at least three.
 fn margin(number: usize) -> usize {
     let digits = match number.checked_ilog10() {
         Some(power) => power as usize,

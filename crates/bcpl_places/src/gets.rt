@@ -1,3 +1,5 @@
+//! The GETs in the text of a source, and the chain of GETs that leads from a main to a file.
+
 ghost use Rattle.std.specs.Prelude.{◌≤◌, ◌<◌, length};
 
 use crate::Span;
@@ -5,23 +7,23 @@ use bc_lex::Source;
 use bc_word::Memory;
 use std::alloc::Global;
 
-/// A GET of a source, and the name after it.
+/// A GET of a source, with the name after it.
 #[derive(Clone, Copy)]
 pub struct Get<'s> {
     /// The offset of the word GET.
     pub start: usize,
     /// The offset after the string.
     pub end: usize,
-    /// What stands between the signs of the string.
+    /// The text between the quotes of the string.
     pub name: &'s [u8],
 }
 
-/// Whether a name can go on with this byte.
+/// Whether a name can contain this byte.
 fn is_of_name(byte: u8) -> bool {
     byte.is_ascii_alphanumeric() || byte == b'.'
 }
 
-/// The offset after what opens at `at` and goes on up to `close`; where that doesn't stand, the text's end.
+/// The offset after the first `close` from `at` on; the end of the text if there is none.
 fn following(text: &[u8], at: usize, close: &[u8]) -> usize {
     for from in at..text.len() {
         if text[from..].starts_with(close) {
@@ -31,8 +33,8 @@ fn following(text: &[u8], at: usize, close: &[u8]) -> usize {
     text.len()
 }
 
-/// The offset after the string or character constant whose first sign stands at `at`: `*` takes the byte after it along, and a
-/// line feed ends it.
+/// The offset after the string or character constant whose opening quote is at `at`. A `*` escapes the byte after it,
+/// and a line feed ends the constant.
 fn after_quoted(text: &[u8], at: usize, sign: u8) -> usize {
     let mut is_escaped = false;
     for offset in at.saturating_add(1)..text.len() {
@@ -61,7 +63,7 @@ fn after_name(text: &[u8], at: usize) -> usize {
     text.len()
 }
 
-/// The offset after a comment, blank or line break at `at`; `at` where none begins there.
+/// The offset after a comment, space or line break at `at`; `at` itself if none begins there.
 fn after_gap(text: &[u8], at: usize) -> usize {
     if at >= text.len() {
         return at;
@@ -78,7 +80,7 @@ fn after_gap(text: &[u8], at: usize) -> usize {
     }
 }
 
-/// The offset of what stands after all gaps from `at` on.
+/// The offset after all comments and white space from `at` on.
 fn after_gaps(text: &[u8], at: usize) -> usize {
     let mut at = at;
     for _ in 0..text.len() {
@@ -91,7 +93,7 @@ fn after_gaps(text: &[u8], at: usize) -> usize {
     at
 }
 
-/// The GET that begins at `at` with the word, if a string stands after the word, which ends at `end`.
+/// The GET whose word is at `at` and ends at `end`, if a string follows it.
 fn get_at(text: &[u8], at: usize, end: usize) -> Option<Get<'_>> {
     let open = after_gaps(text, end);
     if open >= text.len() || text[open] != b'"' {
@@ -108,7 +110,7 @@ fn get_at(text: &[u8], at: usize, end: usize) -> Option<Get<'_>> {
     })
 }
 
-/// The GETs of a source, in their order. Memory is answered where a growth was refused.
+/// The GETs of a source, in text order. Returns `Memory` if an allocation fails.
 pub fn gets_of(alloc: Global, text: &[u8]) -> Result<Vec<Get<'_>>, Memory> {
     let mut gets = Vec::new(alloc);
     let mut at = 0;
@@ -138,13 +140,13 @@ pub fn gets_of(alloc: Global, text: &[u8]) -> Result<Vec<Get<'_>>, Memory> {
     Ok(gets)
 }
 
-/// The index of the first source of this name.
+/// The index of the first source with this name.
 fn index_of(sources: &[Source<'_>], name: &[u8]) -> Option<usize> {
     sources.iter().position(|source| source.name == name)
 }
 
-/// The GETs that lead from the source `main` to the source `file`, the last one first; none where they are one, or no GET leads
-/// there. Memory is answered where a growth was refused.
+/// The GETs that lead from the source `main` to the source `file`, the last one first. Empty if both are the same, or
+/// no GET leads there. Returns `Memory` if an allocation fails.
 pub fn way_to(
     alloc: Global,
     sources: &[Source<'_>],

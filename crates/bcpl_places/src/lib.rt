@@ -1,5 +1,5 @@
-//! Where in the sources something stands, as people count: file, line and column, the line itself with a mark below it, and
-//! the GETs that led to the file.
+//! Places in the sources in human terms: file, line and column, the line itself with a mark below it, and the GETs that
+//! led to the file.
 #![tactic(auto)]
 
 mod excerpt;
@@ -12,7 +12,7 @@ pub use gets::{Get, gets_of, way_to};
 pub use line::{Line, line_at};
 pub use signs::column_at;
 
-/// A stretch of a source: the bytes from `start` up to `end`, `end` not among them.
+/// A stretch of a source: the bytes from `start` up to `end`, excluding `end`.
 #[derive(Clone, Copy, PartialEq, Eq)]
 pub struct Span {
     /// The index of the source.

@@ -1,7 +1,9 @@
+//! The line of an offset of a text.
+
 ghost use Rattle.std.specs.Prelude.{◌≡◌, ◌+◌, ◌≤◌, length, take};
 ghost use Rattle.bcpl_places.specs.Lines.{breaks};
 
-/// A line of a text, without the line feed that ends it and a carriage return before that.
+/// A line of a text, without the line feed at its end and a carriage return before that.
 #[derive(Clone, Copy)]
 pub struct Line {
     /// Its number, counted from 1.
@@ -20,7 +22,7 @@ fn count_breaks(bytes: &[u8]) -> usize
     bytes.iter().filter(|byte| **byte == b'\n').count()
 }
 
-/// The offset after the last line feed of these bytes; 0 where they have none.
+/// The offset after the last line feed of these bytes; 0 if there is none.
 fn line_start(bytes: &[u8]) -> usize
     ensures { result ≤ length bytes.now }
 {
@@ -30,7 +32,7 @@ fn line_start(bytes: &[u8]) -> usize
     }
 }
 
-/// The number of bytes before the first line feed, and of a carriage return before that.
+/// The number of bytes before the first line feed and a carriage return before that.
 fn rest_of_line(bytes: &[u8]) -> usize
     ensures { result ≤ length bytes.now }
 {
@@ -45,7 +47,7 @@ fn rest_of_line(bytes: &[u8]) -> usize
     }
 }
 
-/// The line on which the byte at this offset stands.
+/// The line that contains the byte at this offset, which is at most the length of the text.
 pub fn line_at(text: &[u8], at: usize) -> Line
     requires { at ≤ length text.now }
     ensures number { result.number ≡ 1 + breaks (take at text.now) }

@@ -1,3 +1,5 @@
+//! The characters that a terminal shows for a line, and the columns that they take.
+
 ghost use Rattle.std.specs.Prelude.{◌≡◌, ◌+◌, ◌≤◌, length, vec_len};
 
 use bc_word::Memory;
@@ -5,21 +7,22 @@ use bstr::decode_lossy;
 use std::alloc::Global;
 use unicode_width::UnicodeWidthChar;
 
-/// How far apart the places are to which a tab goes.
+/// The distance between tab stops, in columns.
 const TAB: usize = 8;
 
-/// What a terminal shows for some bytes of a line.
+/// A character that a terminal shows for some bytes of a line.
 #[derive(Clone, Copy)]
 pub struct Sign {
     /// The offset of its first byte in the line.
     pub at: usize,
-    /// What is shown.
+    /// The character shown.
     pub shown: char,
     /// How many columns it takes.
     pub width: usize,
 }
 
-/// What is shown for a character, and how many columns that takes: a control character is shown as the replacement sign.
+/// What is shown for a character, and how many columns that takes. A control character is shown as the replacement
+/// character.
 fn shown(character: char) -> (char, usize) {
     match character.width() {
         Some(width) if character >= ' ' => (character, width),
@@ -27,8 +30,8 @@ fn shown(character: char) -> (char, usize) {
     }
 }
 
-/// The signs of a line. A tab is shown as blanks up to the next column that is a multiple of eight, a byte that is no
-/// UTF-8 as one sign. Memory is answered where a growth was refused.
+/// The characters shown for a line. A tab is shown as spaces up to the next column that is a multiple of eight, and
+/// invalid UTF-8 as the replacement character. Returns `Memory` if an allocation fails.
 pub fn signs_of(alloc: Global, line: &[u8]) -> Result<Vec<Sign>, Memory> {
     let mut signs = Vec::new(alloc);
     let mut column: usize = 0;
@@ -58,8 +61,8 @@ pub fn signs_of(alloc: Global, line: &[u8]) -> Result<Vec<Sign>, Memory> {
     Ok(signs)
 }
 
-/// The column of the byte at this offset of a line, counted from 1, as a terminal shows the line. Memory is answered where
-/// a growth was refused.
+/// The column of the byte at this offset of a line, counted from 1, as a terminal shows the line. Returns `Memory` if
+/// an allocation fails.
 pub fn column_at(alloc: Global, line: &[u8], at: usize) -> Result<usize, Memory> {
     let at = at.min(line.len());
     let mut column: usize = 1;

@@ -1,3 +1,5 @@
+//! Messages where a certificate doesn't match the texts: where its code isn't in their segments.
+
 use crate::certificate::{Lined, lines_of};
 use crate::placed::{Placed, Text, is_byte};
 use crate::report::{Fill, Report};
@@ -8,7 +10,7 @@ use bc_text_items::{Item, Segment};
 use bc_word::Memory;
 use std::alloc::Global;
 
-/// A number of a certificate as an index; the greatest one where it is none.
+/// A number of a certificate as an index; the greatest index if it is 2^32 or more.
 fn as_index(number: u64) -> usize {
     if number < 4_294_967_296 {
         number as usize
@@ -17,7 +19,7 @@ fn as_index(number: u64) -> usize {
     }
 }
 
-/// How many items code takes.
+/// How many items a code takes.
 fn extent(code: &[Piece]) -> u64 {
     let mut count: u64 = 0;
     for piece in code {
@@ -29,18 +31,18 @@ fn extent(code: &[Piece]) -> u64 {
     count
 }
 
-/// Where items have another one than the code.
+/// A difference between items and code.
 #[derive(Clone, Copy)]
 struct Other<'a> {
-    /// The index of the piece.
+    /// The index of the piece in the code.
     piece: usize,
-    /// The index of the item.
+    /// The index of the item in the segment.
     item: usize,
     /// The item that the code has there.
     wanted: &'a Item,
 }
 
-/// Whether this item stands there.
+/// Whether the item at an index is this one.
 fn has(items: &[Item], at: usize, wanted: &Item) -> bool {
     match items.get(at) {
         Some(found) => *found == *wanted,
@@ -48,7 +50,7 @@ fn has(items: &[Item], at: usize, wanted: &Item) -> bool {
     }
 }
 
-/// Where code and items differ first.
+/// The first difference between code and items.
 fn difference<'a>(judged: &'a Judged, items: &[Item]) -> Option<Other<'a>> {
     let mut at = as_index(judged.item);
     for (index, piece) in judged.code.iter().enumerate() {
@@ -77,13 +79,13 @@ struct At<'a> {
 }
 
 impl<'a> At<'a> {
-    /// Where the `E` line of the entry stands.
+    /// The `E` line of the entry.
     fn head(&self) -> Option<Placed<'a>> {
         let index = self.lined.entry_index(self.entry)?;
         Some(self.lined.place(index))
     }
 
-    /// Where the piece with this index of the entry's code line stands.
+    /// The piece with this index on the entry's code line.
     fn piece(&self, piece: usize) -> Option<Placed<'a>> {
         let first = self.lined.entry_index(self.entry)?;
         for index in first..self.lined.lines.len() {
@@ -95,7 +97,7 @@ impl<'a> At<'a> {
     }
 }
 
-/// Adds where the text has another item than the code.
+/// Adds the item of the text that differs from the code.
 fn add_item(
     report: &mut Report,
     placed: Placed<'_>,
@@ -105,7 +107,7 @@ fn add_item(
 ) -> Result<(), Memory> {
     report.place(
         placed,
-        "item {} of segment {} is {} by entry {} of the certificate",
+        "item {} of segment {} should be {} by entry {} of the certificate",
         &[
             Fill::Number(other.item as u128),
             Fill::Number(segment as u128),
@@ -115,17 +117,17 @@ fn add_item(
     )
 }
 
-/// Adds where the certificate says what the text doesn't have, and what to do.
+/// Adds the piece of the certificate that isn't in the text, and what to do.
 fn add_piece(report: &mut Report, piece: Option<Placed<'_>>) -> Result<(), Memory> {
     if let Some(placed) = piece {
         report.note(placed, "the certificate says so here")?;
     }
     report.help(
-        "build both anew, by one build; the texts come in the order in which the certificate numbers their segments",
+        "build both again in one build; give the texts in the order in which the certificate numbers their segments",
     )
 }
 
-/// Adds what is said of code that is not in the text.
+/// Describes code that isn't in the text.
 fn code_differs(
     report: &mut Report,
     at: At<'_>,
@@ -143,10 +145,10 @@ fn code_differs(
     add_piece(report, at.piece(other.piece))
 }
 
-/// What to do where an entry's code lies in no segment.
-const ALL_TEXTS: &str = "name all texts of the build, and none of another one";
+/// The help where an entry's code is in no segment.
+const ALL_TEXTS: &str = "name all texts of the build, and no others";
 
-/// Adds what is said of an entry whose code goes beyond its segment, which has so many items.
+/// Describes an entry whose code extends past its segment, which has `items` items.
 fn beyond(
     report: &mut Report,
     placed: Placed<'_>,
@@ -156,7 +158,7 @@ fn beyond(
     let count = extent(judged.code.as_slice());
     report.fault(
         placed,
-        "the code of this entry takes {} items from item {} on, and segment {} has {}",
+        "the code of this entry takes {} items from item {} on, but segment {} has only {}",
         &[
             Fill::Number(u128::from(count)),
             Fill::Number(u128::from(judged.item)),
@@ -167,7 +169,7 @@ fn beyond(
     )
 }
 
-/// Adds what is said of an entry whose segment is none of so many.
+/// Describes an entry whose segment doesn't exist; there are `count` segments.
 fn elsewhere(
     report: &mut Report,
     placed: Placed<'_>,
@@ -176,7 +178,7 @@ fn elsewhere(
 ) -> Result<(), Memory> {
     report.fault(
         placed,
-        "this entry stands in segment {}, and the texts have {}, counted from 0",
+        "this entry is for segment {}, counted from 0, but the number of segments is {}",
         &[
             Fill::Number(u128::from(segment)),
             Fill::Number(count as u128),
@@ -185,7 +187,7 @@ fn elsewhere(
     )
 }
 
-/// Adds what is said of an entry whose code lies in no segment.
+/// Describes an entry whose code is in no segment.
 fn outside(
     report: &mut Report,
     placed: Placed<'_>,
@@ -198,10 +200,11 @@ fn outside(
     }
 }
 
-/// Adds what is said of an entry that stands before the one before it.
+/// Describes an entry that is out of order.
 fn disordered(report: &mut Report, at: At<'_>) -> Result<(), Memory> {
     if let Some(placed) = at.head() {
-        let sentence = "by segment and item this entry stands in front of the one before it";
+        let sentence =
+            "this entry is out of order: its segment and item come before those of the previous entry";
         report.place(placed, sentence, &[])?;
     }
     let before = At {
@@ -209,12 +212,12 @@ fn disordered(report: &mut Report, at: At<'_>) -> Result<(), Memory> {
         entry: at.entry.saturating_sub(1),
     };
     match before.head() {
-        Some(placed) => report.note(placed, "the one before it"),
+        Some(placed) => report.note(placed, "the previous entry"),
         None => Ok(()),
     }
 }
 
-/// Adds what is said of a mismatch at this entry; nothing where nothing more is known.
+/// Describes a mismatch at this entry. Adds nothing if nothing more is known.
 fn add_mismatch(
     report: &mut Report,
     at: At<'_>,
@@ -236,7 +239,7 @@ fn add_mismatch(
     }
 }
 
-/// Adds what is said of a mismatch of a certificate.
+/// Describes a mismatch of a certificate.
 fn add_entry(
     report: &mut Report,
     certificate: Text<'_>,
@@ -259,8 +262,8 @@ fn add_entry(
     }
 }
 
-/// The lines on a certificate whose code the texts, with these segments, don't have: what the text has, and what the certificate says.
-/// Memory is answered where a growth was refused.
+/// The lines on a certificate whose code isn't in the texts, which have these segments: what the text has, and what the
+/// certificate says. Returns `Memory` if an allocation fails.
 pub fn against_lines(
     alloc: Global,
     certificate: Text<'_>,

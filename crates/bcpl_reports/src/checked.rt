@@ -1,3 +1,5 @@
+//! Messages for certificates that the checker refuses.
+
 use crate::certificate::{Entry, Lined, head_of, lines_of, node_lines};
 use crate::codes::wrong_code;
 use crate::costs::wrong_cost;
@@ -5,44 +7,43 @@ use crate::placed::{Placed, Text};
 use crate::report::{Fill, Report};
 use crate::rules::wrong_rule;
 use bc_cert_defs::CheckFault;
-use bc_cert_read::{end_line, node_line, root_line};
-use bc_cert_read::Stack;
+use bc_cert_read::{Stack, end_line, node_line, root_line};
 use bc_word::Memory;
 use std::alloc::Global;
 
-/// What to do about a line that is not of its form.
-const FORMS: &str = "docs/certificate.md has the form of each line";
+/// The help for a malformed line.
+const FORMS: &str = "docs/certificate.md describes the form of each line";
 
-/// What may stand at a line after another one, and what is wrong with it, where these are always the same words.
+/// What is wrong with a line after another one, where a fixed sentence says it.
 fn fixed_sentence(before: &[u8], line: &[u8]) -> Option<&'static str> {
     match before.first() {
         Some(b'B' | b'C') if end_line(line).is_some() => {
-            Some("the number of the end line is not that of the entries")
+            Some("the number on the end line is not the number of entries")
         }
         Some(b'B' | b'C') => Some(
-            "an entry, `E segment item target first words`, or the end, `Z entries`, is wanted here",
+            "expected an entry, `E segment item target first words`, or the end line, `Z entries`",
         ),
-        Some(b'R') => Some("a code line is wanted here: `C`, then a field for each piece"),
-        Some(b'Z') => Some("nothing may stand behind the end line"),
+        Some(b'R') => Some("expected a code line: `C`, then a field for each piece"),
+        Some(b'Z') => Some("nothing may follow the end line"),
         _ => None,
     }
 }
 
-/// What is wrong with a line where a node line or a root line is wanted, and this is no node line.
+/// What is wrong with a line that isn't a node line, where a node line or a root line is expected.
 fn no_node(line: &[u8]) -> &'static str {
     if root_line(line).is_some() {
-        "a root line wants one tree in front of it, or two for an assignment, at its level"
+        "a root line needs one tree before it, or two for an assignment, at its level"
     } else {
-        "a node line, `level form any push false true rules`, or a root line, `R ..`, is wanted here"
+        "expected a node line, `level form any push false true rules`, or a root line, `R ..`"
     }
 }
 
-/// Adds what is said of a line where a node line or a root line is wanted.
+/// Describes a line where a node line or a root line is expected.
 fn add_no_node(report: &mut Report, placed: Placed<'_>, line: &[u8]) -> Result<(), Memory> {
     match node_line(line) {
         Some(node) => report.fault(
             placed,
-            "in front of a node stand the trees of its parts, each at its level, and here they don't; the parts of this node: {}",
+            "the trees of a node's parts, each at its level, must come before it, and here they don't; this node's number of parts: {}",
             &[Fill::Number(node.form.parts() as u128)],
             FORMS,
         ),
@@ -50,7 +51,7 @@ fn add_no_node(report: &mut Report, placed: Placed<'_>, line: &[u8]) -> Result<(
     }
 }
 
-/// Adds what may stand at a line, and what is wrong with this one.
+/// Describes a line that is wrong where it is.
 fn wrong_line(report: &mut Report, lined: Lined<'_>, index: usize) -> Result<(), Memory> {
     let line = lined.line(index);
     match fixed_sentence(lined.line_before(index), line) {
@@ -59,7 +60,7 @@ fn wrong_line(report: &mut Report, lined: Lined<'_>, index: usize) -> Result<(),
     }
 }
 
-/// A line's number as an index.
+/// A line's number as an index; 0 if it is none.
 fn index_of(line: u64) -> usize {
     if line > 0 && line < 4_294_967_296 {
         (line - 1) as usize
@@ -77,7 +78,7 @@ fn node_index(node: u64) -> usize {
     }
 }
 
-/// Adds what is said of a fault of an entry.
+/// Describes a fault of an entry.
 fn at_entry(
     report: &mut Report,
     trees: &mut Stack,
@@ -93,7 +94,7 @@ fn at_entry(
     }
 }
 
-/// Adds what is said of a fault of the entry with this number.
+/// Describes a fault of the entry with this number.
 fn in_entry(
     report: &mut Report,
     lined: Lined<'_>,
@@ -118,27 +119,27 @@ fn in_entry(
     at_entry(report, &mut trees, &entry, fault)
 }
 
-/// Adds what is said of a fault; nothing where nothing more is known.
+/// Describes a fault. Adds nothing if nothing more is known.
 fn add_fault(report: &mut Report, lined: Lined<'_>, fault: CheckFault) -> Result<(), Memory> {
     match fault {
         CheckFault::Header => report.fault(
             lined.place(0),
-            "the first line of a certificate is `BCPLCERT 2`, or `BCPLCERT 1` for the first rule table",
+            "the first line of a certificate must be `BCPLCERT 2`, or `BCPLCERT 1` for the first rule table",
             &[],
-            "the certificate comes in front of the texts: bcpl check CERT TEXT",
+            "name the certificate before the texts: bcpl check CERT TEXT",
         ),
         CheckFault::Line(line) => wrong_line(report, lined, index_of(line)),
         CheckFault::Truncated => report.fault(
             lined.place(lined.lines.len().saturating_sub(1)),
-            "the certificate ends with this line, which is not its end line, or has no line feed",
+            "the certificate ends with this line, which is not its end line or has no line feed",
             &[],
-            "the last line is `Z` and the number of the entries; perhaps the end of the file is lost",
+            "the last line must be `Z` and the number of entries; perhaps the end of the file is missing",
         ),
         CheckFault::TooDeep(line) => report.fault(
             lined.place(index_of(line)),
-            "more than 400 nodes stand one within another up to this one",
+            "the nesting is too deep: more than 400 nodes inside one another up to this one",
             &[],
-            "no build makes such a tree: the parser refuses it",
+            "no build makes such a tree, since the parser refuses it",
         ),
         CheckFault::WrongCost(entry, _)
         | CheckFault::WrongRule(entry, _)
@@ -148,7 +149,7 @@ fn add_fault(report: &mut Report, lined: Lined<'_>, fault: CheckFault) -> Result
     }
 }
 
-/// Adds what is said of a fault of this certificate.
+/// Describes a fault of this certificate.
 fn add_check(report: &mut Report, text: Text<'_>, fault: CheckFault) -> Result<(), Memory> {
     let lines = lines_of(report.alloc(), text.bytes)?;
     let lined = Lined {
@@ -158,8 +159,8 @@ fn add_check(report: &mut Report, text: Text<'_>, fault: CheckFault) -> Result<(
     add_fault(report, lined, fault)
 }
 
-/// The lines on the refusal of a certificate: its line, what stands there and what should. None where nothing more is known. Memory is
-/// answered where a growth was refused.
+/// The lines on the refusal of a certificate: its line, what is there and what should be. Empty if nothing more is
+/// known. Returns `Memory` if an allocation fails.
 pub fn check_lines(alloc: Global, text: Text<'_>, fault: CheckFault) -> Result<String, Memory> {
     let mut report = Report::new(alloc);
     add_check(&mut report, text, fault)?;

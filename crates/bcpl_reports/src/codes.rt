@@ -1,15 +1,16 @@
+//! Explains code of a certificate, or its number of words, that isn't that of its derivation.
+
 use crate::certificate::Entry;
 use crate::derived::rooted_of;
 use crate::fields::piece_text;
 use crate::placed::Placed;
 use crate::report::{Fill, Report};
-use bc_cert_read::{RootLine, code_line};
-use bc_cert_read::{Rooted, Stack};
+use bc_cert_read::{RootLine, Rooted, Stack, code_line};
 use bc_rules::{code_of, next_label, words};
 use bc_rules_defs::Piece;
 use bc_word::Memory;
 
-/// Whether two pieces are alike, whatever a body has.
+/// Whether two pieces are equal, disregarding the contents of bodies.
 fn are_alike(piece: &Piece, other: &Piece) -> bool {
     match (piece, other) {
         (Piece::Item(one), Piece::Item(other)) => one == other,
@@ -30,16 +31,16 @@ fn first_difference(code: &[Piece], right: &[Piece]) -> usize {
     index
 }
 
-/// Adds the code of the rules as a certificate's line has it.
+/// Adds the right code as a certificate's line would have it.
 fn add_whole(report: &mut Report, right: &[Piece]) -> Result<(), Memory> {
-    report.text("  the whole of it: C")?;
+    report.text("  the whole code: C")?;
     for piece in right {
         report.say(" {}", &[piece_text(piece)])?;
     }
     report.text("\n")
 }
 
-/// Adds where code is another one than that of the rules, which has this piece there.
+/// Adds the place where the code differs; `right` is the right piece there.
 fn add_difference(
     report: &mut Report,
     placed: Placed<'_>,
@@ -51,11 +52,11 @@ fn add_difference(
             "the code of these rules has {} here",
             &[piece_text(piece)],
         ),
-        None => report.place(placed, "the code of these rules ends in front of this", &[]),
+        None => report.place(placed, "the code of these rules ends before this", &[]),
     }
 }
 
-/// Adds what is said of code that is not that of the derivation.
+/// Describes code that isn't that of the derivation.
 fn add_code(report: &mut Report, entry: &Entry<'_>, right: &[Piece]) -> Result<(), Memory> {
     let index = entry.root_index().saturating_add(1);
     let Some(code) = code_line(report.alloc(), entry.lined.line(index))? else {
@@ -67,11 +68,11 @@ fn add_code(report: &mut Report, entry: &Entry<'_>, right: &[Piece]) -> Result<(
     add_whole(report, right)
 }
 
-/// Adds what is said of a number of words that is not that of the code, which has so many.
+/// Describes a wrong number of words; the code has `count`.
 fn add_words(report: &mut Report, entry: &Entry<'_>, count: u64) -> Result<(), Memory> {
     report.place(
         entry.lined.field(entry.index, 5),
-        "the code has {} words, and {} stands here",
+        "the code has {} words, but {} is written here",
         &[
             Fill::Number(u128::from(count)),
             Fill::Number(u128::from(entry.head.words)),
@@ -79,7 +80,7 @@ fn add_words(report: &mut Report, entry: &Entry<'_>, count: u64) -> Result<(), M
     )
 }
 
-/// Adds what is said of the code of a root, or of its number of words.
+/// Describes wrong code of a root, or its wrong number of words.
 fn add_wrong(
     report: &mut Report,
     entry: &Entry<'_>,
@@ -101,18 +102,18 @@ fn add_wrong(
     }
 }
 
-/// Adds that the labels of a derivation would be too great.
+/// Describes a derivation whose labels would be too large.
 fn add_labels(report: &mut Report, entry: &Entry<'_>) -> Result<(), Memory> {
-    let sentence = "the labels of the derivation would go over 65535, from this first one on";
+    let sentence = "with this first label, the labels of the derivation would exceed 65535";
     report.place(entry.lined.field(entry.index, 4), sentence, &[])
 }
 
-/// Whether the labels of a root's derivation are too great.
+/// Whether the labels of a root's derivation are too large.
 fn goes_over(entry: &Entry<'_>, rooted: &Rooted) -> bool {
     next_label(&rooted.root, &rooted.derivation, entry.head.first).is_none()
 }
 
-/// Adds what is said of a root's code that is not that of the derivation, or of a number of words that is not that of the code.
+/// Describes wrong code or a wrong number of words for this root line.
 fn add_rooted(
     report: &mut Report,
     trees: &mut Stack,
@@ -127,8 +128,8 @@ fn add_rooted(
     }
 }
 
-/// Adds what is said of code that is not that of the derivation, or of a number of words that is not that of the code. Memory is answered
-/// where a growth was refused.
+/// Describes an entry whose code isn't that of the derivation or, if `is_of_words`, whose number of words isn't that of
+/// the code. Returns `Memory` if an allocation fails.
 pub fn wrong_code(
     report: &mut Report,
     trees: &mut Stack,

@@ -1,19 +1,20 @@
+//! Explains a node of a certificate whose least words are wrong.
+
 use crate::certificate::Entry;
 use crate::least::least_of;
 use crate::report::{Fill, Report};
-use bc_cert_read::NodeLine;
-use bc_cert_read::LeastWords;
+use bc_cert_read::{LeastWords, NodeLine};
 use bc_word::Memory;
 
-/// What the numbers of a node line are of, in their order.
+/// What the numbers of a node line are for, in their order.
 const NUMBERS: [&str; 4] = [
-    "of the value",
-    "of the value where B becomes what A was",
-    "of a test that jumps on false",
-    "of a test that jumps on true",
+    "for the value",
+    "for the value with A's old value left in B",
+    "for a test that jumps on false",
+    "for a test that jumps on true",
 ];
 
-/// A number of a node line: which one it is, by its index, the least one, and the one that stands there.
+/// A number of a node line: its index among the four, the right number, and the written one.
 #[derive(Clone, Copy)]
 struct NodeNumber {
     index: usize,
@@ -51,7 +52,7 @@ fn wrong_number(least: &LeastWords, line: &NodeLine) -> Option<NodeNumber> {
     None
 }
 
-/// How many words, with a sign where there is no number.
+/// A number of words; `-` where the node has none.
 fn words(number: Option<u128>) -> Fill<'static> {
     match number {
         Some(number) => Fill::Number(number),
@@ -59,7 +60,7 @@ fn words(number: Option<u128>) -> Fill<'static> {
     }
 }
 
-/// Adds what is said of a number of a node that is not the least.
+/// Adds the sentence on a wrong number of a node.
 fn add_wrong(
     report: &mut Report,
     entry: &Entry<'_>,
@@ -67,9 +68,9 @@ fn add_wrong(
     wrong: NodeNumber,
 ) -> Result<(), Memory> {
     let sentence = if wrong.right.is_some() {
-        "the least words {} are {} by the parts, and {} stands here"
+        "the least words {} are {} according to its parts, but {} is written here"
     } else {
-        "no code {} can be made from the parts, so {} is to stand here, and {} stands here"
+        "no code {} can be made from the parts, so this must be {}, but {} is written here"
     };
     let what = NUMBERS.get(wrong.index).copied().unwrap_or("");
     let field = wrong.index.saturating_add(2);
@@ -80,7 +81,7 @@ fn add_wrong(
     )
 }
 
-/// The first number of a node that is not the least; none where that isn't known.
+/// The first wrong number of a node; `None` if it can't be computed.
 fn wrong_at(report: &Report, entry: &Entry<'_>, node: usize) -> Result<Option<NodeNumber>, Memory> {
     let nodes = entry.nodes.get(..node.saturating_add(1)).unwrap_or(&[]);
     let least = least_of(report.alloc(), entry.table, nodes)?;
@@ -90,7 +91,7 @@ fn wrong_at(report: &Report, entry: &Entry<'_>, node: usize) -> Result<Option<No
     })
 }
 
-/// Adds what is said of a number of a node that is not the least. Memory is answered where a growth was refused.
+/// Adds the sentence on a wrong number of a node. Returns `Memory` if an allocation fails.
 pub fn wrong_cost(report: &mut Report, entry: &Entry<'_>, node: usize) -> Result<(), Memory> {
     match wrong_at(report, entry, node)? {
         Some(wrong) => add_wrong(report, entry, node, wrong),

@@ -1,22 +1,23 @@
+//! Runs the checker's stack of trees over the nodes of one entry, to try other rules and roots.
+
 ghost use Rattle.std.specs.Prelude.{OnOk};
 ghost use Rattle.bc_cert_read.specs.Stacks.{AreParallel};
 ghost use Rattle.bc_cert_read.specs.TreeView.{stack};
 
 use bc_cert_defs::CheckFault;
-use bc_cert_read::{NodeLine, RootLine};
-use bc_cert_read::{Position, Rooted, Stack};
+use bc_cert_read::{NodeLine, Position, RootLine, Rooted, Stack};
 use bc_rules_defs::Table;
 use bc_word::Memory;
 use std::alloc::Global;
 
-/// A place of which nothing is told.
+/// The position for faults that are not reported.
 const NOWHERE: Position = Position {
     line: 0,
     entry: 0,
     node: 0,
 };
 
-/// Puts the trees of these nodes, as the checker judges them, in place of all trees.
+/// Replaces all trees by those of these nodes, as the checker judges them.
 fn trees_of(
     trees: &mut Stack,
     alloc: Global,
@@ -32,7 +33,7 @@ fn trees_of(
     Ok(())
 }
 
-/// What the checker says of a node after these.
+/// The checker's judgement of a node after these.
 fn judged(
     trees: &mut Stack,
     alloc: Global,
@@ -44,7 +45,7 @@ fn judged(
     trees.node(alloc, table, last, NOWHERE)
 }
 
-/// Whether the checker takes a node after these.
+/// Whether the checker accepts a node after these. Returns `Memory` if an allocation fails.
 pub fn takes(
     trees: &mut Stack,
     alloc: Global,
@@ -59,7 +60,7 @@ pub fn takes(
     }
 }
 
-/// What the checker says of a root of these nodes.
+/// The checker's judgement of a root over these nodes.
 fn judged_root(
     trees: &mut Stack,
     alloc: Global,
@@ -71,7 +72,7 @@ fn judged_root(
     trees.root(alloc, root, NOWHERE)
 }
 
-/// The root of these nodes, where the checker takes it.
+/// The root of these nodes, if the checker accepts it. Returns `Memory` if an allocation fails.
 pub fn rooted_of(
     trees: &mut Stack,
     alloc: Global,

@@ -1,3 +1,5 @@
+//! Messages for runs that ended otherwise than by finishing.
+
 use crate::instruction::instruction;
 use crate::placed::{Placed, Text};
 use crate::report::{Fill, Report};
@@ -11,7 +13,7 @@ use std::alloc::Global;
 /// The global that a run calls first, START.
 const START: u16 = 1;
 
-/// Where a run stood when it ended.
+/// The state of a run when it ended.
 #[derive(Clone, Copy)]
 pub struct Stop {
     /// How it ended.
@@ -20,22 +22,22 @@ pub struct Stop {
     pub address: u16,
     /// The word at that address, and the one after it.
     pub words: (u16, u16),
-    /// How many instructions it was given.
+    /// The limit on its instructions.
     pub steps: u64,
 }
 
-/// What stands at an address: the segment, the item, and how far the nearest label and routine are before it.
+/// What is at an address: the segment, the item, and the nearest label and routine before it.
 #[derive(Clone, Copy)]
 struct Spot {
     segment: usize,
     item: usize,
-    /// A label, and how many words it is before the address.
+    /// A label, and its distance in words.
     label: Option<(u16, usize)>,
-    /// The number of a global, and how many words its routine begins before the address.
+    /// The number of a global, and the distance in words from the beginning of its routine.
     routine: Option<(u16, usize)>,
 }
 
-/// The nearer one of two that stand before an address.
+/// The nearer one of two that are before an address.
 fn nearer(best: Option<(u16, usize)>, number: u16, distance: usize) -> Option<(u16, usize)> {
     match best {
         Some((_, least)) if least <= distance => best,
@@ -55,7 +57,7 @@ fn label_address(items: &[Item], addresses: &[usize], wanted: u16) -> Option<usi
     None
 }
 
-/// Where the routine begins that a global is set to, and the global's number.
+/// The number of the global that an item sets, and the address of its routine.
 fn routine_of(item: &Item, items: &[Item], addresses: &[usize]) -> Option<(u16, usize)> {
     match item {
         Item::Global { number, label } => {
@@ -67,7 +69,7 @@ fn routine_of(item: &Item, items: &[Item], addresses: &[usize]) -> Option<(u16, 
 }
 
 impl Spot {
-    /// Takes along an item that stands at an address which is not after that of the spot, but so many words before it.
+    /// Records an item that is `distance` words before the spot's address, or at it.
     fn pass(&mut self, index: usize, item: &Item, distance: usize) {
         match item {
             Item::Label(label) => self.label = nearer(self.label, label.get(), distance),
@@ -77,7 +79,7 @@ impl Spot {
     }
 }
 
-/// What stands at an address of a segment whose items have these addresses.
+/// The spot of an address in a segment whose items have these addresses.
 fn spot_in(segment: usize, items: &[Item], addresses: &[usize], address: usize) -> Spot {
     let mut spot = Spot {
         segment,
@@ -99,7 +101,7 @@ fn spot_in(segment: usize, items: &[Item], addresses: &[usize], address: usize) 
     spot
 }
 
-/// What stands at an address, where this segment, which begins at `start`, has a word there.
+/// The spot of an address, if it is in this segment, which begins at `start`.
 fn spot_of(
     alloc: Global,
     number: usize,
@@ -115,7 +117,7 @@ fn spot_of(
     }
 }
 
-/// What stands at an address; none where no segment's word does.
+/// The spot of an address; `None` if it is in no segment.
 fn spot_at(
     alloc: Global,
     segments: &[Segment],
@@ -135,22 +137,22 @@ fn spot_at(
     Ok(None)
 }
 
-/// What is said of the address itself, with a place for the number of a global.
+/// The sentence on an address, with a `{}` for it, and perhaps one for the number of a global.
 fn address_sentence(image: &Image, spot: Option<Spot>, address: u16) -> &'static str {
     match spot {
         Some(spot) if spot.segment == 0 => "the address {}, in the primitives",
         Some(_) => "the address {}",
         None if address >= image.stack_base.get() => {
-            "the address {}, in the stack, where no code stands"
+            "the address {}, in the stack, where there is no code"
         }
         None if address >= 8 && address < 520 => {
-            "the address {}, the cell of the global {}, where no code stands"
+            "the address {}, the cell of the global {}, where there is no code"
         }
-        None => "the address {}, in front of all code",
+        None => "the address {}, before all code",
     }
 }
 
-/// Adds what is said of an address; `sentence` says of which kind it is.
+/// Adds an address by its sentence.
 fn add_address(report: &mut Report, address: u16, sentence: &str) -> Result<(), Memory> {
     let global = address.saturating_sub(8);
     report.say(
@@ -162,16 +164,16 @@ fn add_address(report: &mut Report, address: u16, sentence: &str) -> Result<(), 
     )
 }
 
-/// Adds what is said of the end of a run before its address.
+/// Adds how a run ended, up to its address.
 fn add_end(report: &mut Report, stop: &Stop) -> Result<(), Memory> {
     match stop.end {
         End::ZeroDivide => report.text("a division or a remainder by 0, at "),
         End::BadInstruction(_) => report.say(
-            "the word {} is no instruction, at ",
+            "the word {} is not an instruction, at ",
             &[Fill::Number(u128::from(stop.words.0))],
         ),
         End::BudgetSpent => report.say(
-            "{} instructions were carried out; the next one stands at ",
+            "{} instructions were executed; the next one is at ",
             &[Fill::Number(u128::from(stop.steps))],
         ),
         End::Device => report.text("an input or an output failed, at "),
@@ -179,13 +181,13 @@ fn add_end(report: &mut Report, stop: &Stop) -> Result<(), Memory> {
     }
 }
 
-/// Adds what the word is, as an instruction, at which a run ended.
+/// Adds the instruction as which the word at the end of a run would be decoded.
 fn add_instruction(report: &mut Report, words: (u16, u16)) -> Result<(), Memory> {
     let (word, following) = words;
-    report.say(": it says {}{}{}", &instruction(word, following))
+    report.say(": it decodes as {}{}{}", &instruction(word, following))
 }
 
-/// Adds what is said of the end of a run, given what is said of its address.
+/// Adds how a run ended, with the sentence on its address.
 fn add_sentence(report: &mut Report, stop: &Stop, address: &str) -> Result<(), Memory> {
     add_end(report, stop)?;
     match stop.end {
@@ -195,7 +197,7 @@ fn add_sentence(report: &mut Report, stop: &Stop, address: &str) -> Result<(), M
     }
 }
 
-/// Adds at which address a word stands that is no instruction, and what it is.
+/// Adds the address of a word that isn't an instruction, and how the word would be decoded.
 fn add_bad_instruction(report: &mut Report, stop: &Stop, address: &str) -> Result<(), Memory> {
     add_address(report, stop.address, address)?;
     add_instruction(report, stop.words)
@@ -205,32 +207,32 @@ fn add_bad_instruction(report: &mut Report, stop: &Stop, address: &str) -> Resul
 fn help_for(stop: &Stop, is_code: bool) -> Option<&'static str> {
     match stop.end {
         End::BudgetSpent => Some(
-            "give it more by --steps, or look for a loop or for calls without end",
+            "allow more with --steps, or look for an endless loop or endless calls",
         ),
         End::BadInstruction(_) if is_code => Some(
-            "code was overwritten by an index out of its vector, or a jump went into a table, a string or the middle of an instruction",
+            "code was overwritten through an index outside its vector, or a jump went into a table, a string or the middle of an instruction",
         ),
         End::BadInstruction(_) => Some(
-            "something was called, or jumped to, that is no routine: a global or a variable that nothing has set, perhaps",
+            "something was called or jumped to that is not a routine, perhaps a global or a variable that was never set",
         ),
-        End::ZeroDivide => Some("test the divisor in front of the division"),
+        End::ZeroDivide => Some("test the divisor before the division"),
         End::Device | End::Finished => None,
     }
 }
 
-/// What so many words are called.
+/// The unit for this number of words.
 fn unit(words: usize) -> Fill<'static> {
     Fill::Text(if words == 1 { "word" } else { "words" })
 }
 
-/// Adds which routine stands before a spot.
+/// Adds the nearest routine before a spot.
 fn add_routine(report: &mut Report, global: u16, distance: usize) -> Result<(), Memory> {
     let (comma, name) = match library_name(global) {
         Some(name) => (", ", name),
         None => ("", ""),
     };
     report.line(
-        "  the nearest routine of a global in front of it is that of {}{}{}, which begins {} {} before",
+        "  the nearest routine of a global before it is that of global {}{}{}, which begins {} {} earlier",
         &[
             Fill::Number(u128::from(global)),
             Fill::Text(comma),
@@ -241,10 +243,10 @@ fn add_routine(report: &mut Report, global: u16, distance: usize) -> Result<(), 
     )
 }
 
-/// Adds which label stands before a spot.
+/// Adds the nearest label before a spot.
 fn add_label(report: &mut Report, label: u16, distance: usize) -> Result<(), Memory> {
     report.line(
-        "  the nearest label in front of it is {}, {} {} before",
+        "  the nearest label before it is {}, {} {} earlier",
         &[
             Fill::Number(u128::from(label)),
             Fill::Number(distance as u128),
@@ -253,7 +255,7 @@ fn add_label(report: &mut Report, label: u16, distance: usize) -> Result<(), Mem
     )
 }
 
-/// Adds which routine and label stand before a spot.
+/// Adds the nearest routine and label before a spot.
 fn add_nearest(report: &mut Report, spot: Spot) -> Result<(), Memory> {
     if let Some((global, distance)) = spot.routine {
         add_routine(report, global, distance)?;
@@ -264,7 +266,7 @@ fn add_nearest(report: &mut Report, spot: Spot) -> Result<(), Memory> {
     }
 }
 
-/// Where the item at which a run ended stands in its text.
+/// The place in its text of the item at which a run ended.
 fn place_of<'a>(texts: &[Text<'a>], spot: Option<Spot>) -> Option<Placed<'a>> {
     let spot = spot?;
     if spot.segment == 0 {
@@ -273,7 +275,7 @@ fn place_of<'a>(texts: &[Text<'a>], spot: Option<Spot>) -> Option<Placed<'a>> {
     item_at(texts, spot.segment - 1, spot.item)
 }
 
-/// Adds how a run ended, at a place of its text or, where it is in none, in a line.
+/// Adds how a run ended: at a place of its text, or as a line if there is none.
 fn add_ended(
     report: &mut Report,
     stop: &Stop,
@@ -290,7 +292,7 @@ fn add_ended(
     }
 }
 
-/// Adds what stands before the spot at which a run ended, and what to do.
+/// Adds the nearest routine and label, and what to do.
 fn add_advice(report: &mut Report, stop: &Stop, spot: Option<Spot>) -> Result<(), Memory> {
     if let Some(spot) = spot {
         add_nearest(report, spot)?;
@@ -314,7 +316,7 @@ fn sets_start(segments: &[Segment]) -> bool {
 fn add_no_start(report: &mut Report) -> Result<(), Memory> {
     report.text("  nothing sets global 1, so there is no START to run\n")?;
     report.help(
-        "a run begins with START, in capitals: GET \"LIBHDR\", and declare it by LET START() BE ..; or was the text left out that has it?",
+        "a run begins with START, in upper case; write GET \"LIBHDR\" and LET START() BE .., or add the text that has it",
     )
 }
 
@@ -330,9 +332,9 @@ fn add_stop(
     add_ended(report, stop, address, place_of(texts, spot))
 }
 
-/// The lines on a run that ended otherwise than by finishing: the item at which it ended, in its text, and the routine; or, where no
-/// segment sets global 1, that there is no START. The segments are those of the texts after the primitives, and the image is theirs.
-/// Memory is answered where a growth was refused.
+/// The lines on a run that ended otherwise than by finishing: the item at which it ended, in its text, and the routine;
+/// or that there is no START, if no segment sets global 1. The segments are the primitives followed by those of the
+/// texts, and the image is theirs. Returns `Memory` if an allocation fails.
 pub fn ended_lines(
     alloc: Global,
     texts: &[Text<'_>],

@@ -1,8 +1,11 @@
+//! Fields of a certificate's lines.
+
 use crate::placed::{Stretch, is_byte};
 use crate::report::Fill;
 use bc_rules_defs::Piece;
 
-/// The stretch of the field with this index of a line, fields being separated by a blank; where there is none, after the line.
+/// The stretch of the field with this index in a line whose fields are separated by a space. If there is no such field,
+/// the byte after the line.
 pub fn field_of(bytes: &[u8], line: Stretch, index: usize) -> Stretch {
     let mut left = index;
     let mut start = line.start;
@@ -28,7 +31,7 @@ pub fn field_of(bytes: &[u8], line: Stretch, index: usize) -> Stretch {
     }
 }
 
-/// A piece as a certificate has it: a body has the sign `?`.
+/// A piece as a certificate writes it; a body is written `?`.
 pub fn piece_text(piece: &Piece) -> Fill<'_> {
     match piece {
         Piece::Item(item) => Fill::Item(item),

@@ -1,11 +1,12 @@
-use bc_cert_read::NodeLine;
-use bc_cert_read::{Facts, Form, LeastWords, Node, words_as_operand};
+//! The least words of a certificate's node, computed from the lines before it.
+
+use bc_cert_read::{Facts, Form, LeastWords, Node, NodeLine, words_as_operand};
 use bc_core::CoreExp;
 use bc_rules_defs::Table;
 use bc_word::{Memory, Op};
 use std::alloc::Global;
 
-/// The expression of a node without parts. For any other node a VALOF, which is no operand, either.
+/// The expression of a node without parts. For any other node it is a VALOF, which can't be an operand either.
 fn leaf(form: Form) -> CoreExp {
     match form {
         Form::Num(n) => CoreExp::Num(n),
@@ -21,13 +22,14 @@ fn boxed(alloc: Global, form: Form) -> Result<Box<CoreExp>, Memory> {
     Ok(Box::new(alloc, leaf(form))?)
 }
 
-/// A sum of two nodes without parts.
+/// The sum of two nodes without parts.
 fn sum(alloc: Global, left: Form, right: Form) -> Result<CoreExp, Memory> {
     let left = boxed(alloc, left)?;
     Ok(CoreExp::Bin(Op::Add, left, boxed(alloc, right)?))
 }
 
-/// The expression of the last of these nodes as far as an address looks into it: a sum with its sides, where these have no parts.
+/// The expression of the last of these nodes, as far as the form of an address depends on it: a sum with its sides, if
+/// these have no parts.
 fn address(alloc: Global, nodes: &[NodeLine]) -> Result<CoreExp, Memory> {
     match nodes {
         [.., left, right, node] if matches!(node.form, Form::Bin(Op::Add)) => {
@@ -38,7 +40,7 @@ fn address(alloc: Global, nodes: &[NodeLine]) -> Result<CoreExp, Memory> {
     }
 }
 
-/// The expression of the last of these nodes as far as an operand looks into it: what is loaded is an address.
+/// The expression of the last of these nodes, as far as the form of an operand depends on it: a load has an address.
 fn operand(alloc: Global, nodes: &[NodeLine]) -> Result<CoreExp, Memory> {
     match nodes {
         [before @ .., load] if matches!(load.form, Form::Load) => {
@@ -48,7 +50,7 @@ fn operand(alloc: Global, nodes: &[NodeLine]) -> Result<CoreExp, Memory> {
     }
 }
 
-/// Whether a part holds a call or a VALOF.
+/// Whether a part contains a call or a VALOF.
 fn calls(parts: &[Facts]) -> bool {
     for part in parts {
         if part.calls {
@@ -58,12 +60,13 @@ fn calls(parts: &[Facts]) -> bool {
     false
 }
 
-/// Where the facts of a node's parts begin among those that no whole has taken yet; none where they are too few.
+/// The index at which the facts of a node's parts begin, among those that belong to no larger node yet. `None` if there
+/// are too few.
 fn parts_from(facts: &[Facts], node: &NodeLine) -> Option<usize> {
     facts.len().checked_sub(node.form.parts())
 }
 
-/// What is known of the last of these nodes, over these parts.
+/// The facts about the last of these nodes, which has these parts.
 fn known(
     alloc: Global,
     nodes: &[NodeLine],
@@ -75,8 +78,7 @@ fn known(
     Ok(Facts::of(&expression, calls, line.costs))
 }
 
-/// The least words of the last of these nodes, what is known of which is put in place of what was known of its parts; none where these are
-/// too few.
+/// The least words of the last of these nodes. Its facts replace those of its parts. `None` if there are too few parts.
 fn take(
     facts: &mut Vec<Facts>,
     alloc: Global,
@@ -104,8 +106,8 @@ fn take(
     Ok(Some(least))
 }
 
-/// The least words of the derivations of the last of these nodes, by the numbers of those before it; none where they are no trees.
-/// Memory is answered where a growth was refused.
+/// The least words of the derivations of the last of these nodes, by the numbers of the nodes before it. `None` if the
+/// nodes aren't trees. Returns `Memory` if an allocation fails.
 pub fn least_of(
     alloc: Global,
     table: Table,

@@ -1,5 +1,5 @@
-//! What is told of refusals that are about texts of INTCODE, certificates and runs: the place, the line with a mark below it, and what
-//! should stand there.
+//! The lines that follow the first line of a refusal of INTCODE texts, certificates and runs: the place, the line with
+//! a mark below it, and what should be there.
 #![tactic(auto)]
 
 mod against;

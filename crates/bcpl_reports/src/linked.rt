@@ -1,3 +1,5 @@
+//! Messages for segments that can't be linked.
+
 use crate::placed::{Placed, Text};
 use crate::report::{Fill, Report};
 use crate::text_items::item_at;
@@ -7,7 +9,7 @@ use bc_word::Memory;
 use bcpl_segments::{SegmentSize, library_name, segment_words, too_large};
 use std::alloc::Global;
 
-/// Whether an item speaks of a label.
+/// Whether an item refers to a label.
 fn speaks_of(item: &Item, wanted: u16) -> bool {
     match item {
         Item::DataLabel(label) | Item::Global { label, .. } => label.get() == wanted,
@@ -20,7 +22,7 @@ fn speaks_of(item: &Item, wanted: u16) -> bool {
     }
 }
 
-/// Whether an item sets a label there.
+/// Whether an item sets a label.
 fn sets(item: &Item, wanted: u16) -> bool {
     match item {
         Item::Label(label) => label.get() == wanted,
@@ -28,7 +30,7 @@ fn sets(item: &Item, wanted: u16) -> bool {
     }
 }
 
-/// Where the item with this index of this segment stands, the primitives being the segment 0.
+/// The item with this index of this segment. The primitives are segment 0, and are in no text.
 fn place_of<'a>(texts: &[Text<'a>], segment: usize, index: usize) -> Option<Placed<'a>> {
     if segment == 0 {
         return None;
@@ -36,7 +38,7 @@ fn place_of<'a>(texts: &[Text<'a>], segment: usize, index: usize) -> Option<Plac
     item_at(texts, segment - 1, index)
 }
 
-/// The index of the first item of a segment that speaks of a label.
+/// The index of the first item of a segment that refers to a label.
 fn first_speaking(segment: &Segment, label: u16) -> Option<usize> {
     for (index, item) in segment.items().iter().enumerate() {
         if speaks_of(item, label) {
@@ -46,7 +48,7 @@ fn first_speaking(segment: &Segment, label: u16) -> Option<usize> {
     None
 }
 
-/// Where a label is spoken of first.
+/// The first item of a segment that refers to a label.
 fn spoken_at<'a>(
     texts: &[Text<'a>],
     segments: &[Segment],
@@ -57,17 +59,17 @@ fn spoken_at<'a>(
     place_of(texts, segment, index)
 }
 
-/// Adds what is said of a label that stands nowhere.
+/// Describes a label that is never set.
 fn label_unset(report: &mut Report, placed: Placed<'_>, label: u16) -> Result<(), Memory> {
     report.fault(
         placed,
-        "the label {} stands nowhere in this segment",
+        "the label {} is not set in this segment",
         &[Fill::Number(u128::from(label))],
-        "each segment has labels of its own; what another segment has is reached by a global",
+        "each segment has its own labels; use a global to reach what another segment has",
     )
 }
 
-/// The index of the item that sets a label for the time with this index, the times counted from 0.
+/// The index of the item that sets a label for the `time`th time, counted from 0.
 fn nth_setting(segment: &Segment, label: u16, time: usize) -> Option<usize> {
     let mut left = time;
     for (index, item) in segment.items().iter().enumerate() {
@@ -81,7 +83,7 @@ fn nth_setting(segment: &Segment, label: u16, time: usize) -> Option<usize> {
     None
 }
 
-/// Where a label is set for the time with this index.
+/// The item that sets a label for the `time`th time, counted from 0.
 fn set_at<'a>(
     texts: &[Text<'a>],
     segments: &[Segment],
@@ -93,7 +95,7 @@ fn set_at<'a>(
     place_of(texts, segment, index)
 }
 
-/// Adds what is said of a label that stands twice.
+/// Describes a label that is set twice.
 fn label_twice(
     report: &mut Report,
     first: Placed<'_>,
@@ -102,11 +104,11 @@ fn label_twice(
 ) -> Result<(), Memory> {
     report.place(
         second,
-        "the label {} stands here once more",
+        "the label {} is set here again",
         &[Fill::Number(u128::from(label))],
     )?;
-    report.note(first, "it stands here already")?;
-    report.help("a segment has each label once; a Z may be missing between two segments")
+    report.note(first, "it is already set here")?;
+    report.help("set each label of a segment once; perhaps a Z is missing between two segments")
 }
 
 /// Whether an item sets a global.
@@ -117,8 +119,7 @@ fn sets_global(item: &Item, wanted: u16) -> bool {
     }
 }
 
-/// The item that sets a global for the time with this index, the times counted from 0: the index of the segment, and that of the item in
-/// it.
+/// The item that sets a global for the `time`th time, counted from 0: the index of its segment, and its index there.
 fn setter(segments: &[Segment], wanted: u16, time: usize) -> Option<(usize, usize)> {
     let mut left = time;
     for (number, segment) in segments.iter().enumerate() {
@@ -134,7 +135,7 @@ fn setter(segments: &[Segment], wanted: u16, time: usize) -> Option<(usize, usiz
     None
 }
 
-/// Where a global is set for the time with this index.
+/// The place of the item that sets a global for the `time`th time, counted from 0.
 fn global_set_at<'a>(
     texts: &[Text<'a>],
     segments: &[Segment],
@@ -145,20 +146,20 @@ fn global_set_at<'a>(
     place_of(texts, segment, index)
 }
 
-/// Adds that a global is set once more.
+/// Adds that a global is set again.
 fn set_again(report: &mut Report, placed: Placed<'_>, number: u16) -> Result<(), Memory> {
     let global = Fill::Number(u128::from(number));
     match library_name(number) {
         Some(name) => report.place(
             placed,
-            "the global {}, {} of the library, is set here once more",
+            "the global {}, {} of the library, is set here again",
             &[global, Fill::Text(name)],
         ),
-        None => report.place(placed, "the global {} is set here once more", &[global]),
+        None => report.place(placed, "the global {} is set here again", &[global]),
     }
 }
 
-/// Adds what is said of a global that is set twice.
+/// Describes a global that is set twice.
 fn global_twice(
     report: &mut Report,
     first: Option<Placed<'_>>,
@@ -167,18 +168,18 @@ fn global_twice(
 ) -> Result<(), Memory> {
     set_again(report, second, number)?;
     match first {
-        Some(placed) => report.note(placed, "it is set here already"),
+        Some(placed) => report.note(placed, "it is already set here"),
         None => report.help(
-            "the primitives, which stand in front of all texts, set the globals 11 to 18",
+            "the primitives, which come before all texts, set the globals 11 to 18",
         ),
     }
 }
 
-/// Adds what a segment is called.
+/// Appends the name of a segment.
 fn add_name(name: &mut Report, texts: &[Text<'_>], segment: usize) -> Result<(), Memory> {
     match place_of(texts, segment, 0) {
         Some(placed) => name.say(
-            "{}, segment {} of all",
+            "{}, segment {} overall",
             &[Fill::Text(placed.text.path), Fill::Number(segment as u128)],
         ),
         None if segment == 0 => name.text("the primitives"),
@@ -186,7 +187,7 @@ fn add_name(name: &mut Report, texts: &[Text<'_>], segment: usize) -> Result<(),
     }
 }
 
-/// A segment's name and its size.
+/// A segment's name and size.
 fn size_of(
     alloc: Global,
     texts: &[Text<'_>],
@@ -202,7 +203,7 @@ fn size_of(
     })
 }
 
-/// The names and the sizes of segments.
+/// The names and sizes of segments.
 fn sizes_of(
     alloc: Global,
     texts: &[Text<'_>],
@@ -215,14 +216,14 @@ fn sizes_of(
     Ok(sizes)
 }
 
-/// Adds what is said of segments that take too many words.
+/// Describes segments that take too many words.
 fn add_sizes(report: &mut Report, texts: &[Text<'_>], segments: &[Segment]) -> Result<(), Memory> {
     let sizes = sizes_of(report.alloc(), texts, segments)?;
     let lines = too_large(report.alloc(), sizes.as_slice())?;
     report.line("{}", &[Fill::Text(lines.as_str())])
 }
 
-/// Adds what is said of a label that stands nowhere in its segment.
+/// Describes a label that is not set in its segment.
 fn add_unset(
     report: &mut Report,
     texts: &[Text<'_>],
@@ -236,7 +237,7 @@ fn add_unset(
     }
 }
 
-/// Adds what is said of a label that stands twice in its segment.
+/// Describes a label that is set twice in its segment.
 fn add_twice(
     report: &mut Report,
     texts: &[Text<'_>],
@@ -252,7 +253,7 @@ fn add_twice(
     }
 }
 
-/// Adds what is said of a global that is set twice.
+/// Describes a global that is set twice.
 fn add_global_twice(
     report: &mut Report,
     texts: &[Text<'_>],
@@ -266,7 +267,7 @@ fn add_global_twice(
     }
 }
 
-/// Adds what is said of a fault; nothing where nothing more is known.
+/// Describes an error of the linker. Adds nothing if nothing more is known.
 fn add_fault(
     report: &mut Report,
     texts: &[Text<'_>],
@@ -286,8 +287,8 @@ fn add_fault(
     }
 }
 
-/// The lines on segments that can't be linked: the item in its text, and what it collides with. The segments are those of the texts
-/// after the primitives. None where nothing more is known. Memory is answered where a growth was refused.
+/// The lines on segments that can't be linked: the item in its text, and what it collides with. The segments are the
+/// primitives followed by those of the texts. Empty if nothing more is known. Returns `Memory` if an allocation fails.
 pub fn link_lines(
     alloc: Global,
     texts: &[Text<'_>],

@@ -1,3 +1,5 @@
+//! A report while it is being written: places with excerpts, sentences, and helps.
+
 use crate::placed::{Placed, line_of};
 use bc_text::print;
 use bc_text_items::{Item, Segment};
@@ -5,32 +7,34 @@ use bc_word::Memory;
 use bcpl_places::{Excerpt, column_at};
 use std::alloc::Global;
 
-/// How many characters of a name are told.
+/// How many characters of a name are printed.
 const SHOWN: usize = 40;
 
-/// What a place of a sentence is filled with.
+/// What fills a `{}` of a sentence.
 #[derive(Clone, Copy)]
 pub enum Fill<'a> {
+    /// This text.
     Text(&'a str),
-    /// Bytes, each as the character with its number.
+    /// Bytes, each as the character with its code.
     Letters(&'a [u8]),
-    /// The first characters of a name.
+    /// A name, cut off after `SHOWN` characters.
     Front(&'a str),
+    /// This number in decimal.
     Number(u128),
     /// An item as a text has it.
     Item(&'a Item),
-    /// What stands at a place: a byte, or nothing.
+    /// The byte at an offset, described in words; `None` is the end of the text.
     Found(Option<u8>),
 }
 
-/// A report that is being written.
+/// A report while it is being written.
 #[derive(Drop)]
 pub struct Report {
     alloc: Global,
     lines: String,
 }
 
-/// An item's line in a text, and the line that ends a segment; nothing where it can't be written.
+/// An item's line in a text, followed by the line that ends a segment; empty if it can't be printed.
 fn printed(alloc: Global, item: Item) -> Result<Vec<u8>, Memory> {
     let mut items = Vec::new(alloc);
     items.push(item)?;
@@ -52,6 +56,7 @@ fn first_line(bytes: &[u8]) -> &[u8] {
 }
 
 impl Report {
+    /// An empty report.
     pub fn new(alloc: Global) -> Report {
         Report {
             alloc,
@@ -59,14 +64,17 @@ impl Report {
         }
     }
 
+    /// The allocator of the report.
     pub fn alloc(&self) -> Global {
         self.alloc
     }
 
+    /// Appends this text. Returns `Memory` if an allocation fails, as do all functions below.
     pub fn text(&mut self, text: &str) -> Result<(), Memory> {
         Ok(self.lines.push_str(text)?)
     }
 
+    /// Appends bytes, each as the character with its code.
     fn letters(&mut self, letters: &[u8]) -> Result<(), Memory> {
         for letter in letters {
             self.lines.push(char::from(*letter))?;
@@ -74,7 +82,7 @@ impl Report {
         Ok(())
     }
 
-    /// Adds the first characters of a name, and a sign where there are more.
+    /// Appends a name, cut off after `SHOWN` characters.
     fn front(&mut self, name: &str) -> Result<(), Memory> {
         for (index, character) in name.chars().enumerate() {
             if index >= SHOWN {
@@ -85,40 +93,43 @@ impl Report {
         Ok(())
     }
 
+    /// Appends a number in decimal.
     fn number(&mut self, number: u128) -> Result<(), Memory> {
         write!(self.lines, "{number}")?;
         Ok(())
     }
 
+    /// Appends an item as a text has it.
     fn item(&mut self, item: &Item) -> Result<(), Memory> {
         let printed = printed(self.alloc, *item)?;
         self.letters(first_line(printed.as_slice()))
     }
 
-    /// Adds a byte that a terminal shows.
+    /// Appends a byte that a terminal can show.
     fn sign(&mut self, byte: u8) -> Result<(), Memory> {
         let sign = char::from(byte);
         write!(self.lines, "`{sign}`")?;
         Ok(())
     }
 
-    /// Adds a byte by its number.
+    /// Appends a byte by its number.
     fn byte(&mut self, byte: u8) -> Result<(), Memory> {
         write!(self.lines, "the byte {byte}")?;
         Ok(())
     }
 
-    /// Adds what stands at a place: a byte between quotes where a terminal shows it, and else by its number.
+    /// Appends a description of a byte: the byte between quotes if a terminal can show it, else its number.
     fn found(&mut self, byte: Option<u8>) -> Result<(), Memory> {
         match byte {
             Some(byte) if byte.is_ascii_graphic() => self.sign(byte),
-            Some(b'\n' | b'\r') => self.text("the line's end"),
-            Some(b' ') => self.text("a blank"),
+            Some(b'\n' | b'\r') => self.text("the end of the line"),
+            Some(b' ') => self.text("a space"),
             Some(byte) => self.byte(byte),
             None => self.text("nothing"),
         }
     }
 
+    /// Appends what fills one `{}`.
     fn part(&mut self, part: Fill<'_>) -> Result<(), Memory> {
         match part {
             Fill::Text(text) => self.text(text),
@@ -130,7 +141,7 @@ impl Report {
         }
     }
 
-    /// Adds the part with this index, where there is one.
+    /// Appends the part with this index, if there is one.
     fn nth(&mut self, parts: &[Fill<'_>], index: usize) -> Result<(), Memory> {
         match parts.get(index) {
             Some(part) => self.part(*part),
@@ -138,7 +149,7 @@ impl Report {
         }
     }
 
-    /// Adds a sentence, in which each `{}` is the place of the next of these parts.
+    /// Appends a sentence in which each `{}` is replaced by the next of these parts.
     pub fn say(&mut self, sentence: &str, parts: &[Fill<'_>]) -> Result<(), Memory> {
         let mut at: usize = 0;
         for text in sentence.split("{}") {
@@ -151,13 +162,13 @@ impl Report {
         Ok(())
     }
 
-    /// Adds a sentence as a line.
+    /// Appends a sentence as a line.
     pub fn line(&mut self, sentence: &str, parts: &[Fill<'_>]) -> Result<(), Memory> {
         self.say(sentence, parts)?;
         self.text("\n")
     }
 
-    /// Adds `PATH:LINE:COLUMN: `; a sentence follows, and then `end_place`.
+    /// Appends `PATH:LINE:COLUMN: `. A sentence must follow, and then a call of `end_place`.
     pub fn begin_place(&mut self, placed: Placed<'_>) -> Result<(), Memory> {
         let Placed { text, stretch } = placed;
         let at = stretch.start.min(text.bytes.len());
@@ -174,7 +185,7 @@ impl Report {
         )
     }
 
-    /// Ends the sentence on a place, and adds the line of the text with a mark below the stretch.
+    /// Ends the sentence on a place, and appends the line of the text with a mark below the stretch.
     pub fn end_place(&mut self, placed: Placed<'_>) -> Result<(), Memory> {
         let Placed { text, stretch } = placed;
         let line = line_of(placed);
@@ -183,7 +194,7 @@ impl Report {
         Ok(())
     }
 
-    /// Adds `PATH:LINE:COLUMN: SENTENCE`, and the line of the text with a mark below the stretch.
+    /// Appends `PATH:LINE:COLUMN: SENTENCE`, and the line of the text with a mark below the stretch.
     pub fn place(
         &mut self,
         placed: Placed<'_>,
@@ -195,7 +206,7 @@ impl Report {
         self.end_place(placed)
     }
 
-    /// Adds a place, and what to do.
+    /// Appends a place, and what to do.
     pub fn fault(
         &mut self,
         placed: Placed<'_>,
@@ -207,17 +218,18 @@ impl Report {
         self.help(help)
     }
 
-    /// Adds a further place.
+    /// Appends a related place.
     pub fn note(&mut self, placed: Placed<'_>, sentence: &str) -> Result<(), Memory> {
         self.text("  ")?;
         self.place(placed, sentence, &[])
     }
 
-    /// Adds what to do.
+    /// Appends what to do.
     pub fn help(&mut self, help: &str) -> Result<(), Memory> {
         self.line("  help: {}", &[Fill::Text(help)])
     }
 
+    /// The finished report.
     pub fn into_text(self) -> String {
         self.lines
     }

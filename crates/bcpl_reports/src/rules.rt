@@ -1,36 +1,38 @@
+//! Explains rules of a certificate that don't derive their node or root. It tries all rules, and lists those that the
+//! checker would accept.
+
 use crate::certificate::Entry;
 use crate::derived::{rooted_of, takes};
 use crate::report::{Fill, Report};
-use bc_cert_read::{NodeLine, RootLine, node_line};
-use bc_cert_read::Stack;
+use bc_cert_read::{NodeLine, RootLine, Stack, node_line};
 use bc_rules_defs::{Rule, Table};
 use bc_word::Memory;
 use std::alloc::Global;
 
-/// The rules of values and tests that are tried where one is wrong.
+/// The rules of values and tests that are tried instead of a wrong one.
 const NAMES: [&str; 29] = [
     "V1", "V2", "V3", "V4", "V6", "V7", "V8", "V9", "V10", "V11", "V12", "V13", "V14", "V15",
     "V16", "V17", "V18", "V19", "V20", "V21", "V22", "J1", "J2", "J3", "J4", "J5", "J7", "J8",
     "J9",
 ];
 
-/// What may stand before a rule of values at its node.
+/// What may precede a rule of values at its node.
 const FRONTS: [&str; 4] = ["", "V0.", "J6.", "J6.V0."];
 
-/// The most rules that are told.
+/// At most this many rules are listed.
 const MOST: usize = 4;
 
-/// The most nodes of an entry of which other rules are tried.
+/// Rules are tried only in an entry of at most this many nodes.
 const MOST_NODES: usize = 400;
 
-/// The rules of a node, or a root line, as a certificate has them: two parts of it.
+/// The rules of a node, or a root line, as a certificate writes them, in two parts.
 #[derive(Clone, Copy)]
 struct Name {
     front: &'static str,
     following: Fill<'static>,
 }
 
-/// The node line that begins so and has these rules; none where they make none.
+/// The node line with this beginning and these rules; `None` if it would be malformed.
 fn with_rules(
     alloc: Global,
     front: &[u8],
@@ -54,7 +56,7 @@ struct Trial<'a> {
 }
 
 impl<'a> Trial<'a> {
-    /// Whether the checker takes the next node with these rules.
+    /// Whether the checker accepts the next node with these rules.
     fn takes(&self, trees: &mut Stack, before: &str, name: &str) -> Result<bool, Memory> {
         match with_rules(self.alloc, self.front, before, name)? {
             Some(node) => takes(trees, self.alloc, self.table, self.nodes, &node),
@@ -62,7 +64,7 @@ impl<'a> Trial<'a> {
         }
     }
 
-    /// Adds rules, where the checker takes the next node with them.
+    /// Adds rules to the list if the checker accepts the next node with them.
     fn add_if_taken(
         &self,
         trees: &mut Stack,
@@ -79,7 +81,7 @@ impl<'a> Trial<'a> {
         Ok(())
     }
 
-    /// Adds the rules with this before them that the checker takes, up to so many as are told.
+    /// Adds to the list all rules with this prefix that the checker accepts, while fewer than `MOST` are listed.
     fn add_taken(
         &self,
         trees: &mut Stack,
@@ -94,7 +96,7 @@ impl<'a> Trial<'a> {
         Ok(())
     }
 
-    /// The rules that the checker takes, as the next node's line would name them.
+    /// The rules that the checker accepts, as the next node's line would name them.
     fn right(&self, trees: &mut Stack) -> Result<Vec<Name>, Memory> {
         let mut right = Vec::new(self.alloc);
         for before in FRONTS.iter() {
@@ -104,7 +106,7 @@ impl<'a> Trial<'a> {
     }
 }
 
-/// The rules that the checker would take at a node, as its line would name them.
+/// The rules that the checker would accept at a node, as its line would name them.
 fn right_rules(
     trees: &mut Stack,
     alloc: Global,
@@ -124,7 +126,7 @@ fn right_rules(
     trial.right(trees)
 }
 
-/// The root lines of which one may do where another one doesn't.
+/// The root lines that may be right instead of this one.
 fn roots_like(root: RootLine) -> [RootLine; 3] {
     match root {
         RootLine::Value | RootLine::Test(_) => [
@@ -140,7 +142,7 @@ fn roots_like(root: RootLine) -> [RootLine; 3] {
     }
 }
 
-/// What stands before the level in the root line of an assignment.
+/// What precedes the level in the root line of an assignment.
 fn assignment(rule: Rule) -> &'static str {
     match rule {
         Rule::A1 => "R A1 ",
@@ -149,7 +151,7 @@ fn assignment(rule: Rule) -> &'static str {
     }
 }
 
-/// A root line as a certificate has it.
+/// A root line as a certificate writes it.
 fn root_name(root: RootLine) -> Name {
     let (front, following) = match root {
         RootLine::Value => ("R V", Fill::Text("")),
@@ -160,23 +162,23 @@ fn root_name(root: RootLine) -> Name {
     Name { front, following }
 }
 
-/// What is wrong with a root line that its trees show no rules for.
+/// The sentence on a root line that doesn't fit its trees.
 fn root_sentence(root: RootLine) -> &'static str {
     match root {
-        RootLine::Value => "the rules of the tree in front of it are not those of a value",
+        RootLine::Value => "the rules of the tree before it are not those of a value",
         RootLine::Test(false) => {
-            "the rules of the tree in front of it are not those of a test that jumps on false"
+            "the rules of the tree before it are not those of a test that jumps on false"
         }
         RootLine::Test(true) => {
-            "the rules of the tree in front of it are not those of a test that jumps on true"
+            "the rules of the tree before it are not those of a test that jumps on true"
         }
         RootLine::Assign(..) => {
-            "this rule of an assignment doesn't go with the trees in front of it, or has more words than another one"
+            "this assignment rule doesn't fit the trees before it, or takes more words than another one"
         }
     }
 }
 
-/// Whether the checker takes this root line after the nodes of an entry.
+/// Whether the checker accepts this root line after the nodes of an entry.
 fn takes_root(
     trees: &mut Stack,
     alloc: Global,
@@ -187,7 +189,7 @@ fn takes_root(
     Ok(rooted.is_some())
 }
 
-/// The root lines that the checker would take after the nodes of an entry, instead of this one.
+/// The root lines that the checker would accept after the nodes of an entry, instead of this one.
 fn right_roots(
     trees: &mut Stack,
     alloc: Global,
@@ -204,7 +206,7 @@ fn right_roots(
     Ok(right)
 }
 
-/// What stands before the one with this index of so many.
+/// What separates the element with this index of a list of `count` elements from the one before it.
 fn between(index: usize, count: usize) -> &'static str {
     if index == 0 {
         ""
@@ -215,12 +217,16 @@ fn between(index: usize, count: usize) -> &'static str {
     }
 }
 
-/// Adds which of these would do, by what the lines in front show.
+/// Adds the list of rules or root lines that would be right.
 fn add_right(report: &mut Report, right: &[Name]) -> Result<(), Memory> {
     let count = right.len();
-    let does = if count == 1 { "this does" } else { "these do" };
+    let does = if count == 1 {
+        "this is right"
+    } else {
+        "these are right"
+    };
     report.say(
-        "  help: by what the lines of its parts show, {}: ",
+        "  help: according to the lines of its parts, {}: ",
         &[Fill::Text(does)],
     )?;
     for (index, name) in right.iter().enumerate() {
@@ -230,7 +236,7 @@ fn add_right(report: &mut Report, right: &[Name]) -> Result<(), Memory> {
     report.text("\n")
 }
 
-/// Adds which root lines would do, where some would.
+/// Adds the root lines that would be right, if there are any.
 fn add_roots(report: &mut Report, right: &[Name]) -> Result<(), Memory> {
     if right.is_empty() {
         return Ok(());
@@ -238,15 +244,15 @@ fn add_roots(report: &mut Report, right: &[Name]) -> Result<(), Memory> {
     add_right(report, right)
 }
 
-/// Adds which rules would do, or that none would.
+/// Adds the rules that would be right, or that there are none.
 fn add_rules(report: &mut Report, right: &[Name]) -> Result<(), Memory> {
     if right.is_empty() {
-        return report.help("no rules do, by what the lines of its parts show");
+        return report.help("according to the lines of its parts, no rules are right");
     }
     add_right(report, right)
 }
 
-/// Adds what is said of a root that its trees show no rules for.
+/// Describes a root line that doesn't fit its trees.
 fn wrong_root(
     report: &mut Report,
     trees: &mut Stack,
@@ -259,7 +265,7 @@ fn wrong_root(
     add_roots(report, right.as_slice())
 }
 
-/// Adds what is said of rules of a node that make no derivation.
+/// Describes rules that don't derive their node.
 fn wrong_node(
     report: &mut Report,
     trees: &mut Stack,
@@ -267,14 +273,14 @@ fn wrong_node(
     node: usize,
 ) -> Result<(), Memory> {
     let placed = entry.lined.field(entry.line(node), 6);
-    let sentence = "these rules make no derivation of this node in so many words";
+    let sentence = "these rules don't derive this node in the given number of words";
     report.place(placed, sentence, &[])?;
     let right = right_rules(trees, report.alloc(), entry, node)?;
     add_rules(report, right.as_slice())
 }
 
-/// Adds what is said of rules of a node that make no derivation, or of a root that its trees show no rules for. Memory is answered where a
-/// growth was refused.
+/// Describes rules that don't derive their node, or a root line that doesn't fit its trees. Returns `Memory` if an
+/// allocation fails.
 pub fn wrong_rule(
     report: &mut Report,
     trees: &mut Stack,

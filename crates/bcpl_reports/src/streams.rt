@@ -1,11 +1,13 @@
+//! Messages for streams whose names are refused.
+
 use crate::report::{Fill, Report};
 use bc_word::Memory;
 use std::alloc::Global;
 
-/// The most bytes of a stream's name.
+/// The maximum length of a stream's name in bytes.
 const MOST: usize = 255;
 
-/// The first name that stands twice.
+/// The first name that occurs twice.
 fn repeated<'a>(names: &[&'a str]) -> Option<&'a str> {
     for (index, name) in names.iter().enumerate() {
         for other in names.get(..index).unwrap_or(&[]) {
@@ -17,7 +19,7 @@ fn repeated<'a>(names: &[&'a str]) -> Option<&'a str> {
     None
 }
 
-/// Adds that a name stands twice, where one does.
+/// Adds the name that occurs twice, if one does.
 fn add_repeated<'a>(report: &mut Report, names: &[&'a str], side: &'a str) -> Result<(), Memory> {
     match repeated(names) {
         Some(name) => report.line(
@@ -28,13 +30,13 @@ fn add_repeated<'a>(report: &mut Report, names: &[&'a str], side: &'a str) -> Re
     }
 }
 
-/// Adds that a name is too long, where it is.
+/// Reports a name that is too long.
 fn add_long<'a>(report: &mut Report, name: &'a str, side: &'a str) -> Result<(), Memory> {
     if name.len() <= MOST {
         return Ok(());
     }
     report.line(
-        "the name {} of one of the {} has {} bytes, and {} are the most",
+        "the name {} of one of the {} has {} bytes; the limit is {}",
         &[
             Fill::Front(name),
             Fill::Text(side),
@@ -44,7 +46,7 @@ fn add_long<'a>(report: &mut Report, name: &'a str, side: &'a str) -> Result<(),
     )
 }
 
-/// Adds what is wrong with the names of the streams of one side, `side` being what these are called.
+/// Adds what is wrong with the names of one side; `side` is what its streams are called.
 fn add_names<'a>(report: &mut Report, names: &[&'a str], side: &'a str) -> Result<(), Memory> {
     add_repeated(report, names, side)?;
     for name in names {
@@ -53,17 +55,17 @@ fn add_names<'a>(report: &mut Report, names: &[&'a str], side: &'a str) -> Resul
     Ok(())
 }
 
-/// Adds what is wrong with the names of the streams of both sides.
+/// Adds what is wrong with the names of both sides.
 fn add_sides(report: &mut Report, inputs: &[&str], outputs: &[&str]) -> Result<(), Memory> {
     add_names(report, inputs, "inputs")?;
     add_names(report, outputs, "outputs")?;
     report.help(
-        "standard input has the name SYSIN, and standard output SYSPRINT; --in and --to name further ones, by NAME=PATH",
+        "standard input is named SYSIN and standard output SYSPRINT; name others by --in NAME=PATH and --to NAME=PATH",
     )
 }
 
-/// The lines on streams of a run whose names are refused. The first input is SYSIN, the first output SYSPRINT. Memory is answered where a
-/// growth was refused.
+/// The lines on streams of a run whose names are refused. The first input is SYSIN, and the first output SYSPRINT.
+/// Returns `Memory` if an allocation fails.
 pub fn stream_lines(alloc: Global, inputs: &[&str], outputs: &[&str]) -> Result<String, Memory> {
     let mut report = Report::new(alloc);
     add_sides(&mut report, inputs, outputs)?;

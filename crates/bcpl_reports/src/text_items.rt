@@ -1,6 +1,8 @@
+//! Finds the items of INTCODE texts that were already read without a fault.
+
 use crate::placed::{Placed, Stretch, Text, is_byte};
 
-/// The offset of the first byte from `at` on which is a digit, or which is none.
+/// The offset of the first byte from `at` on that is a digit if `is_digit`, or else that isn't one.
 pub fn next_where(bytes: &[u8], at: usize, is_digit: bool) -> usize {
     for offset in at..bytes.len() {
         if bytes[offset].is_ascii_digit() == is_digit {
@@ -10,7 +12,7 @@ pub fn next_where(bytes: &[u8], at: usize, is_digit: bool) -> usize {
     bytes.len()
 }
 
-/// The offset after the item that begins at `at`: its letters, its number, and where it is a global's the label.
+/// The offset after the item that begins at `at`: its letters, its number, and for a global its label.
 fn after_item(bytes: &[u8], at: usize) -> usize {
     let number = next_where(bytes, at, true);
     let following = next_where(bytes, number, false);
@@ -51,16 +53,16 @@ fn begins(byte: u8) -> Begun {
     }
 }
 
-/// A walk over what stands in a text that was read.
+/// An iteration over the contents of a text.
 #[derive(Clone, Copy)]
-struct Walk<'a> {
+struct ItemScan<'a> {
     bytes: &'a [u8],
     /// The offset of what comes next.
     at: usize,
 }
 
-impl<'a> Walk<'a> {
-    /// What comes next and its stretch, after which the walk goes on; none at the text's end.
+impl<'a> ItemScan<'a> {
+    /// The next element and its stretch; `None` at the end of the text.
     fn next(&mut self) -> Option<(Begun, Stretch)> {
         let at = self.at;
         let begun = begins(*self.bytes.get(at)?);
@@ -82,7 +84,7 @@ impl<'a> Walk<'a> {
 
 /// How many segments a text has.
 fn count(bytes: &[u8]) -> usize {
-    let mut walk = Walk { bytes, at: 0 };
+    let mut walk = ItemScan { bytes, at: 0 };
     let mut count: usize = 0;
     for _ in bytes {
         match walk.next() {
@@ -94,9 +96,9 @@ fn count(bytes: &[u8]) -> usize {
     count
 }
 
-/// The item with this index of this segment of a text.
+/// The item with this index in this segment of a text.
 fn nth(bytes: &[u8], segment: usize, index: usize) -> Option<Stretch> {
-    let mut walk = Walk { bytes, at: 0 };
+    let mut walk = ItemScan { bytes, at: 0 };
     let mut segment_at: usize = 0;
     let mut left = index;
     for _ in bytes {
@@ -114,7 +116,8 @@ fn nth(bytes: &[u8], segment: usize, index: usize) -> Option<Stretch> {
     None
 }
 
-/// Where the item with this index of this segment stands, the segments counted from 0 over all texts; none where there is none.
+/// The item with this index in this segment, the segments being counted from 0 over all texts. `None` if there is no
+/// such item.
 pub fn item_at<'a>(texts: &[Text<'a>], segment: usize, index: usize) -> Option<Placed<'a>> {
     let mut left = segment;
     for text in texts {

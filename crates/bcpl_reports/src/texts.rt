@@ -1,3 +1,5 @@
+//! Messages for INTCODE texts that can't be read.
+
 use crate::placed::{Placed, Stretch, Text, is_byte};
 use crate::report::{Fill, Report};
 use crate::text_items::next_where;
@@ -8,15 +10,15 @@ use std::alloc::Global;
 /// The letters that items begin with, and the one that ends a segment.
 const LETTERS: &[u8] = b"LSAJTFKXDCGZ";
 
-/// What items are like.
+/// The help on the forms of items.
 const ITEMS: &str =
-    "items are n, Dn, DLn, Cn, GnLn, and L S A J T F K X with perhaps I, perhaps P, G or L, and a number; Z ends a segment";
+    "an item is n, Dn, DLn, Cn, GnLn, or one of L S A J T F K X with an optional I, an optional P, G or L, and a number; Z ends a segment";
 
-/// How large numbers may be.
+/// The help on the ranges of numbers.
 const RANGES: &str =
-    "labels and words go up to 65535, globals to 511, bytes to 255; a word may be as small as -32768";
+    "the largest label or word is 65535, the largest global 511, the largest byte 255; the smallest word is -32768";
 
-/// An offset that fits into a text of this length.
+/// This offset, or the length of the text if it is greater.
 fn within(at: u64, length: usize) -> usize {
     if at < length as u64 {
         at as usize
@@ -25,7 +27,7 @@ fn within(at: u64, length: usize) -> usize {
     }
 }
 
-/// The letters that stand before `at`.
+/// The upper-case letters directly before `at`.
 fn letters_before(bytes: &[u8], at: usize) -> &[u8] {
     let at = at.min(bytes.len());
     let front = &bytes[..at];
@@ -36,7 +38,7 @@ fn letters_before(bytes: &[u8], at: usize) -> &[u8] {
     &bytes[start.min(at)..at]
 }
 
-/// Whether a number with a sign may stand after these letters.
+/// Whether a negative number may follow these letters.
 fn may_be_negative(letters: &[u8]) -> bool {
     match letters {
         [] | [b'C'] | [b'G'] => false,
@@ -48,17 +50,17 @@ fn may_be_negative(letters: &[u8]) -> bool {
     }
 }
 
-/// What is said of a number that is out of its range, after these letters.
+/// The sentence on a number out of range that follows these letters.
 fn range(letters: &[u8], is_negative: bool) -> &'static str {
     match letters {
-        [b'C'] => "this number is too large: that of a byte goes up to 255",
-        [b'G'] => "this number is too large: that of a global goes up to 511",
-        _ if is_negative => "this number is too small: the least is -32768",
-        _ => "this number is too large: the greatest is 65535",
+        [b'C'] => "this number is too large: the largest byte is 255",
+        [b'G'] => "this number is too large: the largest global is 511",
+        _ if is_negative => "this number is too small: the smallest is -32768",
+        _ => "this number is too large: the largest is 65535",
     }
 }
 
-/// One byte of a text.
+/// The stretch of one byte.
 fn one_byte(text: Text<'_>, at: usize) -> Placed<'_> {
     Placed {
         text,
@@ -69,19 +71,19 @@ fn one_byte(text: Text<'_>, at: usize) -> Placed<'_> {
     }
 }
 
-/// What to do about a byte that begins no item.
+/// The help for a byte that begins no item.
 fn character_help(byte: Option<u8>) -> &'static str {
     match byte {
         Some(byte) if LETTERS.contains(&byte.to_ascii_uppercase()) => {
-            "the letters of INTCODE are capitals"
+            "write the letters of INTCODE in upper case"
         }
         Some(byte) if !byte.is_ascii() => "save the file as plain text, without a byte order mark",
-        Some(b'-') => "a label's number has no sign",
+        Some(b'-') => "write a label's number without a sign",
         _ => ITEMS,
     }
 }
 
-/// Adds what is said of a byte that begins no item.
+/// Describes a byte that begins no item.
 fn bad_character(report: &mut Report, text: Text<'_>, at: usize) -> Result<(), Memory> {
     let found = text.bytes.get(at).copied();
     report.fault(
@@ -109,12 +111,12 @@ fn is_digit(bytes: &[u8], at: usize) -> bool {
     }
 }
 
-/// Adds what is said of a number that is missing after these letters.
+/// Describes a number that is missing after these letters.
 fn no_number(report: &mut Report, text: Text<'_>, at: usize, letters: &[u8]) -> Result<(), Memory> {
     let sentence = if letters.is_empty() {
-        "a number is wanted here{}, and {} stands here"
+        "expected a number{}, found {}"
     } else {
-        "a number is wanted behind {}, and {} stands here"
+        "expected a number after {}, found {}"
     };
     let found = text.bytes.get(at).copied();
     report.fault(
@@ -125,7 +127,7 @@ fn no_number(report: &mut Report, text: Text<'_>, at: usize, letters: &[u8]) -> 
     )
 }
 
-/// Adds what is said of a number that is missing or out of its range, and where it is.
+/// Describes a number that is missing or out of range.
 fn bad_number(report: &mut Report, text: Text<'_>, at: usize) -> Result<(), Memory> {
     let bytes = text.bytes;
     let letters = letters_before(bytes, at);
@@ -140,18 +142,18 @@ fn bad_number(report: &mut Report, text: Text<'_>, at: usize) -> Result<(), Memo
     report.fault(placed, range(letters, is_negative), &[], RANGES)
 }
 
-/// Adds what is said of a global without its label.
+/// Describes a global without a label.
 fn missing_label(report: &mut Report, text: Text<'_>, at: usize) -> Result<(), Memory> {
     let found = text.bytes.get(at).copied();
     report.fault(
         one_byte(text, at),
-        "`L` and the number of a label are wanted here, and {} stands here",
+        "expected `L` and the number of a label, found {}",
         &[Fill::Found(found)],
-        "G5L7 says that the global 5 begins as the address of the label 7",
+        "G5L7 sets the global 5 to the address of the label 7",
     )
 }
 
-/// The last byte of a text that is no blank.
+/// The offset of the last byte of a text that isn't white space.
 fn last_byte(bytes: &[u8]) -> usize {
     match bytes.iter().rposition(|byte| !byte.is_ascii_whitespace()) {
         Some(offset) => offset,
@@ -159,17 +161,17 @@ fn last_byte(bytes: &[u8]) -> usize {
     }
 }
 
-/// Adds what is said of a text that ends within a segment.
+/// Describes a text that ends inside a segment.
 fn unended(report: &mut Report, text: Text<'_>) -> Result<(), Memory> {
     report.fault(
         one_byte(text, last_byte(text.bytes)),
-        "the text ends within a segment: no Z stands behind its last item",
+        "the text ends inside a segment: there is no Z after its last item",
         &[],
-        "each segment ends with Z; perhaps the end of the file is lost",
+        "end each segment with Z; perhaps the end of the file is missing",
     )
 }
 
-/// Adds what is said of a fault of a text; nothing where nothing more is known.
+/// Describes a fault of a text. Adds nothing if nothing more is known.
 fn add_fault(report: &mut Report, text: Text<'_>, fault: TextError) -> Result<(), Memory> {
     let length = text.bytes.len();
     match fault {
@@ -181,8 +183,8 @@ fn add_fault(report: &mut Report, text: Text<'_>, fault: TextError) -> Result<()
     }
 }
 
-/// The lines on the refusal of a text: the place, the line with a mark below it, and what to do. None where nothing more is known.
-/// Memory is answered where a growth was refused.
+/// The lines on the refusal of a text: the place, the line with a mark below it, and what to do. Empty if nothing more
+/// is known. Returns `Memory` if an allocation fails.
 pub fn text_lines(alloc: Global, text: Text<'_>, fault: TextError) -> Result<String, Memory> {
     let mut report = Report::new(alloc);
     add_fault(&mut report, text, fault)?;

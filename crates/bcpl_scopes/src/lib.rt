@@ -1,5 +1,4 @@
-//! A listing for people of what the names of a section mean: the frames of its routines, its globals, statics, tables and
-//! strings.
+//! The listing that `bcpl show scopes` prints: what the names of a section mean.
 #![tactic(auto)]
 
 mod listing;

@@ -1,4 +1,5 @@
-use crate::walk::{Cells, Datum, Frame, Known, Row, Walk};
+//! The listing `scopes`: its text, from what the walk found.
+use crate::walk::{Cells, Datum, Frame, Row, ScopeContext, ScopeWalk};
 use bc_core::{Core, Place};
 use bc_lex_tokens::Token;
 use bc_parse_tree::Section;
@@ -7,45 +8,51 @@ use bc_word::Memory;
 use bcpl_show::{Field, Files, Lines, Page, leaves_of};
 use std::alloc::Global;
 
-/// How many columns of a name or a string are shown.
+/// The number of columns that a name or a string may take.
 const SHOWN: usize = 50;
 
-/// What stands before each frame's names.
+/// The text before the frames.
 const KEPT: &str =
-    "Offset 0 of each frame keeps the caller's frame, offset 1 where the caller goes on.\n\
-    The level beside a name is the first offset behind its cells, at which what comes next begins.\n\n";
+    "Offset 0 of each frame has the address of the caller's frame, offset 1 the return address.\n\
+    The level of a name is the first offset after its cells, where the next cells are allocated.\n\n";
 
-/// A segment that sets globals beside the section's own.
+/// Another segment of the program, which may set globals.
 #[derive(Clone, Copy)]
 pub struct Setter<'p> {
-    /// What it is called.
+    /// Its name.
     pub name: &'p str,
+    /// Its items.
     pub items: &'p [Item],
 }
 
-/// A file's section, as the compiler read it.
+/// A section, as the compiler read it.
 #[derive(Clone, Copy)]
 pub struct Scopes<'p, 's> {
+    /// The sources and their paths.
     pub files: Files<'p, 's>,
     /// The index of the file among the sources.
     pub main: usize,
+    /// The tokens of the section.
     pub tokens: &'p [Token<'s>],
+    /// Its tree.
     pub section: &'p Section<'s>,
+    /// Its resolved tree.
     pub core: &'p Core,
+    /// The other segments of the program.
     pub setters: &'p [Setter<'p>],
 }
 
-/// A listing of scopes that is being written.
+/// The listing while it is written.
 #[derive(Drop)]
 struct Listing<'p, 's> {
     page: Page,
     scopes: Scopes<'p, 's>,
     lines: &'p Lines,
     leaves: &'p [Token<'s>],
-    walk: &'p Walk<'p, 's>,
+    walk: &'p ScopeWalk<'p, 's>,
 }
 
-/// Whether a routine sets this global.
+/// Whether `global` is this number.
 fn is_number(global: Option<u16>, wanted: u16) -> bool {
     match global {
         Some(number) => number == wanted,
@@ -53,7 +60,7 @@ fn is_number(global: Option<u16>, wanted: u16) -> bool {
     }
 }
 
-/// Whether a segment sets a global.
+/// Whether a segment sets this global.
 fn sets(items: &[Item], wanted: u16) -> bool {
     for item in items {
         if let Item::Global { number, .. } = item {
@@ -66,7 +73,7 @@ fn sets(items: &[Item], wanted: u16) -> bool {
 }
 
 impl<'p, 's> Listing<'p, 's> {
-    /// Ends a line, with where a leaf stands.
+    /// Ends a line with the place of a leaf.
     fn end_line(&mut self, leaf: usize) {
         if let Some(token) = self.leaves.get(leaf) {
             self.add_token(token);
@@ -74,7 +81,8 @@ impl<'p, 's> Listing<'p, 's> {
         self.page.end_line();
     }
 
-    /// Adds where a token stands: its line; in another file that file's name and the line, in one of the library its name alone.
+    /// Adds the place of a token: its line, with the file's name if that is another file. For a file of the library
+    /// it is just the name.
     fn add_token(&mut self, token: &Token<'s>) {
         let files = self.scopes.files;
         if token.file == self.scopes.main {
@@ -89,7 +97,7 @@ impl<'p, 's> Listing<'p, 's> {
         }
     }
 
-    /// Adds the line on which a token stands in its file.
+    /// Adds the number of a token's line in another file.
     fn add_line_of(&mut self, token: &Token<'s>) {
         let text = self.scopes.files.text(token.file);
         let Ok(lines) = Lines::new(self.page.alloc(), text) else {
@@ -100,26 +108,27 @@ impl<'p, 's> Listing<'p, 's> {
             .add_all(&[Field::Text(":"), Field::Number(number, 0)]);
     }
 
-    /// Adds what the cells of a row are, and where it is declared.
+    /// Adds the description of a row's cells, and where the name is declared.
     fn end_row(&mut self, row: Row<'s>) {
         match row.cells {
             Cells::Parameter => return self.page.add_line(&[Field::Text("parameter")]),
             Cells::Variable => self.page.add_text("variable, "),
-            Cells::Counter => self.page.add_text("FOR, with its limit, "),
+            Cells::Counter => self.page.add_text("FOR variable and its limit, "),
             Cells::Vector(last) => self.add_vector(last),
         }
         self.end_line(row.leaf);
     }
 
-    /// Adds that a row is a vector up to this number.
+    /// Adds the description of a vector with this greatest subscript.
     fn add_vector(&mut self, last: u16) {
         self.page.add_all(&[
             Field::Text("vector 0 to "),
             Field::Number(u64::from(last), 0),
-            Field::Text(" behind its own cell, "),
+            Field::Text(" after its own cell, "),
         ]);
     }
 
+    /// Adds the row of a name.
     fn add_row(&mut self, row: Row<'s>) {
         let level = row.offset.saturating_add(row.count);
         self.page.add_all(&[
@@ -134,7 +143,7 @@ impl<'p, 's> Listing<'p, 's> {
         self.end_row(row);
     }
 
-    /// Adds what a frame is that of.
+    /// Adds the heading of a frame: its routine.
     fn add_routine(&mut self, frame: Frame<'s>) {
         self.page.add_all(&[
             Field::Text("routine "),
@@ -150,6 +159,7 @@ impl<'p, 's> Listing<'p, 's> {
         self.end_line(frame.leaf);
     }
 
+    /// Adds a frame with its rows.
     fn add_frame(&mut self, index: usize, frame: Frame<'s>) {
         self.add_routine(frame);
         let mut head = "  offset   cells   level  name\n";
@@ -163,6 +173,7 @@ impl<'p, 's> Listing<'p, 's> {
         self.page.end_line();
     }
 
+    /// Adds all frames.
     fn add_frames(&mut self) {
         if !self.walk.frames.is_empty() {
             self.page.add_lines(KEPT);
@@ -172,7 +183,7 @@ impl<'p, 's> Listing<'p, 's> {
         }
     }
 
-    /// The text at a leaf.
+    /// The text of the token at a leaf.
     fn text_at(&self, leaf: usize) -> &'s [u8] {
         match self.leaves.get(leaf) {
             Some(token) => token.text,
@@ -180,7 +191,7 @@ impl<'p, 's> Listing<'p, 's> {
         }
     }
 
-    /// Adds what stands at a label, with its name or its text.
+    /// Adds the static, table or string with this label.
     fn add_place(&mut self, label: u64, text: &[u8]) {
         let index = (label as usize).saturating_sub(1);
         let places = self.scopes.core.places();
@@ -192,7 +203,7 @@ impl<'p, 's> Listing<'p, 's> {
         }
     }
 
-    /// Adds a static with its first value.
+    /// Adds a static with its initial value.
     fn add_static(&mut self, name: &[u8], value: u16) {
         self.page.add_all(&[
             Field::Text("static "),
@@ -202,7 +213,7 @@ impl<'p, 's> Listing<'p, 's> {
         ]);
     }
 
-    /// Adds a table of so many words.
+    /// Adds a table with this number of words.
     fn add_table(&mut self, count: u64) {
         let unit = if count == 1 { " word" } else { " words" };
         self.page.add_all(&[
@@ -212,12 +223,13 @@ impl<'p, 's> Listing<'p, 's> {
         ]);
     }
 
+    /// Adds a string.
     fn add_string(&mut self, text: &[u8]) {
         self.page
             .add_all(&[Field::Text("string "), Field::Front(text, SHOWN)]);
     }
 
-    /// A static, a table or a string.
+    /// Adds the line of a static, a table or a string.
     fn add_datum(&mut self, datum: Datum) {
         self.page.add_all(&[
             Field::Text("  L"),
@@ -229,6 +241,7 @@ impl<'p, 's> Listing<'p, 's> {
         self.end_line(datum.leaf);
     }
 
+    /// Adds all statics, tables and strings.
     fn add_data(&mut self) {
         if self.walk.data.is_empty() {
             return;
@@ -240,7 +253,7 @@ impl<'p, 's> Listing<'p, 's> {
         self.page.end_line();
     }
 
-    /// The label of the routine that sets a global, if one does.
+    /// The label of the section's routine that sets a global, if there is one.
     fn setting(&self, number: u16) -> Option<u64> {
         for frame in &self.walk.frames {
             if is_number(frame.global, number) {
@@ -250,7 +263,7 @@ impl<'p, 's> Listing<'p, 's> {
         None
     }
 
-    /// What the segment is called that sets a global, if one does.
+    /// The name of the other segment that sets a global, if there is one.
     fn setter(&self, number: u16) -> &'p str {
         for setter in self.scopes.setters {
             if sets(setter.items, number) {
@@ -260,7 +273,7 @@ impl<'p, 's> Listing<'p, 's> {
         "no routine here"
     }
 
-    /// Adds what sets a global.
+    /// Adds which routine or segment sets a global.
     fn add_setting(&mut self, number: u16) {
         let setter = self.setter(number);
         self.page.add_text("set by ");
@@ -272,7 +285,8 @@ impl<'p, 's> Listing<'p, 's> {
         }
     }
 
-    fn add_global(&mut self, known: Known<'s>) {
+    /// Adds the line of a global.
+    fn add_global(&mut self, known: ScopeContext<'s>) {
         self.page.add_all(&[
             Field::Number(u64::from(known.number), 8),
             Field::Text("  "),
@@ -285,8 +299,8 @@ impl<'p, 's> Listing<'p, 's> {
         self.end_line(known.leaf);
     }
 
-    /// Whether a global is told: one that is declared in the file, named or set.
-    fn is_told(&self, known: Known<'s>) -> bool {
+    /// Whether a global is listed: it is declared in the file, used or set.
+    fn is_told(&self, known: ScopeContext<'s>) -> bool {
         let is_here = match self.leaves.get(known.leaf) {
             Some(token) => token.file == self.scopes.main,
             None => false,
@@ -294,8 +308,9 @@ impl<'p, 's> Listing<'p, 's> {
         is_here || self.walk.used.iter().any(|number| *number == known.number)
     }
 
+    /// Adds the globals.
     fn add_globals(&mut self) {
-        let mut head = "globals that are declared here, named or set\n";
+        let mut head = "globals declared, used or set here\n";
         for known in &self.walk.globals {
             if self.is_told(*known) {
                 self.page.add_lines(head);
@@ -306,10 +321,10 @@ impl<'p, 's> Listing<'p, 's> {
     }
 }
 
-/// What the names of a file's section mean: for each routine its frame, then statics, tables and strings, and the globals.
-/// Memory is answered where a growth was refused.
+/// The listing `scopes` of a section: the frame of each routine, then statics, tables and strings, then globals.
+/// `Memory` if an allocation fails.
 pub fn scope_listing(alloc: Global, scopes: Scopes<'_, '_>) -> Result<Vec<u8>, Memory> {
-    let mut walk = Walk::new(alloc, scopes.core);
+    let mut walk = ScopeWalk::new(alloc, scopes.core);
     walk.section(scopes.section)?;
     let lines = Lines::new(alloc, scopes.files.text(scopes.main))?;
     let leaves = leaves_of(alloc, scopes.tokens)?;

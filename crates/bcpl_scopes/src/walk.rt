@@ -1,4 +1,5 @@
-//! A walk over a section's trees in text order, which declares names as the compiler does and keeps what they mean.
+//! A walk over the tree of a section in text order. It declares names as the compiler does, and records what they
+//! mean.
 
 use bc_core::Core;
 use bc_parse_tree::{
@@ -11,80 +12,97 @@ use bc_scope_names::{
 use bc_word::Memory;
 use std::alloc::Global;
 
-/// The frame of what stands outside of all routines.
+/// The index of a frame for what is outside all routines.
 const OUTSIDE: usize = usize::MAX;
 
-/// What cells of a frame are.
+/// The kind of a frame's cells.
 #[derive(Clone, Copy)]
 pub enum Cells {
+    /// A parameter.
     Parameter,
+    /// A variable.
     Variable,
-    /// The cells of a vector up to this number, after the variable's own.
+    /// A variable that points to a vector, and the vector's cells. This is the greatest subscript.
     Vector(u16),
     /// The variable of a FOR, and its limit.
     Counter,
 }
 
-/// A name of a frame.
+/// A name in a frame.
 #[derive(Clone, Copy)]
 pub struct Row<'s> {
-    /// The frame by its index.
+    /// The index of the frame.
     pub frame: usize,
+    /// The name.
     pub name: &'s [u8],
+    /// The offset of its first cell.
     pub offset: u64,
+    /// The number of its cells.
     pub count: u64,
+    /// The kind of its cells.
     pub cells: Cells,
-    /// The leaf at which it is declared.
+    /// The leaf where it is declared.
     pub leaf: usize,
 }
 
 /// A routine.
 #[derive(Clone, Copy)]
 pub struct Frame<'s> {
+    /// Its name.
     pub name: &'s [u8],
     /// Its label.
     pub label: u64,
-    /// The global that it sets.
+    /// The global that it sets, if any.
     pub global: Option<u16>,
+    /// The leaf where it is declared.
     pub leaf: usize,
 }
 
 /// A static, a table or a string.
 #[derive(Clone, Copy)]
 pub struct Datum {
+    /// Its label.
     pub label: u64,
+    /// The leaf where it is declared or written.
     pub leaf: usize,
 }
 
 /// A global that is declared.
 #[derive(Clone, Copy)]
-pub struct Known<'s> {
+pub struct ScopeContext<'s> {
+    /// Its name.
     pub name: &'s [u8],
+    /// Its number.
     pub number: u16,
+    /// The leaf where it is declared.
     pub leaf: usize,
 }
 
-/// What was met so far.
+/// The walk, with what it found.
 #[derive(Drop)]
-pub struct Walk<'p, 's> {
+pub struct ScopeWalk<'p, 's> {
     core: &'p Core,
     scope: Scope<'s>,
     at: Numbers,
     leaves: usize,
+    /// The routines.
     pub frames: Vec<Frame<'s>>,
+    /// The names in frames.
     pub rows: Vec<Row<'s>>,
+    /// The statics, tables and strings.
     pub data: Vec<Datum>,
-    pub globals: Vec<Known<'s>>,
-    /// The globals that are named or set.
+    /// The globals that are declared.
+    pub globals: Vec<ScopeContext<'s>>,
+    /// The globals that are used or set.
     pub used: Vec<u16>,
-    /// Whether a growth was refused. What is met from then on counts for nothing.
+    /// Whether an allocation failed. Then the rest is void.
     is_refused: bool,
 }
 
-impl<'p, 's> Walk<'p, 's> {
-    /// Nothing was met yet of a section whose translation this is.
-    pub fn new(alloc: Global, core: &'p Core) -> Walk<'p, 's> {
-        Walk {
+impl<'p, 's> ScopeWalk<'p, 's> {
+    /// Begins a walk over the section that was translated to `core`.
+    pub fn new(alloc: Global, core: &'p Core) -> ScopeWalk<'p, 's> {
+        ScopeWalk {
             core,
             scope: Scope::new(alloc),
             at: Numbers::start(),
@@ -98,7 +116,7 @@ impl<'p, 's> Walk<'p, 's> {
         }
     }
 
-    /// What is met in the section. Memory is answered where a growth was refused.
+    /// Walks over the section. `Memory` if an allocation fails.
     pub fn section(&mut self, section: &Section<'s>) -> Result<(), Memory> {
         let _level = self.declarations(OUTSIDE, &section.declarations, 0);
         if self.is_refused {
@@ -107,14 +125,14 @@ impl<'p, 's> Walk<'p, 's> {
         Ok(())
     }
 
-    /// Keeps that something was refused.
+    /// Notes a failed allocation.
     fn keep(&mut self, done: Result<(), Memory>) {
         if done.is_err() {
             self.is_refused = true;
         }
     }
 
-    /// The next numbers, if there are any.
+    /// Sets the next numbers, or notes a failed allocation.
     fn go_on(&mut self, at: Result<Numbers, Memory>) {
         match at {
             Ok(at) => self.at = at,
@@ -122,24 +140,26 @@ impl<'p, 's> Walk<'p, 's> {
         }
     }
 
-    /// A global is named or set.
+    /// Records that a global is used or set.
     fn use_global(&mut self, number: u16) {
         if self.used.push(number).is_err() {
             self.is_refused = true;
         }
     }
 
+    /// Records a name of a frame.
     fn add_row(&mut self, row: Row<'s>) {
         if self.rows.push(row).is_err() {
             self.is_refused = true;
         }
     }
 
+    /// Passes a leaf.
     fn leaf(&mut self) {
         self.leaves = self.leaves.saturating_add(1);
     }
 
-    /// The level of the VALOF with this number.
+    /// The level at the VALOF with this number.
     fn level_of(&self, number: u64) -> u64 {
         match self.core.valofs().get(number as usize) {
             Some(valof) => u64::from(valof.level),
@@ -147,7 +167,7 @@ impl<'p, 's> Walk<'p, 's> {
         }
     }
 
-    /// A name that means its value.
+    /// Passes a name that is used. If it is a global, records that.
     fn name(&mut self, name: &'s [u8]) {
         self.leaf();
         if let Meant::Global(number) = self.scope.meant_by(name) {
@@ -155,14 +175,14 @@ impl<'p, 's> Walk<'p, 's> {
         }
     }
 
-    /// A table or a string at the next leaf.
+    /// Records a table or a string at the next leaf.
     fn datum(&mut self) {
         self.keep_datum();
         self.leaf();
         self.go_on(self.at.after_place());
     }
 
-    /// A variable of a frame at the next leaf.
+    /// Records a variable at the next leaf.
     fn variable(&mut self, frame: usize, name: &'s [u8], count: u64, cells: Cells) {
         if let Meant::Variable(offset) = self.scope.meant_by(name) {
             self.add_row(Row {
@@ -177,7 +197,7 @@ impl<'p, 's> Walk<'p, 's> {
         self.leaf();
     }
 
-    /// The word VALOF; given is the level of its body.
+    /// Passes the word VALOF and returns the level of its body.
     fn valof(&mut self) -> u64 {
         self.leaf();
         let level = self.level_of(self.at.valof);
@@ -233,7 +253,7 @@ impl<'p, 's> Walk<'p, 's> {
         self.scope.leave(outside);
     }
 
-    /// Declarations from this next free offset on; given is the one after them.
+    /// Walks over declarations. `level` is the next free offset; returns the one after them.
     #[cycle(scoping)]
     fn declarations(&mut self, frame: usize, list: &[Declaration<'s>], level: u64) -> u64 {
         let mut level = level;
@@ -261,7 +281,7 @@ impl<'p, 's> Walk<'p, 's> {
         }
     }
 
-    /// The name of a constant, a static or a global at the next leaf.
+    /// Declares the constant, static or global at the next leaf.
     fn constant(&mut self, storage: Storage, name: &'s [u8]) {
         if let Meant::Global(number) = self.scope.meant_by(name) {
             self.keep_global(name, number);
@@ -272,9 +292,9 @@ impl<'p, 's> Walk<'p, 's> {
         self.leaf();
     }
 
-    /// What is at the next leaf is a global.
+    /// Records the global at the next leaf.
     fn keep_global(&mut self, name: &'s [u8], number: u16) {
-        let known = Known {
+        let known = ScopeContext {
             name,
             number,
             leaf: self.leaves,
@@ -284,7 +304,7 @@ impl<'p, 's> Walk<'p, 's> {
         }
     }
 
-    /// What is at the next leaf is a place.
+    /// Records the static at the next leaf.
     fn keep_datum(&mut self) {
         let datum = Datum {
             label: self.at.place,
@@ -295,7 +315,7 @@ impl<'p, 's> Walk<'p, 's> {
         }
     }
 
-    /// The definitions of a LET at this next free offset; given is the one after them.
+    /// Walks over the definitions of a LET. `level` is the next free offset; returns the one after them.
     #[cycle(scoping)]
     fn definitions(&mut self, frame: usize, list: &[Definition<'s>], level: u64) -> u64 {
         let Ok(priors) = priors_of_let(&mut self.scope, list) else {
@@ -335,7 +355,7 @@ impl<'p, 's> Walk<'p, 's> {
         }
     }
 
-    /// What a routine with this frame gives or does.
+    /// Walks over the value or the body of a routine.
     #[cycle(scoping)]
     fn inside(&mut self, frame: usize, tree: &Definition<'s>) {
         match tree {
@@ -348,21 +368,21 @@ impl<'p, 's> Walk<'p, 's> {
         }
     }
 
-    /// Variables of a frame, each with one cell.
+    /// Records variables with one cell each.
     fn variables(&mut self, frame: usize, names: &[&'s [u8]], cells: Cells) {
         for name in names {
             self.variable(frame, name, 1, cells);
         }
     }
 
-    /// The name of a vector, and the word VEC.
+    /// Records a vector, and passes the word VEC.
     fn vector(&mut self, frame: usize, name: &'s [u8], greatest: u16) {
         let count = u64::from(greatest).saturating_add(2);
         self.variable(frame, name, count, Cells::Vector(greatest));
         self.leaf();
     }
 
-    /// The name of a routine is a place, and may set a global.
+    /// Records a routine, its place and the global that it sets.
     fn head(&mut self, name: &'s [u8], global: Option<u16>) {
         let frame = Frame {
             name,
@@ -380,7 +400,7 @@ impl<'p, 's> Walk<'p, 's> {
         self.go_on(self.at.after_place());
     }
 
-    /// The name and the parameters of a routine; given is its frame.
+    /// Records a routine and its parameters. Returns the index of its frame.
     fn routine(&mut self, name: &'s [u8], parameters: &[&'s [u8]], global: Option<u16>) -> usize {
         let frame = self.frames.len();
         self.head(name, global);
@@ -411,7 +431,7 @@ impl<'p, 's> Walk<'p, 's> {
         }
     }
 
-    /// A command that holds no others.
+    /// Walks over a command that contains no others.
     #[cycle(scoping)]
     fn single(&mut self, frame: usize, command: &Command<'s>) {
         match command {
@@ -439,7 +459,7 @@ impl<'p, 's> Walk<'p, 's> {
         }
     }
 
-    /// A FOR at this next free offset.
+    /// Walks over a FOR loop. `level` is the next free offset.
     #[cycle(scoping)]
     fn counted(&mut self, frame: usize, command: &Command<'s>, level: u64) {
         let Command::For {
@@ -465,7 +485,7 @@ impl<'p, 's> Walk<'p, 's> {
         self.scope.leave(outside);
     }
 
-    /// The variable of a FOR at this offset, and its limit.
+    /// Records the variable of a FOR, and its limit, at this offset.
     fn counter(&mut self, frame: usize, name: &'s [u8], offset: u64, leaf: usize) {
         self.add_row(Row {
             frame,

@@ -1,11 +1,13 @@
+//! Decodes a machine word as an instruction, in the letters of INTCODE.
+
 use bc_word::{Memory, Word};
 use std::alloc::Global;
 
-/// The letters of the functions, in the order of a word's three upper bits.
+/// The letters of the functions, in the order of a word's upper three bits.
 pub const FUNCTIONS: [&str; 8] = ["L", "S", "A", "J", "T", "F", "K", "X"];
 
-/// What a word is as an instruction, with the word after it, which is its number in the long form: as `LIP3`. Memory is answered where
-/// a growth was refused.
+/// A word decoded as an instruction, as `LIP3`. `following` is the word after it, which is the number of an instruction
+/// of two words. Returns `Memory` if an allocation fails.
 pub fn instruction(alloc: Global, word: Word, following: Word) -> Result<String, Memory> {
     let code = word.get() / 512;
     let mut text = String::new(alloc);

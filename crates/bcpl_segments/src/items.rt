@@ -1,8 +1,10 @@
+//! The number of words that items take, and their addresses.
+
 use bc_text_items::{Base, Item};
 use bc_word::Memory;
 use std::alloc::Global;
 
-/// How many words an item takes where it stands alone.
+/// How many words an item takes by itself. A byte may share its word with the byte before it.
 fn words_alone(item: &Item) -> usize {
     match item {
         Item::Label(_) | Item::Global { .. } => 0,
@@ -15,8 +17,8 @@ fn words_alone(item: &Item) -> usize {
     }
 }
 
-/// The address of each item, where they stand from `start` on: that of its first word, or of the next word where it takes none; and
-/// the address after them. Memory is answered where a growth was refused.
+/// The address of each item if they begin at `start`, and the address after the last one. An item's address is that of
+/// its first word; for an item that takes none, that of the next word. Returns `Memory` if an allocation fails.
 pub fn addresses(
     alloc: Global,
     start: usize,

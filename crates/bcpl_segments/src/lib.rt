@@ -1,5 +1,5 @@
-//! How many words segments and their items take, what is said where these are too many, what a word is as an instruction, and what the
-//! library calls its globals.
+//! Sizes of segments and items, the sentence on a program that is too large, words decoded as instructions, and the
+//! library's names of globals.
 #![tactic(auto)]
 
 mod decoded;

@@ -1,3 +1,5 @@
+//! The sizes of segments, and the sentence on a program that is too large.
+
 use crate::items::addresses;
 use bc_text_items::Item;
 use bc_word::Memory;
@@ -9,25 +11,25 @@ const FIRST_ADDRESS: usize = 520;
 /// The greatest address at which the stack may begin.
 const GREATEST_BASE: usize = 65_472;
 
-/// The most segments that are told where a program is too large.
+/// At most this many segments are listed.
 const MOST: usize = 10;
 
-/// How many words a segment of these items takes. Memory is answered where a growth was refused.
+/// How many words a segment with these items takes. Returns `Memory` if an allocation fails.
 pub fn segment_words(alloc: Global, items: &[Item]) -> Result<usize, Memory> {
     let (_, words) = addresses(alloc, 0, items)?;
     Ok(words)
 }
 
-/// A segment's name and its size.
+/// A segment's name and size.
 #[derive(Drop)]
 pub struct SegmentSize {
-    /// What it is called.
+    /// The name under which it is printed.
     pub name: String,
     /// How many words it takes.
     pub words: usize,
 }
 
-/// The largest of these that is none of those that were told.
+/// The index of the largest segment that isn't listed yet.
 fn largest(sizes: &[SegmentSize], told: &[usize]) -> Option<usize> {
     let mut best: Option<(usize, usize)> = None;
     for (index, size) in sizes.iter().enumerate() {
@@ -47,8 +49,8 @@ fn largest(sizes: &[SegmentSize], told: &[usize]) -> Option<usize> {
     }
 }
 
-/// What is said where these segments take too many words: by how much, and the largest ones, a line each, without the last line's end.
-/// Memory is answered where a growth was refused.
+/// The lines on segments that take too many words: by how much, and the largest ones, one per line. There is no line
+/// break at the end. Returns `Memory` if an allocation fails.
 pub fn too_large(alloc: Global, sizes: &[SegmentSize]) -> Result<String, Memory> {
     let mut base = FIRST_ADDRESS;
     for size in sizes {
@@ -58,7 +60,7 @@ pub fn too_large(alloc: Global, sizes: &[SegmentSize]) -> Result<String, Memory>
     let mut lines = String::new(alloc);
     write!(
         lines,
-        "the program is too large by {surplus} words: the stack would begin at {base}, and {GREATEST_BASE} is the most"
+        "the program is too large by {surplus} words: the stack would begin at {base}, and the limit is {GREATEST_BASE}"
     )?;
     let mut told = Vec::new(alloc);
     for _ in 0..MOST {

@@ -1,3 +1,4 @@
+//! The listing `code`: each source line, followed by the INTCODE of its expressions and commands.
 use crate::lines::{Files, Lines};
 use crate::marks::{Marks, Owner};
 use crate::outline::Outline;
@@ -13,45 +14,52 @@ use bc_text_items::Item;
 use bc_word::Memory;
 use std::alloc::Global;
 
-/// The column of items, and that of what is said of them.
+/// The column of items.
 const ITEMS: usize = 8;
 
+/// The column of descriptions.
 const SAID: usize = 44;
 
-/// How many columns of a line of the file are shown, and of other text.
+/// The number of columns that a source line may take.
 const LINE: usize = 88;
 
+/// The number of columns that a name, a string or a line of another file may take.
 const SHOWN: usize = 50;
 
-/// What the sizes at the end are.
+/// The labels of the sizes at the end.
 const SIZES: [&str; 8] = [
     "words of roots",
     "words of commands",
     "words of data",
     "words of this segment",
-    "cells in front of all segments",
+    "cells before all segments",
     "words of the primitives",
     "words of the library",
-    "is their sum: where the stack begins in a program of this file alone",
+    "is their sum, where the stack begins if this file is the whole program",
 ];
 
-/// A file's section with its code, as the compiler made them.
+/// A section with its code, as the compiler produced them.
 #[derive(Clone, Copy)]
-pub struct Program<'p, 's> {
+pub struct CodeListing<'p, 's> {
+    /// The sources and their paths.
     pub files: Files<'p, 's>,
     /// The index of the file among the sources.
     pub main: usize,
+    /// The tokens of the section.
     pub tokens: &'p [Token<'s>],
+    /// Its tree.
     pub section: &'p Section<'s>,
+    /// Its resolved tree.
     pub core: &'p Core,
-    /// The items of its segment, and its entries.
+    /// The items of its segment.
     pub items: &'p [Item],
+    /// The entries of its segment.
     pub entries: &'p [Entry],
-    /// How many words stand before its segment: the first cells, the primitives, and BLIB's segment.
+    /// The number of words before its segment: the first cells, the primitives, and the library.
     pub first: [u64; 3],
 }
 
-/// How many words the parts of a segment have.
+/// The sizes of the parts of a segment, in words.
 #[derive(Clone, Copy)]
 struct Sizes {
     roots: u64,
@@ -59,35 +67,35 @@ struct Sizes {
     data: u64,
 }
 
-/// A line of a file: the file's index among the sources, and the line's number.
+/// A line of a file: the index of the file and the number of the line.
 #[derive(Clone, Copy)]
 struct Line {
     file: usize,
     number: usize,
 }
 
-/// A listing of code that is being written.
+/// The listing while it is written.
 #[derive(Drop)]
 struct Listing<'p, 's> {
     page: Page,
-    program: Program<'p, 's>,
+    program: CodeListing<'p, 's>,
     text: &'s [u8],
     lines: &'p Lines,
     leaves: &'p [Token<'s>],
     marks: &'p Marks,
     /// The leaf of each place.
     places: &'p [usize],
-    /// For each root whether some of its items were told.
+    /// For each root, whether some of its items were listed.
     begun: Vec<bool>,
-    /// How many lines of the file are told.
+    /// The number of lines of the file that were listed.
     told: usize,
-    /// The line that was told last.
+    /// The line that was listed last.
     last: Option<Line>,
     sizes: Sizes,
 }
 
 impl<'p, 's> Listing<'p, 's> {
-    /// Tells a line of the file.
+    /// Lists a line of the file.
     fn tell(&mut self, number: usize) {
         let line = self.lines.line(self.text, number);
         let sign = if line.is_empty() { " |" } else { " | " };
@@ -101,7 +109,7 @@ impl<'p, 's> Listing<'p, 's> {
         ]);
     }
 
-    /// Whether the line of this file with this number was told last.
+    /// Whether this line was listed last.
     fn is_last(&self, file: usize, number: usize) -> bool {
         match self.last {
             Some(last) => last.file == file && last.number == number,
@@ -109,7 +117,7 @@ impl<'p, 's> Listing<'p, 's> {
         }
     }
 
-    /// Tells that a line of another file is meant, where it wasn't told last.
+    /// Lists a line of another file, unless it was listed last.
     fn tell_elsewhere(&mut self, file: usize, at: usize) {
         let text = self.program.files.text(file);
         let Ok(lines) = Lines::new(self.page.alloc(), text) else {
@@ -130,7 +138,7 @@ impl<'p, 's> Listing<'p, 's> {
         ]);
     }
 
-    /// Tells the lines up to this one that were not told.
+    /// Lists all lines up to this one that were not listed yet.
     fn tell_further(&mut self, number: usize) {
         for line in self.told..number {
             self.tell(line.saturating_add(1));
@@ -138,7 +146,7 @@ impl<'p, 's> Listing<'p, 's> {
         self.told = number;
     }
 
-    /// Tells the lines up to this one that were not told, or this one again.
+    /// Lists all lines up to this one that were not listed yet. If there are none, lists this line again.
     fn tell_up_to(&mut self, number: usize) {
         if number > self.told {
             return self.tell_further(number);
@@ -149,7 +157,7 @@ impl<'p, 's> Listing<'p, 's> {
         }
     }
 
-    /// Tells where a leaf stands.
+    /// Lists the line of a leaf.
     fn tell_leaf(&mut self, leaf: usize) {
         let Some(token) = self.leaves.get(leaf).copied() else {
             return;
@@ -170,20 +178,20 @@ impl<'p, 's> Listing<'p, 's> {
         }
     }
 
-    /// Nothing, for what can't be written.
+    /// Notes that an allocation failed, and returns an empty text.
     fn refused(&mut self) -> String {
         self.page.refuse();
         String::new(self.page.alloc())
     }
 
-    /// Whether an item that takes so many columns begins a further line, as labels do, and what would pass the limit.
+    /// Whether an item of this many columns begins a new line: a label does, and an item that would pass the limit.
     fn is_further(&self, item: &Item, columns: usize, limit: usize) -> bool {
         let column = self.page.column();
         let following = column.saturating_add(columns).saturating_add(1);
         column > 0 && (matches!(item, Item::Label(_)) || following > limit)
     }
 
-    /// Adds an item to its line.
+    /// Adds an item to the current line.
     fn put_item(&mut self, item: &Item, text: &str) {
         let before = if matches!(item, Item::Label(_)) {
             Field::Text("")
@@ -195,7 +203,7 @@ impl<'p, 's> Listing<'p, 's> {
         self.page.add_all(&[before, Field::Text(text)]);
     }
 
-    /// Adds an item, where need be on a further line.
+    /// Adds an item, on a new line if necessary.
     fn add_item(&mut self, item: &Item) {
         let text = self.text_of(item);
         if self.is_further(item, text.len(), WIDTH) {
@@ -204,7 +212,7 @@ impl<'p, 's> Listing<'p, 's> {
         self.put_item(item, text.as_str());
     }
 
-    /// Ends a line, with what is said in it.
+    /// Ends a line with a description.
     fn end_line(&mut self, said: &str) {
         if said.is_empty() {
             return self.page.end_line();
@@ -212,7 +220,7 @@ impl<'p, 's> Listing<'p, 's> {
         self.page.add_line(&[Field::Column(SAID), Field::Text("/ "), Field::Text(said)]);
     }
 
-    /// Tells what is said of the items that follow, in lines of its own.
+    /// Describes the items that follow in separate lines.
     fn say_before(&mut self, said: &str) {
         self.page
             .add_all(&[Field::Column(ITEMS), Field::Text("/ ")]);
@@ -220,7 +228,7 @@ impl<'p, 's> Listing<'p, 's> {
         self.page.end_line();
     }
 
-    /// Adds items in lines up to this column, and after the first line what is said of them.
+    /// Adds items in lines up to this column, with a description after the first line.
     fn put_items(&mut self, items: &[Item], said: &str, limit: usize) {
         let mut left = said;
         for item in items {
@@ -234,7 +242,7 @@ impl<'p, 's> Listing<'p, 's> {
         self.end_line(left);
     }
 
-    /// Adds items in lines, and what is said of them: after the first line, or in front where that is long.
+    /// Adds items with a description: after the first line, or before all lines if it is too long for that.
     fn add_items(&mut self, items: &[Item], said: &str) {
         let is_after = SAID.saturating_add(said.len()).saturating_add(2) <= WIDTH;
         if is_after {
@@ -244,7 +252,7 @@ impl<'p, 's> Listing<'p, 's> {
         self.put_items(items, "", WIDTH);
     }
 
-    /// The items of an owner from this one on: the index after the last that stands beside it.
+    /// The index after the run of items with the same owner that begins at `from`.
     fn end_of_run(&self, from: usize) -> usize {
         let following = from.saturating_add(1);
         let Some(owner) = self.marks.owners.get(from).copied() else {
@@ -259,7 +267,7 @@ impl<'p, 's> Listing<'p, 's> {
         self.marks.owners.len().max(following)
     }
 
-    /// Whether items of this root were told before; from now on they were.
+    /// Whether items of this root were listed before. From now on they were.
     fn is_begun(&mut self, index: usize) -> bool {
         match self.begun.get_mut(index) {
             Some(is_begun) => {
@@ -271,7 +279,7 @@ impl<'p, 's> Listing<'p, 's> {
         }
     }
 
-    /// The items of a root, with its words and its rules.
+    /// Adds items of a root, with its size and rules.
     fn add_root(&mut self, index: usize, items: &[Item]) {
         if let Some(leaf) = self.marks.leaves.get(index).copied() {
             self.tell_leaf(leaf);
@@ -279,12 +287,12 @@ impl<'p, 's> Listing<'p, 's> {
         let entries = self.program.entries;
         match entries.get(index) {
             None => self.add_items(items, ""),
-            Some(_) if self.is_begun(index) => self.add_items(items, "the same, behind a VALOF"),
+            Some(_) if self.is_begun(index) => self.add_items(items, "continued after a VALOF"),
             Some(entry) => self.add_entry(entry, items),
         }
     }
 
-    /// The items of a root for the first time.
+    /// Adds the first items of a root.
     fn add_entry(&mut self, entry: &Entry, items: &[Item]) {
         let alloc = self.page.alloc();
         let words = words_of_entry(alloc, entry);
@@ -298,7 +306,7 @@ impl<'p, 's> Listing<'p, 's> {
         }
     }
 
-    /// A number of words, if it could be counted.
+    /// A number of words, or 0 if counting them failed.
     fn counted(&mut self, words: Result<u64, Memory>) -> u64 {
         match words {
             Ok(words) => words,
@@ -309,7 +317,7 @@ impl<'p, 's> Listing<'p, 's> {
         }
     }
 
-    /// Items of a command's own.
+    /// Adds items that belong to a command itself.
     fn add_own(&mut self, index: usize, items: &[Item]) {
         let Some(own) = self.marks.own.get(index).copied() else {
             return self.add_items(items, "");
@@ -321,7 +329,7 @@ impl<'p, 's> Listing<'p, 's> {
         self.add_counted(items, words, own.what.words());
     }
 
-    /// Items of so many words, and what they are.
+    /// Adds items of this size with a description.
     fn add_counted(&mut self, items: &[Item], words: u64, what: &str) {
         if words == 0 {
             return self.add_items(items, what);
@@ -340,7 +348,7 @@ impl<'p, 's> Listing<'p, 's> {
         self.leaves.get(*leaf).copied()
     }
 
-    /// Tells what a place is whose data follow.
+    /// Describes the place whose data follow.
     fn tell_place(&mut self, label: u16) {
         let Some(token) = self.token_of_place(label) else {
             return;
@@ -360,25 +368,25 @@ impl<'p, 's> Listing<'p, 's> {
         self.tell_line_of(token);
     }
 
-    /// Ends a line with that on which a token stands.
+    /// Ends a line with the place of a token.
     fn tell_line_of(&mut self, token: Token<'s>) {
         if token.file == self.program.main {
             let number = self.lines.number_at(token.start);
-            return self.page.add_line(&[Field::Text(" of line "), Field::Number(number as u64, 0)]);
+            return self.page.add_line(&[Field::Text(" on line "), Field::Number(number as u64, 0)]);
         }
         let text = self.program.files.text(token.file);
         let Ok(lines) = Lines::new(self.page.alloc(), text) else {
             return self.page.refuse();
         };
         self.page.add_line(&[
-            Field::Text(" of "),
+            Field::Text(" in "),
             Field::Text(self.program.files.path(token.file)),
             Field::Text(":"),
             Field::Number(lines.number_at(token.start) as u64, 0),
         ]);
     }
 
-    /// A global that is set.
+    /// Adds an item that sets a global.
     fn add_setting(&mut self, item: &Item, label: u16) {
         self.add_item(item);
         let name: &[u8] = match self.token_of_place(label) {
@@ -392,14 +400,14 @@ impl<'p, 's> Listing<'p, 's> {
         ]);
     }
 
-    /// A label, and what it is that of.
+    /// Adds a label, after a description of its place.
     fn add_place(&mut self, item: &Item, label: u16) {
         self.page.end_begun();
         self.tell_place(label);
         self.add_item(item);
     }
 
-    /// An item of the section's.
+    /// Adds an item of the section itself.
     fn add_datum(&mut self, item: &Item) {
         match item {
             Item::Label(label) => self.add_place(item, label.get()),
@@ -411,7 +419,7 @@ impl<'p, 's> Listing<'p, 's> {
         }
     }
 
-    /// What is the section's: its data, and the globals that it sets.
+    /// Adds the items of the section itself: its data, and the globals that it sets.
     fn add_data(&mut self, items: &[Item]) {
         let words = words_of_items(self.page.alloc(), items);
         let words = self.counted(words);
@@ -422,7 +430,7 @@ impl<'p, 's> Listing<'p, 's> {
         self.page.end_begun();
     }
 
-    /// The items from this one on that have one owner; gives the index after them.
+    /// Adds the run of items that begins at `from`. Returns the index after it.
     fn add_run(&mut self, from: usize) -> usize {
         let end = self.end_of_run(from);
         let all = self.program.items;
@@ -432,7 +440,7 @@ impl<'p, 's> Listing<'p, 's> {
         end
     }
 
-    /// The items of an owner.
+    /// Adds items of this owner.
     fn add_owned(&mut self, owner: Option<Owner>, items: &[Item]) {
         match owner {
             Some(Owner::Root(index)) => self.add_root(index, items),
@@ -445,7 +453,7 @@ impl<'p, 's> Listing<'p, 's> {
         }
     }
 
-    /// Adds all items in runs of one owner, the end of the text, and the sizes.
+    /// Adds all items, the end of the segment, and the sizes.
     fn add_all(&mut self) {
         let count = self.program.items.len();
         let mut at: usize = 0;
@@ -459,7 +467,7 @@ impl<'p, 's> Listing<'p, 's> {
         self.add_sizes();
     }
 
-    /// A line of sizes.
+    /// Adds a line with a size.
     fn add_size(&mut self, words: u64, what: &str) {
         self.page.add_line(&[
             Field::Text("/ "),
@@ -469,7 +477,7 @@ impl<'p, 's> Listing<'p, 's> {
         ]);
     }
 
-    /// How many words there are, and at which address the stack begins.
+    /// Adds the sizes of all parts, and the address at which the stack begins.
     fn add_sizes(&mut self) {
         let Sizes {
             roots,
@@ -489,7 +497,7 @@ impl<'p, 's> Listing<'p, 's> {
     }
 }
 
-/// The words of a root's code.
+/// The size of a root's code, in words.
 fn words_of_entry(alloc: Global, entry: &Entry) -> Result<u64, Memory> {
     let pieces = code_of(
         alloc,
@@ -501,12 +509,12 @@ fn words_of_entry(alloc: Global, entry: &Entry) -> Result<u64, Memory> {
     Ok(words_of_pieces(pieces.as_slice()))
 }
 
-/// What so many words are called.
+/// The unit for this number of words.
 pub fn unit(words: u64) -> &'static str {
     if words == 1 { "word" } else { "words" }
 }
 
-/// What a listing of code is made from beside the program.
+/// What the listing needs besides the program.
 #[derive(Clone, Copy)]
 struct Beside<'p, 's> {
     lines: &'p Lines,
@@ -518,7 +526,7 @@ struct Beside<'p, 's> {
 /// The listing of a program's code.
 fn listed<'p, 's>(
     alloc: Global,
-    program: Program<'p, 's>,
+    program: CodeListing<'p, 's>,
     beside: Beside<'p, 's>,
 ) -> Result<Vec<u8>, Memory> {
     let Beside {
@@ -548,10 +556,10 @@ fn listed<'p, 's>(
     listing.page.into_text()
 }
 
-/// The listing of a program's code, whose items are marked so.
+/// The listing of a program's code, with the owners of its items.
 fn listed_by_marks(
     alloc: Global,
-    program: Program<'_, '_>,
+    program: CodeListing<'_, '_>,
     outline: &Outline,
     marks: &Marks,
 ) -> Result<Vec<u8>, Memory> {
@@ -566,20 +574,19 @@ fn listed_by_marks(
     listed(alloc, program, beside)
 }
 
-/// The listing of a program's code with these steps.
+/// The listing of a program's code, with the steps of its outline.
 fn listed_by_steps(
     alloc: Global,
-    program: Program<'_, '_>,
+    program: CodeListing<'_, '_>,
     outline: &Outline,
 ) -> Result<Vec<u8>, Memory> {
     let marks = Marks::new(alloc, outline, program.items.len(), program.entries)?;
     listed_by_marks(alloc, program, outline, &marks)
 }
 
-/// The code of a file's section, each source line as a comment before its roots and of what is its commands' own, with
-/// labels, data, and the sizes at the end. Without its comments it is the text of the segment. Memory is answered where a
-/// growth was refused.
-pub fn code_listing(alloc: Global, program: Program<'_, '_>) -> Result<Vec<u8>, Memory> {
+/// The listing `code` of a section: each source line as a comment before its code, then labels, data, and the sizes.
+/// Without its comments it is the text of the segment. `Memory` if an allocation fails.
+pub fn code_listing(alloc: Global, program: CodeListing<'_, '_>) -> Result<Vec<u8>, Memory> {
     let outline = Outline::new(alloc, program.section)?;
     listed_by_steps(alloc, program, &outline)
 }

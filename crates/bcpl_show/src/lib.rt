@@ -1,4 +1,6 @@
-//! Listings for people of what stands between a source and its code: its tokens, its tree, and its code.
+//! The listings of `bcpl show` except for scopes: the tokens, the tree and the code of a source.
+//!
+//! Other crates use its pages, its source lines, and the owners of items.
 #![tactic(auto)]
 
 mod code;
@@ -11,7 +13,7 @@ mod tokens;
 mod tree;
 
 pub use bc_parse_tree::leaves_of;
-pub use code::{Program, code_listing, unit};
+pub use code::{CodeListing, code_listing, unit};
 pub use lines::{Files, Lines};
 pub use marks::{Marks, Own, Owner};
 pub use outline::{Outline, Purpose, Step, Work};

@@ -1,20 +1,22 @@
+//! The sources of a program by index, and the lines of a text by number.
 use bc_lex::Source;
 use bc_word::Memory;
 use bcpl_places::column_at;
 use std::alloc::Global;
 
-/// The sources of a program, and the paths under which they are told.
+/// The sources of a program and the paths to print for them.
 #[derive(Clone, Copy)]
 pub struct Files<'a, 's> {
+    /// The sources.
     pub sources: &'a [Source<'s>],
-    /// The path of each source, in their order.
+    /// The path of each source.
     pub paths: &'a [&'a str],
-    /// How many of the first sources are those of the library.
+    /// The number of sources that belong to the library; they come first.
     pub library: usize,
 }
 
 impl<'a, 's> Files<'a, 's> {
-    /// The text of a source; nothing for one that isn't there.
+    /// The text of a source, or an empty text if there is no such source.
     pub fn text(&self, file: usize) -> &'s [u8] {
         match self.sources.get(file) {
             Some(source) => source.text,
@@ -22,7 +24,7 @@ impl<'a, 's> Files<'a, 's> {
         }
     }
 
-    /// Whether a source is the library's.
+    /// Whether a source belongs to the library.
     pub fn is_of_library(&self, file: usize) -> bool {
         file < self.library
     }
@@ -36,13 +38,14 @@ impl<'a, 's> Files<'a, 's> {
     }
 }
 
-/// Where the lines of a text begin.
+/// The offsets at which the lines of a text begin.
 #[derive(Drop)]
 pub struct Lines {
     starts: Vec<usize>,
 }
 
 impl Lines {
+    /// Finds the lines of a text. Fails only if an allocation fails.
     pub fn new(alloc: Global, text: &[u8]) -> Result<Lines, Memory> {
         let mut starts: Vec<usize> = Vec::new(alloc);
         starts.push(0)?;
@@ -54,7 +57,7 @@ impl Lines {
         Ok(Lines { starts })
     }
 
-    /// The number, counted from 1, of the line on which the byte at this offset stands.
+    /// The number, counted from 1, of the line with the byte at this offset.
     pub fn number_at(&self, at: usize) -> usize {
         match self.starts.as_slice().binary_search(&at) {
             Ok(index) => index.saturating_add(1),
@@ -62,7 +65,7 @@ impl Lines {
         }
     }
 
-    /// How many lines the text has; what is empty after the last line feed is none.
+    /// The number of lines of the text. An empty line after the last line feed does not count.
     pub fn count(&self, text: &[u8]) -> usize {
         let count = self.starts.len();
         match text.last() {
@@ -71,7 +74,7 @@ impl Lines {
         }
     }
 
-    /// The offset at which the line with this number begins; the text's end where there is none.
+    /// The offset at which the line with this number begins, or the end of the text.
     fn start(&self, text: &[u8], number: usize) -> usize {
         match self.starts.as_slice().get(number.saturating_sub(1)) {
             Some(start) => *start,
@@ -79,7 +82,7 @@ impl Lines {
         }
     }
 
-    /// The line of the text with this number, without the line feed that ends it and a carriage return before that.
+    /// The line with this number, without a line feed or a carriage return and line feed at its end.
     pub fn line<'t>(&self, text: &'t [u8], number: usize) -> &'t [u8] {
         let from = self.start(text, number).min(text.len());
         let to = self.start(text, number.saturating_add(1)).min(text.len());
@@ -88,7 +91,7 @@ impl Lines {
         line.strip_suffix(b"\r").unwrap_or(line)
     }
 
-    /// The column of the byte of the text at this offset, counted from 1.
+    /// The column of the byte at this offset, counted from 1 as a terminal shows it.
     pub fn column_at(&self, alloc: Global, text: &[u8], at: usize) -> Result<usize, Memory> {
         let start = self.start(text, self.number_at(at)).min(text.len());
         column_at(alloc, &text[start..], at.saturating_sub(start))

@@ -1,4 +1,4 @@
-//! Which items of a segment are whose: a root's, or a command's own.
+//! The owner of each item of a segment: a root, a command or the section.
 
 use crate::outline::{Outline, Purpose, Step, Work};
 use bc_rules::code_of;
@@ -6,37 +6,40 @@ use bc_rules_defs::{Entry, Piece};
 use bc_word::Memory;
 use std::alloc::Global;
 
-/// Whose an item is.
+/// The owner of an item.
 #[derive(Clone, Copy, PartialEq, Eq)]
 pub enum Owner {
     /// The root of the entry with this index.
     Root(usize),
-    /// This of the steps that are a command's own.
+    /// A command. This is an index into `Marks::own`.
     Command(usize),
-    /// The section's: data, and globals that are set.
+    /// The section itself, for data and for globals that are set.
     Section,
 }
 
-/// Items of a command's own: how many, what they do, and at which leaf.
+/// A run of items that belong to a command itself.
 #[derive(Clone, Copy)]
 pub struct Own {
+    /// The leaf where the source has the command.
     pub leaf: usize,
+    /// The number of items.
     pub count: usize,
+    /// What the items do.
     pub what: Purpose,
 }
 
-/// Whose the items of a segment are.
+/// The owners of the items of a segment.
 #[derive(Drop)]
 pub struct Marks {
     /// The owner of each item.
     pub owners: Vec<Owner>,
     /// The leaf of each entry.
     pub leaves: Vec<usize>,
-    /// What is commands' own, in the order of the code.
+    /// The runs of items that belong to commands, in the order of the code.
     pub own: Vec<Own>,
 }
 
-/// What stands in a root's code.
+/// What a root's code contains.
 #[derive(Drop)]
 struct Inside {
     /// The numbers of its VALOFs, in the order of the code.
@@ -44,7 +47,7 @@ struct Inside {
 }
 
 impl Inside {
-    /// One VALOF more; gives how many items its body has.
+    /// Adds a VALOF. Returns the number of items in its body.
     fn add(&mut self, entry: &Entry, number: u64) -> Result<u64, Memory> {
         let count = count_at(entry, self.valofs.len());
         self.valofs.push(number)?;
@@ -52,21 +55,21 @@ impl Inside {
     }
 }
 
-/// The steps of a body from one on.
+/// A position in the steps of a body.
 #[derive(Clone, Copy)]
 struct Cursor {
     body: usize,
     next: usize,
 }
 
-/// Makes this the owner of the item at a place.
+/// Makes `owner` the owner of the item with this index.
 fn own_item(owners: &mut Vec<Owner>, at: u64, owner: Owner) {
     if let Some(cell) = owners.get_mut(at as usize) {
         *cell = owner;
     }
 }
 
-/// How many items the body of a VALOF has that is the root's first, second ..
+/// The number of items in the body of the root's VALOF with this index.
 fn count_at(entry: &Entry, index: usize) -> u64 {
     match entry.bodies.get(index) {
         Some(count) => *count,
@@ -74,7 +77,7 @@ fn count_at(entry: &Entry, index: usize) -> u64 {
     }
 }
 
-/// Makes a root the owner of its items; gives what stands in its code.
+/// Makes a root the owner of its items. Returns what its code contains.
 fn own_items(
     alloc: Global,
     owners: &mut Vec<Owner>,
@@ -104,7 +107,7 @@ fn own_items(
     Ok(inside)
 }
 
-/// How many steps there are, and bodies.
+/// The number of steps and bodies.
 fn count_of(outline: &Outline) -> usize {
     let mut count: usize = outline.bodies.len().saturating_add(1);
     for body in &outline.bodies {
@@ -113,7 +116,7 @@ fn count_of(outline: &Outline) -> usize {
     count
 }
 
-/// The step of a body with this index.
+/// The step at a position.
 fn step_at(outline: &Outline, cursor: Cursor) -> Option<Step> {
     match outline.bodies.get(cursor.body) {
         Some(steps) => steps.get(cursor.next).copied(),
@@ -121,7 +124,7 @@ fn step_at(outline: &Outline, cursor: Cursor) -> Option<Step> {
     }
 }
 
-/// Gives the items that no root owns to commands, in their order.
+/// Gives the items without a root to the commands, in order.
 fn share(owners: &mut [Owner], steps: &[Own]) {
     let mut step: usize = 0;
     let mut taken: usize = 0;
@@ -139,7 +142,7 @@ fn share(owners: &mut [Owner], steps: &[Own]) {
     }
 }
 
-/// What stands in the code of each of these entries, whose items become theirs.
+/// Makes the root of each entry the owner of its items. Returns what their code contains.
 fn insides_of(
     alloc: Global,
     owners: &mut Vec<Owner>,
@@ -152,37 +155,38 @@ fn insides_of(
     Ok(insides)
 }
 
-/// A walk through the steps in the order of the code: a root's before those of its VALOFs.
+/// Goes through the steps in the order of the code: a root comes before the steps of its VALOFs.
 #[derive(Drop)]
 struct Following<'o> {
     outline: &'o Outline,
-    /// What stands in the code of each root.
+    /// What the code of each root contains.
     insides: &'o [Inside],
-    /// The bodies that are begun or to come, the one at work last.
+    /// The bodies that are not finished; the current one is last.
     waiting: Vec<Cursor>,
     is_refused: bool,
 }
 
 impl Following<'_> {
+    /// Adds a position to go on from.
     fn wait(&mut self, cursor: Cursor) {
         if self.waiting.push(cursor).is_err() {
             self.is_refused = true;
         }
     }
 
-    /// A body that is to come first.
+    /// Adds a body to begin with.
     fn enter(&mut self, body: usize) {
         self.wait(Cursor { body, next: 0 });
     }
 
-    /// All routines, in their order.
+    /// Adds all routines, so that the first comes first.
     fn enter_routines(&mut self) {
         for body in self.outline.routines.iter().rev() {
             self.enter(*body);
         }
     }
 
-    /// The bodies of the VALOFs with these numbers, in their order.
+    /// Adds the bodies of these VALOFs, so that the first comes first.
     fn enter_valofs(&mut self, numbers: &[u64]) {
         for number in numbers.iter().rev() {
             if let Some(body) = self.outline.valofs.get(*number as usize) {
@@ -191,7 +195,7 @@ impl Following<'_> {
         }
     }
 
-    /// Takes the step at this place, if there is one.
+    /// Takes the step at a position, if there is one.
     fn take(&mut self, marks: &mut Marks, cursor: Cursor) {
         let Some(step) = step_at(self.outline, cursor) else {
             return;
@@ -219,7 +223,7 @@ impl Following<'_> {
 }
 
 impl Marks {
-    /// Adds what is roots' and commands' in the order of the code.
+    /// Records all roots and commands in the order of the code.
     fn follow(
         &mut self,
         alloc: Global,
@@ -239,7 +243,7 @@ impl Marks {
         Ok(())
     }
 
-    /// The numbers of the VALOFs of the next root, where a step is one.
+    /// The numbers of the VALOFs of the next root, if the step is a root.
     fn inside<'i>(&self, step: Step, insides: &'i [Inside]) -> &'i [u64] {
         match (step.work, insides.get(self.leaves.len())) {
             (Work::Root, Some(inside)) => inside.valofs.as_slice(),
@@ -247,7 +251,7 @@ impl Marks {
         }
     }
 
-    /// One step more.
+    /// Records a step.
     fn add(&mut self, step: Step) -> Result<(), Memory> {
         match step.work {
             Work::Own(count, what) => Ok(
@@ -261,7 +265,7 @@ impl Marks {
         }
     }
 
-    /// The marks of so many items with these entries. Memory is answered where a growth was refused.
+    /// The owners of `count` items with these entries. `Memory` if an allocation fails.
     pub fn new(
         alloc: Global,
         outline: &Outline,

@@ -1,5 +1,5 @@
-//! The steps of a section's code, by a walk over its trees: in which order roots and commands' own items come, and at which
-//! leaf each stands.
+//! The steps of a section's code: in which order the roots and the items of commands come, and where the source has
+//! them.
 
 use bc_parse_tree::{
     Block, Command, Constant, Declaration, Definition, Exp, Item, Label, Section, Storage,
@@ -7,72 +7,81 @@ use bc_parse_tree::{
 use bc_word::Memory;
 use std::alloc::Global;
 
-/// What is generated at once.
+/// Code that is generated in one step.
 #[derive(Clone, Copy)]
 pub struct Step {
-    /// The leaf at which it stands.
+    /// The leaf where the source has it.
     pub leaf: usize,
+    /// What is generated.
     pub work: Work,
 }
 
-/// A root, or items of a command's own.
+/// A root, or items of a command itself.
 #[derive(Clone, Copy)]
 pub enum Work {
+    /// The code of a root.
     Root,
-    /// So many items, and what they are for.
+    /// This many items for this purpose.
     Own(usize, Purpose),
 }
 
-/// What items of a command's own are for.
+/// The purpose of items that belong to a command itself.
 #[derive(Clone, Copy)]
 pub enum Purpose {
     /// The label of a routine.
     Routine,
-    /// The return from a routine.
+    /// The return at the end of a routine.
     End,
-    /// The end of a VALOF's body.
+    /// The label after a VALOF's body.
     Valof,
-    /// Where a turn of a loop begins.
+    /// The label where an iteration of a loop starts.
     Turn,
-    /// Where LOOP goes.
+    /// The label that LOOP jumps to.
     Onward,
-    /// The way back of a loop, and where BREAK goes.
+    /// The jump back to the start of a loop, and the label that BREAK jumps to.
     Back,
-    /// Where BREAK goes.
+    /// The label that BREAK jumps to.
     After,
-    /// Where control goes on after a choice.
+    /// The label after a choice.
     Join,
-    /// The jump past ELSE.
+    /// The jump past ELSE, and its label.
     Past,
-    /// The values of a switch with their labels.
+    /// The values of a switch, with their labels.
     Switch,
-    /// Where ENDCASE goes.
+    /// The label that ENDCASE jumps to.
     Switched,
-    /// The label of a CASE, of DEFAULT, or of the source.
+    /// A label of the source, a CASE or DEFAULT.
     Label,
+    /// BREAK.
     Break,
+    /// LOOP.
     Loop,
+    /// ENDCASE.
     EndCase,
+    /// GOTO.
     Goto,
+    /// RESULTIS.
     ResultIs,
+    /// RETURN.
     Return,
+    /// FINISH.
     Finish,
 }
 
-/// What is told of each purpose, in their order.
+/// The descriptions of the purposes, in order.
 const WORDS: [&str; 19] = [
-    "the routine",
-    "the return at its end",
-    "the end of the VALOF",
-    "each turn begins here",
-    "LOOP goes here",
-    "the way back; BREAK goes behind it",
-    "BREAK goes here",
-    "it goes on here",
-    "the jump past ELSE",
-    "the switch",
-    "ENDCASE goes here",
-    "a label",
+    "routine",
+    "return at the end",
+    "end of the VALOF",
+    "the loop starts here",
+    "LOOP jumps here",
+    "jump back; BREAK jumps past it",
+    "BREAK jumps here",
+    "continues here",
+    "jump past ELSE",
+    "switch",
+    "ENDCASE jumps here",
+    "label",
     "BREAK",
     "LOOP",
     "ENDCASE",
@@ -83,7 +92,7 @@ const WORDS: [&str; 19] = [
 ];
 
 impl Purpose {
-    /// What is told of it.
+    /// The description for listings.
     pub fn words(self) -> &'static str {
         WORDS.get(self as usize).copied().unwrap_or("")
     }
@@ -93,21 +102,21 @@ impl Purpose {
 #[derive(Drop)]
 pub struct Outline {
     alloc: Global,
-    /// How many leaves were met.
+    /// The number of leaves met so far.
     leaves: usize,
-    /// The steps of each body: those of routines and of VALOFs.
+    /// The steps of each body. Routines and VALOFs have one.
     pub bodies: Vec<Vec<Step>>,
-    /// The bodies of the routines in text order.
+    /// The bodies of the routines, in text order.
     pub routines: Vec<usize>,
-    /// The bodies of the VALOFs by their numbers.
+    /// The bodies of the VALOFs, by number.
     pub valofs: Vec<usize>,
-    /// The leaf of each place: the name of a routine or static, the word of a table, a string.
+    /// The leaf of each place: the name of a routine or static, the word TABLE, or a string.
     pub places: Vec<usize>,
-    /// Whether a growth was refused. What is met from then on counts for nothing.
+    /// Whether an allocation failed. Then the outline is void.
     is_refused: bool,
 }
 
-/// How many CASEs a list has.
+/// The number of CASEs in a list.
 fn cases_in(list: &[Item<'_>]) -> usize {
     let mut count: usize = 0;
     for item in list {
@@ -121,7 +130,7 @@ fn cases_in(list: &[Item<'_>]) -> usize {
 }
 
 impl Outline {
-    /// The steps of a section. Memory is answered where a growth was refused.
+    /// The steps of a section. `Memory` if an allocation fails.
     pub fn new(alloc: Global, section: &Section<'_>) -> Result<Outline, Memory> {
         let mut outline = Outline {
             alloc,
@@ -140,11 +149,12 @@ impl Outline {
         Ok(outline)
     }
 
+    /// Passes a leaf.
     fn leaf(&mut self) {
         self.leaves = self.leaves.saturating_add(1);
     }
 
-    /// A body more, without steps.
+    /// Adds an empty body and returns its index.
     fn body(&mut self) -> usize {
         let body = self.bodies.len();
         if self.bodies.push(Vec::new(self.alloc)).is_err() {
@@ -153,6 +163,7 @@ impl Outline {
         body
     }
 
+    /// Adds a step to a body.
     fn step(&mut self, body: usize, leaf: usize, work: Work) {
         if let Some(steps) = self.bodies.get_mut(body) {
             if steps.push(Step { leaf, work }).is_err() {
@@ -161,24 +172,24 @@ impl Outline {
         }
     }
 
-    /// A root at the next leaf.
+    /// Adds a root that begins at the next leaf.
     fn root(&mut self, body: usize) {
         self.step(body, self.leaves, Work::Root);
     }
 
-    /// Items of a command's own at the leaf that was met last.
+    /// Adds items of a command that is at the last leaf.
     fn own(&mut self, body: usize, count: usize, what: Purpose) {
         self.step(body, self.leaves.saturating_sub(1), Work::Own(count, what));
     }
 
-    /// A place at the next leaf.
+    /// Adds a place at the next leaf.
     fn place(&mut self) {
         if self.places.push(self.leaves).is_err() {
             self.is_refused = true;
         }
     }
 
-    /// A leaf that is a place.
+    /// Passes a leaf that is a place.
     fn placed(&mut self) {
         self.place();
         self.leaf();
@@ -231,14 +242,14 @@ impl Outline {
         self.own(body, 1, Purpose::Valof);
     }
 
-    /// A root that is this expression.
+    /// Adds a root that consists of this expression.
     #[cycle(walking)]
     fn root_of(&mut self, body: usize, e: &Exp<'_>) {
         self.root(body);
         self.expression(e);
     }
 
-    /// Roots, one for each of these.
+    /// Adds a root for each of these expressions.
     #[cycle(walking)]
     fn roots_of(&mut self, body: usize, list: &[Exp<'_>]) {
         for e in list {
@@ -280,12 +291,12 @@ impl Outline {
         }
     }
 
-    /// Names, each a leaf.
+    /// Passes names, each of which is a leaf.
     fn names(&mut self, names: &[&[u8]]) {
         self.leaves = self.leaves.saturating_add(names.len());
     }
 
-    /// The name and the parameters of a routine, and its body.
+    /// Passes the name and parameters of a routine, and adds its body. Returns the index of the body.
     fn head(&mut self, parameters: &[&[u8]]) -> usize {
         let body = self.body();
         if self.routines.push(body).is_err() {
@@ -349,25 +360,25 @@ impl Outline {
         }
     }
 
-    /// A command of one word.
+    /// Adds a command that is a single word.
     fn word(&mut self, body: usize, count: usize, what: Purpose) {
         self.leaf();
         self.own(body, count, what);
     }
 
-    /// Items of a command's own at the next leaf.
+    /// Adds items of a command that is at the next leaf.
     fn ahead(&mut self, body: usize, count: usize, what: Purpose) {
         self.step(body, self.leaves, Work::Own(count, what));
     }
 
-    /// The end of the turns of a FOR, whose variable is this leaf.
+    /// Adds the end of a FOR loop. `variable` is the leaf of its variable.
     fn turned(&mut self, body: usize, variable: usize) {
         self.step(body, variable, Work::Own(1, Purpose::Onward));
         self.step(body, variable, Work::Root);
         self.step(body, variable, Work::Own(2, Purpose::Back));
     }
 
-    /// A command that holds no others.
+    /// Adds a command that contains no others.
     #[cycle(walking)]
     fn single(&mut self, body: usize, command: &Command<'_>) {
         match command {
@@ -397,7 +408,8 @@ impl Outline {
         }
     }
 
-    /// A command that tests before what it holds, or chooses.
+    /// Adds a command with a test or a choice. The other commands are in functions of their own, so that each
+    /// function in the cycle takes a single tree, whose size the termination proof needs.
     #[cycle(walking)]
     fn guarded(&mut self, body: usize, command: &Command<'_>) {
         match command {
@@ -430,7 +442,7 @@ impl Outline {
         }
     }
 
-    /// A FOR.
+    /// Adds a FOR loop.
     #[cycle(walking)]
     fn counted(&mut self, body: usize, command: &Command<'_>) {
         let Command::For {

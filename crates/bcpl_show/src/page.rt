@@ -1,42 +1,44 @@
+//! The text of a listing while it is written, with its columns.
 use bc_word::Memory;
 use std::alloc::Global;
 
-/// How many columns a listing has.
+/// The number of columns of a listing.
 pub const WIDTH: usize = 100;
 
-/// What is added to a line.
+/// A part of a line.
 #[derive(Clone, Copy)]
 pub enum Field<'a> {
+    /// A text as it is.
     Text(&'a str),
-    /// As many of these bytes as take so many columns, and a sign where there are more.
+    /// As many of these bytes as fit into this many columns, followed by an ellipsis if some are left out.
     Front(&'a [u8], usize),
-    /// A number, with blanks before it up to so many columns.
+    /// A number, right-aligned in this many columns.
     Number(u64, usize),
     /// Blanks up to this column.
     Column(usize),
 }
 
-/// A listing that is being written. Where a growth was refused, that is kept, and what is added from then on counts for nothing.
+/// A listing while it is written. Once an allocation has failed, the text is void.
 #[derive(Drop)]
 pub struct Page {
     alloc: Global,
     text: Vec<u8>,
-    /// How many columns of the last line are taken.
+    /// The number of columns used in the last line.
     column: usize,
     is_refused: bool,
 }
 
-/// Whether a byte goes on with a character of UTF-8.
+/// Whether a byte continues a UTF-8 character.
 fn is_further(byte: u8) -> bool {
     byte & 0xC0 == 0x80
 }
 
-/// How many columns these bytes take, one for each character.
+/// The number of columns that these bytes take, one for each character.
 pub fn width(bytes: &[u8]) -> usize {
     bytes.iter().filter(|byte| !is_further(**byte)).count()
 }
 
-/// As many of these bytes as take so many columns.
+/// As many of these bytes as fit into this many columns.
 fn front(bytes: &[u8], columns: usize) -> &[u8] {
     let mut taken: usize = 0;
     for (at, byte) in bytes.iter().enumerate() {
@@ -51,6 +53,7 @@ fn front(bytes: &[u8], columns: usize) -> &[u8] {
 }
 
 impl Page {
+    /// An empty page.
     pub fn new(alloc: Global) -> Page {
         Page {
             alloc,
@@ -60,16 +63,17 @@ impl Page {
         }
     }
 
+    /// The allocator of the page.
     pub fn alloc(&self) -> Global {
         self.alloc
     }
 
-    /// The column after the last one that is taken, counted from 0.
+    /// The column after the last one that is used, counted from 0.
     pub fn column(&self) -> usize {
         self.column
     }
 
-    /// A growth was refused to what is written here.
+    /// Notes that an allocation failed.
     pub fn refuse(&mut self) {
         self.is_refused = true;
     }
@@ -81,13 +85,13 @@ impl Page {
         }
     }
 
-    /// Adds bytes that have no line break.
+    /// Adds bytes without line feeds.
     pub fn add(&mut self, bytes: &[u8]) {
         self.add_bytes(bytes);
         self.column = self.column.saturating_add(width(bytes));
     }
 
-    /// Adds as many of these bytes as take so many columns, and a sign where there are more.
+    /// Adds as many of these bytes as fit into this many columns, and an ellipsis if some are left out.
     pub fn add_front(&mut self, bytes: &[u8], columns: usize) {
         let shown = front(bytes, columns);
         self.add(shown);
@@ -96,11 +100,12 @@ impl Page {
         }
     }
 
+    /// Adds a text without line feeds.
     pub fn add_text(&mut self, text: &str) {
         self.add(text.as_bytes());
     }
 
-    /// Adds a number, with blanks before it up to so many columns.
+    /// Adds a number, right-aligned in this many columns.
     pub fn add_number(&mut self, number: u64, columns: usize) {
         let Ok(digits) = format!(in self.alloc; "{number}") else {
             return self.refuse();
@@ -117,6 +122,7 @@ impl Page {
         }
     }
 
+    /// Adds a part of a line.
     fn add_field(&mut self, field: Field<'_>) {
         match field {
             Field::Text(text) => self.add_text(text),
@@ -126,32 +132,32 @@ impl Page {
         }
     }
 
-    /// Adds these, one after the other.
+    /// Adds parts of a line.
     pub fn add_all(&mut self, fields: &[Field<'_>]) {
         for field in fields {
             self.add_field(*field);
         }
     }
 
-    /// Adds these, and ends the line.
+    /// Adds parts of a line and ends it.
     pub fn add_line(&mut self, fields: &[Field<'_>]) {
         self.add_all(fields);
         self.end_line();
     }
 
-    /// Adds whole lines, each with its line break, where none is begun.
+    /// Adds complete lines, each with its line feed. No line may be begun.
     pub fn add_lines(&mut self, lines: &str) {
         self.add_bytes(lines.as_bytes());
     }
 
-    /// Ends a line that has something on it.
+    /// Ends the line if anything is on it.
     pub fn end_begun(&mut self) {
         if self.column > 0 {
             self.end_line();
         }
     }
 
-    /// Adds bytes that go on in further lines from this column on where they don't fit.
+    /// Adds bytes. What doesn't fit continues on further lines, beginning at this column.
     pub fn add_folded(&mut self, bytes: &[u8], column: usize) {
         for byte in bytes {
             if self.column >= WIDTH && !is_further(*byte) {
@@ -161,13 +167,13 @@ impl Page {
         }
     }
 
-    /// Goes on in a further line at this column.
+    /// Continues on a new line at this column.
     pub fn go_on(&mut self, column: usize) {
         self.end_line();
         self.fill_to(column);
     }
 
-    /// What stands before a word that takes so many columns: a blank, or in a further line this head.
+    /// Adds what precedes a word of this many columns: a blank, or `head` on a new line.
     fn before_word(&mut self, columns: usize, head: &str) {
         let taken = columns.saturating_add(1);
         if self.column.saturating_add(taken) > WIDTH {
@@ -178,7 +184,7 @@ impl Page {
         }
     }
 
-    /// Adds words with a blank between each two. Where one doesn't fit, a further line begins with this head.
+    /// Adds the words of a text. A word that doesn't fit goes to a new line that begins with `head`.
     pub fn add_words(&mut self, words: &str, head: &str) {
         let mut is_first = true;
         for word in words.split_whitespace() {
@@ -190,12 +196,13 @@ impl Page {
         }
     }
 
+    /// Ends the line.
     pub fn end_line(&mut self) {
         self.add_bytes(b"\n");
         self.column = 0;
     }
 
-    /// The text. Memory is answered where a growth was refused.
+    /// The text, or `Memory` if an allocation failed.
     pub fn into_text(self) -> Result<Vec<u8>, Memory> {
         if self.is_refused {
             return Err(Memory);

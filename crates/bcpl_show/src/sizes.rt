@@ -1,10 +1,11 @@
+//! The sizes of code, in words.
 use bc_rules::words;
 use bc_rules_defs::Piece;
 use bc_text_items::Item;
 use bc_word::Memory;
 use std::alloc::Global;
 
-/// The words that these pieces take.
+/// The size of these pieces, in words.
 pub fn words_of_pieces(pieces: &[Piece]) -> u64 {
     if pieces.len() < 1 << 32 {
         words(pieces)
@@ -13,7 +14,7 @@ pub fn words_of_pieces(pieces: &[Piece]) -> u64 {
     }
 }
 
-/// The words that these items take.
+/// The size of these items, in words. Fails only if an allocation fails.
 pub fn words_of_items(alloc: Global, items: &[Item]) -> Result<u64, Memory> {
     let mut pieces = Vec::new(alloc);
     for item in items {

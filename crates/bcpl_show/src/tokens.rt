@@ -1,3 +1,4 @@
+//! The listing `tokens`: the tokens of a source, one per line.
 use crate::lines::{Files, Lines};
 use crate::page::{Field, Page};
 use bc_lex_tokens::{Symbol, Token, TokenKind};
@@ -6,14 +7,16 @@ use bc_parse_tree::Part;
 use bc_word::Memory;
 use std::alloc::Global;
 
-/// The column of a token's kind, that of its text, and that of what the text means.
+/// The column of a token's kind.
 const KIND: usize = 12;
 
+/// The column of a token's text.
 const TEXT: usize = 24;
 
+/// The column of a token's value.
 const VALUE: usize = 40;
 
-/// What a token is, in a word.
+/// The kind of a token, as a word.
 fn kind_word(token: &Token<'_>) -> &'static str {
     match token.kind {
         TokenKind::Symbol(_) => match token.text.first() {
@@ -27,7 +30,7 @@ fn kind_word(token: &Token<'_>) -> &'static str {
     }
 }
 
-/// Adds what a token means, where its text doesn't say so itself.
+/// Adds the value of a token.
 fn add_value(page: &mut Page, number: u64) {
     page.add_all(&[
         Field::Column(VALUE),
@@ -36,7 +39,7 @@ fn add_value(page: &mut Page, number: u64) {
     ]);
 }
 
-/// The sign or word that a symbol is known by; a bracket's tag belongs to its text.
+/// Adds the main spelling of a symbol, if the source spells it differently. The tag of a bracket belongs to its text.
 fn add_symbol(page: &mut Page, symbol: Symbol, text: &[u8]) {
     let spelling = symbol.spelling();
     if spelling == text || matches!(symbol, Symbol::OpenSection | Symbol::CloseSection) {
@@ -47,7 +50,7 @@ fn add_symbol(page: &mut Page, symbol: Symbol, text: &[u8]) {
     page.add(spelling);
 }
 
-/// Adds the number that a token is, where its text doesn't say so itself.
+/// Adds the value of a number, if the source doesn't write it in decimal.
 fn add_written(page: &mut Page, number: u16, text: &[u8]) {
     let Ok(digits) = format!(in page.alloc(); "{number}") else {
         return page.refuse();
@@ -57,7 +60,7 @@ fn add_written(page: &mut Page, number: u16, text: &[u8]) {
     }
 }
 
-/// Adds what a token means.
+/// Adds the value of a token, if its text doesn't show it.
 fn add_meaning(page: &mut Page, token: &Token<'_>) {
     match token.kind {
         TokenKind::Number(number) => add_written(page, number, token.text),
@@ -67,6 +70,7 @@ fn add_meaning(page: &mut Page, token: &Token<'_>) {
     }
 }
 
+/// Adds the line of a token.
 fn add_token(page: &mut Page, text: &[u8], lines: &Lines, token: &Token<'_>) {
     let Ok(column) = lines.column_at(page.alloc(), text, token.start) else {
         return page.refuse();
@@ -84,8 +88,8 @@ fn add_token(page: &mut Page, text: &[u8], lines: &Lines, token: &Token<'_>) {
     page.end_line();
 }
 
-/// The tokens before which a line break means a semicolon, by their indexes; none where brackets of sections
-/// don't fit.
+/// The indexes of the tokens before which a line break counts as a semicolon; none if the section brackets don't
+/// match.
 fn broken(alloc: Global, tokens: &[Token<'_>]) -> Result<Vec<usize>, Memory> {
     let mut places = Vec::new(alloc);
     if let Ok(closed) = close(alloc, tokens) {
@@ -98,7 +102,7 @@ fn broken(alloc: Global, tokens: &[Token<'_>]) -> Result<Vec<usize>, Memory> {
     Ok(places)
 }
 
-/// Tokens of other files that stand one after the other.
+/// Consecutive tokens from another file.
 #[derive(Clone, Copy)]
 struct Elsewhere<'a> {
     path: &'a str,
@@ -106,7 +110,7 @@ struct Elsewhere<'a> {
 }
 
 impl<'a> Elsewhere<'a> {
-    /// Adds how many tokens stand in another file, if any do.
+    /// Adds a line with the number of these tokens, if there are any.
     fn add(self, page: &mut Page) {
         let tokens = match self.count {
             0 => return,
@@ -123,7 +127,7 @@ impl<'a> Elsewhere<'a> {
         ]);
     }
 
-    /// With one token more of the file with this path. Those of another file are told.
+    /// Adds a token of the file with this path. If that is a different file, lists the tokens so far.
     fn with(self, page: &mut Page, path: &'a str) -> Elsewhere<'a> {
         if self.path == path {
             return Elsewhere {
@@ -136,13 +140,13 @@ impl<'a> Elsewhere<'a> {
     }
 }
 
-/// Adds a line break that means a semicolon.
+/// Adds a line for a line break that counts as a semicolon.
 fn add_break(page: &mut Page) {
     page.add_line(&[Field::Column(KIND), Field::Text("line break  ;")]);
 }
 
-/// The tokens of the source `main`, one a line, with their places, and a line for each line break that means a
-/// semicolon. Of those that stand in other files it is told how many there are. Memory is answered where a growth was refused.
+/// The listing `tokens` of the source `main`: one token per line, with its place, and a line for each line break that
+/// counts as a semicolon. Tokens from other files are only counted. `Memory` if an allocation fails.
 pub fn token_listing(
     alloc: Global,
     files: Files<'_, '_>,

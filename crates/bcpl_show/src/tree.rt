@@ -1,3 +1,4 @@
+//! The listing `tree`: the canonical spelling of a section, laid out in lines.
 use crate::lines::Files;
 use crate::page::{Field, Page, WIDTH, width};
 use bc_lex_tokens::{Symbol, Token, TokenKind};
@@ -7,39 +8,39 @@ use bc_word::Memory;
 use bcpl_places::way_to;
 use std::alloc::Global;
 
-/// How far a tree's listing is.
+/// The layout of a section while it is written.
 #[derive(Drop)]
 struct Layout<'p, 's> {
     page: Page,
     files: Files<'p, 's>,
     /// The leaves of the section.
     leaves: Vec<Token<'s>>,
-    /// How many of them were met.
+    /// The number of leaves met so far.
     met: usize,
-    /// The file of the declaration at work.
+    /// The file of the current declaration.
     file: usize,
-    /// Whether that is a file of the library, for which a GET stands.
+    /// Whether that file belongs to the library, so that it is listed as a GET.
     is_got: bool,
-    /// How many GETs were told for it.
+    /// The number of GETs listed for it.
     gets: usize,
-    /// The file that was told last; at first the source's own.
+    /// The file whose path was listed last; at first the source itself.
     told: usize,
-    /// For each section bracket that is open whether it is that of a list of globals.
+    /// For each open section bracket, whether it is that of a list of globals.
     opened: Vec<bool>,
     /// Whether the next token begins a line.
     breaks: bool,
 }
 
-/// What stands of a file from a place on.
+/// A run of leaves from the same file.
 #[derive(Clone, Copy)]
 struct Run {
-    /// How often it stands there.
+    /// How many times its first leaf occurs: how often the file was read.
     count: usize,
-    /// The file that stands after it, if there is one.
+    /// The file after the run, if any.
     following: Option<usize>,
 }
 
-/// The symbol that a token is, if it is one.
+/// The symbol of a token, if it is one.
 fn symbol_of(kind: Option<&TokenKind<'_>>) -> Option<Symbol> {
     match kind {
         Some(TokenKind::Symbol(symbol)) => Some(*symbol),
@@ -66,7 +67,7 @@ fn is_declaration(kind: Option<&TokenKind<'_>>) -> bool {
     }
 }
 
-/// Whether a token can end an operand, so that an operator after it has two.
+/// Whether a token can end an operand, so that an operator after it takes two.
 fn is_operand_end(kind: Option<&TokenKind<'_>>) -> bool {
     match symbol_of(kind) {
         Some(symbol) => matches!(
@@ -77,7 +78,7 @@ fn is_operand_end(kind: Option<&TokenKind<'_>>) -> bool {
     }
 }
 
-/// Whether a line may be folded after a token: no line break there means a semicolon.
+/// Whether a line may be broken after a token, because no line break there counts as a semicolon.
 fn is_foldable(kind: Option<&TokenKind<'_>>) -> bool {
     match symbol_of(kind) {
         Some(symbol) => !is_symbol_end(symbol),
@@ -85,7 +86,8 @@ fn is_foldable(kind: Option<&TokenKind<'_>>) -> bool {
     }
 }
 
-/// Whether no blank stands after a token, which stands after `earlier`: after a bracket and an operator of one operand.
+/// Whether no blank follows a token, which comes after `earlier`: so it is for an opening bracket and a prefix
+/// operator.
 fn is_close_after(earlier: Option<&TokenKind<'_>>, kind: Option<&TokenKind<'_>>) -> bool {
     match symbol_of(kind) {
         Some(symbol) => match symbol {
@@ -97,7 +99,7 @@ fn is_close_after(earlier: Option<&TokenKind<'_>>, kind: Option<&TokenKind<'_>>)
     }
 }
 
-/// Whether no blank stands before a token, which stands after `last`.
+/// Whether no blank precedes a token, which comes after `last`.
 fn is_close_before(last: Option<&TokenKind<'_>>, kind: Option<&TokenKind<'_>>) -> bool {
     match symbol_of(kind) {
         Some(symbol) => match symbol {
@@ -111,12 +113,12 @@ fn is_close_before(last: Option<&TokenKind<'_>>, kind: Option<&TokenKind<'_>>) -
     }
 }
 
-/// The token at this place, if there is one.
+/// The token at this index, if there is one.
 fn at<'k, 's>(kinds: &'k [TokenKind<'s>], place: usize) -> Option<&'k TokenKind<'s>> {
     kinds.get(place)
 }
 
-/// The token so many places before this one, if there is one.
+/// The token `back` positions before this index, if there is one.
 fn before<'k, 's>(
     kinds: &'k [TokenKind<'s>],
     place: usize,
@@ -128,7 +130,7 @@ fn before<'k, 's>(
     }
 }
 
-/// How many columns the tokens take at the least that stand right after the token at this place.
+/// The smallest number of columns of the tokens that follow the token at this index without a blank.
 fn glued(kinds: &[TokenKind<'_>], place: usize) -> usize {
     let mut count: usize = 0;
     for next in place.saturating_add(1)..kinds.len() {
@@ -144,7 +146,7 @@ fn glued(kinds: &[TokenKind<'_>], place: usize) -> usize {
 }
 
 impl Layout<'_, '_> {
-    /// Whether GETs lead from that file of the library, `by`, to this one.
+    /// Whether the library's file `by` reads this file by GETs.
     fn is_got_by(&mut self, file: usize, by: usize) -> bool {
         if !self.files.is_of_library(by) {
             return false;
@@ -158,7 +160,7 @@ impl Layout<'_, '_> {
         }
     }
 
-    /// How often the tokens of this file stand here one after the other, and the file that stands after them, if there is one.
+    /// The run of leaves of this file that begins here.
     fn run_ahead(&self, file: usize) -> Run {
         let mut run = Run {
             count: 0,
@@ -180,8 +182,8 @@ impl Layout<'_, '_> {
         run
     }
 
-    /// How many GETs mean what is there of this file from here on: for one of the library one for each time that it was got, but
-    /// for the time that the library's file after it got it; for others none.
+    /// The number of GETs for the leaves of this file that begin here. A file of the library has one for each time it
+    /// was read, except for one by the library's next file. Other files have none.
     fn gets_ahead(&mut self, file: usize) -> usize {
         if !self.files.is_of_library(file) {
             return 0;
@@ -194,8 +196,8 @@ impl Layout<'_, '_> {
         run.count.saturating_sub(usize::from(is_got_by_it))
     }
 
-    /// Tells the file of a declaration, where it is another than that of the one before: by GETs, each of which means all that the
-    /// library's file has, or by a comment, where it isn't the one that was told last.
+    /// Lists the file of a declaration if it differs from that of the previous one: as GETs for a file of the
+    /// library, and as a comment for another file, unless that was listed last.
     fn tell_file(&mut self) {
         let file = match self.leaves.get(self.met) {
             Some(leaf) => leaf.file,
@@ -214,7 +216,7 @@ impl Layout<'_, '_> {
         self.tell_path(path);
     }
 
-    /// Tells the path of the file at work.
+    /// Lists the path of the current file.
     fn tell_path(&mut self, path: &str) {
         if self.is_got {
             let fields = [Field::Text("GET \""), Field::Text(path), Field::Text("\"")];
@@ -227,11 +229,12 @@ impl Layout<'_, '_> {
         }
     }
 
+    /// The number of open section brackets.
     fn depth(&self) -> usize {
         self.opened.len()
     }
 
-    /// Whether what is listed is a list of globals.
+    /// Whether the layout is inside a list of globals.
     fn is_in_globals(&self) -> bool {
         match self.opened.last() {
             Some(is_globals) => *is_globals,
@@ -239,7 +242,7 @@ impl Layout<'_, '_> {
         }
     }
 
-    /// Whether the token at this place begins a label.
+    /// Whether the token at this index begins a label.
     fn is_label(&self, kinds: &[TokenKind<'_>], place: usize) -> bool {
         match at(kinds, place) {
             Some(TokenKind::Symbol(symbol)) => matches!(symbol, Symbol::Case | Symbol::Default),
@@ -248,7 +251,7 @@ impl Layout<'_, '_> {
         }
     }
 
-    /// Begins the line of the token at this place: labels stand a step further out.
+    /// Begins the line of the token at this index. Labels are indented one step less.
     fn begin_line(&mut self, kinds: &[TokenKind<'_>], place: usize) {
         let is_out = self.is_label(kinds, place);
         let depth = self.depth().saturating_sub(usize::from(is_out));
@@ -262,7 +265,7 @@ impl Layout<'_, '_> {
         }
     }
 
-    /// Adds what stands before a token on its line, which takes so many columns.
+    /// Adds what precedes a token of this many columns: a blank, a new line, or nothing.
     fn part(&mut self, kinds: &[TokenKind<'_>], place: usize, columns: usize) {
         if place == 0 || self.breaks {
             return self.begin_line(kinds, place);
@@ -287,12 +290,12 @@ impl Layout<'_, '_> {
         self.page.add_text(if is_close { "" } else { " " });
     }
 
-    /// Whether the token at this place is the colon of a label.
+    /// Whether the token at this index is the colon of a label.
     fn is_colon_of_label(&self, kinds: &[TokenKind<'_>], place: usize) -> bool {
         is(at(kinds, place), Symbol::Colon) && !self.is_in_globals()
     }
 
-    /// What closes with a token, before it is added.
+    /// Updates the layout before a token that closes something.
     fn close(&mut self, kinds: &[TokenKind<'_>], place: usize) {
         if is(at(kinds, place), Symbol::CloseSection) {
             let _opened = self.opened.pop();
@@ -302,7 +305,7 @@ impl Layout<'_, '_> {
         }
     }
 
-    /// What opens or ends after a token that was added.
+    /// Updates the layout after a token that opens or ends something.
     fn open(&mut self, kinds: &[TokenKind<'_>], place: usize) {
         let kind = at(kinds, place);
         if is(kind, Symbol::OpenSection) {
@@ -316,14 +319,14 @@ impl Layout<'_, '_> {
         }
     }
 
-    /// A section bracket more is open.
+    /// Opens a section bracket.
     fn open_section(&mut self, is_of_globals: bool) {
         if self.opened.push(is_of_globals).is_err() {
             self.page.refuse();
         }
     }
 
-    /// After a declaration outside of all brackets stands an empty line.
+    /// Adds an empty line after a declaration outside all brackets.
     fn end_declaration(&mut self) {
         if !self.is_got && self.opened.is_empty() {
             self.page.end_line();
@@ -331,7 +334,7 @@ impl Layout<'_, '_> {
         }
     }
 
-    /// Adds the token at this place, which has this text.
+    /// Adds the token at this index, with this text.
     fn add(&mut self, kinds: &[TokenKind<'_>], place: usize, text: &[u8]) {
         self.close(kinds, place);
         self.part(kinds, place, width(text));
@@ -341,7 +344,7 @@ impl Layout<'_, '_> {
         self.open(kinds, place);
     }
 
-    /// Adds the token at this place, which is of this kind.
+    /// Adds the token at this index, which is of this kind.
     fn add_kind(&mut self, kinds: &[TokenKind<'_>], place: usize, kind: TokenKind<'_>) {
         match render(self.page.alloc(), &[kind]) {
             Ok(text) => self.add(kinds, place, text.as_slice()),
@@ -352,7 +355,7 @@ impl Layout<'_, '_> {
         }
     }
 
-    /// Adds all tokens, and the end of the last line.
+    /// Adds all tokens, and ends the last line.
     fn add_all(&mut self, kinds: &[TokenKind<'_>]) {
         for (place, kind) in kinds.iter().enumerate() {
             self.add_kind(kinds, place, *kind);
@@ -363,10 +366,9 @@ impl Layout<'_, '_> {
     }
 }
 
-/// The tokens of the canonical spelling of the source `main`, laid out: a construct a line, what belongs to a bracket of a
-/// section two columns further in. A comment stands before declarations that stand in another file than those before
-/// them, and a GET instead of those of a file of the library. Its tokens are these. Memory is answered where a growth
-/// was refused.
+/// The listing `tree` of the source `main`: its canonical spelling, one construct per line, indented by section
+/// brackets. Comments mark declarations from another file; those from a file of the library appear as GETs. `Memory`
+/// if an allocation fails.
 pub fn tree_listing<'s>(
     alloc: Global,
     files: Files<'_, 's>,

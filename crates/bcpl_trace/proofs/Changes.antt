@@ -1,4 +1,4 @@
--- What each instruction leaves alone.
+-- What each instruction leaves alone, function by function.
 use Rattle.std.proofs.Common.{◌≡◌, ◌≢◌, ◌<◌, ℕ, ◌+◌, ◌/◌, ◌%◌, ◌==◌, zero, suc, Bool, true, false, cond, List, Option, Some, None, refl, sym, ap, ◌∙◌, subst, arith}
 use Rattle.std.specs.Prelude.{slice_index, slice_set}
 use Rattle.std.proofs.lemmas.Bool.{eqb-true}
@@ -20,7 +20,7 @@ use Rattle.bcpl_trace.specs.declared.change.Change.TheVariants.{Nothing, Cell, L
 use Rattle.bcpl_trace.specs.Changes.{Leaves}
 use Rattle.bcpl_trace.specs.Told.{told}
 
--- the store of an effect
+-- The store of an effect.
 store_of : (e f : Effect) → e ≡ f → e.0.store ≡ f.0.store
 store_of e f h = ap (λ (x : Effect). x.0.store) h
 
@@ -28,7 +28,7 @@ value_keeps : (v : Option ℕ) (r : Registers) (s t : State) (end : Option End) 
 value_keeps None r s t end h = store_of _ _ h
 value_keeps (Some x) r s t end h = store_of _ _ h
 
--- no operation changes a cell
+-- No operation changes a cell.
 keeps_store : (o : Operation) (r : Registers) (s t : State) (end : Option End) → effect t end ≡ execute o r s → t.store ≡ s.store
 keeps_store Indirect r s t end h = store_of _ _ h
 keeps_store Negate r s t end h = store_of _ _ h
@@ -44,7 +44,7 @@ keeps_store (Find side) r s t end h = store_of _ _ h
 keeps_store (EndStream side) r s t end h = store_of _ _ h
 keeps_store Bad r s t end h = store_of _ _ h
 
--- operation 27 writes a byte
+-- Operation 27 writes a byte.
 written : (d : ℕ) (r : Registers) (s t : State) (end : Option End) → d ≡ 27 → effect t end ≡ execute (operation_of d) r s
     → Leaves (Byte (r.a % 256)) s t
 written d r s t end e h =
@@ -56,18 +56,18 @@ by_byte : (b : Bool) (d : ℕ) (r : Registers) (s t : State) (end : Option End) 
 by_byte true d r s t end e h = written d r s t end (eqb-true d 27 e) h
 by_byte false d r s t end e h = keeps_store (operation_of d) r s t end h
 
--- one cell
+-- A store with one cell set.
 one : (d v : ℕ) (s t : State) → t.store ≡ slice_set s.store d v → Leaves (Cell d) s t
 one d v s t h n other = ap (λ (m : List ℕ). slice_index m n) h ∙ get_or-set_other s.store d n v 0 other
 
--- two cells
+-- A store with two cells set.
 two : (f u v : ℕ) (s t : State) → t.store ≡ slice_set (slice_set s.store f u) (next f) v → Leaves (Links f) s t
 two f u v s t h n other beyond =
     ap (λ (m : List ℕ). slice_index m n) h
     ∙ get_or-set_other (slice_set s.store f u) (next f) n v 0 beyond
     ∙ get_or-set_other s.store f n u 0 other
 
--- by the number of the function
+-- The function with this number.
 abbrev kind : ℕ → Function
 kind f =
     cond (f == 0) Load (cond (f == 1) Store (cond (f == 2) Plus (
@@ -86,7 +86,7 @@ by_kind (suc (suc (suc (suc (suc (suc zero)))))) d r s t end lt h = two ((r.p + 
 by_kind (suc (suc (suc (suc (suc (suc (suc zero))))))) d r s t end lt h = by_byte (d == 27) d r s t end refl h
 by_kind (suc (suc (suc (suc (suc (suc (suc (suc f)))))))) d r s t end lt h = absurd (omega arith)
 
--- the instruction at C
+-- The instruction at C.
 pub leaves : (s t : State) (end : Option End) (word : ℕ) → word ≡ slice_index s.store s.registers.c → code_of word / 16 < 8
     → effect t end ≡ step s
     → Leaves (told (code_of word / 16) (operand_of (code_of word) word s.registers s.store) s.registers) s t

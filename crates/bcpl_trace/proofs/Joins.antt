@@ -1,4 +1,4 @@
--- Runs that are put together of shorter ones.
+-- Runs composed of shorter runs, for the loop of `run_watched`.
 use Rattle.std.proofs.Common.{◌≡◌, ◌≢◌, ◌≤◌, ℕ, ◌+◌, ◌-◌, suc, Option, None, Some, sym, ap, ◌∙◌, refl, arith, subst}
 use Rattle.bc_machine_defs.specs.State.{State}
 use Rattle.bc_machine_defs.specs.Run.{runs, ended, Comes}
@@ -10,7 +10,7 @@ use Rattle.bc_machine.specs.Ran.{Ran, RanFrom, kept_end, kept_from}
 use Rattle.bc_machine.specs.Rose.{Rose}
 use Rattle.bc_machine.proofs.Failures.{rose_from}
 
--- no instruction
+-- A run of no instructions.
 pub ran_nothing : (known : Type 0) (s : State) (f : ℕ) → Ran known known 0 s s BudgetSpent f f
 ran_nothing known s f = record {
   exact = λ k other. sym (runs-zero s);
@@ -24,7 +24,7 @@ ran_nothing known s f = record {
 still_running : BudgetSpent ≢ Device
 still_running e = cc
 
--- what comes after a run that is still running is what comes after both
+-- A run that is still running, followed by another run, is a run with both budgets.
 pub ran_on : (known middle still : Type 0) (n m : ℕ) (s t u : State) (e : End) (a b c : ℕ)
     → Ran known middle n s t BudgetSpent a b → Ran middle still m t u e b c → Ran known still (n + m) s u e a c
 ran_on known middle still n m s t u e a b c first second = record {
@@ -43,7 +43,7 @@ ran_on known middle still n m s t u e a b c first second = record {
   works = second.works;
 }
 
--- an end other than BudgetSpent stays
+-- An end other than BudgetSpent stays.
 stays : (m : ℕ) (t : State) (e : End) → e ≢ BudgetSpent → goes_on_for m (ended t e) ≡ ended t e
 stays m t Finished h = refl
 stays m t ZeroDivide h = refl
@@ -51,7 +51,7 @@ stays m t (BadInstruction c) h = refl
 stays m t BudgetSpent h = absurd (h refl)
 stays m t Device h = refl
 
--- what has ended ends so with a larger budget
+-- A run that has ended ends the same way with a larger budget.
 pub ran_longer : (known still : Type 0) (n m : ℕ) (s u : State) (e : End) (a c : ℕ)
     → e ≢ BudgetSpent → Ran known still n s u e a c → Ran known still (n + m) s u e a c
 ran_longer known still n m s u e a c h r = record {
@@ -66,7 +66,7 @@ ran_longer known still n m s u e a c h r = record {
   works = r.works;
 }
 
--- a machine that has not ended runs
+-- The run of a machine that has not ended.
 pub ran_from_none : (now : Option End) (known still : Type 0) (n : ℕ) (s t : State) (e : End) (a b : ℕ)
     → now ≡ None → RanFrom now known still n s t e a b → Ran known still n s t e a b
 ran_from_none None known still n s t e a b h r = r
@@ -86,14 +86,14 @@ kept_some ZeroDivide x h = (cc, λ k. cc)
 kept_some (BadInstruction c) x h = (cc, λ k. cc)
 kept_some Device x h = (cc, λ k. cc)
 
--- the same number of instructions
+-- The same budget.
 pub ran_same : (known still : Type 0) (total n : ℕ) (s t : State) (e : End) (a b : ℕ)
     → total ≡ n → Ran known still n s t e a b → Ran known still total s t e a b
 ran_same known still total n s t e a b h r =
     let P : ℕ → Type 0 = λ i. Ran known still i s t e a b in
     subst P (sym h) r
 
--- one instruction more, and the machine is still running
+-- One more instruction, after which the machine is still running.
 pub ran_one_more : (now : Option End) (known middle still : Type 0) (total n : ℕ) (s t u : State) (e : End) (a b c : ℕ)
     → now ≡ None → total ≡ n + 1 → Ran known middle n s t BudgetSpent a b → RanFrom now middle still 1 t u e b c → kept_end e ≡ None
     → Ran known still total s u BudgetSpent a c
@@ -103,7 +103,7 @@ ran_one_more now known middle still total n s t u e a b c none size first second
     ran_same known still total (n + 1) s u BudgetSpent a c size
     (subst P (kept_none e h) (ran_on known middle still n 1 s t u e a b c first one))
 
--- one instruction more, and it met an end
+-- One more instruction, which ends the run.
 pub ran_to_end : (now : Option End) (known middle still : Type 0) (total n m : ℕ) (s t u : State) (e x : End) (a b c : ℕ)
     → now ≡ None → total ≡ n + 1 + m → Ran known middle n s t BudgetSpent a b → RanFrom now middle still 1 t u e b c
     → kept_end e ≡ Some x → Ran known still total s u x a c
@@ -114,7 +114,7 @@ ran_to_end now known middle still total n m s t u e x a b c none size first seco
     ran_same known still total (n + 1 + m) s u x a c size
     (subst P all.0 (ran_longer known still (n + 1) m s u e a c all.1 (ran_on known middle still n 1 s t u e a b c first one)))
 
--- what a machine keeps of an end
+-- The end that a machine keeps.
 pub runs_still : (now then : Option End) (e : End) → now ≡ None → then ≡ kept_from now e → kept_end e ≡ None → then ≡ None
 runs_still None then e h k q = k ∙ q
 runs_still (Some x) then e h k q = absurd cc

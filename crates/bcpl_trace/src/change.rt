@@ -1,4 +1,4 @@
-//! What an instruction changes beside the registers.
+//! What an instruction changes besides the registers.
 
 ghost use Rattle.std.specs.Prelude.{◌≡◌, slice_index};
 ghost use Rattle.bc_machine_defs.specs.Instruction.{code_of};
@@ -13,26 +13,26 @@ use bc_word::Word;
 /// The base G: the address of global 0.
 const GLOBALS: u16 = 8;
 
-/// How many addresses the lower bits of a word hold; its upper bits are the instruction's code.
+/// One more than the largest address in the lower bits of an instruction word; its upper bits are the code.
 const ADDRESSES: u16 = 512;
 
-/// The number of the operation that writes a byte.
+/// The operand of the operation that writes a byte.
 const WRITE: u16 = 27;
 
-/// What an instruction changes beside the registers.
+/// What an instruction changes besides the registers.
 #[derive(Clone, Copy, PartialEq, Eq)]
 pub enum Change {
-    /// No cell; an input or an output may be selected, read or ended.
+    /// No cell. An input or output may be selected, read or ended.
     Nothing,
     /// The cell at this address.
     Cell(u16),
-    /// The cell at this address and the one after it: the links of a frame.
+    /// The cell at this address and the next one: the links of a frame.
     Links(u16),
-    /// No cell, and this byte is written to the selected output.
+    /// No cell. This byte is written to the selected output.
     Byte(u8),
 }
 
-/// The word of the store at this address.
+/// The word at this address of the store.
 pub fn cell(machine: &Machine, address: u16) -> u16
     ensures { result ≡ slice_index machine.now.store address }
 {
@@ -69,7 +69,7 @@ fn operand(machine: &Machine) -> u16
     }
 }
 
-/// What an instruction of this function changes, with this operand and these registers.
+/// What an instruction with this function and operand changes, if `registers` are the registers before it.
 fn told(function: u16, operand: u16, registers: Registers) -> Change
     ensures { result ≡ told function operand registers }
 {
@@ -81,7 +81,8 @@ fn told(function: u16, operand: u16, registers: Registers) -> Change
     }
 }
 
-/// What the instruction at C changes, where it meets no end: every cell but those that are named stays as it is.
+/// What the instruction at C changes, provided that it does not end the run. Every cell that is not named stays the
+/// same.
 pub fn change_of(machine: &Machine) -> Change
     ensures { IsChangeOf machine.now result }
 {

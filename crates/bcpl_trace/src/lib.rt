@@ -1,4 +1,4 @@
-//! Runs that are watched: what each instruction did, and how often each was carried out.
+//! Recorded runs: the trace of what each instruction did, and the profile of how often each was executed.
 #![tactic(auto)]
 
 mod change;

@@ -1,4 +1,4 @@
-//! What stands at an address of an image.
+//! Names for the addresses of an image.
 
 use bc_machine_defs::Image;
 use bc_word::Memory;
@@ -11,19 +11,19 @@ const GLOBALS: usize = 8;
 /// The address of the first segment.
 const FIRST_SEGMENT: usize = 520;
 
-/// A segment's label.
+/// A label of a segment.
 #[derive(Clone, Copy)]
-struct Place {
+struct CodePlace {
     segment: usize,
     label: u16,
 }
 
-/// The first label that stands at this address.
-fn label_at(image: &Image, address: u16) -> Option<Place> {
+/// The first label at this address.
+fn label_at(image: &Image, address: u16) -> Option<CodePlace> {
     for (segment, place) in image.places.as_slice().iter().enumerate() {
         for (label, at) in place.labels.as_slice() {
             if at.get() == address {
-                return Some(Place {
+                return Some(CodePlace {
                     segment,
                     label: label.get(),
                 });
@@ -33,7 +33,7 @@ fn label_at(image: &Image, address: u16) -> Option<Place> {
     None
 }
 
-/// The first global whose cell begins with this address, which is not before the segments.
+/// The first global with this address, unless the address is before the segments.
 fn global_at(image: &Image, address: u16) -> Option<u16> {
     if usize::from(address) < FIRST_SEGMENT {
         return None;
@@ -59,23 +59,23 @@ fn segment_at(image: &Image, address: u16) -> Option<usize> {
     None
 }
 
-/// Whether another part of the image begins at this address: the globals, a segment, the stack.
+/// Whether a part of the image begins at this address: the globals, a segment, or the stack.
 pub fn begins_part(image: &Image, address: u16) -> bool {
     usize::from(address) == GLOBALS
         || address == image.stack_base.get()
         || segment_at(image, address).is_some()
 }
 
-/// What is said of a part of the image that begins at this address, where no routine does.
+/// The name of the part of the image at this address, if no label is there.
 fn part_at(alloc: Global, image: &Image, address: u16) -> Result<String, Memory> {
     if let Some(segment) = segment_at(image, address) {
-        return Ok(format!(in alloc; "segment {segment}, in front of what was called")?);
+        return Ok(format!(in alloc; "segment {segment}, before the first call")?);
     }
     let at = usize::from(address);
     let said = if at < GLOBALS {
-        "the boot"
+        "the boot code"
     } else if at < FIRST_SEGMENT {
-        "the cells of the globals"
+        "the globals"
     } else if address == image.stack_base.get() {
         "the stack"
     } else {
@@ -84,8 +84,8 @@ fn part_at(alloc: Global, image: &Image, address: u16) -> Result<String, Memory>
     Ok(String::from_str(alloc, said)?)
 }
 
-/// What is called at this address: its segment and label, and the global that begins with it, by the name that LIBHDR has for it.
-/// Memory is answered where a growth was refused.
+/// The name of the routine at this address: its segment and label, the global that has the address, and that global's
+/// name in LIBHDR. Without a label, the name of the part of the image. `Memory` if an allocation fails.
 pub fn name_at(alloc: Global, image: &Image, address: u16) -> Result<String, Memory> {
     let mut name = match label_at(image, address) {
         Some(place) => {

@@ -1,9 +1,9 @@
-//! A writer for runs that are not traced.
+//! A writer that discards everything, for runs without a trace.
 
 use std::io;
 use std::io::Write;
 
-/// Takes what is written, and keeps nothing.
+/// Discards what is written to it.
 #[derive(Clone, Copy)]
 pub struct Nowhere;
 

@@ -1,4 +1,4 @@
-//! How often instructions were carried out, as text.
+//! The text of a profile.
 
 use crate::change::cell;
 use crate::counts::Counts;
@@ -10,13 +10,14 @@ use bc_word::{Memory, Word};
 use bcpl_segments::instruction;
 use std::alloc::Global;
 
-/// How many routines are told.
+/// The number of routines in the profile.
 const HOTTEST: usize = 10;
 
-/// The most that a thousand of them fit into 64 bits.
+/// The largest count that, times 1,000, fits into 64 bits (rounded down).
 const MOST: u64 = 10_000_000_000_000_000;
 
-/// A routine, or another part of an image: how many of its instructions were carried out, how often it was called, where it begins.
+/// A routine or another part of the image, with the number of its executed instructions, the number of its calls, and
+/// its first address. The order is that of the fields.
 #[derive(Clone, Copy, PartialEq, Eq, PartialOrd, Ord)]
 struct Routine {
     times: u64,
@@ -32,8 +33,8 @@ fn at(counts: &[u64], address: u16) -> u64 {
     }
 }
 
-/// The routines of which instructions were carried out. One begins where something was called, and ends before the next one, or where
-/// another part of the image begins.
+/// The routines that executed any instruction, sorted. A routine begins at each address that was called, and ends
+/// where the next routine or another part of the image begins.
 fn routines(alloc: Global, counts: &Counts, image: &Image) -> Result<Vec<Routine>, Memory> {
     let mut found = Vec::new(alloc);
     let mut now = Routine {
@@ -63,7 +64,7 @@ fn routines(alloc: Global, counts: &Counts, image: &Image) -> Result<Vec<Routine
     Ok(found)
 }
 
-/// How many thousandths of a whole this is.
+/// The share of `times` in `whole`, in thousandths.
 fn share(times: u64, whole: u64) -> u64 {
     if whole == 0 {
         0
@@ -74,7 +75,7 @@ fn share(times: u64, whole: u64) -> u64 {
     }
 }
 
-/// Adds the routines of which most instructions were carried out.
+/// Adds the routines that executed the most instructions.
 fn add_hottest(
     alloc: Global,
     text: &mut String,
@@ -100,7 +101,7 @@ fn add_hottest(
     Ok(())
 }
 
-/// Adds how often each instruction was carried out.
+/// Adds the count of each instruction.
 fn add_times(
     alloc: Global,
     text: &mut String,
@@ -120,9 +121,9 @@ fn add_times(
     Ok(())
 }
 
-/// The profile of a run that was watched, of a machine that began in this image and stands now as it does: how many instructions were
-/// carried out; the ten routines in which most were, with their share; and how often each was. Memory is answered where a growth was
-/// refused.
+/// The profile of a recorded run of a machine that started with this image: the number of executed instructions, the
+/// ten routines that executed the most, with their shares, and the count of each instruction. `Memory` if an
+/// allocation fails.
 pub fn profile(
     alloc: Global,
     watch: &Watch,
@@ -131,11 +132,11 @@ pub fn profile(
 ) -> Result<String, Memory> {
     let mut text = String::new(alloc);
     let whole = watch.number();
-    writeln!(text, "/ {whole} instructions were carried out")?;
-    text.push_str("/\n/ the routines in which most were; one begins where something was called\n")?;
+    writeln!(text, "/ {whole} instructions executed")?;
+    text.push_str("/\n/ the hottest routines; a routine begins at each address that was called\n")?;
     add_hottest(alloc, &mut text, watch, image)?;
     text.push_str(
-        "/\n/ how often each was; the instructions are those that stand there at the end\n",
+        "/\n/ how often each instruction was executed, as it is in the store at the end\n",
     )?;
     add_times(alloc, &mut text, watch, machine)?;
     Ok(text)

@@ -1,4 +1,4 @@
-//! The run of a machine, an instruction at a time.
+//! The recorded run of a machine, one instruction at a time.
 
 ghost use Rattle.std.specs.Prelude.{◌≡◌, None};
 ghost use Rattle.bc_machine.specs.Ran.{Ran, held_state, kept_end};
@@ -8,7 +8,7 @@ use bc_machine::{Machine, Streams};
 use bc_machine_defs::End;
 use std::io::Write;
 
-/// The end that a run of one instruction met, or none where the machine is still running.
+/// The end of a run of one instruction, or `None` if the machine is still running.
 fn met(end: &End) -> Option<End>
     ensures { result ≡ kept_end end.now }
 {
@@ -18,8 +18,8 @@ fn met(end: &End) -> Option<End>
     }
 }
 
-/// At most `budget` instructions, and how they ended: the run that `Machine::run` gives. What the instructions do is noted, and the lines
-/// of the trace go to `out`; where one can't be written, the run goes on without.
+/// Runs at most `budget` instructions and returns how the run ended, exactly as `Machine::run` does. Records each
+/// instruction in `watch` and writes the trace to `out`. If writing fails, the run continues without a trace.
 pub fn run_watched<S: Streams, W: Write>(
     machine: &mut Machine,
     streams: &mut S,

@@ -1,4 +1,4 @@
-//! What is noted of a run.
+//! What is recorded about a run.
 
 use crate::change::{Change, cell, change_of};
 use crate::counts::Counts;
@@ -10,57 +10,59 @@ use std::alloc::Global;
 use std::io;
 use std::io::Write;
 
-/// The instructions that are traced, as they are counted from 1 on.
+/// The instructions to trace, counted from 1.
 #[derive(Clone, Copy, PartialEq, Eq)]
 pub struct Window {
+    /// The number of the first instruction.
     pub from: u64,
-    /// How many.
+    /// How many instructions to trace.
     pub count: u64,
 }
 
-/// The function of calls.
+/// The function of calls, as the upper bits of a word.
 const CALL: u16 = 6;
 
-/// How many words have a function in common.
+/// The number of words with the same function.
 const OF_A_FUNCTION: u16 = 8192;
 
 /// The first line of a trace.
 const HEAD: &str =
     "/   number   addr   word  instruction       A      B      C      P  what was written\n";
 
-/// An instruction that is about to be carried out.
+/// An instruction that is about to be executed.
 #[derive(Clone, Copy)]
 pub struct Seen {
+    /// Its address.
     pub address: u16,
     word: Word,
     following: Word,
     change: Change,
 }
 
-/// What is noted of a run: the lines of a trace as it goes on, and how often each instruction was carried out.
+/// The records of a run: the trace, which is written as the run goes on, and the count of each instruction.
 #[derive(Drop)]
 pub struct Watch {
     alloc: Global,
     window: Option<Window>,
-    /// How many instructions were carried out.
+    /// The number of executed instructions.
     number: u64,
     counts: Counts,
-    /// Whether each line of the trace was written.
+    /// Whether every line of the trace was written.
     is_whole: bool,
 }
 
-/// What is told of an end that an instruction met.
+/// What a trace says about the end of a run at an instruction.
 fn said_of_end(end: &End) -> Option<&'static str> {
     match end {
-        End::Finished => Some("the run is finished"),
-        End::ZeroDivide => Some("not carried out: a division by 0"),
-        End::BadInstruction(_) => Some("not carried out: no instruction"),
-        End::Device => Some("not carried out: an input or an output failed"),
+        End::Finished => Some("the run finishes"),
+        End::ZeroDivide => Some("not executed: division by 0"),
+        End::BadInstruction(_) => Some("not executed: not an instruction"),
+        End::Device => Some("not executed: an input or output failed"),
         End::BudgetSpent => None,
     }
 }
 
-/// Writes what an instruction changed.
+/// Writes what an instruction changed, and ends the line.
 fn write_change<W: Write>(machine: &Machine, change: Change, out: &mut W) -> io::Result<()> {
     match change {
         Change::Nothing => out.write_all(b"\n"),
@@ -79,7 +81,7 @@ fn write_change<W: Write>(machine: &Machine, change: Change, out: &mut W) -> io:
 }
 
 impl Seen {
-    /// The instruction that a machine comes to.
+    /// The next instruction of a machine.
     pub fn of(machine: &Machine) -> Seen {
         let address = machine.address();
         let following = Word::new(address.get().wrapping_add(1));
@@ -93,7 +95,7 @@ impl Seen {
 }
 
 impl Watch {
-    /// Nothing was carried out. Without a window nothing is traced. Memory is answered where a growth was refused.
+    /// No records yet. Without a window there is no trace. `Memory` if an allocation fails.
     pub fn new(alloc: Global, window: Option<Window>) -> Result<Watch, Memory> {
         Ok(Watch {
             alloc,
@@ -104,17 +106,17 @@ impl Watch {
         })
     }
 
-    /// How many instructions were carried out.
+    /// The number of executed instructions.
     pub fn number(&self) -> u64 {
         self.number
     }
 
-    /// How often.
+    /// The counts of instructions and calls.
     pub fn counts(&self) -> &Counts {
         &self.counts
     }
 
-    /// Whether each line of the trace was written.
+    /// Whether every line of the trace was written.
     pub fn is_whole(&self) -> bool {
         self.is_whole
     }
@@ -131,7 +133,7 @@ impl Watch {
         }
     }
 
-    /// The line of an instruction that led to this state of the machine.
+    /// Writes the line of an instruction after which the machine is in this state.
     fn write_line<W: Write>(
         &self,
         seen: &Seen,
@@ -158,14 +160,15 @@ impl Watch {
         }
     }
 
-    /// The first line of the trace.
+    /// Writes the first line of the trace.
     pub fn begin<W: Write>(&mut self, out: &mut W) {
         if self.window.is_some() {
             self.is_whole = out.write_all(HEAD.as_bytes()).is_ok();
         }
     }
 
-    /// Notes an instruction that led to this state of the machine, and to this end where that is not `BudgetSpent`.
+    /// Records an instruction after which the machine is in this state. `end` is `BudgetSpent` unless the instruction
+    /// ended the run.
     pub fn note<W: Write>(&mut self, seen: &Seen, machine: &Machine, end: &End, out: &mut W) {
         self.number = self.number.saturating_add(1);
         self.counts.add_time(seen.address);

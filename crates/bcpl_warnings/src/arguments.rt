@@ -1,3 +1,5 @@
+//! Warning: a call with fewer arguments than parameters.
+
 use crate::declared::Declarations;
 use crate::routines::is_defined;
 use crate::tokens::{closes_at, is_at, is_line_start, name_at, opens_at};
@@ -6,7 +8,9 @@ use bc_lex_tokens::{Symbol, Token};
 /// A call with fewer arguments than the routine has parameters.
 #[derive(Clone, Copy)]
 pub struct Missing {
+    /// How many arguments are passed.
     pub arguments: usize,
+    /// How many parameters the routine has.
     pub parameters: usize,
 }
 
@@ -19,7 +23,8 @@ pub fn is_called(tokens: &[Token<'_>], index: usize) -> bool {
         && !is_defined(tokens, index)
 }
 
-/// How many arguments these commas part, where as many conditions stand among them as there are arrows, each with a comma of its own.
+/// How many arguments these commas separate. Each arrow belongs to a conditional expression, which has a comma of its
+/// own.
 fn parted(is_empty: bool, commas: usize, arrows: usize) -> usize {
     if is_empty {
         0
@@ -28,7 +33,7 @@ fn parted(is_empty: bool, commas: usize, arrows: usize) -> usize {
     }
 }
 
-/// How many arguments stand after the bracket with this index; none where it is not closed.
+/// How many arguments follow the parenthesis with this index; `None` if it isn't closed.
 pub fn arguments_after(tokens: &[Token<'_>], open: usize) -> Option<usize> {
     let mut depth: usize = 0;
     let mut commas: usize = 0;
@@ -50,7 +55,8 @@ pub fn arguments_after(tokens: &[Token<'_>], open: usize) -> Option<usize> {
     None
 }
 
-/// What is missing where the token with this index calls a routine of the main with fewer arguments than it has parameters.
+/// The numbers of arguments and parameters, if the token with this index calls a routine of the main with too few
+/// arguments.
 pub fn missing_arguments(
     tokens: &[Token<'_>],
     declarations: &Declarations<'_>,

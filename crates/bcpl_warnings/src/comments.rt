@@ -1,10 +1,12 @@
+//! Warning: a `||` meant as an operator, which makes a comment of the THEN or DO after it.
+
 use crate::tokens::is_separated;
 use crate::unreachable::is_conditional;
 use bc_lex::Source;
 use bc_lex_tokens::Token;
 use bcpl_places::Span;
 
-/// Whether these bytes begin with THEN or DO as a word after a blank.
+/// Whether these bytes begin with THEN or DO as a word after a space.
 fn begins_do(bytes: &[u8]) -> bool {
     bytes.starts_with(b" DO ")
         || bytes.starts_with(b" DO\n")
@@ -12,7 +14,7 @@ fn begins_do(bytes: &[u8]) -> bool {
         || bytes.starts_with(b" THEN\n")
 }
 
-/// Whether THEN or DO stands as a word on the first of these lines.
+/// Whether THEN or DO is a word on the first of these lines.
 fn has_do(lines: &[u8]) -> bool {
     for (at, byte) in lines.iter().enumerate() {
         if *byte == b'\n' {
@@ -27,7 +29,7 @@ fn has_do(lines: &[u8]) -> bool {
     false
 }
 
-/// What stands after a token in its file.
+/// The text after a token in its file.
 fn text_after<'s>(sources: &[Source<'s>], token: &Token<'_>) -> &'s [u8] {
     match sources.get(token.file) {
         Some(source) => &source.text[token.end.min(source.text.len())..],
@@ -35,7 +37,7 @@ fn text_after<'s>(sources: &[Source<'s>], token: &Token<'_>) -> &'s [u8] {
     }
 }
 
-/// Where `||` begins a comment with THEN or DO after a token.
+/// The `||` of a comment after a token, if the comment contains THEN or DO.
 fn comment_after(sources: &[Source<'_>], token: &Token<'_>) -> Option<Span> {
     let rest = text_after(sources, token);
     let comment = rest.trim_ascii_start();
@@ -51,8 +53,8 @@ fn comment_after(sources: &[Source<'_>], token: &Token<'_>) -> Option<Span> {
     })
 }
 
-/// Where a comment begins with `||` that takes the THEN or DO of a condition, so that the command that begins with the token with this
-/// index, on the next line, belongs to it.
+/// The `||` of a comment that contains the THEN or DO of a condition, if the command at this index, on the next line,
+/// therefore depends on that condition.
 pub fn swallowed_do(sources: &[Source<'_>], tokens: &[Token<'_>], index: usize) -> Option<Span> {
     if !is_separated(tokens, index) {
         return None;

@@ -1,3 +1,5 @@
+//! All declarations of a main, found by scanning its tokens. Warnings look names up here.
+
 use crate::routines::is_defined;
 use crate::tokens::{begins_command, is_after, is_at, name_at, symbol_at};
 use crate::uses::Uses;
@@ -6,12 +8,12 @@ use bc_word::Memory;
 use indexmap::IndexMap;
 use std::alloc::Global;
 
-/// As what a name is declared.
+/// What a name is declared as.
 #[derive(Clone, Copy)]
 pub enum Meaning {
-    /// A global, with its number where that stands there as a number.
+    /// A global, with its number if that is given as a literal.
     Global(Option<u16>),
-    /// A routine with so many parameters.
+    /// A routine with this many parameters.
     Routine(usize),
     /// A label of a list of commands.
     Label,
@@ -22,43 +24,45 @@ pub enum Meaning {
 /// A declaration of a name.
 #[derive(Clone, Copy)]
 pub struct Declared<'s> {
+    /// The name.
     pub name: &'s [u8],
-    /// The index of the token.
+    /// The index of its token.
     pub at: usize,
+    /// What the name is declared as.
     pub meaning: Meaning,
-    /// The index among all declarations of the last one of this name before it.
+    /// The previous declaration of this name, as an index into all declarations.
     before: Option<usize>,
 }
 
-/// What is known of a name in a main.
+/// What is known about a name in a main.
 #[derive(Clone, Copy, Default)]
-struct Known {
-    /// The index among all declarations of its last one.
+struct DeclaredName {
+    /// Its last declaration, as an index into all declarations.
     last: Option<usize>,
-    /// How many routines have it.
+    /// How many routines have this name.
     routines: usize,
     /// How many parameters the first of them has.
     parameters: usize,
-    /// The token and the number of the last global that has it.
+    /// The token and the number of the last global with this name.
     global: Option<(usize, Option<u16>)>,
-    /// Whether it is declared as something else than a routine or a global.
+    /// Whether it is also declared as something other than a routine or a global.
     is_other: bool,
     uses: Uses,
 }
 
-impl Known {
-    /// What is known with a declaration more: one as this, by the token with this index, that has this index among all declarations.
-    fn with(self, meaning: Meaning, at: usize, index: usize) -> Known {
-        let known = Known {
+impl DeclaredName {
+    /// What is known after one more declaration, at the token `at`; `index` is its index among all declarations.
+    fn with(self, meaning: Meaning, at: usize, index: usize) -> DeclaredName {
+        let known = DeclaredName {
             last: Some(index),
             ..self
         };
         match meaning {
-            Meaning::Global(number) => Known {
+            Meaning::Global(number) => DeclaredName {
                 global: Some((at, number)),
                 ..known
             },
-            Meaning::Routine(count) => Known {
+            Meaning::Routine(count) => DeclaredName {
                 routines: self.routines.saturating_add(1),
                 parameters: if self.routines == 0 {
                     count
@@ -67,7 +71,7 @@ impl Known {
                 },
                 ..known
             },
-            Meaning::Label | Meaning::Other => Known {
+            Meaning::Label | Meaning::Other => DeclaredName {
                 is_other: true,
                 ..known
             },
@@ -75,7 +79,7 @@ impl Known {
     }
 }
 
-/// The number of a global in a file.
+/// A number of a global, in one file.
 #[derive(Clone, Copy, PartialEq, Eq, Hash)]
 struct Numbered {
     file: usize,
@@ -85,14 +89,14 @@ struct Numbered {
 /// The declarations of a main, and how its names are used.
 #[derive(Drop)]
 pub struct Declarations<'s> {
-    /// The declarations, in the order of their tokens.
+    /// The declarations, in text order.
     pub all: Vec<Declared<'s>>,
-    names: IndexMap<&'s [u8], Known>,
-    /// The name of the first global of each number in each file.
+    names: IndexMap<&'s [u8], DeclaredName>,
+    /// For each file and number, the name of the first global declared with it.
     numbers: IndexMap<Numbered, &'s [u8]>,
 }
 
-/// How many parameters stand after the bracket with this index.
+/// How many parameters follow the parenthesis with this index.
 fn parameters_after(tokens: &[Token<'_>], open: usize) -> usize {
     let mut count: usize = 0;
     for index in open..tokens.len() {
@@ -106,19 +110,19 @@ fn parameters_after(tokens: &[Token<'_>], open: usize) -> usize {
     count
 }
 
-/// What a walk over all tokens knows of those before it, as far as declarations go by it.
+/// What a scan remembers of the tokens before the current one.
 #[derive(Clone, Copy, Default)]
 struct Around {
-    /// The word before the bracket that opened a section last, unless one was closed since.
+    /// The word before the section bracket that was opened last, unless one was closed since.
     list: Option<Symbol>,
     /// The index of the last name.
     name: Option<usize>,
-    /// The index before the names, parted by commas, of which that one is the last.
+    /// The index before the comma-separated names that end with that one.
     before: Option<usize>,
 }
 
 impl Around {
-    /// The index before the names, parted by commas, of which the one with this index is the last.
+    /// The index before the comma-separated names that end with the one at this index.
     fn before_names(self, tokens: &[Token<'_>], index: usize) -> Option<usize> {
         let before = index.checked_sub(1)?;
         if !is_at(tokens, before, Symbol::Comma) {
@@ -130,7 +134,7 @@ impl Around {
         }
     }
 
-    /// What is known after the token with this index.
+    /// What is remembered after the token with this index.
     fn following(self, tokens: &[Token<'_>], index: usize) -> Around {
         if name_at(tokens, index).is_some() {
             return Around {
@@ -149,7 +153,7 @@ impl Around {
         }
     }
 
-    /// Whether the name with this index is a parameter, or one of the variables of a LET.
+    /// Whether the name at this index is a parameter, or a variable of a LET.
     fn is_in_definition(self, tokens: &[Token<'_>], index: usize) -> bool {
         match self.before_names(tokens, index) {
             Some(before) if is_at(tokens, before, Symbol::OpenBracket) => {
@@ -162,7 +166,7 @@ impl Around {
         }
     }
 
-    /// As what the token with this index declares a name where it stands as the entry of a list; none where it doesn't.
+    /// What the token with this index declares as an entry of a list; `None` if it doesn't.
     fn listed(self, tokens: &[Token<'_>], index: usize) -> Option<Meaning> {
         let next = index.saturating_add(1);
         if !is_at(tokens, next, Symbol::Colon) && !is_at(tokens, next, Symbol::Equal) {
@@ -175,7 +179,7 @@ impl Around {
         }
     }
 
-    /// As what the token with this index declares a name; none where it declares none.
+    /// What the token with this index declares a name as; `None` if it declares none.
     fn meaning(self, tokens: &[Token<'_>], index: usize) -> Option<Meaning> {
         let next = index.saturating_add(1);
         if is_defined(tokens, index) && is_at(tokens, next, Symbol::OpenBracket) {
@@ -198,7 +202,7 @@ impl Around {
     }
 }
 
-/// The number that the token with this index is; none where it is none.
+/// The value of the number at this index; `None` if the token isn't a number.
 fn number_at(tokens: &[Token<'_>], index: usize) -> Option<u16> {
     match tokens.get(index)?.kind {
         TokenKind::Number(number) => Some(number),
@@ -206,7 +210,7 @@ fn number_at(tokens: &[Token<'_>], index: usize) -> Option<u16> {
     }
 }
 
-/// The number of a global whose name is the token with this index, where it stands there as a number, alone.
+/// The number of the global named at this index, if it is given as a literal.
 fn global_number(tokens: &[Token<'_>], index: usize) -> Option<u16> {
     let number = number_at(tokens, index.saturating_add(2))?;
     let following = index.saturating_add(3);
@@ -217,7 +221,7 @@ fn global_number(tokens: &[Token<'_>], index: usize) -> Option<u16> {
 }
 
 impl<'s> Declarations<'s> {
-    /// Those of these tokens. Memory is answered where a growth was refused.
+    /// The declarations among these tokens. Returns `Memory` if an allocation fails.
     pub fn of(alloc: Global, tokens: &[Token<'s>]) -> Result<Declarations<'s>, Memory> {
         let mut declarations = Declarations {
             all: Vec::new(alloc),
@@ -234,7 +238,7 @@ impl<'s> Declarations<'s> {
         Ok(declarations)
     }
 
-    /// Adds the name that the token with this index is, after what is known of those before it.
+    /// Adds the name at this index.
     fn add_name(
         &mut self,
         tokens: &[Token<'s>],
@@ -243,7 +247,7 @@ impl<'s> Declarations<'s> {
         index: usize,
     ) -> Result<(), Memory> {
         let earlier = self.known(name);
-        let known = Known {
+        let known = DeclaredName {
             uses: earlier.uses.with(tokens, index),
             ..earlier
         };
@@ -264,7 +268,7 @@ impl<'s> Declarations<'s> {
         Ok(())
     }
 
-    /// Adds the name of a global that the token with this index declares, if it is the first of its number in its file.
+    /// Records the name of a global that is declared at this index, if it is the first with its number in its file.
     fn add_number(
         &mut self,
         tokens: &[Token<'_>],
@@ -286,11 +290,11 @@ impl<'s> Declarations<'s> {
         Ok(())
     }
 
-    /// What is known of this name.
-    fn known(&self, name: &[u8]) -> Known {
+    /// What is known about this name.
+    fn known(&self, name: &[u8]) -> DeclaredName {
         match self.names.get(name) {
             Some(known) => *known,
-            None => Known::default(),
+            None => DeclaredName::default(),
         }
     }
 
@@ -299,8 +303,8 @@ impl<'s> Declarations<'s> {
         self.known(name).uses
     }
 
-    /// How many parameters the routine of this name has, where the name means nothing else in the main, but perhaps the global that the
-    /// routine sets.
+    /// The number of parameters of the routine with this name. `None` if the name has another meaning in the main,
+    /// apart from the global that the routine sets.
     pub fn parameters(&self, name: &[u8]) -> Option<usize> {
         let known = self.known(name);
         if known.routines == 1 && !known.is_other {
@@ -310,7 +314,7 @@ impl<'s> Declarations<'s> {
         }
     }
 
-    /// The token and the number of the global of this name, where the name means nothing else in the main.
+    /// The token and the number of the global with this name. `None` if the name has another meaning in the main.
     pub fn global(&self, name: &[u8]) -> Option<(usize, Option<u16>)> {
         let known = self.known(name);
         if known.routines == 0 && !known.is_other {
@@ -320,7 +324,7 @@ impl<'s> Declarations<'s> {
         }
     }
 
-    /// What the token with this index declares; none where it declares nothing.
+    /// The declaration at this index; `None` if nothing is declared there.
     pub fn at(&self, index: usize) -> Option<Declared<'s>> {
         let found = self.all.partition_point(|declared| declared.at < index);
         let declared = self.all.get(found)?;
@@ -331,7 +335,7 @@ impl<'s> Declarations<'s> {
         }
     }
 
-    /// The number of the global that is declared by the token with this index.
+    /// The number of the global that is declared at this index.
     pub fn number_of(&self, index: usize) -> Option<u16> {
         match self.at(index)?.meaning {
             Meaning::Global(number) => number,
@@ -339,12 +343,12 @@ impl<'s> Declarations<'s> {
         }
     }
 
-    /// The name of the first global of this number in a file.
+    /// The name of the first global with this number in a file.
     pub fn first_name(&self, file: usize, number: u16) -> Option<&'s [u8]> {
         self.numbers.get(&Numbered { file, number }).copied()
     }
 
-    /// The token of the last declaration of this name before the token with this index.
+    /// The token of the last declaration of this name before this index.
     pub fn last_before(&self, name: &[u8], index: usize) -> Option<usize> {
         let mut last = self.known(name).last;
         for _ in 0..self.all.len() {
@@ -357,7 +361,7 @@ impl<'s> Declarations<'s> {
         None
     }
 
-    /// Whether a routine of this name is declared.
+    /// Whether a routine with this name is declared.
     pub fn has_routine(&self, name: &[u8]) -> bool {
         self.known(name).routines > 0
     }

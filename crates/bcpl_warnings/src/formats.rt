@@ -1,33 +1,36 @@
+//! Warnings: formats that WRITEF doesn't know, or that take more arguments than follow.
+
 use crate::arguments::{arguments_after, is_called};
 use crate::declared::Declarations;
 use crate::tokens::{is_at, name_at};
 use bc_lex_tokens::{Symbol, Token, TokenKind};
 
-/// The letters of formats that the routine of LIBHDR knows.
+/// The letters that LIBHDR's WRITEF knows.
 const BASIC: &[u8] = b"NSC";
 
-/// Those that the one of EXTHDR knows, in either case; after the last ones stands a width.
+/// The letters that EXTHDR's WRITEF knows, in either case.
 const FURTHER: &[u8] = b"NSCIUOXT";
 
+/// Those of them that a width follows.
 const WITH_WIDTH: &[u8] = b"IUOXT";
 
-/// The number of the further library's WRITEF.
+/// The number of EXTHDR's WRITEF.
 const FURTHER_NUMBER: u16 = 30;
 
-/// How far a walk over a format is.
+/// The state of a scan of a format.
 #[derive(Clone, Copy)]
 enum Reading {
     Plain,
-    /// After the sign of an escape of a string.
+    /// After the `*` of an escape.
     Escape,
     /// After a `%`.
     Percent,
-    /// After a letter that a width goes with.
+    /// After a letter that a width follows.
     Width,
 }
 
-/// The first letter of a format that stands after `%` and is not known, before a `%P` of the further library, after which stand texts
-/// between signs of any kind. The format is as it is spelled, with the signs around it.
+/// The first letter after `%` that isn't known. EXTHDR's `%P` ends the search, since texts between arbitrary signs
+/// follow it. The format is given as it is spelled, with its quotes.
 fn unknown_letter(format: &[u8], is_further: bool) -> Option<u8> {
     let mut reading = Reading::Plain;
     for byte in format {
@@ -53,7 +56,7 @@ fn unknown_letter(format: &[u8], is_further: bool) -> Option<u8> {
     None
 }
 
-/// The string that the token with this index is; none where it is none.
+/// The string at this index; `None` if the token isn't a string.
 fn string_at<'s>(tokens: &[Token<'s>], index: usize) -> Option<&'s [u8]> {
     match tokens.get(index)?.kind {
         TokenKind::String(text) => Some(text),
@@ -61,8 +64,8 @@ fn string_at<'s>(tokens: &[Token<'s>], index: usize) -> Option<&'s [u8]> {
     }
 }
 
-/// The format that WRITEF is called with, and whether it is the further library's WRITEF, where the token with this index is one. The first
-/// `library` sources are the library's.
+/// The format at this index, if WRITEF is called with it, and whether that is EXTHDR's WRITEF. The first `library`
+/// sources are the library's.
 fn format_at<'s>(
     tokens: &[Token<'s>],
     declarations: &Declarations<'_>,
@@ -81,8 +84,8 @@ fn format_at<'s>(
     Some((format, number == Some(FURTHER_NUMBER)))
 }
 
-/// The letter after `%` that WRITEF doesn't know in the format that it is called with by the token before the one with this index,
-/// and whether it is the further library's WRITEF. The first `library` sources are the library's.
+/// The first letter after `%` that WRITEF doesn't know, if the token at this index is a format, and whether that is
+/// EXTHDR's WRITEF. The first `library` sources are the library's.
 pub fn unknown_format(
     tokens: &[Token<'_>],
     declarations: &Declarations<'_>,
@@ -93,8 +96,8 @@ pub fn unknown_format(
     Some((unknown_letter(format, is_further)?, is_further))
 }
 
-/// How many arguments a format takes whose letters are all known; none where a sign of the further library goes over an argument or back to
-/// one, or has texts of its own after it.
+/// How many arguments a format takes whose letters are all known. `None` if a sign of EXTHDR skips an argument, goes
+/// back to one, or is followed by texts.
 fn taken_by(format: &[u8], is_further: bool) -> Option<usize> {
     let mut reading = Reading::Plain;
     let mut count: usize = 0;
@@ -114,15 +117,17 @@ fn taken_by(format: &[u8], is_further: bool) -> Option<usize> {
     Some(count)
 }
 
-/// A format after which fewer arguments stand than it takes.
+/// A format that takes more arguments than follow it.
 #[derive(Clone, Copy)]
 pub struct Lacking {
+    /// How many arguments the format takes.
     pub taken: usize,
+    /// How many arguments follow it.
     pub given: usize,
 }
 
-/// How many arguments the format that is the token with this index takes, and how many stand after it, where these are fewer. Its letters
-/// are known. The first `library` sources are the library's.
+/// If the token at this index is a format that takes more arguments than follow it: both numbers. All its letters are
+/// known. The first `library` sources are the library's.
 pub fn lacking_arguments(
     tokens: &[Token<'_>],
     declarations: &Declarations<'_>,

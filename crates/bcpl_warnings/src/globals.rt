@@ -1,9 +1,11 @@
+//! Warnings: globals of the library that are redeclared or assigned to, and numbers that are used twice.
+
 use crate::declared::Declarations;
 use crate::tokens::{is_after, is_at, name_at};
 use bc_lex_tokens::{Symbol, Token};
 use bc_library::library_name;
 
-/// The globals of the library that are no routines of it.
+/// The globals of LIBHDR that aren't routines of the library.
 const NO_ROUTINES: [&[u8]; 3] = [b"START", b"TERMINATOR", b"RESULT2"];
 
 /// The number of the global that the token with this index declares.
@@ -20,7 +22,8 @@ fn declared_number(
     }
 }
 
-/// Where the token with this index declares a global by a number that its file has under another name already: the number, and that name.
+/// If the token with this index declares a global whose number already has another name in the same file: the number,
+/// and that name.
 pub fn number_twice<'s>(
     tokens: &[Token<'_>],
     declarations: &Declarations<'s>,
@@ -36,7 +39,7 @@ pub fn number_twice<'s>(
     }
 }
 
-/// The words and signs after which a command, or what is assigned to the first of several, has ended.
+/// The symbols that end a command, or the first of several values.
 const ENDS: [Symbol; 7] = [
     Symbol::Semicolon,
     Symbol::CloseSection,
@@ -47,8 +50,8 @@ const ENDS: [Symbol; 7] = [
     Symbol::RepeatWhile,
 ];
 
-/// Whether a name alone stands at this index as the last of its command: a routine that is meant to stand in another one's place, or the
-/// variable that keeps one.
+/// Whether the token at this index is a name that ends its command. Such a value is a routine meant to replace another
+/// one, or the variable that keeps one.
 fn is_name_alone(tokens: &[Token<'_>], index: usize) -> bool {
     let following = index.saturating_add(1);
     let is_last = match tokens.get(following) {
@@ -59,8 +62,8 @@ fn is_name_alone(tokens: &[Token<'_>], index: usize) -> bool {
         && (is_last || ENDS.iter().any(|end| is_at(tokens, following, *end)))
 }
 
-/// Where the token with this index assigns to a routine of the library, whose sources are the first `library` ones, something else than
-/// what a name means.
+/// Whether the token at this index assigns to a routine of the library something other than a name. The first `library`
+/// sources are the library's.
 pub fn is_library_assigned(
     tokens: &[Token<'_>],
     declarations: &Declarations<'_>,
@@ -87,7 +90,8 @@ pub fn is_library_assigned(
     is_of_library && !NO_ROUTINES.contains(&name)
 }
 
-/// Where the token with this index declares a global by a number that the library has under another name: the number, and that name.
+/// If the token with this index declares a global whose number has another name in the library: the number, and that
+/// name.
 pub fn library_global(
     tokens: &[Token<'_>],
     declarations: &Declarations<'_>,

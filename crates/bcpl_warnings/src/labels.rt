@@ -1,8 +1,10 @@
+//! Warning: a label that no GOTO names.
+
 use crate::declared::{Declarations, Meaning};
 use crate::tokens::{is_at, name_at};
 use bc_lex_tokens::{Symbol, Token};
 
-/// What a label is likely meant as that no GOTO names.
+/// What a label that no GOTO names is probably meant as.
 #[derive(Clone, Copy)]
 pub enum Idle {
     /// The word DEFAULT of a SWITCHON.
@@ -11,7 +13,7 @@ pub enum Idle {
     Label,
 }
 
-/// What the label is likely meant as that the token with this index is; none where it is none, or a GOTO names it.
+/// What the label at this index is probably meant as; `None` if the token isn't a label, or a GOTO names it.
 pub fn idle_label(
     tokens: &[Token<'_>],
     declarations: &Declarations<'_>,

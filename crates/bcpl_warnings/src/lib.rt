@@ -1,4 +1,5 @@
-//! What is lawful in a source and likely wrong: a warning is no refusal, and says nothing of what the program does.
+//! Warnings: what is legal in a source, but probably wrong. A warning is not a refusal, and claims nothing about what
+//! the program does.
 #![tactic(auto)]
 
 mod arguments;

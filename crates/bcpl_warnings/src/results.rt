@@ -1,7 +1,9 @@
+//! Warning: a VALOF without a RESULTIS.
+
 use crate::tokens::{is_at, symbol_at};
 use bc_lex_tokens::{Symbol, Token};
 
-/// The index of the bracket that closes the section that the token with this index opens; none where it opens none.
+/// The index of the bracket that closes the section opened at this index; `None` if none is opened or it isn't closed.
 fn section_end(tokens: &[Token<'_>], open: usize) -> Option<usize> {
     let mut depth: usize = 0;
     for at in open..tokens.len() {
@@ -17,7 +19,7 @@ fn section_end(tokens: &[Token<'_>], open: usize) -> Option<usize> {
     None
 }
 
-/// Whether control goes elsewhere by the token with this index, or it belongs to a loop that has no end of its own.
+/// Whether the token with this index transfers control elsewhere, or belongs to an endless loop.
 fn stays_away(tokens: &[Token<'_>], index: usize) -> bool {
     let next = index.saturating_add(1);
     match symbol_at(tokens, index) {
@@ -28,7 +30,8 @@ fn stays_away(tokens: &[Token<'_>], index: usize) -> bool {
     }
 }
 
-/// Whether the token with this index is a VALOF whose body is a section without a RESULTIS of its own, which may come to its end.
+/// Whether the token with this index is a VALOF whose body is a section that can reach its end and has no RESULTIS,
+/// apart from those of inner VALOFs.
 pub fn has_no_result(tokens: &[Token<'_>], index: usize) -> bool {
     let open = index.saturating_add(1);
     if !is_at(tokens, index, Symbol::ValueOf) {
@@ -37,7 +40,7 @@ pub fn has_no_result(tokens: &[Token<'_>], index: usize) -> bool {
     let Some(end) = section_end(tokens, open) else {
         return false
     };
-    // after a VALOF within
+    // Tokens before this index belong to an inner VALOF.
     let mut following = open;
     for at in open..end {
         if at >= following {

@@ -1,10 +1,12 @@
+//! The routines without a value that a main can call.
+
 use crate::tokens::{is_after, is_at, name_at};
 use bc_lex_tokens::{Symbol, Token};
 use bc_word::Memory;
 use indexmap::IndexSet;
 use std::alloc::Global;
 
-/// The routines of BE that LIBHDR names.
+/// The routines declared with BE that LIBHDR names.
 const LIBRARY: [&[u8]; 10] = [
     b"SELECTINPUT",
     b"SELECTOUTPUT",
@@ -21,13 +23,13 @@ const LIBRARY: [&[u8]; 10] = [
 /// The names of a section that mean routines without a value.
 #[derive(Drop)]
 pub struct Routines<'s> {
-    /// Those that BE defines.
+    /// The names that BE defines.
     commands: IndexSet<&'s [u8]>,
-    /// Those that are declared otherwise, too.
+    /// The names that have another declaration, too.
     others: IndexSet<&'s [u8]>,
 }
 
-/// The index of the bracket that closes the one with this index.
+/// The index of the parenthesis that closes the one with this index.
 fn closing(tokens: &[Token<'_>], open: usize) -> Option<usize> {
     let mut depth: usize = 0;
     for index in open..tokens.len() {
@@ -43,7 +45,7 @@ fn closing(tokens: &[Token<'_>], open: usize) -> Option<usize> {
     None
 }
 
-/// Whether the token with this index stands after a word that begins a definition.
+/// Whether the token with this index follows LET or AND.
 pub fn is_defined(tokens: &[Token<'_>], index: usize) -> bool {
     is_after(tokens, index, Symbol::Let) || is_after(tokens, index, Symbol::And)
 }
@@ -58,7 +60,7 @@ fn is_variable(tokens: &[Token<'_>], index: usize) -> bool {
 }
 
 impl<'s> Routines<'s> {
-    /// The routines of these tokens, and those of the library. Memory is answered where a growth was refused.
+    /// The routines of these tokens and those of the library. Returns `Memory` if an allocation fails.
     pub fn of(alloc: Global, tokens: &[Token<'s>]) -> Result<Routines<'s>, Memory> {
         let mut commands = IndexSet::new(alloc);
         let mut others = IndexSet::new(alloc);
@@ -83,7 +85,7 @@ impl<'s> Routines<'s> {
         Ok(Routines { commands, others })
     }
 
-    /// Whether a name means a routine of BE wherever it stands.
+    /// Whether a name means a routine declared with BE wherever it appears.
     pub fn has(&self, name: &[u8]) -> bool {
         let is_command = self.commands.contains(name) || LIBRARY.iter().any(|known| *known == name);
         is_command && !self.others.contains(name)

@@ -1,18 +1,20 @@
+//! Warnings: lines that are read otherwise than they look.
+
 use crate::tokens::{can_end, is_after, is_at, is_line_start, is_separated, name_at, symbol_at};
 use bc_lex::Source;
 use bc_lex_tokens::{Symbol, Token};
 use bcpl_places::line_at;
 
-/// How a line looks otherwise than it is read.
+/// How a line looks that is read otherwise.
 #[derive(Clone, Copy)]
 pub enum Looks {
-    /// It looks like a command of its own, and goes on with the line before.
+    /// It looks like a separate command, but continues the line before.
     Apart,
-    /// It looks as if it went on with the line before, and is a command of its own.
+    /// It looks like a continuation of the line before, but is a separate command.
     Together,
 }
 
-/// How many bytes of its line stand before the token with this index.
+/// How many bytes of its line come before the token with this index.
 fn indented(sources: &[Source<'_>], tokens: &[Token<'_>], index: usize) -> usize {
     let Some(token) = tokens.get(index) else {
         return 0
@@ -25,7 +27,7 @@ fn indented(sources: &[Source<'_>], tokens: &[Token<'_>], index: usize) -> usize
     at - start
 }
 
-/// The index of the first token of the line on which the token with this index stands.
+/// The index of the first token on the line of the token with this index.
 fn line_start(tokens: &[Token<'_>], index: usize) -> usize {
     let mut at = index;
     for _ in 0..index {
@@ -37,7 +39,7 @@ fn line_start(tokens: &[Token<'_>], index: usize) -> usize {
     at
 }
 
-/// The index of the first token of the line on which the token with this index stands, after a bracket that opens a section.
+/// The same, after a section bracket that begins the line.
 fn first_after_bracket(tokens: &[Token<'_>], index: usize) -> usize {
     let start = line_start(tokens, index);
     if start < index && is_at(tokens, start, Symbol::OpenSection) {
@@ -47,7 +49,7 @@ fn first_after_bracket(tokens: &[Token<'_>], index: usize) -> usize {
     }
 }
 
-/// How the line that begins with the token with this index looks, where that is not how it is read.
+/// How the line that begins at this index looks, if it is read otherwise.
 pub fn misread(sources: &[Source<'_>], tokens: &[Token<'_>], index: usize) -> Option<Looks> {
     if index == 0 || !is_line_start(tokens, index) || !can_end(tokens, index - 1) {
         return None;
@@ -73,8 +75,8 @@ pub fn misread(sources: &[Source<'_>], tokens: &[Token<'_>], index: usize) -> Op
     }
 }
 
-/// Whether the token with this index is a REPEAT that looks as if it repeated what stands after it: it repeats the command of the line
-/// before, which is no section.
+/// Whether the token at this index is a REPEAT that looks as if it repeated what follows. In fact it repeats the
+/// command of the line before, which isn't a section.
 pub fn is_repeat_in_front(sources: &[Source<'_>], tokens: &[Token<'_>], index: usize) -> bool {
     let next = index.saturating_add(1);
     is_at(tokens, index, Symbol::Repeat)
@@ -85,12 +87,12 @@ pub fn is_repeat_in_front(sources: &[Source<'_>], tokens: &[Token<'_>], index: u
             || indented(sources, tokens, next) > indented(sources, tokens, index))
 }
 
-/// Whether the token with this index ends the head of a loop or of a choice, after which a command stands.
+/// Whether the token with this index ends the head of a loop or choice, so that a command follows.
 fn ends_head(tokens: &[Token<'_>], index: usize) -> bool {
     is_at(tokens, index, Symbol::Do) || is_at(tokens, index, Symbol::Else)
 }
 
-/// Whether the token with this index begins the head of a loop or of a choice.
+/// Whether the token with this index begins the head of a loop or choice.
 fn begins_head(tokens: &[Token<'_>], index: usize) -> bool {
     match symbol_at(tokens, index) {
         Some(symbol) => matches!(
@@ -107,8 +109,8 @@ fn begins_head(tokens: &[Token<'_>], index: usize) -> bool {
     }
 }
 
-/// The word that begins a loop or a choice whose body is the one command of the line before, where the line that begins with the token with
-/// this index is a command of its own and stands below that body.
+/// The word that begins a loop or choice, if the line that begins at this index looks like part of its body but isn't.
+/// The body is the single command on the line before.
 pub fn seeming_head<'s>(
     sources: &[Source<'_>],
     tokens: &[Token<'s>],

@@ -1,17 +1,19 @@
+//! Warning: a routine that is probably meant to be START, in a program without START.
+
 use crate::routines::is_defined;
 use crate::tokens::{is_at, name_at};
 use bc_lex_tokens::{Symbol, Token};
 
-/// What a routine is likely meant to be, at which a run should begin.
+/// How a routine resembles START.
 #[derive(Clone, Copy)]
 pub enum Likeness {
-    /// It has START's name, which means no global here.
+    /// It is named START, but that isn't a global here.
     Undeclared,
-    /// It has another name that is near to START, or MAIN.
+    /// It has another name that is like START, or is MAIN.
     Misnamed,
 }
 
-/// Whether a routine is defined at the name with this index that may be meant as the one at which a run begins; none where it isn't.
+/// How the routine defined at this index resembles START; `None` if it doesn't, or no routine is defined there.
 pub fn likeness_at(tokens: &[Token<'_>], index: usize) -> Option<Likeness> {
     let name = name_at(tokens, index)?;
     if !is_defined(tokens, index) || !is_at(tokens, index.saturating_add(1), Symbol::OpenBracket) {

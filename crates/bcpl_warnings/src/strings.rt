@@ -1,6 +1,8 @@
+//! Warning: an escape of another language in a string.
+
 use bc_lex_tokens::{Token, TokenKind};
 
-/// Whether the token with this index is a string with a backslash before a letter that other languages escape so.
+/// Whether the token with this index is a string with a backslash before n, t or r.
 pub fn has_backslash(tokens: &[Token<'_>], index: usize) -> bool {
     let text = match tokens.get(index) {
         Some(

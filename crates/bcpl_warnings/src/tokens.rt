@@ -1,8 +1,10 @@
+//! Predicates on single tokens, and on where commands begin and end.
+
 use bc_lex_tokens::{Symbol, Token, TokenKind};
 use bc_parse_defs::{is_symbol_beginning, is_symbol_end};
 pub use bcpl_messages::{is_at, symbol_at};
 
-/// The name that the token with this index is; none where it is none.
+/// The name at this index; `None` if the token isn't a name.
 pub fn name_at<'s>(tokens: &[Token<'s>], index: usize) -> Option<&'s [u8]> {
     match tokens.get(index) {
         Some(
@@ -15,22 +17,22 @@ pub fn name_at<'s>(tokens: &[Token<'s>], index: usize) -> Option<&'s [u8]> {
     }
 }
 
-/// Whether the token with this index opens a bracket or a section.
+/// Whether the token with this index is an opening parenthesis or section bracket.
 pub fn opens_at(tokens: &[Token<'_>], index: usize) -> bool {
     is_at(tokens, index, Symbol::OpenBracket) || is_at(tokens, index, Symbol::OpenSection)
 }
 
-/// Whether the token with this index closes a bracket or a section.
+/// Whether the token with this index is a closing parenthesis or section bracket.
 pub fn closes_at(tokens: &[Token<'_>], index: usize) -> bool {
     is_at(tokens, index, Symbol::CloseBracket) || is_at(tokens, index, Symbol::CloseSection)
 }
 
-/// Whether this symbol stands right before the token with this index.
+/// Whether this symbol comes directly before the token with this index.
 pub fn is_after(tokens: &[Token<'_>], index: usize, symbol: Symbol) -> bool {
     index > 0 && is_at(tokens, index - 1, symbol)
 }
 
-/// Whether a line break stands before the token with this index.
+/// Whether a line break comes before the token with this index.
 pub fn is_line_start(tokens: &[Token<'_>], index: usize) -> bool {
     match tokens.get(index) {
         Some(token) => token.line_before,
@@ -38,7 +40,7 @@ pub fn is_line_start(tokens: &[Token<'_>], index: usize) -> bool {
     }
 }
 
-/// Whether a command can end with the token with this index, so that a line break after it may mean a semicolon.
+/// Whether a command can end with the token at this index, so that a line break after it may act as a semicolon.
 pub fn can_end(tokens: &[Token<'_>], index: usize) -> bool {
     match symbol_at(tokens, index) {
         Some(symbol) => is_symbol_end(symbol),
@@ -54,7 +56,7 @@ pub fn can_begin(tokens: &[Token<'_>], index: usize) -> bool {
     }
 }
 
-/// Whether a line break before the token with this index means a semicolon.
+/// Whether a line break before the token with this index acts as a semicolon.
 pub fn is_separated(tokens: &[Token<'_>], index: usize) -> bool {
     index > 0
         && is_line_start(tokens, index)

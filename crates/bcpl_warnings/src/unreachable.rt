@@ -1,7 +1,9 @@
+//! Warning: a command that is never reached.
+
 use crate::tokens::{closes_at, is_at, is_line_start, is_separated, name_at, opens_at, symbol_at};
 use bc_lex_tokens::{Symbol, Token};
 
-/// Whether a command of this word goes on elsewhere.
+/// Whether a command that begins with this word transfers control elsewhere.
 fn leaves(symbol: Symbol) -> bool {
     matches!(
         symbol,
@@ -15,7 +17,7 @@ fn leaves(symbol: Symbol) -> bool {
     )
 }
 
-/// Whether a command that begins with the token with this index is carried out only under a condition whose DO is left out.
+/// Whether the command at this index depends on a condition whose DO is omitted.
 pub fn is_conditional(tokens: &[Token<'_>], index: usize) -> bool {
     let mut at = index;
     for _ in 0..index {
@@ -42,7 +44,7 @@ pub fn is_conditional(tokens: &[Token<'_>], index: usize) -> bool {
     false
 }
 
-/// Whether the token with this index begins a command of a list, and no part of another command.
+/// Whether the token with this index begins a command of a list, rather than a part of another command.
 fn begins_item(tokens: &[Token<'_>], index: usize) -> bool {
     if index == 0 {
         return false;
@@ -53,8 +55,8 @@ fn begins_item(tokens: &[Token<'_>], index: usize) -> bool {
     }
 }
 
-/// The index after the command that begins with the token with this index: that of a semicolon, of a bracket that closes a section, or
-/// of the first token of the next line's command.
+/// The index after the command that begins at this index: that of a semicolon, a closing bracket, or the first token of
+/// the next line's command.
 fn following(tokens: &[Token<'_>], index: usize) -> usize {
     let mut depth: usize = 0;
     for at in index.saturating_add(1)..tokens.len() {
@@ -72,7 +74,7 @@ fn following(tokens: &[Token<'_>], index: usize) -> usize {
     tokens.len()
 }
 
-/// The index of the first token from this one on that is no semicolon.
+/// The index of the first token that isn't a semicolon, from this index on.
 fn after_semicolons(tokens: &[Token<'_>], index: usize) -> usize {
     let mut at = index;
     for _ in 0..tokens.len() {
@@ -84,7 +86,7 @@ fn after_semicolons(tokens: &[Token<'_>], index: usize) -> usize {
     at
 }
 
-/// Whether control can come to what begins with the token with this index from elsewhere, or nothing begins there.
+/// Whether control can come from elsewhere to what begins at this index, or no command begins there.
 fn is_entered(tokens: &[Token<'_>], index: usize) -> bool {
     if name_at(tokens, index).is_some() {
         return is_at(tokens, index.saturating_add(1), Symbol::Colon);
@@ -110,7 +112,7 @@ fn is_entered(tokens: &[Token<'_>], index: usize) -> bool {
     }
 }
 
-/// Where the token with this index leaves its list of commands, and a command stands after it that nothing comes to: the index of that
+/// If the token at this index leaves its list of commands and the next command is never reached: the index of that
 /// command's first token.
 pub fn unreached(tokens: &[Token<'_>], index: usize) -> Option<usize> {
     let symbol = symbol_at(tokens, index)?;

@@ -1,3 +1,5 @@
+//! Warning: a call of a global that nothing in the program sets.
+
 use crate::arguments::is_called;
 use crate::declared::{Declarations, Meaning};
 use crate::tokens::name_at;
@@ -8,17 +10,17 @@ use bc_word::Memory;
 use indexmap::IndexSet;
 use std::alloc::Global;
 
-/// The globals of a program that something may set.
+/// The globals that a program may set.
 #[derive(Drop)]
 pub struct Settings {
-    /// Their numbers, those of the library aside.
+    /// Their numbers, except those of the library.
     numbers: IndexSet<u16>,
-    /// Whether any global at all may be set, since a number isn't known, or an address is taken.
+    /// Whether any global may be set, because a number isn't known or an address is taken.
     is_open: bool,
 }
 
 impl Settings {
-    /// What these mains may set. Memory is answered where a growth was refused.
+    /// The globals that these mains may set. Returns `Memory` if an allocation fails.
     pub fn of(alloc: Global, sources: &[Source<'_>], mains: &[usize]) -> Result<Settings, Memory> {
         let mut settings = Settings {
             numbers: IndexSet::new(alloc),
@@ -36,7 +38,7 @@ impl Settings {
         Ok(settings)
     }
 
-    /// Adds what the main with these tokens may set.
+    /// Adds the globals that the main with these tokens may set.
     fn add_main(&mut self, alloc: Global, tokens: &[Token<'_>]) -> Result<(), Memory> {
         let declarations = Declarations::of(alloc, tokens)?;
         for declared in &declarations.all {
@@ -47,7 +49,7 @@ impl Settings {
         Ok(())
     }
 
-    /// Adds the global of this name and number, if the main with these declarations may set it.
+    /// Adds the global with this name and number, if the main with these declarations may set it.
     fn add_global(
         &mut self,
         declarations: &Declarations<'_>,
@@ -69,13 +71,13 @@ impl Settings {
         Ok(())
     }
 
-    /// Whether nothing sets the global of this number.
+    /// Whether nothing sets the global with this number.
     fn is_unset(&self, number: u16) -> bool {
         !self.is_open && library_name(number).is_none() && !self.numbers.contains(&number)
     }
 }
 
-/// The number of the global that the token with this index calls, as the first one of its main, and that nothing sets.
+/// The number of the global that is called at this index, if nothing sets it and this is its first call in the main.
 pub fn unset_global(
     tokens: &[Token<'_>],
     declarations: &Declarations<'_>,

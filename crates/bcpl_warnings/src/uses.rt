@@ -1,3 +1,5 @@
+//! How a name is used in a main, collected in one pass over its tokens.
+
 use crate::arguments::is_called;
 use crate::tokens::{is_after, is_at};
 use bc_lex_tokens::{Symbol, Token};
@@ -5,11 +7,11 @@ use bc_lex_tokens::{Symbol, Token};
 /// How a name is used in a main.
 #[derive(Clone, Copy, Default)]
 pub struct Uses {
-    /// The token of the first call of it.
+    /// The index of its first call.
     pub first_call: Option<usize>,
-    /// Whether something is assigned to it, as the last one or the only one.
+    /// Whether it is directly followed by `:=`.
     pub is_assigned: bool,
-    /// Whether it stands before a comma, as what is assigned to along with others does.
+    /// Whether it is followed by a comma, as on the left of an assignment to several names.
     pub is_listed: bool,
     /// Whether its address is taken.
     pub is_addressed: bool,
@@ -18,7 +20,7 @@ pub struct Uses {
 }
 
 impl Uses {
-    /// These uses, and that by the token with this index, which is the name.
+    /// These uses and the one at this index, where the name is.
     pub fn with(self, tokens: &[Token<'_>], index: usize) -> Uses {
         let next = index.saturating_add(1);
         let first_call = match self.first_call {

@@ -1,8 +1,10 @@
+//! Warning: a routine without a value that is called for its value.
+
 use crate::routines::Routines;
 use crate::tokens::{is_at, is_line_start, name_at, symbol_at};
 use bc_lex_tokens::{Symbol, Token};
 
-/// Whether a value is wanted after this symbol.
+/// Whether a value must follow this symbol.
 fn wants_value(symbol: Symbol) -> bool {
     matches!(
         symbol,
@@ -40,7 +42,7 @@ fn wants_value(symbol: Symbol) -> bool {
     )
 }
 
-/// Whether the token with this index is the name of a routine without a value that is called where a value is wanted.
+/// Whether the token with this index is the name of a routine without a value that is called where a value is needed.
 pub fn is_used(tokens: &[Token<'_>], routines: &Routines<'_>, index: usize) -> bool {
     let next = index.saturating_add(1);
     let Some(name) = name_at(tokens, index) else {

@@ -1,9 +1,11 @@
+//! Warning: a vector that is called.
+
 use crate::arguments::is_called;
 use crate::declared::Declarations;
 use crate::tokens::{is_at, name_at};
 use bc_lex_tokens::{Symbol, Token};
 
-/// Whether no section that is open at the first token is closed before the second.
+/// Whether the section that is innermost at the first token is still open at the second.
 fn is_open_still(tokens: &[Token<'_>], first: usize, second: usize) -> bool {
     let mut depth: usize = 0;
     for at in first..second {
@@ -19,7 +21,7 @@ fn is_open_still(tokens: &[Token<'_>], first: usize, second: usize) -> bool {
     true
 }
 
-/// Whether the token with this index calls a name that means a vector, to which nothing is assigned.
+/// Whether the token with this index calls a name that means a vector, and that is never assigned to.
 pub fn is_vector_called(
     tokens: &[Token<'_>],
     declarations: &Declarations<'_>,

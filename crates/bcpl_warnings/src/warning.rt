@@ -1,3 +1,5 @@
+//! The warnings on an accepted program: which ones there are, in which order they are tried, and their texts.
+
 use crate::arguments::{Missing, missing_arguments};
 use crate::comments::swallowed_do;
 use crate::declared::Declarations;
@@ -22,61 +24,71 @@ use bcpl_places::Span;
 use indexmap::IndexSet;
 use std::alloc::Global;
 
-/// The most warnings that are told.
+/// At most this many warnings are printed.
 const MOST: usize = 10;
 
-/// What is said of a token that is likely wrong by itself, and what helps.
+/// For an assignment to a routine of the library. This and the next constants have a sentence and a help each, in which
+/// `{}` is the token.
 const ASSIGNMENT: (&str, &str) = (
-    "{} is a routine of the library, and this assignment puts something else in its place",
-    "all calls of it are changed, the library's own too; a variable of one's own is declared by LET",
+    "{} is a routine of the library, and this assignment replaces it",
+    "all calls of it are changed, also those in the library; declare a variable of your own with LET",
 );
 
+/// For a routine without a value that is called for its value.
 const VALUE: (&str, &str) = (
-    "the value of {} is used, and it is a routine of BE, whose value means nothing",
-    "a routine with a value is defined by =, as in LET F(X) = VALOF $( .. RESULTIS E $)",
+    "the value of {} is used, but it is declared with BE and has no meaningful value",
+    "declare a routine that returns a value with =, as in LET F(X) = VALOF $( .. RESULTIS E $)",
 );
 
+/// For a backslash in a string.
 const BACKSLASH: (&str, &str) = (
-    "a backslash in a string stands for itself",
-    "a line break is written *N, and a tab *T",
+    "a backslash in a string has no special meaning",
+    "write *N for a line break, and *T for a tab",
 );
 
+/// For a VALOF without a RESULTIS.
 const NO_RESULT: (&str, &str) = (
     "this VALOF has no RESULTIS, so its value is always 0",
-    "RESULTIS E gives the value; a routine that has none is defined by BE",
+    "give it a value with RESULTIS E; declare a routine without a value with BE",
 );
 
+/// For a vector that is called.
 const VECTOR: (&str, &str) = (
     "{} is a vector, and this calls it as a routine",
     "its elements are {}!0, {}!1 and so on",
 );
 
+/// For a label that is probably meant as DEFAULT.
 const DEFAULT: (&str, &str) = (
     "{} is a label here; the reserved word is DEFAULT",
-    "a SWITCHON goes to its CASEs and its DEFAULT, and to no label",
+    "a SWITCHON goes only to its CASEs and its DEFAULT, not to a label",
 );
 
+/// For a label that no GOTO names.
 const LABEL: (&str, &str) = (
     "nothing goes to the label {}",
-    "a GOTO that names it would go there; where none is wanted, take it away",
+    "add a GOTO that names it, or remove the label",
 );
 
+/// For a REPEAT before the command that it seems to repeat.
 const REPEAT: (&str, &str) = (
-    "this REPEAT repeats the command of the line before, without end",
-    "what is repeated stands in front of it, as in $( .. $) REPEATUNTIL E",
+    "this REPEAT repeats the command on the line before it forever",
+    "write the repeated command before it, as in $( .. $) REPEATUNTIL E",
 );
 
+/// For a line that looks like a separate command and isn't.
 const APART: (&str, &str) = (
-    "this line goes on with the expression of the line before",
-    "no command begins with `-`; where that is meant, indent the line",
+    "this line continues the expression of the line before",
+    "no command begins with `-`; if you mean to continue the line before, indent this one",
 );
 
+/// For a line that looks like a continuation and isn't.
 const TOGETHER: (&str, &str) = (
-    "a command of its own begins here; it doesn't go on with the line before",
-    "a line goes on where the one before ends with an operator, a comma or an open bracket",
+    "a new command begins here; it doesn't continue the line before",
+    "to continue a line, end it with an operator, a comma or an open parenthesis",
 );
 
-/// What is known of a main.
+/// What is known about a main.
 #[derive(Clone, Copy)]
 struct Main<'m, 'p, 's> {
     sources: &'p [Source<'s>],
@@ -85,12 +97,12 @@ struct Main<'m, 'p, 's> {
     tokens: &'m [Token<'s>],
     routines: &'m Routines<'s>,
     declarations: &'m Declarations<'s>,
-    /// What the whole program may set.
+    /// The globals that the whole program may set.
     settings: &'m Settings,
 }
 
 impl<'s> Main<'_, '_, 's> {
-    /// How the token with this index is spelled.
+    /// The text of the token with this index; empty if there is none.
     fn text(&self, at: usize) -> &'s [u8] {
         match self.tokens.get(at) {
             Some(token) => token.text,
@@ -111,14 +123,14 @@ fn begin(draft: &mut Draft, tokens: &[Token<'_>], at: usize) {
     draft.say("warning: ", &[]);
 }
 
-/// Says so where the token with this index names a global of the library otherwise; whether it does.
+/// Warns if the token with this index declares a library's global under another name. Returns whether it does.
 fn warns_of_library_global(draft: &mut Draft, main: &Main<'_, '_, '_>, at: usize) -> bool {
     let Some((number, name)) = library_global(main.tokens, main.declarations, at) else {
         return false;
     };
     begin(draft, main.tokens, at);
     draft.say(
-        "the global {} is {} of the library, and here it is named {}",
+        "the global {} is {} of the library, but here it is named {}",
         &[
             Fill::Number(u64::from(number)),
             Fill::Text(name),
@@ -126,20 +138,20 @@ fn warns_of_library_global(draft: &mut Draft, main: &Main<'_, '_, '_>, at: usize
         ],
     );
     draft.help(
-        "take a number that the library hasn't: from 100 on all are free",
+        "use a number that the library doesn't use; the numbers from 100 on are free",
         &[],
     );
     true
 }
 
-/// Says so where the token with this index gives a global a further name; whether it does.
+/// Warns if the token with this index gives a global a second name. Returns whether it does.
 fn warns_of_number(draft: &mut Draft, main: &Main<'_, '_, '_>, at: usize) -> bool {
     let Some((number, name)) = number_twice(main.tokens, main.declarations, at) else {
         return false;
     };
     begin(draft, main.tokens, at);
     draft.say(
-        "the global {} is named {} in this file already, and here {}",
+        "the global {} is already named {} in this file, and here {}",
         &[
             Fill::Number(u64::from(number)),
             Fill::Shown(name),
@@ -147,13 +159,13 @@ fn warns_of_number(draft: &mut Draft, main: &Main<'_, '_, '_>, at: usize) -> boo
         ],
     );
     draft.help(
-        "two names of one number mean one cell; where they shall be two, take another number",
+        "two names with one number share one cell; for two cells, use another number",
         &[],
     );
     true
 }
 
-/// Says so where the token with this index calls a global that nothing sets; whether it does.
+/// Warns if the token with this index calls a global that nothing sets. Returns whether it does.
 fn warns_of_unset(draft: &mut Draft, main: &Main<'_, '_, '_>, at: usize) -> bool {
     let unset = unset_global(main.tokens, main.declarations, main.settings, at);
     let Some(number) = unset else {
@@ -161,21 +173,21 @@ fn warns_of_unset(draft: &mut Draft, main: &Main<'_, '_, '_>, at: usize) -> bool
     };
     begin(draft, main.tokens, at);
     draft.say(
-        "{} is called here, and nothing in the program sets the global {}",
+        "{} is called here, but nothing in the program sets the global {}",
         &[Fill::Shown(main.text(at)), Fill::Number(u64::from(number))],
     );
     draft.help(
         if is_of_library(main.text(at)) {
-            "the library has a routine of this name: GET \"LIBHDR\" declares it, in the place of the declaration here"
+            "the library has a routine of this name; replace the declaration here by GET \"LIBHDR\""
         } else {
-            "a routine sets it that is declared while its name means the global: is a file of the program missing?"
+            "a routine sets it if it is declared while its name means the global; is a file of the program missing?"
         },
         &[],
     );
     true
 }
 
-/// Says so where the token with this index is called with fewer arguments than it has parameters; whether it is.
+/// Warns if the token with this index is called with fewer arguments than it has parameters. Returns whether it is.
 fn warns_of_arguments(draft: &mut Draft, main: &Main<'_, '_, '_>, at: usize) -> bool {
     let Some(missing) = missing_arguments(main.tokens, main.declarations, at) else {
         return false;
@@ -187,9 +199,9 @@ fn warns_of_arguments(draft: &mut Draft, main: &Main<'_, '_, '_>, at: usize) -> 
     begin(draft, main.tokens, at);
     draft.say(
         if arguments == 1 {
-            "this call hands over {} argument, and "
+            "this call passes {} argument, but "
         } else {
-            "this call hands over {} arguments, and "
+            "this call passes {} arguments, but "
         },
         &[Fill::Number(arguments as u64)],
     );
@@ -201,14 +213,11 @@ fn warns_of_arguments(draft: &mut Draft, main: &Main<'_, '_, '_>, at: usize) -> 
         },
         &[Fill::Shown(main.text(at)), Fill::Number(parameters as u64)],
     );
-    draft.help(
-        "a parameter for which nothing is handed over has no value",
-        &[],
-    );
+    draft.help("a parameter without an argument has no value", &[]);
     true
 }
 
-/// Says so where the token with this index is a format that WRITEF doesn't know; whether it is.
+/// Warns if the token with this index is a format that WRITEF doesn't know. Returns whether it is.
 fn warns_of_format(draft: &mut Draft, main: &Main<'_, '_, '_>, at: usize) -> bool {
     let unknown = unknown_format(main.tokens, main.declarations, main.library, at);
     let Some((letter, is_further)) = unknown else {
@@ -218,21 +227,21 @@ fn warns_of_format(draft: &mut Draft, main: &Main<'_, '_, '_>, at: usize) -> boo
     let letter = Fill::Shown(&sign);
     begin(draft, main.tokens, at);
     draft.say(
-        "WRITEF doesn't know %{}, and writes {} in its place",
+        "WRITEF doesn't know %{}, and writes {} instead",
         &[letter, letter],
     );
     draft.help(
         if is_further {
             "it knows %N, %C, %S, %P, %+, %- and %%, and with a width %I, %U, %O, %X and %T, as in %I4"
         } else {
-            "it knows %N, %C and %S, in capitals; a width, as in %I4, takes both GET \"EXTHDR\" and --library ext"
+            "it knows %N, %C and %S, in upper case; for a width, as in %I4, use GET \"EXTHDR\" and --library ext"
         },
         &[],
     );
     true
 }
 
-/// Says so where the token with this index is a format after which fewer arguments stand than it takes; whether it is.
+/// Warns if the token with this index is a format that takes more arguments than follow it. Returns whether it is.
 fn warns_of_lacking(draft: &mut Draft, main: &Main<'_, '_, '_>, at: usize) -> bool {
     let lacking = lacking_arguments(main.tokens, main.declarations, main.library, at);
     let Some(Lacking { taken, given }) = lacking else {
@@ -249,65 +258,65 @@ fn warns_of_lacking(draft: &mut Draft, main: &Main<'_, '_, '_>, at: usize) -> bo
     );
     draft.say(
         match given {
-            0 => ", and none stands behind it",
-            1 => ", and {} stands behind it",
-            _ => ", and {} stand behind it",
+            0 => ", but none follows it",
+            1 => ", but only {} follows it",
+            _ => ", but only {} follow it",
         },
         &[Fill::Number(given as u64)],
     );
     draft.help(
-        "each % with its letter writes the next argument; one that isn't there has no value",
+        "each % with its letter writes the next argument; a missing argument has no value",
         &[],
     );
     true
 }
 
-/// Says so where nothing comes to the command after the token with this index; whether that is so.
+/// Warns if the command after the one at this index is never reached. Returns whether that is so.
 fn warns_of_unreached(draft: &mut Draft, main: &Main<'_, '_, '_>, at: usize) -> bool {
     let Some(following) = unreached(main.tokens, at) else {
         return false;
     };
     begin(draft, main.tokens, following);
     draft.say(
-        "nothing comes to this command: {} in front of it goes elsewhere",
+        "this command is never reached: the {} before it goes elsewhere",
         &[Fill::Shown(main.text(at))],
     );
     draft.help(
-        "a label, a CASE or a DEFAULT in front of it would let it be reached; else take it away",
+        "put a label, a CASE or a DEFAULT before it, or remove it",
         &[],
     );
     true
 }
 
-/// Says so where a line that begins with the token with this index stands below the one command of a body; whether it does.
+/// Warns if the line that begins at this index seems to belong to a body, and doesn't. Returns whether that is so.
 fn warns_of_body(draft: &mut Draft, main: &Main<'_, '_, '_>, at: usize) -> bool {
     let Some(word) = seeming_head(main.sources, main.tokens, at) else {
         return false;
     };
     begin(draft, main.tokens, at);
     draft.say(
-        "this line stands behind the {} above, not in it: the line before is the one command of its body",
+        "this line comes after the {} above, not in it: the line before is the only command of its body",
         &[Fill::Shown(word)],
     );
-    draft.help("a body of several commands is written $( .. $)", &[]);
+    draft.help("write a body of several commands as $( .. $)", &[]);
     true
 }
 
-/// Says so where a comment takes the THEN or DO before the command at the token with this index; whether one does.
+/// Warns if a comment contains the THEN or DO before the command at this index. Returns whether one does.
 fn warns_of_comment(draft: &mut Draft, main: &Main<'_, '_, '_>, at: usize) -> bool {
     let Some(span) = swallowed_do(main.sources, main.tokens, at) else {
         return false;
     };
     draft.place(span);
-    draft.say("warning: `||` begins a comment; or is written `|`", &[]);
+    draft.say("warning: `||` begins a comment; write `|` for or", &[]);
     draft.help(
-        "the THEN or DO in it counts for nothing, and the command of the next line depends on the condition",
+        "the THEN or DO in the comment is ignored, and the command on the next line depends on the condition",
         &[],
     );
     true
 }
 
-/// What is said of the token with this index, and what helps, where it is likely wrong by itself. `{}` is the token.
+/// The sentence and the help on a token that is probably wrong, whatever surrounds it. A `{}` is the token.
 fn oddity(main: &Main<'_, '_, '_>, at: usize) -> Option<(&'static str, &'static str)> {
     if is_library_assigned(main.tokens, main.declarations, main.library, at) {
         Some(ASSIGNMENT)
@@ -324,7 +333,7 @@ fn oddity(main: &Main<'_, '_, '_>, at: usize) -> Option<(&'static str, &'static 
     }
 }
 
-/// The same of a label, and of a line that looks otherwise than it is read.
+/// The sentence and the help on a label, or on a line that is read otherwise than it looks.
 fn likeness(main: &Main<'_, '_, '_>, at: usize) -> Option<(&'static str, &'static str)> {
     match idle_label(main.tokens, main.declarations, at) {
         Some(Idle::Default) => Some(DEFAULT),
@@ -338,7 +347,7 @@ fn likeness(main: &Main<'_, '_, '_>, at: usize) -> Option<(&'static str, &'stati
     }
 }
 
-/// Says this of the token with this index, if there is something; whether there is.
+/// Warns of the token with this index, if a sentence and a help are given. Returns whether they are.
 fn warns_by(
     draft: &mut Draft,
     main: &Main<'_, '_, '_>,
@@ -355,7 +364,7 @@ fn warns_by(
     true
 }
 
-/// Says so where a global or a call at the token with this index is likely wrong; whether one is.
+/// Warns if a global or a call at the token with this index is probably wrong. Returns whether it is.
 fn warns_of_use(draft: &mut Draft, main: &Main<'_, '_, '_>, at: usize) -> bool {
     warns_of_library_global(draft, main, at)
         || warns_of_number(draft, main, at)
@@ -365,7 +374,7 @@ fn warns_of_use(draft: &mut Draft, main: &Main<'_, '_, '_>, at: usize) -> bool {
         || warns_of_lacking(draft, main, at)
 }
 
-/// Says what is likely wrong at the token with this index.
+/// Adds the first warning that applies to the token with this index.
 fn warn_at(draft: &mut Draft, main: &Main<'_, '_, '_>, at: usize) {
     let is_told = warns_of_use(draft, main, at)
         || warns_by(draft, main, at, oddity(main, at))
@@ -377,19 +386,21 @@ fn warn_at(draft: &mut Draft, main: &Main<'_, '_, '_>, at: usize) {
     }
 }
 
-/// The warnings on a program that was accepted, as they are being told.
+/// The warnings on an accepted program, as they are being collected.
 #[derive(Drop)]
 struct Telling<'p, 's> {
     alloc: Global,
     named: Named<'p, 's>,
     /// How many of the sources are the library's.
     library: usize,
-    /// Where something was said: the file, and the offsets of the first byte and after the last one.
+    /// The places that have a warning: the file, the offset of the first byte, and the offset after the last one.
     told: IndexSet<(usize, usize, usize)>,
+    /// The lines of the warnings.
     lines: String,
 }
 
 impl<'p, 's> Telling<'p, 's> {
+    /// No warnings yet.
     fn new(alloc: Global, named: Named<'p, 's>, library: usize) -> Telling<'p, 's> {
         Telling {
             alloc,
@@ -400,13 +411,13 @@ impl<'p, 's> Telling<'p, 's> {
         }
     }
 
-    /// Adds the lines of a warning.
+    /// Appends the lines of a warning.
     fn add_lines(&mut self, message: &Message) -> Result<(), Memory> {
         let lines = told_lines(self.alloc, self.named, message)?;
         Ok(self.lines.push_str(lines.as_str())?)
     }
 
-    /// Adds a warning, unless it is on the library or was told already, or more than enough are told.
+    /// Adds a warning, unless it is in the library, its place already has one, or `MOST` are printed.
     fn add(&mut self, message: &Message) -> Result<(), Memory> {
         let Some(span) = message.span else {
             return Ok(());
@@ -434,7 +445,7 @@ impl<'p, 's> Telling<'p, 's> {
         }
     }
 
-    /// Adds the warnings on a main with these tokens, in their order.
+    /// Adds the warnings on a main with these tokens, in text order.
     fn add_tokens<'m>(
         &mut self,
         settings: &'m Settings,
@@ -457,7 +468,7 @@ impl<'p, 's> Telling<'p, 's> {
         Ok(())
     }
 
-    /// The tokens of a main; none of one that has none, or that is the library's.
+    /// The tokens of a main; `None` if the lexer refuses it, or it is the library's.
     fn tokens(&self, main: usize) -> Option<Vec<Token<'s>>> {
         let sources = self.named.sources;
         if main < self.library || main >= sources.len() {
@@ -466,7 +477,7 @@ impl<'p, 's> Telling<'p, 's> {
         lex(self.alloc, sources, main).ok()
     }
 
-    /// Adds the warnings on a main that was accepted.
+    /// Adds the warnings on an accepted main.
     fn add_main(&mut self, settings: &Settings, main: usize) -> Result<(), Memory> {
         match self.tokens(main) {
             Some(tokens) => self.add_tokens(settings, main, tokens.as_slice()),
@@ -474,7 +485,7 @@ impl<'p, 's> Telling<'p, 's> {
         }
     }
 
-    /// Adds how many warnings there are, where not all are told.
+    /// Appends the number of warnings, if not all are printed.
     fn add_count(&mut self) -> Result<(), Memory> {
         let count = self.told.len();
         if count > MOST {
@@ -483,7 +494,7 @@ impl<'p, 's> Telling<'p, 's> {
         Ok(())
     }
 
-    /// Adds that the routine at the token with this index is likely meant to be START, if it is.
+    /// Adds a warning if the routine at the token with this index is probably meant to be START.
     fn add_start(&mut self, main: usize, tokens: &[Token<'_>], at: usize) -> Result<(), Memory> {
         let mut draft = Draft::new(self.alloc, main);
         warn_of_start(&mut draft, tokens, at);
@@ -493,7 +504,7 @@ impl<'p, 's> Telling<'p, 's> {
         }
     }
 
-    /// Adds the routines of a main that are likely meant to be START.
+    /// Adds the warnings on routines of a main that are probably meant to be START.
     fn add_starts(&mut self, main: usize) -> Result<(), Memory> {
         let Some(tokens) = self.tokens(main) else {
             return Ok(());
@@ -505,8 +516,8 @@ impl<'p, 's> Telling<'p, 's> {
     }
 }
 
-/// The lines of warnings on the mains of a program that was accepted, ten at the most, and their number where there are more. The first
-/// `library` sources are the library's, and nothing is said of them. Memory is answered where a growth was refused.
+/// The lines of the warnings on the mains of an accepted program: ten at most, followed by their number if there are
+/// more. The first `library` sources are the library's, and get no warnings. Returns `Memory` if an allocation fails.
 pub fn warnings(
     alloc: Global,
     named: Named<'_, '_>,
@@ -522,16 +533,16 @@ pub fn warnings(
     Ok(warnings.lines)
 }
 
-/// Says so where a routine is defined at the token with this index that is likely meant to be START.
+/// Warns if the routine defined at the token with this index is probably meant to be START.
 fn warn_of_start(draft: &mut Draft, tokens: &[Token<'_>], at: usize) {
     let (sentence, help) = match likeness_at(tokens, at) {
         Some(Likeness::Undeclared) => (
-            "START means no global here, so this routine sets none",
-            "GET \"LIBHDR\" in front of it makes START the global 1",
+            "START is not a global here, so this routine sets none",
+            "write GET \"LIBHDR\" before it to make START the global 1",
         ),
         Some(Likeness::Misnamed) => (
-            "a run begins with START, and this routine has another name",
-            "name it START, in capitals, in a file that has GET \"LIBHDR\"",
+            "a run begins with START, but this routine has another name",
+            "name it START, in upper case, in a file that has GET \"LIBHDR\"",
         ),
         None => return,
     };
@@ -540,8 +551,9 @@ fn warn_of_start(draft: &mut Draft, tokens: &[Token<'_>], at: usize) {
     draft.help(help, &[]);
 }
 
-/// The lines of warnings on the routines of an accepted program that are likely meant to be START, for a program in which no routine sets
-/// it. The first `library` sources are the library's, and nothing is said of them. Memory is answered where a growth was refused.
+/// The lines of the warnings on routines that are probably meant to be START, for an accepted program in which no
+/// routine sets START. The first `library` sources are the library's, and get no warnings. Returns `Memory` if an
+/// allocation fails.
 pub fn likely_starts(
     alloc: Global,
     named: Named<'_, '_>,

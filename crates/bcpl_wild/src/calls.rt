@@ -1,17 +1,19 @@
-// Calls and parameters among the tokens.
+//! Calls and parameters, found among the tokens.
 
 use crate::extent::{Extent, is_name};
 use bc_lex_tokens::{Symbol, Token};
 use bcpl_messages::is_at;
 
-/// Which of a routine's parameters one is, counted from 1 on, and how many there are.
+/// The position of a parameter, counted from 1, and the number of parameters.
 #[derive(Clone, Copy)]
 pub struct Parameter {
+    /// Its position, counted from 1.
     pub number: usize,
+    /// How many parameters the routine has.
     pub count: usize,
 }
 
-/// Which parameter the token `at` is, of the routine that is defined at the token `name`; none where it is none of its parameters.
+/// Which parameter of the routine defined at the token `name` the token `at` is; `None` if it isn't one.
 pub fn parameter_at(tokens: &[Token<'_>], name: usize, at: usize) -> Option<Parameter> {
     let open = name.saturating_add(1);
     if !is_at(tokens, open, Symbol::OpenBracket) {
@@ -36,14 +38,16 @@ pub fn parameter_at(tokens: &[Token<'_>], name: usize, at: usize) -> Option<Para
     })
 }
 
-/// A call: its tokens, and how many arguments it has.
+/// A call.
 #[derive(Clone, Copy)]
 pub struct Call {
+    /// Its tokens.
     pub extent: Extent,
+    /// How many arguments it has.
     pub arguments: usize,
 }
 
-/// The call whose routine is the token with this index; none where none is called there.
+/// The call of the name at this index; `None` if it isn't called there.
 fn call_at(tokens: &[Token<'_>], index: usize) -> Option<Call> {
     let open = index.saturating_add(1);
     if !is_at(tokens, open, Symbol::OpenBracket) {
@@ -61,7 +65,7 @@ fn call_at(tokens: &[Token<'_>], index: usize) -> Option<Call> {
             depth = depth.saturating_add(1);
         } else if closes && depth == 1 {
             let is_empty = at == open.saturating_add(1);
-            // each condition has a comma of its own
+            // Each arrow belongs to a conditional expression, which has a comma of its own.
             let parted = commas.saturating_sub(arrows).saturating_add(1);
             return Some(Call {
                 extent: Extent {
@@ -81,7 +85,7 @@ fn call_at(tokens: &[Token<'_>], index: usize) -> Option<Call> {
     None
 }
 
-/// The only call of this name in an extent; none where there is none, or another one.
+/// The only call of this name in an extent; `None` if there are none or several.
 pub fn only_call(tokens: &[Token<'_>], extent: Extent, name: &[u8]) -> Option<Call> {
     let mut found = None;
     for index in extent.first..=extent.last {

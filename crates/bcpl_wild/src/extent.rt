@@ -1,12 +1,15 @@
-// The tokens of an expression, a test or an assignment, and what stands among them.
+//! The tokens of an expression, test or assignment, found from its first leaf (a name, number or word), and what is
+//! among them.
 
 use bc_lex_tokens::{Symbol, Token, TokenKind};
 use bcpl_messages::{is_at, symbol_at};
 
-/// The tokens of an expression, a test or an assignment, from the first to the last one, by their indexes.
+/// The tokens of an expression, test or assignment, as the indexes of the first and the last one.
 #[derive(Clone, Copy)]
 pub struct Extent {
+    /// The index of the first token.
     pub first: usize,
+    /// The index of the last token.
     pub last: usize,
 }
 
@@ -34,7 +37,7 @@ fn ends_operand(tokens: &[Token<'_>], index: usize) -> bool {
     }
 }
 
-/// Whether an operand begins with the token with this index that can't stand directly after another one.
+/// Whether an operand begins with the token with this index that can't directly follow another operand.
 fn begins_operand(tokens: &[Token<'_>], index: usize) -> bool {
     match symbol_at(tokens, index) {
         Some(symbol) => matches!(
@@ -45,7 +48,7 @@ fn begins_operand(tokens: &[Token<'_>], index: usize) -> bool {
     }
 }
 
-/// Whether no expression goes on with this word or sign.
+/// Whether no expression contains this symbol outside brackets.
 fn ends_expression(symbol: Symbol) -> bool {
     matches!(
         symbol,
@@ -86,7 +89,7 @@ fn ends_expression(symbol: Symbol) -> bool {
     )
 }
 
-/// Whether an expression in which no bracket is open ends before the token with this index.
+/// Whether an expression without open brackets ends before the token with this index.
 fn ends_before(tokens: &[Token<'_>], index: usize) -> bool {
     let Some(token) = tokens.get(index) else {
         return true;
@@ -101,8 +104,8 @@ fn ends_before(tokens: &[Token<'_>], index: usize) -> bool {
     }
 }
 
-/// The first token of an expression whose first name, number or word is the one with this index: signs and brackets in front belong to
-/// it.
+/// The first token of an expression whose first leaf is at this index. Preceding prefix operators and parentheses
+/// belong to it.
 fn after_signs(tokens: &[Token<'_>], index: usize) -> usize {
     let mut first = index;
     for _ in 0..index {
@@ -120,20 +123,20 @@ fn after_signs(tokens: &[Token<'_>], index: usize) -> usize {
     first
 }
 
-/// How far a walk over the tokens of an expression is.
+/// The state of a scan of an expression's tokens.
 #[derive(Clone, Copy)]
-struct Walk {
+struct ExtentWalk {
     /// How many brackets are open.
     depth: usize,
-    /// How many conditions wait for their comma.
+    /// How many conditional expressions still need their comma.
     arrows: usize,
-    /// The first comma that parts two expressions.
+    /// The first comma that separates two expressions.
     comma: Option<usize>,
     is_assignment: bool,
 }
 
-impl Walk {
-    /// Goes over the token with this index.
+impl ExtentWalk {
+    /// Takes the token with this index.
     fn pass(&mut self, tokens: &[Token<'_>], index: usize) {
         match symbol_at(tokens, index) {
             Some(Symbol::OpenBracket | Symbol::OpenSection) => {
@@ -156,10 +159,10 @@ impl Walk {
     }
 }
 
-/// The tokens of the expression, test or assignment whose first name, number or word is the token with this index.
+/// The tokens of the expression, test or assignment whose first leaf is at this index.
 pub fn extent_from(tokens: &[Token<'_>], index: usize) -> Extent {
     let first = after_signs(tokens, index);
-    let mut walk = Walk {
+    let mut walk = ExtentWalk {
         depth: 0,
         arrows: 0,
         comma: None,
@@ -185,14 +188,14 @@ pub fn extent_from(tokens: &[Token<'_>], index: usize) -> Extent {
     }
 }
 
-/// Whether a name stands at this index as what is assigned to.
+/// Whether the token with this index is a name that is assigned to.
 fn is_assigned(tokens: &[Token<'_>], index: usize) -> bool {
     is_at(tokens, index.saturating_add(1), Symbol::Assign)
         && !is_at(tokens, index.saturating_sub(1), Symbol::Indirection)
 }
 
-/// The only token of an extent at which a variable of this name can be read; none where there is another one, or something is read by its
-/// address.
+/// The only token of an extent at which a variable with this name can be read. `None` if there are several, or
+/// something is read through an address.
 pub fn only_reading(tokens: &[Token<'_>], extent: Extent, name: &[u8]) -> Option<usize> {
     let mut found = None;
     for index in extent.first..=extent.last {
@@ -209,7 +212,7 @@ pub fn only_reading(tokens: &[Token<'_>], extent: Extent, name: &[u8]) -> Option
     found
 }
 
-/// Whether a name stands in an extent with an index after it, or with the sign of indirection in front.
+/// Whether a name in an extent is followed or preceded by `!`.
 pub fn is_indexed(tokens: &[Token<'_>], extent: Extent, name: &[u8]) -> bool {
     for index in extent.first..=extent.last {
         let is_read = is_at(tokens, index.saturating_add(1), Symbol::Indirection)

@@ -1,4 +1,4 @@
-//! What is said of a wild access of a run by its meaning: where in the sources it stands, whose cell it met, and the calls that led
+//! The message for a wild access in a run of the sources: where it is, whose cell the run met, and the calls that led
 //! there.
 #![tactic(auto)]
 
@@ -12,4 +12,4 @@ mod sentence;
 pub use bc_interpret_pure::Cause;
 pub use bc_interpret_trace::Standing;
 pub use bcpl_messages::Message;
-pub use message::{Met, Program, Stand, placed_message, wild_message};
+pub use message::{Met, Stand, WildProgram, placed_message, wild_message};

@@ -1,10 +1,10 @@
-// What is said of a wild access.
+//! Composes the message for a wild access: the sentence, its place, and the calls that led there.
 
 use crate::calls::{Call, Parameter};
 use crate::extent::{Extent, only_reading};
-use crate::owner::{Kind, Owner, owner_of};
+use crate::owner::{Owner, OwnerKind, owner_of};
 use crate::placed::{ReadMain, labelled, read};
-use crate::sentence::{Known, ending, help, say};
+use crate::sentence::{WildContext, ending, help, say};
 use bc_interpret_pure::Cause;
 use bc_interpret_trace::Standing;
 use bc_lex::Source;
@@ -14,46 +14,54 @@ use bcpl_messages::{Draft, Fill, Message};
 use bcpl_places::Span;
 use std::alloc::Global;
 
-/// A program that was built: its sources, the indexes of those that are its mains, and its image.
+/// A program that was built.
 #[derive(Clone, Copy)]
-pub struct Program<'p, 's> {
+pub struct WildProgram<'p, 's> {
+    /// All sources.
     pub sources: &'p [Source<'s>],
+    /// The indexes of the mains, in the order of their segments.
     pub mains: &'p [usize],
+    /// The linked image.
     pub image: &'p Image,
 }
 
-/// A wild access: what it was; where the run stood in its newest calls, the newest one first; and in how many calls it was in all.
+/// A wild access.
 #[derive(Clone, Copy)]
 pub struct Met<'m> {
+    /// What happened.
     pub cause: Cause,
+    /// The run's place in its newest calls, the newest one first.
     pub standings: &'m [Standing],
+    /// How many calls the run was in.
     pub calls: usize,
 }
 
-/// Where a run stands: in its newest calls, the newest one first, and in how many calls in all.
+/// Where a run is.
 #[derive(Clone, Copy)]
 pub struct Stand<'m> {
+    /// The run's place in its newest calls, the newest one first.
     pub standings: &'m [Standing],
+    /// How many calls the run is in.
     pub calls: usize,
 }
 
-/// Where a run stands in one call.
+/// Where a run is in one call.
 #[derive(Drop)]
-struct Place<'s> {
+struct AccessPlace<'s> {
     read: ReadMain<'s>,
     /// The label of the routine.
     label: u64,
-    /// The expression, test or assignment at which it stands.
+    /// The expression, test or assignment that it is at.
     extent: Option<Extent>,
 }
 
-impl<'s> Place<'s> {
+impl<'s> AccessPlace<'s> {
     /// The name of the routine.
     fn name(&self) -> Option<&'s [u8]> {
         self.read.text(self.read.sites.label(self.label)?)
     }
 
-    /// Where that is: the expression, or the name of the routine where that isn't known.
+    /// The span of that expression, or of the routine's name if it isn't known.
     fn span(&self, sources: &[Source<'_>]) -> Option<Span> {
         match self.extent {
             Some(extent) => self.read.span_of(extent),
@@ -61,12 +69,12 @@ impl<'s> Place<'s> {
         }
     }
 
-    /// The only call of the routine of this name at which it can stand.
+    /// The only call of the routine with this name that the run can be at.
     fn only_call(&self, name: Option<&[u8]>) -> Option<Call> {
         self.read.only_call(self.extent?, name?)
     }
 
-    /// Where the routine of this name is called.
+    /// The span of the call of the routine with this name.
     fn span_of_call(&self, sources: &[Source<'_>], name: Option<&[u8]>) -> Option<Span> {
         match self.only_call(name) {
             Some(call) => self.read.span_of(call.extent),
@@ -75,47 +83,48 @@ impl<'s> Place<'s> {
     }
 }
 
-/// Where the run stands in this call; none where it is in a routine of the library that no source has.
+/// Where the run is in this call; `None` if that is a routine of the library which no source has.
 fn place_of<'s>(
     draft: &mut Draft,
-    program: &Program<'_, 's>,
+    program: &WildProgram<'_, 's>,
     standing: &Standing,
-) -> Option<Place<'s>> {
+) -> Option<AccessPlace<'s>> {
     let called = labelled(program.image, standing.routine)?;
     let main = program.mains.get(called.segment)?;
     let read = read(draft, program.sources, *main)?;
     let root = read.root(called.label, standing);
     let extent = root.and_then(|root| read.extent_of_root(root));
-    Some(Place {
+    Some(AccessPlace {
         read,
         label: called.label,
         extent,
     })
 }
 
-/// A place at which something was met, and whether it is that of the access itself.
+/// The place of an access, and whether it is exact.
 #[derive(Clone, Copy)]
 struct Spot {
     span: Option<Span>,
     is_exact: bool,
 }
 
-/// No place that is known.
+/// An unknown place.
 const NOWHERE: Spot = Spot {
     span: None,
     is_exact: true,
 };
 
-impl<'s> Place<'s> {
-    /// The name of the variable that an address is, if it is one of this call, before which so many are newer.
+impl<'s> AccessPlace<'s> {
+    /// The name of the variable that an address belongs to, if it is one of this call, which is `back` calls older than
+    /// the newest one.
     fn variable(&self, back: usize, owner: Option<&Owner>) -> Option<&'s [u8]> {
         match owner?.kind {
-            Kind::Variable { back: of, leaf } if of == back => self.read.text(leaf),
+            OwnerKind::Variable { back: of, leaf } if of == back => self.read.text(leaf),
             _ => None,
         }
     }
 
-    /// Where an access stands in this call: at the only reading of its variable, or in the whole expression.
+    /// Where an access is in this call: the only read of its variable, or else the whole expression.
     fn spot(&self, back: usize, owner: Option<&Owner>) -> Spot {
         let Some(extent) = self.extent else {
             return NOWHERE;
@@ -137,10 +146,10 @@ impl<'s> Place<'s> {
     }
 }
 
-/// Where an access stands, in the newest call that a source has.
+/// Where an access is, in the newest call whose routine is in a source.
 fn spot_of(
     draft: &mut Draft,
-    program: &Program<'_, '_>,
+    program: &WildProgram<'_, '_>,
     standings: &[Standing],
     owner: Option<&Owner>,
 ) -> Spot {
@@ -152,24 +161,25 @@ fn spot_of(
     NOWHERE
 }
 
-/// A parameter for which a call handed nothing over: the call leads to the one so many before the newest one, and this is said of it.
+/// A parameter for which a call passed no argument. The called routine is `back` calls older than the newest one, and
+/// the note is about its call.
 #[derive(Drop)]
 struct NotHanded {
     back: usize,
     note: String,
 }
 
-/// The only call of a routine of this name at which a run can stand in a call.
+/// The only call of the routine with this name that a run can be at in this call.
 fn call_in(
     draft: &mut Draft,
-    program: &Program<'_, '_>,
+    program: &WildProgram<'_, '_>,
     standing: Option<&Standing>,
     name: Option<&[u8]>,
 ) -> Option<Call> {
     place_of(draft, program, standing?)?.only_call(name)
 }
 
-/// A parameter of a routine for which nothing was handed over.
+/// A parameter of a routine for which no argument was passed.
 #[derive(Clone, Copy)]
 struct Lacking<'s> {
     routine: &'s [u8],
@@ -187,13 +197,13 @@ impl Lacking<'_> {
         }
     }
 
-    /// What is said of a call of the routine with so many arguments.
+    /// The note on a call of the routine with this many arguments.
     fn said_of_few(&self, draft: &mut Draft, arguments: usize) -> String {
         let number = self.parameter.number;
         let sentence = if arguments == 1 {
-            "this call hands over {} argument, and {} has {} {}: {} is the {}{}"
+            "this call passes {} argument, but {} has {} {}: {} is the {}{}"
         } else {
-            "this call hands over {} arguments, and {} has {} {}: {} is the {}{}"
+            "this call passes {} arguments, but {} has {} {}: {} is the {}{}"
         };
         draft.filled(
             sentence,
@@ -209,7 +219,7 @@ impl Lacking<'_> {
         )
     }
 
-    /// What is said of where the routine was called.
+    /// The note on the place of the call.
     fn said(&self, draft: &mut Draft) -> String {
         let number = self.parameter.number;
         draft.filled(
@@ -225,7 +235,7 @@ impl Lacking<'_> {
         )
     }
 
-    /// What is said of the call, if it is known.
+    /// The note on the call, if it is known.
     fn said_of(&self, draft: &mut Draft, call: Option<Call>) -> String {
         match call {
             Some(call) if call.arguments < self.parameter.number => {
@@ -236,14 +246,14 @@ impl Lacking<'_> {
     }
 }
 
-/// The parameter that was read, if it is one for which the call handed nothing over: a parameter that has no value is such a one.
+/// The parameter that was read, if no argument was passed for it. That is so for every parameter without a value.
 fn not_handed(
     draft: &mut Draft,
-    program: &Program<'_, '_>,
+    program: &WildProgram<'_, '_>,
     met: &Met<'_>,
     owner: Option<&Owner>,
 ) -> Option<NotHanded> {
-    let (Cause::Unset(_), Kind::Variable { back, leaf }) = (met.cause, owner?.kind) else {
+    let (Cause::Unset(_), OwnerKind::Variable { back, leaf }) = (met.cause, owner?.kind) else {
         return None;
     };
     let place = place_of(draft, program, met.standings.get(back)?)?;
@@ -269,8 +279,8 @@ fn address_of(cause: Cause) -> Option<u16> {
     }
 }
 
-/// Where the run stands of whose access something is said: a call that has no room has not begun, so what stands at its place is the call
-/// before it.
+/// Where the run is that the message is about. A call without room hasn't begun, so the run is at its place in the
+/// calling routine.
 fn stand_of<'m>(met: &Met<'m>) -> Stand<'m> {
     match met.cause {
         Cause::FrameTooLarge(_) => Stand {
@@ -284,18 +294,18 @@ fn stand_of<'m>(met: &Met<'m>) -> Stand<'m> {
     }
 }
 
-/// Whose the address of an access is.
-fn owner_met(draft: &mut Draft, program: &Program<'_, '_>, met: &Met<'_>) -> Option<Owner> {
+/// What the address of an access belongs to.
+fn owner_met(draft: &mut Draft, program: &WildProgram<'_, '_>, met: &Met<'_>) -> Option<Owner> {
     owner_of(draft, program, met.standings, address_of(met.cause)?)
 }
 
-/// Tells of a wild access of a program's run.
-fn tell(draft: &mut Draft, program: &Program<'_, '_>, met: &Met<'_>) {
+/// Describes a wild access of a program's run.
+fn tell(draft: &mut Draft, program: &WildProgram<'_, '_>, met: &Met<'_>) {
     let stand = stand_of(met);
     let owner = owner_met(draft, program, met);
     let spot = spot_of(draft, program, stand.standings, owner.as_ref());
     let not_handed = not_handed(draft, program, met, owner.as_ref());
-    let known = Known {
+    let known = WildContext {
         owner: owner.as_ref(),
         is_not_handed: not_handed.is_some(),
         is_exact: spot.is_exact,
@@ -307,12 +317,10 @@ fn tell(draft: &mut Draft, program: &Program<'_, '_>, met: &Met<'_>) {
     tell_calls(draft, program, stand, spot.span, not_handed.as_ref());
 }
 
-/// What is said of a wild access of a program's run.
-///
-/// `Memory` comes where an allocation was refused.
+/// The message for a wild access of a program's run. Returns `Memory` if an allocation fails.
 pub fn wild_message(
     alloc: Global,
-    program: &Program<'_, '_>,
+    program: &WildProgram<'_, '_>,
     met: &Met<'_>,
 ) -> Result<Message, Memory> {
     let mut draft = Draft::new(alloc, 0);
@@ -320,12 +328,11 @@ pub fn wild_message(
     draft.into_message()
 }
 
-/// This sentence, with the place where a run stands and the calls that led there, the newest one first.
-///
-/// `Memory` comes where an allocation was refused.
+/// A message with this sentence, the place where a run is, and the calls that led there, the newest one first. Returns
+/// `Memory` if an allocation fails.
 pub fn placed_message(
     alloc: Global,
-    program: &Program<'_, '_>,
+    program: &WildProgram<'_, '_>,
     stand: Stand<'_>,
     sentence: String,
 ) -> Result<Message, Memory> {
@@ -335,16 +342,17 @@ pub fn placed_message(
     draft.into_message()
 }
 
-/// What was called by a call.
+/// What a call called.
 #[derive(Clone, Copy)]
 enum Called<'s> {
     /// A routine of the library that no source has.
     Library,
-    /// The routine of this name, if it is known.
+    /// The routine with this name, if the name is known.
     Routine(Option<&'s [u8]>),
 }
 
 impl<'s> Called<'s> {
+    /// The name of the called routine, if it is known.
     fn name(self) -> Option<&'s [u8]> {
         match self {
             Called::Library => None,
@@ -353,7 +361,7 @@ impl<'s> Called<'s> {
     }
 }
 
-/// A call that led to where a run stands: where it stands itself, what it called, and how many calls are newer than that.
+/// A call that led to the run's place: its span, what it called, and how many calls are newer than the called one.
 #[derive(Clone, Copy)]
 struct Leading<'s> {
     span: Span,
@@ -361,21 +369,22 @@ struct Leading<'s> {
     back: usize,
 }
 
-/// A walk over the calls of a run, the newest one first.
+/// An iteration over the calls of a run, the newest one first.
 #[derive(Drop)]
-struct Walk<'s> {
-    /// The place itself, where more is known of it than the expression.
+struct ExtentWalk<'s> {
+    /// The exact place, if more is known than the expression.
     exact: Option<Span>,
-    /// Whether the place of the run was told.
+    /// Whether the run's place was reported.
     is_placed: bool,
-    /// What the call that comes next called.
+    /// What the next call called.
     called: Option<Called<'s>>,
+    /// The calls that led to the run's place.
     calls: Vec<Leading<'s>>,
 }
 
-impl<'s> Walk<'s> {
-    /// Tells where the run stands, if that is known here.
-    fn begin(&mut self, draft: &mut Draft, sources: &[Source<'_>], place: &Place<'s>) {
+impl<'s> ExtentWalk<'s> {
+    /// Reports the run's place, if it is known here.
+    fn begin(&mut self, draft: &mut Draft, sources: &[Source<'_>], place: &AccessPlace<'s>) {
         draft.set_main(place.read.main);
         if let Some(span) = self.exact.or(place.span(sources)) {
             draft.place(span);
@@ -384,8 +393,14 @@ impl<'s> Walk<'s> {
         }
     }
 
-    /// Adds the call that stands here, of a routine to which the call with this number belongs.
-    fn add(&mut self, draft: &mut Draft, sources: &[Source<'_>], place: &Place<'s>, number: usize) {
+    /// Adds the call at this place. The calling routine belongs to the call with this number.
+    fn add(
+        &mut self,
+        draft: &mut Draft,
+        sources: &[Source<'_>],
+        place: &AccessPlace<'s>,
+        number: usize,
+    ) {
         let Some(called) = self.called else {
             return;
         };
@@ -402,11 +417,11 @@ impl<'s> Walk<'s> {
         }
     }
 
-    /// Goes over the call with this number.
+    /// Takes the next call, which has this number.
     fn pass(
         &mut self,
         draft: &mut Draft,
-        program: &Program<'_, 's>,
+        program: &WildProgram<'_, 's>,
         standing: &Standing,
         number: usize,
     ) {
@@ -423,29 +438,29 @@ impl<'s> Walk<'s> {
     }
 }
 
-/// Says in which routine the run stands.
+/// Adds the name of the routine to the sentence.
 fn say_within(draft: &mut Draft, name: &[u8]) {
     if !name.is_empty() {
         draft.say(", in {}", &[Fill::Shown(name)]);
     }
 }
 
-/// What is said of so many calls that are left out.
+/// The note on the number of calls that are omitted.
 fn said_of_others(draft: &mut Draft, left: usize) -> String {
     let sentence = match left {
         0 => "",
-        1 => "; {} more call around it, left out here",
-        _ => "; {} more calls around it, left out here",
+        1 => "; {} more call around it is omitted",
+        _ => "; {} more calls around it are omitted",
     };
     draft.filled(sentence, &[Fill::Number(left as u64)])
 }
 
-/// What is said after a call of those that are left out: all of it after the last call that is told.
+/// The note after a call: all of `others` after the last one.
 fn following(others: &str, is_last: bool) -> &str {
     if is_last { others } else { "" }
 }
 
-/// Adds a call that led to where the run stands, and what more there is to say of it.
+/// Adds a call as a related place, with a note on omitted calls.
 fn add_leading<'a>(
     draft: &mut Draft,
     leading: Leading<'a>,
@@ -469,15 +484,15 @@ fn add_leading<'a>(
     }
 }
 
-/// Tells where a run stands, and the calls that led there.
+/// Reports the run's place, and adds the calls that led there.
 fn tell_calls<'s>(
     draft: &mut Draft,
-    program: &Program<'_, 's>,
+    program: &WildProgram<'_, 's>,
     stand: Stand<'_>,
     exact: Option<Span>,
     not_handed: Option<&NotHanded>,
 ) {
-    let mut walk: Walk<'s> = Walk {
+    let mut walk: ExtentWalk<'s> = ExtentWalk {
         exact,
         is_placed: false,
         called: None,

@@ -1,7 +1,7 @@
-// Whose cell an address is.
+//! Which variable, global, static or routine an address belongs to.
 
 use crate::extent::is_indexed;
-use crate::message::Program;
+use crate::message::WildProgram;
 use crate::placed::{LabelOf, ReadMain, labelled, read};
 use bc_interpret_trace::Standing;
 use bc_machine_defs::Image;
@@ -11,36 +11,37 @@ use bcpl_messages::{Draft, Fill};
 /// The address of the cell of global 0.
 pub const GLOBALS: u16 = 8;
 
-/// The address after the cells of the globals, at which the primitives stand.
+/// The address after the globals' cells, where the primitives begin.
 const SEGMENTS: u16 = 520;
 
-/// Whose an address is.
+/// What an address belongs to.
 #[derive(Drop)]
 pub struct Owner {
-    /// What belongs to it, in words.
+    /// Its description, as a part of a sentence.
     pub text: String,
-    pub kind: Kind,
+    /// What is at the address.
+    pub kind: OwnerKind,
 }
 
-/// What stands at an address.
+/// What is at an address.
 #[derive(Clone, Copy)]
-pub enum Kind {
-    /// A cell.
+pub enum OwnerKind {
+    /// A cell, other than that of a local variable.
     Cell,
-    /// The cell of a variable, whose name has this leaf: that of the call so many calls before the newest one.
+    /// The cell of a variable whose name has this leaf, in the call that is `back` calls older than the newest one.
     Variable { back: usize, leaf: u64 },
-    /// No cell: the words say after what it is.
+    /// No cell: the description says what it comes after.
     After,
-    /// The beginning of a routine's code.
+    /// The first word of a routine's code.
     Code,
-    /// Code, after its beginning.
+    /// Code after a routine's first word.
     WithinCode,
 }
 
-/// What belongs to this address; none where nothing near does.
+/// What this address belongs to; `None` if nothing near it is known.
 pub fn owner_of(
     draft: &mut Draft,
-    program: &Program<'_, '_>,
+    program: &WildProgram<'_, '_>,
     standings: &[Standing],
     address: u16,
 ) -> Option<Owner> {
@@ -59,8 +60,8 @@ pub fn owner_of(
     }
 }
 
-/// A global, by its number and by the first name that a main has for it.
-fn global(draft: &mut Draft, program: &Program<'_, '_>, number: u16) -> Owner {
+/// A global, described by its number and the first name that a main gives it.
+fn global(draft: &mut Draft, program: &WildProgram<'_, '_>, number: u16) -> Owner {
     let name = name_of_global(draft, program, number);
     let sentence = match name {
         Some(_) => "global {} {}",
@@ -69,11 +70,11 @@ fn global(draft: &mut Draft, program: &Program<'_, '_>, number: u16) -> Owner {
     let name = Fill::Shown(name.unwrap_or(b""));
     Owner {
         text: draft.filled(sentence, &[Fill::Number(u64::from(number)), name]),
-        kind: Kind::Cell,
+        kind: OwnerKind::Cell,
     }
 }
 
-/// The first name that a main has for a global.
+/// The first name that a main gives a global.
 fn name_in<'s>(read: &ReadMain<'s>, number: u16) -> Option<&'s [u8]> {
     for site in &read.sites.globals {
         if site.number == number
@@ -85,10 +86,10 @@ fn name_in<'s>(read: &ReadMain<'s>, number: u16) -> Option<&'s [u8]> {
     None
 }
 
-/// The first name that any main has for a global.
+/// The first name that any main gives a global.
 fn name_of_global<'s>(
     draft: &mut Draft,
-    program: &Program<'_, 's>,
+    program: &WildProgram<'_, 's>,
     number: u16,
 ) -> Option<&'s [u8]> {
     for main in program.mains {
@@ -102,7 +103,7 @@ fn name_of_global<'s>(
     None
 }
 
-/// The global that has this address as its value when a run begins.
+/// The global whose initial value is this address.
 fn global_of(image: &Image, address: u16) -> Option<u16> {
     let globals = image.words.as_slice().iter().skip(usize::from(GLOBALS));
     for (number, word) in (0..SEGMENTS - GLOBALS).zip(globals) {
@@ -116,23 +117,23 @@ fn global_of(image: &Image, address: u16) -> Option<u16> {
 /// The name of the primitive whose code begins at an address.
 fn name_of_primitive<'s>(
     draft: &mut Draft,
-    program: &Program<'_, 's>,
+    program: &WildProgram<'_, 's>,
     address: u16,
 ) -> Option<&'s [u8]> {
     let number = global_of(program.image, address)?;
     name_of_global(draft, program, number)
 }
 
-/// The code of a primitive, by the global that it sets.
-fn of_primitives(draft: &mut Draft, program: &Program<'_, '_>, address: u16) -> Owner {
+/// The code of a primitive, described by the global that it sets.
+fn of_primitives(draft: &mut Draft, program: &WildProgram<'_, '_>, address: u16) -> Owner {
     match name_of_primitive(draft, program, address) {
         Some(name) => Owner {
             text: draft.filled("{}", &[Fill::Shown(name)]),
-            kind: Kind::Code,
+            kind: OwnerKind::Code,
         },
         None => Owner {
             text: draft.filled("the library's own routines", &[]),
-            kind: Kind::WithinCode,
+            kind: OwnerKind::WithinCode,
         },
     }
 }
@@ -140,17 +141,17 @@ fn of_primitives(draft: &mut Draft, program: &Program<'_, '_>, address: u16) -> 
 /// The main of a segment.
 fn main_of<'s>(
     draft: &mut Draft,
-    program: &Program<'_, 's>,
+    program: &WildProgram<'_, 's>,
     segment: usize,
 ) -> Option<ReadMain<'s>> {
     let main = program.mains.get(segment)?;
     read(draft, program.sources, *main)
 }
 
-/// What stands so many words after a label.
+/// What is `back` words after a label.
 fn after_label(
     draft: &mut Draft,
-    program: &Program<'_, '_>,
+    program: &WildProgram<'_, '_>,
     label: LabelOf,
     back: u16,
 ) -> Option<Owner> {
@@ -159,23 +160,23 @@ fn after_label(
     let name = read.text(read.sites.label(label)?)?;
     let is_code = read.is_routine(label);
     let kind = match (is_code, back) {
-        (true, 0) => Kind::Code,
-        (true, _) => Kind::WithinCode,
-        (false, _) => Kind::Cell,
+        (true, 0) => OwnerKind::Code,
+        (true, _) => OwnerKind::WithinCode,
+        (false, _) => OwnerKind::Cell,
     };
     Some(Owner {
         text: if back == 0 || is_code {
             draft.filled("{}", &[Fill::Shown(name)])
         } else {
             let back = Fill::Number(u64::from(back));
-            draft.filled("cell {} behind that of {}", &[back, Fill::Shown(name)])
+            draft.filled("cell {} after that of {}", &[back, Fill::Shown(name)])
         },
         kind,
     })
 }
 
-/// A routine, static, table or string, by the newest label before an address.
-fn of_segments(draft: &mut Draft, program: &Program<'_, '_>, address: u16) -> Option<Owner> {
+/// A routine, static, table or string, found by the nearest label at or before an address.
+fn of_segments(draft: &mut Draft, program: &WildProgram<'_, '_>, address: u16) -> Option<Owner> {
     for back in 0..=address {
         if let Some(label) = labelled(program.image, address - back) {
             return after_label(draft, program, label, back);
@@ -184,7 +185,7 @@ fn of_segments(draft: &mut Draft, program: &Program<'_, '_>, address: u16) -> Op
     None
 }
 
-/// A call whose frame begins at or before an address, so many words; so many calls are newer.
+/// A call whose frame begins `offset` words before an address, or at it. It is `back` calls older than the newest one.
 #[derive(Clone, Copy)]
 struct Begun<'m> {
     standing: &'m Standing,
@@ -209,7 +210,7 @@ fn begun_before(standings: &[Standing], address: u16) -> Option<Begun<'_>> {
 /// A variable in the frame of the innermost call that begins at or before an address.
 fn of_frames(
     draft: &mut Draft,
-    program: &Program<'_, '_>,
+    program: &WildProgram<'_, '_>,
     standings: &[Standing],
     address: u16,
 ) -> Option<Owner> {
@@ -225,7 +226,8 @@ fn of_frames(
     frame.owner(draft, begun.offset as u64, address)
 }
 
-/// The frame of a call: the main that has the routine, how many calls are newer, the routine's label, and where the run stands in it.
+/// The frame of a call: the main that has the routine, the number of newer calls, the routine's label, and the root at
+/// which the call is.
 #[derive(Clone, Copy)]
 struct Frame<'f, 's> {
     read: &'f ReadMain<'s>,
@@ -235,7 +237,7 @@ struct Frame<'f, 's> {
 }
 
 impl<'s> Frame<'_, 's> {
-    /// What belongs to the cell at this offset of the frame, which has this address.
+    /// What the cell at this offset of the frame belongs to; its address is `address`.
     fn owner(&self, draft: &mut Draft, offset: u64, address: u16) -> Option<Owner> {
         if let Some(site) = self.read.sites.variable(self.label, offset, self.root) {
             return self.within(draft, site, offset);
@@ -246,14 +248,14 @@ impl<'s> Frame<'_, 's> {
         }
     }
 
-    /// The variable that has the cell at this offset.
+    /// The variable whose cells include this offset.
     fn within(&self, draft: &mut Draft, site: VariableSite, offset: u64) -> Option<Owner> {
         let name = Fill::Shown(self.read.text(site.leaf)?);
         let routine = Fill::Shown(self.routine());
         Some(match offset.saturating_sub(site.offset).checked_sub(1) {
             None => Owner {
                 text: draft.filled("{} of {}", &[name, routine]),
-                kind: Kind::Variable {
+                kind: OwnerKind::Variable {
                     back: self.back,
                     leaf: site.leaf,
                 },
@@ -263,18 +265,18 @@ impl<'s> Frame<'_, 's> {
                     "cell {} of the vector {} of {}",
                     &[Fill::Number(index), name, routine],
                 ),
-                kind: Kind::Cell,
+                kind: OwnerKind::Cell,
             },
         })
     }
 
-    /// The vector that the cell at this offset stands after.
+    /// A cell after a vector.
     fn after_vector(&self, draft: &mut Draft, site: VariableSite, offset: u64) -> Owner {
         let count = site.cells.saturating_sub(1);
         let sentence = if count == 1 {
-            "{} cells behind the start of the vector {} of {}, which has {} cell"
+            "{} cells after the start of the vector {} of {}, which has {} cell"
         } else {
-            "{} cells behind the start of the vector {} of {}, which has {} cells"
+            "{} cells after the start of the vector {} of {}, which has {} cells"
         };
         let distance = offset.saturating_sub(site.offset).saturating_sub(1);
         let name = self.read.text(site.leaf).unwrap_or(b"");
@@ -288,25 +290,25 @@ impl<'s> Frame<'_, 's> {
                     Fill::Number(count),
                 ],
             ),
-            kind: Kind::After,
+            kind: OwnerKind::After,
         }
     }
 
-    /// No variable: the address stands after all of them.
+    /// A cell after all variables.
     fn after_all(&self, draft: &mut Draft, address: u16) -> Owner {
         Owner {
             text: draft.filled(
-                "at the address {}, behind all variables of {}",
+                "at the address {}, after all variables of {}",
                 &[
                     Fill::Number(u64::from(address)),
                     Fill::Shown(self.routine()),
                 ],
             ),
-            kind: Kind::After,
+            kind: OwnerKind::After,
         }
     }
 
-    /// The name of the routine; nothing where it isn't known.
+    /// The name of the routine; empty if it isn't known.
     fn routine(&self) -> &'s [u8] {
         match self.read.sites.label(self.label) {
             Some(leaf) => self.read.text(leaf).unwrap_or(b""),
@@ -314,7 +316,7 @@ impl<'s> Frame<'_, 's> {
         }
     }
 
-    /// Whether a variable is a vector of this routine that is there now and begins before this offset.
+    /// Whether a variable is a vector of this routine that exists now and begins before this offset.
     fn is_vector_before(&self, site: &VariableSite, offset: u64) -> bool {
         let is_there = match self.root {
             Some(root) => site.from <= root && root < site.to,
@@ -323,8 +325,8 @@ impl<'s> Frame<'_, 's> {
         is_there && site.routine == self.label && site.cells > 1 && site.offset < offset
     }
 
-    /// The vector that a cell after it was likely meant to be of: the only one that is read with an index where the run stands; else the
-    /// nearest one in front.
+    /// The vector that an access after it was probably meant for: the only one that is indexed at the call's root, or
+    /// else the nearest one before the offset.
     fn vector_before(&self, offset: u64) -> Option<VariableSite> {
         let extent = self.read.extent_of_root(self.root?)?;
         let mut nearest: Option<VariableSite> = None;

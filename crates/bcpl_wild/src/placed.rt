@@ -1,4 +1,4 @@
-// Where in the sources a run stands in one of its calls.
+//! Reads a main again, to find where a run is in it.
 
 use crate::calls::{Call, Parameter, only_call, parameter_at};
 use crate::extent::{Extent, extent_from};
@@ -11,14 +11,16 @@ use bc_scope_places::{BodyOf, Sites, sites_of, token_at};
 use bcpl_messages::{Draft, is_at, span_of};
 use bcpl_places::Span;
 
-/// What stands at a label: the number of its segment after that of the primitives, and the label.
+/// A label of a segment; segments are counted without that of the primitives.
 #[derive(Clone, Copy)]
 pub struct LabelOf {
+    /// The index of the segment; that of the primitives isn't counted.
     pub segment: usize,
+    /// The label.
     pub label: u64,
 }
 
-/// The label that has this address; none where it is a primitive's, or no label's.
+/// The label that has this address; `None` if no label has it, or only one of the primitives.
 pub fn labelled(image: &Image, address: u16) -> Option<LabelOf> {
     for (number, place) in image.places.as_slice().iter().enumerate() {
         if let Some(segment) = number.checked_sub(1) {
@@ -35,15 +37,18 @@ pub fn labelled(image: &Image, address: u16) -> Option<LabelOf> {
     None
 }
 
-/// A main as it was read, with what stands where.
+/// A main that was read again, with the places of its routines, variables and roots.
 #[derive(Drop)]
 pub struct ReadMain<'s> {
+    /// The index of the source.
     pub main: usize,
+    /// Its tokens.
     pub tokens: Vec<Token<'s>>,
+    /// The places of its routines, variables and roots.
     pub sites: Sites,
 }
 
-/// What stands where among the tokens of a main; none where they are refused.
+/// The places among the tokens of a main; `None` if they are refused.
 fn sites_among(draft: &mut Draft, tokens: &[Token<'_>]) -> Option<Sites> {
     let alloc = draft.alloc();
     match parse(alloc, tokens) {
@@ -52,7 +57,7 @@ fn sites_among(draft: &mut Draft, tokens: &[Token<'_>]) -> Option<Sites> {
     }
 }
 
-/// This main, read again; none where it is refused, which none is that was built.
+/// Reads this main again. `None` if it is refused, which can't happen for a main that was built.
 pub fn read<'s>(draft: &mut Draft, sources: &[Source<'s>], main: usize) -> Option<ReadMain<'s>> {
     if main >= sources.len() {
         return None;
@@ -81,13 +86,13 @@ impl<'s> ReadMain<'s> {
         Some(self.token(leaf)?.text)
     }
 
-    /// Where a leaf stands.
+    /// The span of a leaf.
     pub fn span(&self, sources: &[Source<'_>], leaf: u64) -> Option<Span> {
         let index = token_at(self.tokens.as_slice(), leaf)?;
         Some(span_of(self.tokens.as_slice(), sources, self.main, index))
     }
 
-    /// Which expression, test or assignment of the section a call stands in, whose routine has this label.
+    /// The root at which a call is whose routine has this label.
     pub fn root(&self, label: u64, standing: &Standing) -> Option<usize> {
         let body = match standing.valof {
             Some(number) => BodyOf::Valof(number as u64),
@@ -96,14 +101,14 @@ impl<'s> ReadMain<'s> {
         self.sites.root(body, standing.following)
     }
 
-    /// The tokens of the expression, test or assignment of this number.
+    /// The tokens of the root with this number.
     pub fn extent_of_root(&self, root: usize) -> Option<Extent> {
         let leaf = self.sites.roots.get(root)?.leaf;
         let tokens = self.tokens.as_slice();
         Some(extent_from(tokens, token_at(tokens, leaf)?))
     }
 
-    /// Where these tokens stand: the first one alone, where the last one stands in another file.
+    /// The span of these tokens; that of the first one if the last one is in another file.
     pub fn span_of(&self, extent: Extent) -> Option<Span> {
         let first = self.tokens.get(extent.first)?;
         let last = self.tokens.get(extent.last)?;
@@ -119,19 +124,19 @@ impl<'s> ReadMain<'s> {
         })
     }
 
-    /// The only call, in an expression, of the routine of this name.
+    /// The only call in an extent of the routine with this name.
     pub fn only_call(&self, extent: Extent, name: &[u8]) -> Option<Call> {
         only_call(self.tokens.as_slice(), extent, name)
     }
 
-    /// Which parameter of the routine with this label the name at a leaf is; none where it is none.
+    /// Which parameter of the routine with this label the name at a leaf is; `None` if it isn't one.
     pub fn parameter(&self, label: u64, leaf: u64) -> Option<Parameter> {
         let tokens = self.tokens.as_slice();
         let name = token_at(tokens, self.sites.label(label)?)?;
         parameter_at(tokens, name, token_at(tokens, leaf)?)
     }
 
-    /// Whether a label is a routine's: a bracket stands after its name.
+    /// Whether a label is a routine's: a parenthesis follows its name.
     pub fn is_routine(&self, label: u64) -> bool {
         let tokens = self.tokens.as_slice();
         let Some(index) = self

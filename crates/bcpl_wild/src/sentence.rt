@@ -1,22 +1,22 @@
-// The sentence on a wild access, and what one may have meant.
+//! The sentence on a wild access, and the help.
 
 use crate::message::Met;
-use crate::owner::{GLOBALS, Kind, Owner};
+use crate::owner::{GLOBALS, Owner, OwnerKind};
 use bc_interpret_pure::Cause;
 use bcpl_messages::{Draft, Fill};
 
-/// What is known of a wild access beside its cause.
+/// What is known about a wild access, apart from its cause.
 #[derive(Clone, Copy)]
-pub struct Known<'k> {
-    /// Whose the address is, if that is known.
+pub struct WildContext<'k> {
+    /// What the address belongs to, if that is known.
     pub owner: Option<&'k Owner>,
-    /// Whether it is a parameter for which the call hands nothing over.
+    /// Whether it is a parameter for which the call passes no argument.
     pub is_not_handed: bool,
-    /// Whether the place that is told is that of the access itself, and not of all that is computed with it.
+    /// Whether the reported place is the access itself, rather than the whole expression.
     pub is_exact: bool,
 }
 
-impl Known<'_> {
+impl WildContext<'_> {
     /// The words for the place.
     fn place(&self) -> &'static str {
         if self.is_exact {
@@ -27,58 +27,60 @@ impl Known<'_> {
     }
 }
 
-/// Says what was met, but for the routine in which it was.
-pub fn say(draft: &mut Draft, met: &Met<'_>, known: Known<'_>) {
+/// Adds the sentence on what was met, without the routine's name.
+pub fn say(draft: &mut Draft, met: &Met<'_>, known: WildContext<'_>) {
     match met.cause {
         Cause::Unset(address) => say_unset(draft, known, address),
         Cause::Dead(address) => say_no_cell(draft, known, address, Access::READ),
         Cause::NoCell(address) => say_no_cell(draft, known, address, Access::WRITTEN),
         Cause::NotRoutine(value) => say_no_routine(draft, met, known, value),
         Cause::FrameTooLarge(_) => say_too_large(draft, met.calls),
-        Cause::Malformed => draft.say("the program has a part that no source gives", &[]),
+        Cause::Malformed => draft.say("the program has a part that no source can produce", &[]),
     }
 }
 
-/// Says that what has no value is read.
-fn say_unset(draft: &mut Draft, known: Known<'_>, address: u16) {
+/// Adds the sentence on a read of something without a value.
+fn say_unset(draft: &mut Draft, known: WildContext<'_>, address: u16) {
     say_whose(draft, known, address);
     let sentence = if known.is_not_handed {
-        " is read {}, and the call hands over nothing for it"
+        " is read {}, but the call passes no argument for it"
     } else {
-        " is read {}, and nothing was ever put into it"
+        " is read {}, but nothing was ever stored in it"
     };
     draft.say(sentence, &[Fill::Text(known.place())]);
 }
 
-/// Whether a call of this value, which is no routine, is the run's first one, that of global 1: each call that the run is in is of this value.
+/// Whether the call of this value, which isn't a routine, is the first call of the run, that of global 1. Then every
+/// call that the run is in is of this value.
 fn is_first_call(met: &Met<'_>, value: u16) -> bool {
     met.standings
         .iter()
         .all(|standing| standing.routine == value)
 }
 
-/// Says that what is no routine is called.
-fn say_no_routine(draft: &mut Draft, met: &Met<'_>, known: Known<'_>, value: u16) {
+/// Adds the sentence on a call of something that isn't a routine.
+fn say_no_routine(draft: &mut Draft, met: &Met<'_>, known: WildContext<'_>, value: u16) {
     let sentence = if is_first_call(met, value) {
         "no routine sets global 1, so the run has nothing to call"
     } else {
-        "the value {} is called {}, and no routine has that address"
+        "the value {} is called {}, but no routine has that address"
     };
     let value = Fill::Number(u64::from(value));
     draft.say(sentence, &[value, Fill::Text(known.place())]);
 }
 
-/// Says that a call has no room, which is one of so many within one another.
+/// Adds the sentence on a call without room for its frame; `calls` is its depth.
 fn say_too_large(draft: &mut Draft, calls: usize) {
     draft.say(
-        "this call, the {}{} within one another, would need cells behind the last one of the store",
+        "this call, at the {}{} level of nesting, would need cells beyond the end of the store",
         &[Fill::Number(calls as u64), Fill::Text(ending(calls))],
     );
 }
 
-/// An access to what is no cell, in words.
+/// The words for an access to something that isn't a cell.
 #[derive(Clone, Copy)]
 struct Access {
+    /// What was done to it.
     verb: &'static str,
     /// What can't be done with code.
     forbidden: &'static str,
@@ -96,41 +98,41 @@ impl Access {
     };
 }
 
-/// Says that what is no cell is read or written.
-fn say_no_cell(draft: &mut Draft, known: Known<'_>, address: u16, access: Access) {
+/// Adds the sentence on a read or a write of something that isn't a cell.
+fn say_no_cell(draft: &mut Draft, known: WildContext<'_>, address: u16, access: Access) {
     match known.owner {
         Some(owner) => say_of_owner(draft, known, owner, access),
         None => say_gone(draft, known, address, access),
     }
 }
 
-/// The same, where something is known that the address belongs to.
-fn say_of_owner(draft: &mut Draft, known: Known<'_>, owner: &Owner, access: Access) {
+/// The same, if it is known what the address belongs to.
+fn say_of_owner(draft: &mut Draft, known: WildContext<'_>, owner: &Owner, access: Access) {
     let place = Fill::Text(known.place());
     let text = Fill::Text(owner.text.as_str());
     let verb = Fill::Text(access.verb);
     let forbidden = Fill::Text(access.forbidden);
     match owner.kind {
-        Kind::Code => draft.say(
+        OwnerKind::Code => draft.say(
             "the value of {} is the address of its code, which {}",
             &[text, forbidden],
         ),
-        Kind::WithinCode => draft.say(
-            "the code of {} is {} {}, and code {}",
+        OwnerKind::WithinCode => draft.say(
+            "the code of {} is {} {}, but code {}",
             &[text, verb, place, forbidden],
         ),
-        Kind::After => draft.say("the cell that is {} {} is {}", &[verb, place, text]),
-        Kind::Cell | Kind::Variable { .. } => draft.say(
-            "{} is {} {}, and there is no cell of the program there now",
+        OwnerKind::After => draft.say("the cell {} {} is {}", &[verb, place, text]),
+        OwnerKind::Cell | OwnerKind::Variable { .. } => draft.say(
+            "{} is {} {}, but the program has no cell there now",
             &[text, verb, place],
         ),
     }
 }
 
-/// The same, where nothing is known.
-fn say_gone(draft: &mut Draft, known: Known<'_>, address: u16, access: Access) {
+/// The same, if it isn't known.
+fn say_gone(draft: &mut Draft, known: WildContext<'_>, address: u16, access: Access) {
     draft.say(
-        "the address {} is {} {}, and there is no cell of the program there now",
+        "the address {} is {} {}, but the program has no cell there now",
         &[
             Fill::Number(u64::from(address)),
             Fill::Text(access.verb),
@@ -139,15 +141,15 @@ fn say_gone(draft: &mut Draft, known: Known<'_>, address: u16, access: Access) {
     );
 }
 
-/// Says the address, with whose cell it is where that is known.
-fn say_whose(draft: &mut Draft, known: Known<'_>, address: u16) {
+/// Adds what the address belongs to, or the address itself if that isn't known.
+fn say_whose(draft: &mut Draft, known: WildContext<'_>, address: u16) {
     match known.owner {
         Some(owner) => draft.say("{}", &[Fill::Text(owner.text.as_str())]),
         None => draft.say("the address {}", &[Fill::Number(u64::from(address))]),
     }
 }
 
-/// How a number ends as it counts: 1st, 2nd, 3rd, 4th.
+/// The ending of an ordinal number: 1st, 2nd, 3rd, 4th.
 pub fn ending(number: usize) -> &'static str {
     match (number / 10 % 10, number % 10) {
         (1, _) => "th",
@@ -158,42 +160,42 @@ pub fn ending(number: usize) -> &'static str {
     }
 }
 
-/// What one may have meant.
-pub fn help(met: &Met<'_>, known: Known<'_>) -> Option<&'static str> {
+/// The help for a wild access.
+pub fn help(met: &Met<'_>, known: WildContext<'_>) -> Option<&'static str> {
     let is_code = match known.owner {
-        Some(owner) => matches!(owner.kind, Kind::Code | Kind::WithinCode),
+        Some(owner) => matches!(owner.kind, OwnerKind::Code | OwnerKind::WithinCode),
         None => false,
     };
     match met.cause {
         Cause::Unset(_) if known.is_not_handed => Some(
-            "a parameter has a value only where the call hands one over for it",
+            "a parameter has a value only if the call passes an argument for it",
         ),
         Cause::Unset(_) => Some(
-            "neither a variable nor a cell of a vector has a value before it is assigned one",
+            "assign a value to a variable, or to a cell of a vector, before you read it",
         ),
         Cause::Dead(_) | Cause::NoCell(_) if is_code => Some(
-            "a routine is called by brackets behind its name; `!` goes with vectors, tables and strings",
+            "call a routine by parentheses after its name; use `!` with vectors, tables and strings",
         ),
         Cause::Dead(address) | Cause::NoCell(address) if address < GLOBALS => Some(
-            "no vector stands there: was its address set, and did GETVEC have a pool?",
+            "there is no vector at this address; was the address set, and did GETVEC have a pool?",
         ),
         Cause::Dead(_) | Cause::NoCell(_) if known.owner.is_none() => Some(
             "TABLE 1, 2, 3 has the cells 0 to 2, and VEC n the cells 0 to n; character I of the string S is GETBYTE(S, I)",
         ),
         Cause::Dead(_) | Cause::NoCell(_) => Some(
-            "VEC n has the cells 0 to n, and they and all variables are gone once their block or routine is left",
+            "VEC n has the cells 0 to n; vectors and variables are gone once their block or routine is left",
         ),
         Cause::NotRoutine(0) if is_first_call(met, 0) => Some(
-            "a run begins with START, in capitals: GET \"LIBHDR\", and declare it by LET START() BE ..",
+            "a run begins with START, in upper case; write GET \"LIBHDR\" and LET START() BE ..",
         ),
         Cause::NotRoutine(0) => Some(
             "a global that no routine sets is 0; is a file of the program missing?",
         ),
         Cause::FrameTooLarge(_) => Some(
-            "all calls within one another share the store with their vectors: does the recursion end?",
+            "nested calls share the store with their vectors; does the recursion end?",
         ),
         Cause::NotRoutine(_) => Some(
-            "what is called is a routine's name, or a cell that holds the value of one",
+            "call a routine by its name, or through a cell that holds the value of a routine",
         ),
         Cause::Malformed => None,
     }

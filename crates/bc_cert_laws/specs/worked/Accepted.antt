@@ -1,4 +1,4 @@
--- Worked examples: certificates that are accepted, and what they say.
+-- Worked examples: accepted certificates, and what they say.
 use Rattle.std.specs.Prelude.{ℕ, true, false, List, [], ◌∷◌, codes, refl}
 use Rattle.bc_word.specs.declared.operator.Op.TheVariants.{Add, Equal}
 use Rattle.bc_text_items.specs.declared.item.Item.TheVariants.{Operation}
@@ -99,7 +99,7 @@ unfolding plus more sum given operand_cost better least_from number_cost
 not_zero_said = judged_says (text (header_2 ∷ codes "E 0 0 9 10 3" ∷ zero_nodes (codes "3 X10 3 - 3 3 J8") (codes "R T" ∷ codes "C LIP2 FL9"
     ∷ codes "Z 1" ∷ []))) (record { table = Two; entries = (entry (Test 3 true (Bin Equal (at 2) (Num 0))) 9 10 (LIP 2 ∷ jump_if false 9 ∷ []) 3 ∷ []) }) refl
 
--- v := w: the value, then the address, of which no rule is shown
+-- v := w: the value, then the address, which shows no rule
 abbrev assigned_lines : List ℕ → List ℕ → List (List ℕ)
 assigned_lines root code =
     header_2 ∷ codes "E 0 0 0 1 2" ∷ codes "4 P3 1 1 3 3 -" ∷ codes "4 ! 1 1 3 3 V0.V1" ∷ codes "4 P2 1 1 3 3 -" ∷ root ∷ code ∷ codes "Z 1" ∷ []
@@ -112,14 +112,14 @@ assignment_said = judged_says (text (assigned_lines (codes "R A1 4") (codes "C L
       (Frame 2)) 0 1 (LIP 3 ∷ SP 2 ∷ []) 2 ∷ []);
 }) refl
 
--- a VALOF whose body has three items, and its label 65,535, the greatest one: `?3 65535`, no word
+-- a VALOF whose body has three items, and the label 65,535, which is the greatest: `?3 65535`, no words
 valof_said : say (header_2 ∷ codes "E 0 0 0 65535 0" ∷ codes "2 V0 0 - 2 2 V22" ∷ codes "R V" ∷ codes "C ?3 65535" ∷ codes "Z 1" ∷ []) Two
     (entry (Value 2 (Valof 0)) 0 65535 (Body 3 ∷ label 65535 ∷ []) 0 ∷ [])
 unfolding plus more sum given operand_cost better least_from number_cost
 valof_said = judged_says (text (header_2 ∷ codes "E 0 0 0 65535 0" ∷ codes "2 V0 0 - 2 2 V22" ∷ codes "R V" ∷ codes "C ?3 65535" ∷ codes "Z 1" ∷ []))
     (record { table = Two; entries = (entry (Value 2 (Valof 0)) 0 65535 (Body 3 ∷ label 65535 ∷ []) 0 ∷ []) }) refl
 
--- v -> w, x with the last two labels: `LIP2 FL65534 LIP3 JL65535 65534 LIP4 65535`, seven words
+-- v -> w, x with the two greatest labels: `LIP2 FL65534 LIP3 JL65535 65534 LIP4 65535`, seven words
 choice_said : say (header_2 ∷ codes "E 0 0 0 65534 7" ∷ codes "5 P2 1 1 3 3 -" ∷ codes "5 ! 1 1 3 3 J6.V0.V1" ∷ codes "5 P3 1 1 3 3 -"
     ∷ codes "5 ! 1 1 3 3 V0.V1"
     ∷ codes "5 P4 1 1 3 3 -" ∷ codes "5 ! 1 1 3 3 V0.V1" ∷ codes "5 ? 7 - 9 9 V20" ∷ codes "R V" ∷ codes "C LIP2 FL65534 LIP3 JL65535 65534 LIP4 65535"

@@ -1,4 +1,4 @@
--- Worked examples: how many nodes may stand one within another.
+-- Worked examples: how deep a tree may be.
 use Rattle.std.specs.Prelude.{ℕ, zero, suc, ◌+◌, ◌/◌, ◌%◌, cond, nat_lt, List, [], ◌∷◌, ◌++◌, codes, refl}
 use Rattle.bc_cert_defs.specs.declared.check_fault.CheckFault.TheVariants.{Truncated, TooDeep}
 use Rattle.bc_select_defs.specs.Options.{plus, more, sum, given, operand_cost, better, least_from}
@@ -14,7 +14,7 @@ digits k =
     cond (nat_lt k 10) ((48 + k) ∷ [])
     (cond (nat_lt k 100) ((48 + (k / 10)) ∷ (48 + (k % 10)) ∷ []) ((48 + (k / 100)) ∷ (48 + ((k % 100) / 10)) ∷ (48 + (k % 10)) ∷ []))
 
--- `!` so many times over the address of v, each a content of the one before it and with no rules shown: `5 ! k k k+2 k+2 -`
+-- the content of a content, this number of times, of the address of v, with no rules shown: lines `5 ! k k k+2 k+2 -`
 abbrev load_line : ℕ → List ℕ
 load_line k = codes "5 ! " ++ (digits k ++ 32 ∷ (digits k ++ 32 ∷ (digits (k + 2) ++ 32 ∷ (digits (k + 2) ++ codes " -"))))
 
@@ -25,7 +25,7 @@ load_lines (suc n) k = load_line k ∷ load_lines n (k + 1)
 abbrev loads : ℕ → List (List ℕ)
 loads n = header_2 ∷ call_entry ∷ codes "5 P2 1 1 3 3 -" ∷ load_lines n 1
 
--- 399 of them and the address are 400 nodes; the next one is too deep
+-- 399 of them and the address are 400 nodes; one more is too deep
 deepest : lack (loads 399) Truncated
 unfolding plus more sum given operand_cost better least_from number_cost
 deepest = judged_lacks (text (loads 399)) Truncated refl

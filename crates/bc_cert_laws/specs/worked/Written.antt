@@ -1,4 +1,4 @@
--- Certificates as they are written in the examples: by their lines.
+-- The certificates of the worked examples, by their lines.
 use Rattle.std.specs.Prelude.{ℕ, List, [], ◌∷◌, ◌++◌, codes}
 use Rattle.bc_rules_defs.specs.declared.rule.Table.{Table}
 use Rattle.bc_rules_defs.specs.declared.piece.Piece.{Piece}
@@ -10,7 +10,7 @@ use Rattle.bc_cert_laws.specs.Faults.{Lacks}
 
 -- ---- Worked examples
 
--- each line with its end
+-- each line with its LF
 abbrev pub text : List (List ℕ) → List ℕ
 text [] = []
 text (l ∷ ls) = l ++ 10 ∷ text ls
@@ -35,7 +35,7 @@ header_2 = codes "BCPLCERT 2"
 abbrev pub call_nodes : List (List ℕ) → List (List ℕ)
 call_nodes ls = codes "4 N65 1 1 0 2 V0.V1" ∷ codes "5 G14 1 1 3 3 -" ∷ codes "5 ! 1 1 3 3 V0.V1" ∷ codes "2 K1 4 - 6 6 V22" ∷ ls
 
--- with this entry line and what follows the nodes
+-- the same certificate with this `E` line and these lines after the nodes
 abbrev pub call_with : List ℕ → List (List ℕ) → List (List ℕ)
 call_with first ls = header_2 ∷ first ∷ call_nodes ls
 

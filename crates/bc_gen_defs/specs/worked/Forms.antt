@@ -1,4 +1,4 @@
--- Worked examples: the code of each form of command whose roots have code, so that it is seen which labels each part takes.
+-- Worked examples: the code of each form of command. The roots have code too, which shows the labels that each part takes.
 use Rattle.std.specs.Prelude.{◌≡◌, ℕ, ◌+◌, true, false, List, [], ◌∷◌, ◌++◌, refl}
 use Rattle.bc_text_items.specs.declared.item.Item.{Item}
 use Rattle.bc_text_items.specs.declared.item.Item.TheVariants.{Label, Data, DataLabel}
@@ -10,18 +10,18 @@ use Rattle.bc_gen_defs.specs.Bodies.{emit_body}
 
 -- ---- Worked examples
 
--- The code of a root: `DLt` with its target, and the one label that it takes.
+-- the code of a root here: `DLt` with its target, and the one label that it takes
 abbrev root : ℕ → ℕ → List Item
 root target first = DataLabel target ∷ Label first ∷ []
 
 abbrev roots : Roots Item
 roots r target first = (root target first, first + 1)
 
--- exits that are told apart
+-- exits with different labels
 abbrev around : Exits
 around = record { broken = 91; looped = 92; cases = 93; result = 94; labels = λ k. 95 }
 
--- with the next free offset 2 and the next free label 5
+-- the code of a command, with the next free offset 2 and the next free label 5
 abbrev code : Command → Code Item
 code c = emit (λ i. i) roots c 2 around 5
 
@@ -51,17 +51,17 @@ repeat_code = refl
 repeat_while_code : code (commands.RepeatWhile body true (Num 1)) ≡ (Label 5 ∷ root 0 8 ++ Label 7 ∷ root 5 9 ++ Label 6 ∷ [], 10)
 repeat_while_code = refl
 
--- start, limit, test, body and step
+-- the roots of a FOR in order: start, limit, test, body and step
 for_code : code (commands.For (Num 1) (Num 9) 1 body)
     ≡ (root 0 8 ++ root 0 9 ++ Label 5 ∷ root 6 10 ++ root 0 11 ++ Label 7 ∷ root 0 12 ++ jump 5 ∷ Label 6 ∷ [], 13)
 for_code = refl
 
--- the end's label, those of the entries, the value's, those of the list, and then the commands'
+-- the labels in order: the end's, those of CASE and DEFAULT, the value's, those of the list, then the commands'
 switch_code : code (commands.SwitchOn (Num 1) (case 3 (command (commands.Call (Num 1)) (default (label 40 (command (commands.Goto 40) no_item))))))
     ≡ (root 0 8 ++ execute 23 ∷ Data 1 ∷ DataLabel 7 ∷ Data 3 ∷ DataLabel 6 ∷ Label 6 ∷ root 0 10 ++ Label 7 ∷ Label 9 ∷ jump 9 ∷ Label 5 ∷ [], 11)
 switch_code = refl
 
--- without DEFAULT other values go to the end
+-- without DEFAULT all other values jump to the end
 without_default : code (commands.SwitchOn (Num 1) (case 3 no_item))
     ≡ (root 0 7 ++ execute 23 ∷ Data 1 ∷ DataLabel 5 ∷ Data 3 ∷ DataLabel 6 ∷ Label 6 ∷ Label 5 ∷ [], 8)
 without_default = refl
@@ -79,12 +79,12 @@ result_code = refl
 ends : (code commands.Return ≡ (zero_item ∷ execute 4 ∷ [], 5)) × (code commands.Finish ≡ (execute 22 ∷ [], 5))
 ends = (refl, refl)
 
--- the label of a block's list, then its variable's and its vector's
+-- the label of a block's list, then those of its variable and its vector
 block_code : code (commands.Nested (block ((Initial (Num 1) ∷ Vector 3 ∷ []) ∷ []) (label 40 (command (commands.Call (Num 1)) no_item))))
     ≡ (root 0 6 ++ root 0 7 ++ Label 5 ∷ root 0 8, 9)
 block_code = refl
 
--- routines of `=` and of BE
+-- routines declared with `=` and with BE
 gives_code : emit_body (λ i. i) roots (Gives (Num 1)) 2 5 ≡ (root 0 5 ++ execute 4 ∷ [], 6)
 gives_code = refl
 

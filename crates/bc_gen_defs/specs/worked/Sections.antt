@@ -18,7 +18,7 @@ use Rattle.bc_gen_defs.specs.Entries.{section_entries}
 
 -- ---- Worked examples
 
--- LET START() BE WRCH('A'), with START in global 1 and WRCH in global 14
+-- `LET START() BE WRCH('A')`, with START in global 1 and WRCH in global 14
 abbrev wrch_a : Root
 wrch_a = Value 2 (Call (argument (Num 65) no_argument) (Load (Glob 14)))
 
@@ -46,7 +46,7 @@ items : section_items its_code prints_a
     ∷ Operation functions.Call false bases.Number 2 ∷ zero_item ∷ execute 4 ∷ Global 1 1 ∷ []
 items = refl
 
--- one entry, at item 1, without target, with the first label 2
+-- one entry, at item 1, without a target, with first label 2
 entries : section_entries its_code prints_a
     ≡ record {
       segment = 0;
@@ -60,12 +60,12 @@ entries : section_entries its_code prints_a
     ∷ []
 entries = refl
 
--- the code of roots whose code is left out
+-- roots without code
 abbrev no_code : Coding
 no_code = record { pieces = λ r t f. []; labels = λ r. 0; derivation = λ r. by rule.V1 no_part }
 
--- STATIC $( S = 7 $); LET F() = 1; a string "Hi" in F; LET START() BE $( $), with START in global 1: the routines come first, with the labels of
--- their places, then the data
+-- `STATIC $( S = 7 $)`, `LET F() = 1`, a string "Hi" in F, and `LET START() BE $( $)` with START in global 1: the routines come
+-- first, with the labels of their places, then the data
 abbrev mixed : Core
 mixed = record {
   places =
@@ -78,7 +78,7 @@ mixed_items : section_items no_code mixed
     ≡ Label 2 ∷ execute 4 ∷ Label 4 ∷ zero_item ∷ execute 4 ∷ Label 1 ∷ Data 7 ∷ Label 3 ∷ Byte 2 ∷ Byte 72 ∷ Byte 105 ∷ Global 1 4 ∷ []
 mixed_items = refl
 
--- its one root is that of F, after its parameters; the next free label after the four places is 5
+-- its only root is that of F, at the level after F's parameters; the first free label after the four places is 5
 abbrev place_of : Entry → Root × ℕ × ℕ
 place_of e = (e.root, e.item, e.first)
 

@@ -1,4 +1,4 @@
--- The code of commands takes its labels in turn, and speaks of these and of its exits.
+-- The code of commands takes consecutive labels, and uses only these and its exits.
 use Rattle.std.proofs.Common.{◌≡◌, ℕ, ◌+◌, ◌≤◌, ◌<◌, ◌&&◌, true, false, not, List, [], ◌∷◌, ◌++◌, refl, arith}
 use Rattle.bc_text_items.specs.declared.item.Item.{Item}
 use Rattle.bc_text_items.specs.declared.item.Item.TheVariants.{Label, Data, DataLabel}
@@ -20,7 +20,7 @@ upto a b c h k = omega arith
 pub less : (f k n : ℕ) → f + k ≤ n → f ≤ n
 less f k n h = omega arith
 
--- code after code
+-- concatenated code
 pub joined : {Q : ℕ → Type 0} {c : ℕ → ℕ} {f : ℕ} (x y : Code Item) → Sound Q none f x → Sound Q c x.1 y → Sound Q c f (x.0 ++ y.0, y.1)
 joined {c = c} {f = f} x y h k =
     record {
@@ -35,7 +35,7 @@ weaker x e h = record { up = h.up; run = h.run; speaks = λ n q l u. h.speaks n 
 pub nothing_there : {Q : ℕ → Type 0} (f : ℕ) → Sound Q none f ([], f)
 nothing_there f = record { up = omega arith; run = empty f; speaks = λ n q l u. nothing }
 
--- an item that is no label
+-- items that set no label
 pub only : {Q : ℕ → Type 0} (f : ℕ) (xs : List Item) → ((k : ℕ) → stands k xs ≡ 0) → ((n : ℕ) → Q n → Speaks n xs) → Sound Q none f (xs, f)
 only f xs e h = record { up = omega arith; run = alike xs [] e (empty f); speaks = λ n q l u. h n q }
 

@@ -1,4 +1,4 @@
--- How often a label stands among items and among pieces.
+-- How often items and pieces set a label.
 use Rattle.std.proofs.Common.{◌≡◌, ℕ, ◌+◌, ◌==◌, List, [], ◌∷◌, ◌++◌, arith}
 use Rattle.std.specs.Prelude.{cond, nat_lt}
 use Rattle.std.proofs.lemmas.Bool.Decides.{nat_tests}
@@ -8,11 +8,11 @@ use Rattle.bc_rules_defs.specs.declared.piece.Piece.{Piece}
 use Rattle.bc_rules_defs.specs.declared.piece.Piece.TheVariants as pieces
 use Rattle.bc_link.specs.Labels.{labels_of}
 
--- 1 where the label is k
+-- 1 if the label is k, else 0
 abbrev pub at : ℕ → ℕ → ℕ
 at l k = cond (l == k) 1 0
 
--- 1 where k is below m: so `below k g` is one more than `below k f` for the labels from f to g - 1
+-- 1 if k is below m, else 0; `below k g` is one more than `below k f` exactly for the labels from f to g - 1
 abbrev pub below : ℕ → ℕ → ℕ
 below k m = cond (nat_lt k m) 1 0
 

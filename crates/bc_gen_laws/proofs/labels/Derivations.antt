@@ -1,4 +1,4 @@
--- The labels that stand in the code of a derivation are its own, each once.
+-- The code of a derivation sets its own labels, each once.
 use Rattle.std.proofs.Common.{◌≡◌, ap, ℕ, ◌+◌, List, ◌∷◌, arith}
 use Rattle.bc_core.specs.Tree.{Exp, Root}
 use Rattle.bc_rules_defs.specs.declared.rule.Table.{Table}
@@ -12,7 +12,7 @@ use Rattle.bc_rules_defs.proofs.Layers.{code_is, root_code_is}
 use Rattle.bc_rules_defs.proofs.Made.{by_parts, root_stands}
 use Rattle.bc_gen_laws.proofs.labels.Counts.{below, next_below, standing, standing_both}
 
--- the labels from f to g - 1 stand among pieces, each once, and no others
+-- the pieces set the labels from f to g - 1, each once, and no others
 abbrev pub Standing : (f g : ℕ) → List Piece → Type 0
 Standing f g ps = (k : ℕ) → standing k ps + below k f ≡ below k g
 
@@ -23,7 +23,7 @@ no_label : {H : Here} {p : Piece} → Own H p → (n : ℕ) (ps : List Piece) �
 no_label (number h) n ps = omega arith
 no_label o n ps = omega arith
 
--- the next own label is k, and that of a part is m
+-- k is the next own label, m that of a part
 layers_standing : {T : Table} {H : Here} {k m : ℕ} {ls : List (Layer T)} → Stand (Each T) H k m ls → (n : ℕ) → standing n (code_of ls) + below n k + below n m ≡ below n H.parts + below n H.end
 layers_standing (done h i) n = let a = ap (below n) h in let b = ap (below n) i in omega (arith, a, b)
 layers_standing (piece {ls = ls} o h) n = let a = no_label o n (code_of ls) in let b = layers_standing h n in omega (arith, a, b)

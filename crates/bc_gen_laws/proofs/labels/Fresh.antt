@@ -1,4 +1,4 @@
--- The labels that a list takes for its labels and entries stand in it, each once.
+-- The labels that a list takes for its own labels, CASEs and DEFAULTs are set in it, each once.
 use Rattle.std.proofs.Common.{◌≡◌, ◌∙◌, refl, sym, ap, ℕ, ◌+◌, ◌≤◌, ◌<◌, ◌==◌, Bool, true, false, not, ◌&&◌, ◌||◌, List, ◌++◌, ◌⊎◌, inl, inr, arith}
 use Rattle.std.specs.Prelude.{cond}
 use Rattle.std.proofs.lemmas.Bool.Decides.{nat_tests}
@@ -30,7 +30,7 @@ or_right : (a b : Bool) → b ≡ true → (a || b) ≡ true
 or_right true b h = refl
 or_right false b h = h
 
--- what stands in a list is not a number that does not
+-- a number in a list differs from one that isn't in it
 other : (ks : List ℕ) (k l : ℕ) → has ks k ≡ false → has ks l ≡ true → (k == l) ≡ false
 other ks k l h i = by (k == l) refl where
   by : (b : Bool) → (k == l) ≡ b → b ≡ false
@@ -45,7 +45,7 @@ second_case : {X : Type 0} (b : Bool) (x y : X) → b ≡ false → cond b x y �
 second_case true x y h = absurd (cc)
 second_case false x y h = refl
 
--- the labels of a list where it stands
+-- the labels that a list must set for its own labels
 abbrev pub owed_labels : (ℕ → ℕ) → Items → ℕ → ℕ
 owed_labels label_of no_item k = 0
 owed_labels label_of (command c is) k = owed_labels label_of is k
@@ -53,7 +53,7 @@ owed_labels label_of (case v is) k = owed_labels label_of is k
 owed_labels label_of (default is) k = owed_labels label_of is k
 owed_labels label_of (label l is) k = at (label_of l) k + owed_labels label_of is k
 
--- its entries, the first of which has label f
+-- the labels that it must set for its CASEs and DEFAULTs, from f on
 abbrev pub owed_cases : (f : ℕ) → Items → ℕ → ℕ
 owed_cases f no_item k = 0
 owed_cases f (command c is) k = owed_cases f is k
@@ -81,7 +81,7 @@ labels_fresh (label l is) f outer label_of d h k =
     one_owed (at (label_of l) k) (at f k) (owed_labels label_of is k) (below k f) (below k (f + 1)) (below k (f + 1 + labels_in is)) (below k (f + (labels_in is + 1)))
     (ap (λ m. at m k) here) rest (next_below k f) (ap (below k) (omega arith))
 
--- an entry, and those after it
+-- a CASE or DEFAULT, and those after it
 entry_fresh : (is : Items) (f k : ℕ) → owed_cases (f + 1) is k + below k (f + 1) ≡ below k (f + 1 + entries_in is) → at f k + owed_cases (f + 1) is k + below k f ≡ below k (f + (entries_in is + 1))
 entry_fresh is f k rest =
     one_owed (at f k) (at f k) (owed_cases (f + 1) is k) (below k f) (below k (f + 1)) (below k (f + 1 + entries_in is)) (below k (f + (entries_in is + 1)))
@@ -94,7 +94,7 @@ cases_fresh (case v is) f k = entry_fresh is f k (cases_fresh is (f + 1) k)
 cases_fresh (default is) f k = entry_fresh is f k (cases_fresh is (f + 1) k)
 cases_fresh (label l is) f k = cases_fresh is f k
 
--- in the list of a block there are none
+-- the list of a block has none
 pub no_cases : (is : Items) (f : ℕ) → has_entries is ≡ false → (k : ℕ) → owed_cases f is k ≡ 0
 no_cases no_item f h k = refl
 no_cases (command c is) f h k = no_cases is f h k
@@ -105,7 +105,7 @@ no_cases (label l is) f h k = no_cases is f h k
 abbrev Between : ℕ → ℕ → ℕ → Type 0
 Between f g x = (f ≤ x) × (x < g)
 
--- where these labels lie
+-- the range of these labels
 abbrev pub Labelled : (f g : ℕ) → (outer : ℕ) → (known : Bool) → ℕ → Type 0
 Labelled f g outer known x = Between f g x ⊎ ((x ≡ outer) × (known ≡ true))
 

@@ -1,4 +1,4 @@
--- The code of a derivation speaks of its own labels, of its target and of those that its expression names.
+-- The code of a derivation uses only its own labels, its target, and the labels that its expression names.
 use Rattle.std.proofs.Common.{◌≡◌, ℕ, ◌+◌, ◌≤◌, ◌<◌, ◌&&◌, Bool, true, false, cond, Option, Some, None, List, ◌∷◌, sym, subst, arith}
 use Rattle.std.specs.Prelude.{nat_le}
 use Rattle.std.proofs.lemmas.Bool.Decides.{nat_tests}
@@ -27,7 +27,7 @@ use Rattle.bc_link.specs.Labels.{use_of}
 use Rattle.bc_gen_laws.proofs.labels.Fresh.{left_true, right_true}
 use Rattle.bc_gen_laws.proofs.labels.Speaking.{In, Known, PiecesSpeak, pieces_both, no_piece, piece, body, BaseKnown, operation_known}
 
--- an expression that names the places 1 to n - 1 alone
+-- an expression that names only the places 1 to n - 1
 abbrev mutual
   pub Names : ℕ → Exp → Type 0
   Names n (Place m) = In n m
@@ -172,7 +172,7 @@ module _ (n : ℕ) where
   abbrev Speaks : (T : Table) → Claim T
   Speaks T e aim d s t f = Names n e → Aims n aim t → 1 ≤ f → f + labels d ≤ n → PiecesSpeak n (code d s t f)
 
-  -- what layers see names known places, they jump to known labels, and their labels are among the known ones
+  -- the expressions of the layers name known places, their jumps go to known labels, and their own labels are known
   record Knows (H : Here) : Type 0 where
     sees : (e : Exp) (u : ℕ) → H.sees e u → Names n e
     target : (sense : Bool) → H.aim ≡ Jumps sense → In n H.target

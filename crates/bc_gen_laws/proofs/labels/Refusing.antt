@@ -1,4 +1,4 @@
--- Labels of which each stands once are no cause for the linker to refuse a segment.
+-- If each label is set once, the linker doesn't refuse the segment for a label.
 use Rattle.std.proofs.Common.{◌≡◌, ◌∙◌, ℕ, ◌+◌, ◌≤◌, ◌<◌, ◌==◌, ◌||◌, Bool, true, false, not, Option, Some, None, List, [], ◌∷◌, ◌++◌, refl, ap, arith}
 use Rattle.std.specs.Prelude.{cond, map, nat_lt, nat_le, count_by, ◌&&◌}
 use Rattle.std.specs.List.{fold, list_any, cons_option, AllByRecursion}
@@ -47,7 +47,7 @@ found : (x : ℕ) (ys : List ℕ) → 1 ≤ count x ys → list_any (λ y. x == 
 found x [] h = absurd (omega arith)
 found x (y ∷ ys) h = found_first x y (count x ys) (x == y) (list_any (λ z. x == z) ys) refl h (found x ys)
 
--- what stands once at most is not repeated
+-- a number that occurs at most once isn't repeated
 not_repeated : (before xs : List ℕ) → ((k : ℕ) → count k before + count k xs ≤ 1) → repeated_after before xs ≡ None
 not_repeated before [] h = refl
 not_repeated before (x ∷ xs) h =
@@ -56,7 +56,7 @@ not_repeated before (x ∷ xs) h =
       by true e i = let a = counted x before e in let b = h x in let c = at_same x x (same_number x) in absurd (omega arith)
       by false e i = i
 
--- a label that stands is set
+-- every label that is used is set
 all_set : (n : ℕ) (labels : List ℕ) → ((m : ℕ) → In n m → list_any (λ y. m == y) labels ≡ true) → (is : List Item) → AllKnown n is → first_unset labels (uses_of is) ≡ None
 all_set n labels h [] k = refl
 all_set n labels h (i ∷ is) k = by (use_of i) k.0 (all_set n labels h is k.1) where

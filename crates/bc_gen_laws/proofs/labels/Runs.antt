@@ -1,4 +1,4 @@
--- Code that takes its labels in turn, and how it is put together.
+-- Code that takes consecutive labels, and its concatenation.
 use Rattle.std.proofs.Common.{◌≡◌, ◌∙◌, ℕ, ◌+◌, ◌≤◌, ◌<◌, ◌&&◌, Bool, true, List, [], ◌∷◌, ◌++◌, sym, ap, subst, inl, inr, arith}
 use Rattle.std.specs.Prelude.{nat_le}
 use Rattle.bc_text_items.specs.declared.item.Item.{Item}
@@ -13,7 +13,7 @@ use Rattle.bc_gen_laws.proofs.labels.Fresh.{left_true, right_true, Labelled, lab
 use Rattle.bc_gen_laws.proofs.labels.Speaking.{In, Speaks}
 use Rattle.bc_gen_laws.proofs.labels.Names.{Names, NamesOfRoot, AimsOfRoot, exp_names}
 
--- each label from f to g - 1 stands once among items, and besides these as many as c counts
+-- The items set each label from f to g - 1 once, and each label k a further c(k) times.
 pub record Run (c : ℕ → ℕ) (f g : ℕ) (xs : List Item) : Type 0 where
   pub each : (k : ℕ) → stands k xs + below k f ≡ below k g + c k
 
@@ -55,7 +55,7 @@ third_below k f = by (below k (f + 3)) (below k (f + 2)) (below k f) (at f k + a
   by : (a b c d e : ℕ) → a ≡ b + e → b ≡ c + d → a ≡ c + (d + e)
   by a b c d e h i = omega arith
 
--- labels that were taken first stand within
+-- labels that were taken before are set within the code
 pub close_one : {c : ℕ → ℕ} {g : ℕ} (f : ℕ) (xs : List Item) → Run c (f + 1) g xs → ((k : ℕ) → c k ≡ at f k) → Run none f g xs
 close_one {c = c} {g = g} f xs h e = record { each = λ k. closing (stands k xs) (below k f) (below k (f + 1)) (below k g) (c k) (at f k) (h.each k) (next_below k f) (e k) }
 
@@ -68,7 +68,7 @@ close_three {c = c} {g = g} f xs h e = record { each = λ k. closing (stands k x
 closing_part : (n b0 b1 b2 c a d : ℕ) → n + b1 ≡ b2 + c → a + b0 ≡ b1 → c ≡ a + d → n + b0 ≡ b2 + d
 closing_part n b0 b1 b2 c a d h i j = omega arith
 
--- as many as those of a list, from f on
+-- the same for the labels of a list, from f on
 pub close_list : {c : ℕ → ℕ} {g : ℕ} (f m : ℕ) (taken rest : ℕ → ℕ) (xs : List Item) → Run c (f + m) g xs → ((k : ℕ) → taken k + below k f ≡ below k (f + m)) → ((k : ℕ) → c k ≡ taken k + rest k) → Run rest f g xs
 close_list {c = c} {g = g} f m taken rest xs h i e =
     record { each = λ k. closing_part (stands k xs) (below k f) (below k (f + m)) (below k g) (c k) (taken k) (rest k) (h.each k) (i k) (e k) }
@@ -76,7 +76,7 @@ close_list {c = c} {g = g} f m taken rest xs h i e =
 pub same_owed : {c : ℕ → ℕ} {f g : ℕ} (d : ℕ → ℕ) (xs : List Item) → Run c f g xs → ((k : ℕ) → c k ≡ d k) → Run d f g xs
 same_owed {c = c} {f = f} {g = g} d xs h e = record { each = λ k. h.each k ∙ ap (λ m. below k g + m) (e k) }
 
--- Code that takes the labels from f on, and speaks of these and of those that Q allows.
+-- Code that takes the labels from f on, and uses only these and those that Q allows.
 pub record Sound (Q : ℕ → Type 0) (c : ℕ → ℕ) (f : ℕ) (x : Code Item) : Type 0 where
   pub up : f ≤ x.1
   pub run : Run c f x.1 x.0
@@ -85,7 +85,7 @@ pub record Sound (Q : ℕ → Type 0) (c : ℕ → ℕ) (f : ℕ) (x : Code Item
 abbrev pub SoundRoots : (places : ℕ) → Roots Item → Type 0
 SoundRoots places roots = (r : Root) (t f : ℕ) → Sound (λ n. (places < n) × NamesOfRoot n r × AimsOfRoot n r t) none f (roots r t f)
 
--- where a command may jump to is known
+-- the labels to which a command may jump are known ones
 pub record Allowed (A : Around) (J : Jumps) (E : Exits) (n : ℕ) : Type 0 where
   pub places : A.places < n
   pub broken : J.in_loop ≡ true → In n E.broken

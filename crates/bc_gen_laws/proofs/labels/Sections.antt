@@ -1,4 +1,4 @@
--- The labels that stand in a section's items are those from 1 to the last one, each once.
+-- The items of a section set the labels from 1 to the last one, each once.
 use Rattle.std.proofs.Common.{◌≡◌, ◌∙◌, ℕ, ◌+◌, ◌≤◌, ◌<◌, ◌&&◌, ◌==◌, Bool, true, false, Option, Some, None, List, [], ◌∷◌, ◌++◌, length, refl, ap, arith}
 use Rattle.std.specs.Prelude.{nat_le, map}
 use Rattle.bc_text_items.specs.declared.item.Item.{Item}
@@ -25,7 +25,7 @@ use Rattle.bc_gen_laws.proofs.labels.Names.{root_speaks}
 use Rattle.bc_gen_laws.proofs.labels.Runs.{none, following, mark, empty, close_list, same_owed, Sound, SoundRoots, Allowed, root_names}
 use Rattle.bc_gen_laws.proofs.labels.Commands.{upto, less, joined, weaker, nothing_there, only, block_sound}
 
--- bodies that jump to their end alone
+-- bodies that jump only to their end
 abbrev SoundBodies : ℕ → BodiesCode Item → Type 0
 SoundBodies places bodies = (m s l f : ℕ) → Sound (λ n. (places < n) × In n l) none f (bodies m s l f)
 
@@ -96,7 +96,7 @@ module _ {T : Table} (choice : (r : Root) → RootDerives T r) (levels : ℕ →
       either_sound (m == first) (emit_valof (λ i. i) roots v.body m s l f) (inner m s l f)
       (joined x (zero_item ∷ [], x.1) (weaker x allowed hx) (only x.1 (zero_item ∷ []) (λ k. refl) (λ n q. item zero_item [] tt nothing))) (rest m s l f)
 
--- the labels of the routines' places, where j places stand before these
+-- the labels of the routines' places, where j places come before these
 abbrev routine_labels : (j : ℕ) → List Place → ℕ → ℕ
 routine_labels j [] k = 0
 routine_labels j (commands.Code r ∷ ps) k = at (j + 1) k + routine_labels (j + 1) ps k
@@ -166,7 +166,7 @@ data_next a c d e b0 b1 b2 b3 h i j l = omega arith
 no_place : (b c : ℕ) → b ≡ c → 0 + 0 + b ≡ c
 no_place b c h = omega arith
 
--- each place has its label, before its routine or of its data
+-- the label of each place is set, before its routine or before its data
 places_stand : (ps : List Place) (j k : ℕ) → routine_labels j ps k + stands k (data_items j ps) + below k (j + 1) ≡ below k (j + 1 + length ps)
 places_stand [] j k = no_place (below k (j + 1)) _ (ap (below k) (omega arith))
 places_stand (commands.Code r ∷ ps) j k =
@@ -204,7 +204,7 @@ settings_speak j (commands.Static w ∷ ps) h = settings_speak (j + 1) ps (omega
 settings_speak j (commands.Table ws ∷ ps) h = settings_speak (j + 1) ps (omega arith)
 settings_speak j (commands.Text bytes ∷ ps) h = settings_speak (j + 1) ps (omega arith)
 
--- the labels from 1 to g - 1 stand among items, each once, and they speak of no others
+-- the items set the labels from 1 to g - 1, each once, and use no others
 pub record Labelled (g : ℕ) (is : List Item) : Type 0 where
   pub once : (k : ℕ) → stands k is + below k 1 ≡ below k g
   pub speaks : Speaks g is

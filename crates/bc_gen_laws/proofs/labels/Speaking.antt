@@ -1,4 +1,4 @@
--- Of which labels items and pieces speak.
+-- Which labels items and pieces use.
 use Rattle.std.proofs.Common.{◌≡◌, ℕ, ◌≤◌, ◌<◌, Bool, Option, Some, None, List, [], ◌∷◌, ◌++◌, refl, sym, subst, arith}
 use Rattle.bc_text_items.specs.declared.item.Item.{Item}
 use Rattle.bc_text_items.specs.declared.item.Item.TheVariants as items
@@ -18,18 +18,18 @@ abbrev pub Known : ℕ → Option ℕ → Type 0
 Known n None = Unit {0}
 Known n (Some l) = In n l
 
--- items that speak of these alone
+-- items that use only these labels
 abbrev pub AllKnown : ℕ → List Item → Type 0
 AllKnown n [] = Unit {0}
 AllKnown n (i ∷ is) = Known n (use_of i) × AllKnown n is
 
--- pieces that do, where a label of these stands after each body
+-- pieces that use only these labels, and in which each body is followed by one of them
 abbrev pub PiecesKnown : ℕ → List Piece → Type 0
 PiecesKnown n [] = Unit {0}
 PiecesKnown n (pieces.Item i ∷ ps) = Known n (use_of i) × PiecesKnown n ps
 PiecesKnown n (pieces.Body m ∷ ps) = In n (label_ahead ps) × PiecesKnown n ps
 
--- records, so that a call shows which items
+-- the same as a record, so that a call shows which items are meant
 pub record Speaks (n : ℕ) (is : List Item) : Type 0 where
   pub all : AllKnown n is
 
@@ -76,7 +76,7 @@ piece u h = record { all = (u, h.all) }
 pub body : {n m : ℕ} {ps : List Piece} → In n (label_ahead ps) → PiecesSpeak n ps → PiecesSpeak n (pieces.Body m ∷ ps)
 body u h = record { all = (u, h.all) }
 
--- an address that is no label of others
+-- an address that is no other label
 abbrev pub BaseKnown : ℕ → Base → ℕ → Type 0
 BaseKnown n bases.Label l = In n l
 BaseKnown n bases.Number l = Unit {0}

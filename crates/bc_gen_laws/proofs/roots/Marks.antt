@@ -1,4 +1,4 @@
--- The marks in a section's code are those of its roots.
+-- The marks in a section's code belong to its roots, in the order of the walk.
 use Rattle.std.proofs.Common.{◌≡◌, ◌∙◌, ℕ, suc, ◌+◌, ◌==◌, Bool, true, false, not, cond, List, [], ◌∷◌, ◌++◌, map, length, refl, ap, sym, arith, append-nil}
 use Rattle.std.specs.Prelude.{flat_map}
 use Rattle.std.proofs.lemmas.Bool.{eqb-true}
@@ -26,7 +26,7 @@ marked [] = []
 marked (Plain i ∷ ps) = marked ps
 marked (Begins m ∷ ps) = m.root ∷ marked ps
 
--- these roots are marked in this code
+-- exactly these roots are marked in this code
 record Has (ps : List Marked) (rs : List Root) : Type 0 where
   is : marked ps ≡ rs
 
@@ -41,7 +41,7 @@ none = record { is = refl }
 both : {xs ys : List Marked} {rs qs : List Root} → Has xs rs → Has ys qs → Has (xs ++ ys) (rs ++ qs)
 both {xs = xs} {ys = ys} {rs = rs} h i = record { is = marked_append xs ys ∙ ap (λ l. l ++ marked ys) h.is ∙ ap (λ l. rs ++ l) i.is }
 
--- code without marks after
+-- followed by code without marks
 last : {xs ys : List Marked} {rs : List Root} → Has xs rs → Has ys [] → Has (xs ++ ys) rs
 last {rs = rs} h i = let b = both h i in record { is = b.is ∙ append-nil rs }
 
@@ -154,7 +154,7 @@ roots_count choice levels bodies within h = record {
       record { is = ap (λ rs. r ∷ rs) (x.is ∙ ap (flat_map within) (same_bodies (choice r) t f)) };
 }
 
--- the levels of these VALOFs, of which the first has this number
+-- the levels of these VALOFs, whose numbers begin with `first`
 abbrev AreTheirLevels : (levels : ℕ → ℕ) → (first : ℕ) → List Valof → Type 0
 AreTheirLevels levels first vs = (k : ℕ) → level_of vs k ≡ levels (first + k)
 
@@ -164,7 +164,7 @@ own_level levels first v vs h n e = ap levels (eqb-true n first e) ∙ ap levels
 pub further_levels : (levels : ℕ → ℕ) (first : ℕ) (v : Valof) (vs : List Valof) → AreTheirLevels levels first (v ∷ vs) → AreTheirLevels levels (first + 1) vs
 further_levels levels first v vs h k = h (suc k) ∙ ap levels (let z : first + suc k ≡ first + 1 + k = omega arith in z)
 
--- the body with this number, or one after it
+-- the body with this number, or a later one
 one_body : {T : Table} (choice : Choice T) (levels : ℕ → ℕ) (first : ℕ) (v : Valof) (vs : List Valof) → AreTheirLevels levels first (v ∷ vs)
     → BodiesHave levels (bodies_from Plain (marked_over (coding_of choice) levels) (first + 1) vs) (roots_of_bodies (in_code choice) (first + 1) vs)
     → (n l f : ℕ) (b : Bool) → (n == first) ≡ b

@@ -1,4 +1,5 @@
--- The VALOFs of a derivation in the order of its code, wherever that stands; their words are those within the expression.
+-- The VALOFs of a derivation in the order of its code, which doesn't depend on where the code is placed. Their words are those of
+-- the bodies within the expression.
 use Rattle.std.proofs.Common.{◌≡◌, ◌∙◌, ℕ, List, [], ◌∷◌, refl, ap, sym, arith}
 use Rattle.std.specs.Prelude.{sum_by}
 use Rattle.std.proofs.lemmas.List.Sums.{sum_by-append}
@@ -18,7 +19,7 @@ are_bodies [] = refl
 are_bodies (Item i ∷ ps) = are_bodies ps
 are_bodies (Body n ∷ ps) = ap (λ ns. n ∷ ns) (are_bodies ps)
 
--- wherever the code stands
+-- wherever the code is placed
 pub same_bodies : {T : Table} {r : Root} (d : RootDerives T r) (t f : ℕ) → bodies_in (root_code d t f) ≡ bodies_in (root_code d 0 0)
 same_bodies d t f = are_bodies (root_code d t f) ∙ same_in_code d t f ∙ sym (are_bodies (root_code d 0 0))
 

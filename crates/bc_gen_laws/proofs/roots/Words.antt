@@ -19,7 +19,7 @@ use Rattle.bc_gen_laws.specs.roots.Laws.{SizeIsByTheRoots}
 use Rattle.bc_gen_laws.proofs.roots.Valofs.{words_of_root}
 use Rattle.bc_gen_laws.proofs.roots.Marks.{own_level, further_levels}
 
--- a root's words are those that it has where roots have none of their own, and the own words of what it counts for
+-- the words of something are its fixed words and the own words of all roots that it contributes
 record Splits (own words fixed : Words) (of : Counted) : Type 0 where
   each : (r : Root) → words r ≡ fixed r + sum_by own (of r)
 

@@ -1,4 +1,4 @@
--- The words of commands, over those of their roots.
+-- The words of commands, from those of their roots.
 use Rattle.std.proofs.Common.{ℕ, ◌+◌, ◌*◌, true, false, not, List, [], ◌∷◌, arith}
 use Rattle.bc_text_items.specs.declared.item.Item.{Item}
 use Rattle.bc_text_items.specs.declared.item.Base.TheVariants as bases
@@ -12,7 +12,7 @@ use Rattle.bc_gen_defs.specs.Emit.{Roots, Exits, labelled, labels_in, defaulted,
 use Rattle.bc_gen_defs.specs.Size.{Words, words_of_variable, words_of_variables, words_of_declarations, words_of_command, words_of_block, words_of_items}
 use Rattle.bc_gen_laws.proofs.sizes.Takes.{Takes, takes_none, takes_both, takes_as, takes_operation, takes_label, takes_data, takes_address}
 
--- each root takes so many words
+-- each root takes these words
 pub record RootsTake (words : Words) (roots : Roots Item) : Type 0 where
   pub each : (r : Root) (t f : ℕ) → Takes (roots r t f).0 (words r)
 

@@ -24,7 +24,7 @@ use Rattle.bc_gen_laws.proofs.sizes.Commands.{RootsTake, block_takes}
 abbrev own : {T : Table} → Choice T → Words
 own choice r = root_cost (choice r)
 
--- bodies that take so many words
+-- bodies that take these words
 record BodiesTake (levels : ℕ → ℕ) (bodies : BodiesCode Item) (words : ℕ → ℕ) : Type 0 where
   each : (n l f : ℕ) → Takes (bodies n (levels n) l f).0 (words n)
 
@@ -94,7 +94,7 @@ words_take : (ws : List ℕ) → Takes (map Data ws) (length ws)
 words_take [] = takes_none
 words_take (w ∷ ws) = takes_as (takes_data w (words_take ws)) (omega arith)
 
--- a byte alone
+-- a single byte at the end
 last_byte : (b : ℕ) (rest : List Item) → BeginsWithNoByte rest → size_of_all (Byte b ∷ rest) ≡ 1 + size_of_all rest
 last_byte b [] h = refl
 last_byte b (Byte c ∷ rest) h = absurd h

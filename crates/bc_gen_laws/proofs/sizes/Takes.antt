@@ -1,4 +1,4 @@
--- Items that take a number of words, whatever stands after them.
+-- Items that take a number of words, whatever follows them.
 use Rattle.std.proofs.Common.{◌≡◌, ◌∙◌, ℕ, ◌+◌, Bool, List, [], ◌∷◌, ◌++◌, ap, arith, append_assoc}
 use Rattle.bc_text_items.specs.Sizes.{operation_size, size_of_all}
 use Rattle.bc_text_items.specs.declared.item.Item.{Item}

@@ -1,4 +1,4 @@
--- No VALOF stands in an operand, nor in a 0 that is dropped.
+-- Neither an operand nor a 0 that is dropped contains a VALOF.
 use Rattle.std.proofs.Common.{◌≡◌, ◌∙◌, ℕ, ◌+◌, Bool, true, false, Option, Some, None, cond, refl, ap, arith}
 use Rattle.bc_word.specs.declared.operator.Op.{Op}
 use Rattle.bc_word.specs.declared.operator.Op.TheVariants as operators
@@ -68,7 +68,7 @@ without_zero_within B operators.Add a b c h = beside_zero_within B a b c h
 without_zero_within B operators.Subtract a b c h = minus_within B a b c (is_zero b) refl h
 without_zero_within B _ a b c h = absurd (cc)
 
--- so the words of the bodies in an expression are a weight of it
+-- hence the words of the bodies in an expression are a weight of it
 abbrev pub within : (ℕ → ℕ) → Weighing
 within B = record {
   of = words_within B;

@@ -1,5 +1,5 @@
--- Worked examples: the labels of a section. Each CASE and DEFAULT has one of its own, also where a SWITCHON has a CASE twice. A label of the source that
--- stands twice in a list has its label twice; no resolved section is such a one.
+-- Worked examples: the labels of a section. Each CASE and DEFAULT has its own label, even if a SWITCHON has a CASE twice. A label of
+-- the source that occurs twice in a list is set twice; no resolved section has one.
 use Rattle.std.specs.Prelude.{◌≡◌, ℕ, false, List, [], ◌∷◌, Some, refl}
 use Rattle.bc_core.specs.Tree.{Num}
 use Rattle.bc_core.specs.Commands.{block, Items, no_item, command, case, default, label, Core, Does}
@@ -16,7 +16,7 @@ use Rattle.bc_link.specs.Refusals.{first_repeated}
 abbrev no_code : Coding
 no_code = record { pieces = λ r target first. []; labels = λ r. 0; derivation = λ r. by rule.V1 no_part }
 
--- a routine that is a SWITCHON
+-- a routine whose body is a SWITCHON
 abbrev switch : Items → Core
 switch is = record {
   places = commands.Code
@@ -27,7 +27,7 @@ switch is = record {
 abbrev labels : Core → List ℕ
 labels core = labels_of (section_items no_code core)
 
--- the routine's label is 1, that after the SWITCHON 2; then come those of CASE 3, DEFAULT and CASE 4
+-- the routine's label is 1, that after the SWITCHON is 2, followed by those of CASE 3, DEFAULT and CASE 4
 pub stand_once : labels (switch (case 3 (default (case 4 no_item)))) ≡ 1 ∷ 3 ∷ 4 ∷ 5 ∷ 2 ∷ []
 stand_once = refl
 
@@ -37,7 +37,7 @@ spoken_of = refl
 pub two_cases : labels (switch (case 3 (case 3 no_item))) ≡ 1 ∷ 3 ∷ 4 ∷ 2 ∷ []
 two_cases = refl
 
--- control comes to the first of two
+-- of two DEFAULTs the first one is jumped to
 pub two_defaults : uses_of (section_items no_code (switch (default (default no_item)))) ≡ 3 ∷ 1 ∷ []
 two_defaults = refl
 

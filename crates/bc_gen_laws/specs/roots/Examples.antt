@@ -23,7 +23,7 @@ use Rattle.bc_gen_defs.specs.Size.{section_size}
 use Rattle.bc_gen_laws.specs.roots.Roots.{bodies_in, roots_of}
 use Rattle.bc_gen_laws.specs.roots.Laws.{fixed_words}
 
--- LET START() BE $( LET X = VALOF $( LET Y = VALOF RESULTIS 5; RESULTIS Y $) $)
+-- `LET START() BE $( LET X = VALOF $( LET Y = VALOF RESULTIS 5; RESULTIS Y $) $)`
 abbrev pub nested : Core
 nested = record {
   places = commands.Code (record { global = Some 1; parameters = 0; body = Does (block ((Initial (Valof 0) ∷ []) ∷ []) no_item) }) ∷ [];
@@ -32,7 +32,7 @@ nested = record {
       ∷ record { level = 4; body = block [] (command (commands.ResultIs (Num 5)) no_item) } ∷ [];
 }
 
--- the code of its roots: a number, a variable, and a variable that is set to a VALOF's value
+-- the code of its roots: a number, a variable, and an assignment of a VALOF's value to a variable
 abbrev some_pieces : Root → ℕ → List Piece
 some_pieces (Value s (Num n)) f = pieces.Item (Operation loads false Number n) ∷ []
 some_pieces (Value s (Load (Frame k))) f = LIP k ∷ []
@@ -52,11 +52,11 @@ pub nested_items : section_items some_code nested
     ∷ zero_item ∷ Label 2 ∷ Operation stores false P 2 ∷ zero_item ∷ execute 4 ∷ Global 1 1 ∷ []
 nested_items = refl
 
--- where a root's code stands, its first label, and the items of its VALOFs' bodies
+-- the index of a root's code, its first label, and the numbers of items of its VALOFs' bodies
 abbrev place_of : Entry → ℕ × ℕ × List ℕ
 place_of e = (e.item, e.first, e.bodies)
 
--- a root before those of its VALOFs' bodies
+-- a root comes before those in its VALOFs' bodies
 pub nested_entries : map place_of (section_entries some_code nested) ≡ (1, 2, 8 ∷ []) ∷ (1, 3, 3 ∷ []) ∷ (1, 4, []) ∷ (6, 4, []) ∷ []
 nested_entries = refl
 
@@ -66,10 +66,10 @@ the_roots = Assign 3 (Valof 0) (Frame 2) ∷ Assign 4 (Valof 1) (Frame 3) ∷ Va
 pub entries_of_roots : map (λ (e : Entry). e.root) (section_entries some_code nested) ≡ the_roots
 entries_of_roots = refl
 
--- the same by the walk, which is told each root's VALOFs
+-- the same by the walk, which is given each root's VALOFs
 pub nested_roots : roots_of (λ r. bodies_in (some_pieces r 0)) nested ≡ the_roots
 nested_roots = refl
 
--- 12 words: two jumps of two each, four `L0` and `X4`, which are fixed, and a word for each root
+-- 12 words: eight fixed ones, namely two jumps of two words, three `L0` and `X4`, and one word for each of four roots
 pub nested_words : (fixed_words nested ≡ 8) × (size_of_all (section_items some_code nested) ≡ 8 + sum_by (λ r. 1) the_roots)
 nested_words = (refl, refl)

@@ -1,4 +1,4 @@
--- Laws of the roots of a section, whichever derivations are chosen for them.
+-- Laws of the roots of a section, for every choice of derivations.
 use Rattle.std.specs.Prelude.{ℕ, ◌≡◌, ◌+◌, map, sum_by}
 use Rattle.bc_text_items.specs.Sizes.{size_of_all}
 use Rattle.bc_core.specs.Commands.{Core}
@@ -11,17 +11,17 @@ use Rattle.bc_gen_defs.specs.Entries.{section_entries}
 use Rattle.bc_gen_defs.specs.Size.{section_size}
 use Rattle.bc_gen_laws.specs.roots.Roots.{in_code, roots_of}
 
--- the entries of a section are those of its roots, in this order
+-- The entries of a section belong to its roots, in the order of the walk.
 abbrev pub EntriesAreOfTheRoots : Type 0
 EntriesAreOfTheRoots =
     (T : Table) (choice : Choice T) (core : Core)
     → map (λ (e : Entry). e.root) (section_entries (coding_of choice) core) ≡ roots_of (in_code choice) core
 
--- the words of a section's commands and data: those that it had if no root took any
+-- the words of a section's commands and data: its size if the roots took no words
 abbrev pub fixed_words : Core → ℕ
 fixed_words core = section_size (λ r. 0) core
 
--- a section takes these and the words of its roots
+-- A section takes these words and those of its roots' derivations.
 abbrev pub SizeIsByTheRoots : Type 0
 SizeIsByTheRoots =
     (T : Table) (choice : Choice T) (core : Core)

@@ -1,4 +1,4 @@
--- The roots of a section, found by walking its commands: a root before those of its VALOFs' bodies, and the bodies in
+-- The roots of a section, found by walking its commands. A root comes before those in its VALOFs' bodies, and the bodies come in
 -- the order of the root's code.
 use Rattle.std.specs.Prelude.{ℕ, ◌+◌, ◌==◌, true, false, not, cond, nat_le, List, [], ◌∷◌, ◌++◌, flat_map}
 use Rattle.bc_word.specs.declared.operator.Op.TheVariants as operators
@@ -13,16 +13,16 @@ use Rattle.bc_rules_defs.specs.declared.piece.Piece.TheVariants as pieces
 use Rattle.bc_rules_defs.specs.Code.{root_code}
 use Rattle.bc_gen_defs.specs.Bodies.{Choice}
 
--- what a root counts for: itself, and perhaps others
+-- the roots that a root contributes: itself, and those in its VALOFs' bodies
 abbrev pub Counted : Type 0
 Counted = Root → List Root
 
--- itself, and the roots of its VALOFs' bodies. `valofs` has the numbers of a root's VALOFs, in the order of its code, and
--- `within` the roots of each body, by number.
+-- A root and the roots of its VALOFs' bodies. `valofs` has the numbers of a root's VALOFs in the order of its code, `within` the
+-- roots of each body by its number.
 abbrev pub with_bodies : (valofs : Root → List ℕ) → (within : ℕ → List Root) → Counted
 with_bodies valofs within r = r ∷ flat_map within (valofs r)
 
--- the variable with its cell at offset k, at level s; the cell of a vector is set to the address of its first one
+-- a variable whose cell is at offset k, at level s; the cell of a vector is set to the address of the cell after it
 abbrev pub roots_of_variable : Counted → Variable → (k s : ℕ) → List Root
 roots_of_variable of (Initial e) k s = of (Assign s e (Frame k))
 roots_of_variable of (Vector n) k s = of (Assign s (Frame (k + 1)) (Frame k))
@@ -37,11 +37,11 @@ roots_of_declarations of (vs ∷ ds) s =
     let n = cells_of_all vs in
     roots_of_variables of vs s (s + n) ++ roots_of_declarations of ds (s + n)
 
--- a FOR is over where its variable is past its limit
+-- a FOR ends when its variable is past its limit
 abbrev pub test_of_for : (by s : ℕ) → Exp
 test_of_for by s = Bin (cond (nat_le 32768 by) operators.Less operators.Greater) (Load (Frame s)) (Load (Frame (s + 1)))
 
--- a command with the next free offset s
+-- a command, where s is the next free offset of the frame
 abbrev mutual
   pub roots_of_command : Counted → Command → ℕ → List Root
   roots_of_command of (commands.Call e) s = of (Value s e)
@@ -75,7 +75,7 @@ abbrev mutual
   roots_of_items of (default is) s = roots_of_items of is s
   roots_of_items of (label l is) s = roots_of_items of is s
 
--- the roots of the bodies of the VALOFs from this number on, by number; those within a body have greater numbers
+-- the roots of the body of each VALOF whose number is `first` or greater; a VALOF within a body has a greater number
 abbrev pub roots_of_bodies : (valofs : Root → List ℕ) → (first : ℕ) → List Valof → ℕ → List Root
 roots_of_bodies valofs first [] n = []
 roots_of_bodies valofs first (v ∷ vs) n =
@@ -93,11 +93,11 @@ roots_of_places of (commands.Static w ∷ ps) = roots_of_places of ps
 roots_of_places of (commands.Table ws ∷ ps) = roots_of_places of ps
 roots_of_places of (commands.Text bytes ∷ ps) = roots_of_places of ps
 
--- the roots of a section
+-- The roots of a section, given the VALOFs of each root in the order of its code.
 abbrev pub roots_of : (valofs : Root → List ℕ) → Core → List Root
 roots_of valofs core = roots_of_places (with_bodies valofs (roots_of_bodies valofs 0 core.valofs)) core.places
 
--- the VALOFs whose bodies stand in code, by number, in their order
+-- the numbers of the VALOFs whose bodies are in the code, in order
 abbrev pub bodies_in : List Piece → List ℕ
 bodies_in [] = []
 bodies_in (pieces.Item i ∷ ps) = bodies_in ps

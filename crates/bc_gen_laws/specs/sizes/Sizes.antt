@@ -1,4 +1,4 @@
--- The words of a section.
+-- The law of a section's number of words.
 use Rattle.std.specs.Prelude.{◌≡◌}
 use Rattle.bc_text_items.specs.Sizes.{size_of_all}
 use Rattle.bc_core.specs.Tree.{Root}
@@ -10,8 +10,8 @@ use Rattle.bc_gen_defs.specs.Bodies.{coding_of}
 use Rattle.bc_gen_defs.specs.Section.{section_items}
 use Rattle.bc_gen_defs.specs.Size.{section_size}
 
--- whichever derivations are chosen, the items of a section take the words of its commands, of its data, and of the
--- derivations of its roots
+-- For every choice of derivations, the items of a section take as many words as its commands, its data and the derivations of its
+-- roots do.
 abbrev pub SectionsHaveTheirSize : Type 0
 SectionsHaveTheirSize =
     (T : Table) (choice : (r : Root) → RootDerives T r) (core : Core)

@@ -19,30 +19,30 @@ expressions::exp-returns-in_err-first-clause-read t c = λ n h.
 pub expressions::exp-returns-clause-read : goal.expressions::exp-returns-clause-read
 expressions::exp-returns-clause-read t c = λ n h.
     let a = c.args in
-    rw (exp_runs n a.room.nest a.room.round a.level (seen a.rest) (omega arith) (omega arith), c.in_ok-first.ensures.read (n - 1) (omega arith), length_seen a.rest) (c.grow.ensures.read (n - 1) (omega arith))
+    rw (exp_runs n a.room.nest a.room.round a.level (seen a.rest) (omega arith) (omega arith), c.in_ok-first.ensures.read (n - 1) (omega arith), length_seen a.rest) (c.suffixes.ensures.read (n - 1) (omega arith))
 
 pub commands::command-returns-clause-read : goal.commands::command-returns-clause-read
-commands::command-returns-clause-read t c = λ n h. let a = c.args in rw (command_runs n a.room.nest a.room.round (seen a.rest) (omega arith) (omega arith)) (c.worded.ensures.read (n - 1) (omega arith))
+commands::command-returns-clause-read t c = λ n h. let a = c.args in rw (command_runs n a.room.nest a.room.round (seen a.rest) (omega arith) (omega arith)) (c.command_by_word.ensures.read (n - 1) (omega arith))
 
 pub declarations::definition-returns-clause-read : goal.declarations::definition-returns-clause-read
 declarations::definition-returns-clause-read t c = λ n h. let a = c.args in rw (definition_runs n a.room.nest a.room.round (seen a.rest) (omega arith) (omega arith)) (c.defined.ensures.read (n - 1) (omega arith))
 
-pub expressions::grow-returns-in_err-whole-clause-read : goal.expressions::grow-returns-in_err-whole-clause-read
+pub expressions::suffixes-returns-in_err-whole-clause-read : goal.expressions::suffixes-returns-in_err-whole-clause-read
 unfolding grow_read
-expressions::grow-returns-in_err-whole-clause-read t c = λ n h.
+expressions::suffixes-returns-in_err-whole-clause-read t c = λ n h.
     let a = c.args in
     let p = err_from_is_err_and c.from_residual.result c.from_residual.ensures.1 in
     rw (p.1, p.2) (fails_then c.in_err-whole.field-0.0 _ _ (turns_fails (grow_turn (exp_of n) a.room.nest a.room.round a.begin a.level) (length (seen a.first.rest) + 1) c.loop.counter _ _ (c.loop.invariant.read n h) c.in_err-whole.field-0.0 (omega arith) (c.in_err-whole.ensures.read n h)))
 
-pub expressions::grow-returns-in-Last-clause-read : goal.expressions::grow-returns-in-Last-clause-read
+pub expressions::suffixes-returns-in-Last-clause-read : goal.expressions::suffixes-returns-in-Last-clause-read
 unfolding grow_read
-expressions::grow-returns-in-Last-clause-read t c = λ n h.
+expressions::suffixes-returns-in-Last-clause-read t c = λ n h.
     let a = c.args in
     let whole = turns_last (grow_turn (exp_of n) a.room.nest a.room.round a.begin a.level) (length (seen a.first.rest) + 1) c.loop.counter _ _ (c.loop.invariant.read n h) levelled_view _ _ (omega arith) (c.in_ok-whole.ensures.read n h) c.in-Last.is in
     rw whole refl
 
-pub expressions::grow-loop-preserved : goal.expressions::grow-loop-preserved
-expressions::grow-loop-preserved t c =
+pub expressions::suffixes-loop-preserved : goal.expressions::suffixes-loop-preserved
+expressions::suffixes-loop-preserved t c =
     let a = c.args in
     record {
       total = c.loop.invariant.total;
@@ -50,11 +50,11 @@ expressions::grow-loop-preserved t c =
       read = λ n h. turns_more (grow_turn (exp_of n) a.room.nest a.room.round a.begin a.level) (length (seen a.first.rest) + 1) c.loop.counter _ _ (c.loop.invariant.read n h) levelled_view _ _ (omega arith) (c.in_ok-whole.ensures.read n h) c.in-More.is;
     }
 
-pub expressions::grow-returns-clause-read : goal.expressions::grow-returns-clause-read
+pub expressions::suffixes-returns-clause-read : goal.expressions::suffixes-returns-clause-read
 unfolding grow_read
-expressions::grow-returns-clause-read t c = λ n h.
+expressions::suffixes-returns-clause-read t c = λ n h.
     let a = c.args in
-    rw (c.spent.ensures, turns_spent (grow_turn (exp_of n) a.room.nest a.room.round a.begin a.level) (length (seen a.first.rest) + 1) c.loop.counter _ _ (c.loop.invariant.read n h) (omega arith)) refl
+    rw (c.no_turn_left.ensures, turns_spent (grow_turn (exp_of n) a.room.nest a.room.round a.begin a.level) (length (seen a.first.rest) + 1) c.loop.counter _ _ (c.loop.invariant.read n h) (omega arith)) refl
 
 pub expressions::exps-returns-in_err-list-clause-read : goal.expressions::exps-returns-in_err-list-clause-read
 unfolding exps_read exps_turn
@@ -84,24 +84,24 @@ pub expressions::exps-returns-clause-read : goal.expressions::exps-returns-claus
 unfolding exps_read
 expressions::exps-returns-clause-read t c = λ n h.
     let a = c.args in
-    rw c.spent.ensures (turns_spent (exps_turn (exp_of n) a.room.nest a.room.round a.level a.limit) (length (seen a.rest) + 1) c.loop.counter _ _ (c.loop.invariant.read n h) (omega arith))
+    rw c.no_turn_left.ensures (turns_spent (exps_turn (exp_of n) a.room.nest a.room.round a.level a.limit) (length (seen a.rest) + 1) c.loop.counter _ _ (c.loop.invariant.read n h) (omega arith))
 
-pub commands::repeats_from-returns-in_err-found-clause-read : goal.commands::repeats_from-returns-in_err-found-clause-read
+pub commands::repeats_of_box-returns-in_err-found-clause-read : goal.commands::repeats_of_box-returns-in_err-found-clause-read
 unfolding repeats_read
-commands::repeats_from-returns-in_err-found-clause-read t c = λ n h.
+commands::repeats_of_box-returns-in_err-found-clause-read t c = λ n h.
     let a = c.args in
     let p = err_from_is_err_and c.from_residual.result c.from_residual.ensures.1 in
     rw (p.1, p.2) (turns_fails (repeat_turn (exp_of n) a.room.nest a.room.round) (length (seen a.first.rest) + 1) c.loop.counter _ _ (c.loop.invariant.read n h) c.in_err-found.field-0.0 (omega arith) (c.in_err-found.ensures.read n h))
 
-pub commands::repeats_from-returns-in-Last-clause-read : goal.commands::repeats_from-returns-in-Last-clause-read
+pub commands::repeats_of_box-returns-in-Last-clause-read : goal.commands::repeats_of_box-returns-in-Last-clause-read
 unfolding repeats_read
-commands::repeats_from-returns-in-Last-clause-read t c = λ n h.
+commands::repeats_of_box-returns-in-Last-clause-read t c = λ n h.
     let a = c.args in
     let whole = turns_last (repeat_turn (exp_of n) a.room.nest a.room.round) (length (seen a.first.rest) + 1) c.loop.counter _ _ (c.loop.invariant.read n h) (box_view command_view) _ _ (omega arith) (c.in_ok-found.ensures.read n h) c.in-Last.is in
     whole
 
-pub commands::repeats_from-loop-preserved : goal.commands::repeats_from-loop-preserved
-commands::repeats_from-loop-preserved t c =
+pub commands::repeats_of_box-loop-preserved : goal.commands::repeats_of_box-loop-preserved
+commands::repeats_of_box-loop-preserved t c =
     let a = c.args in
     record {
       total = c.loop.invariant.total;
@@ -109,9 +109,9 @@ commands::repeats_from-loop-preserved t c =
       read = λ n h. turns_more (repeat_turn (exp_of n) a.room.nest a.room.round) (length (seen a.first.rest) + 1) c.loop.counter _ _ (c.loop.invariant.read n h) (box_view command_view) _ _ (omega arith) (c.in_ok-found.ensures.read n h) c.in-More.is;
     }
 
-pub commands::repeats_from-returns-clause-read : goal.commands::repeats_from-returns-clause-read
+pub commands::repeats_of_box-returns-clause-read : goal.commands::repeats_of_box-returns-clause-read
 unfolding repeats_read
-commands::repeats_from-returns-clause-read t c = λ n h.
+commands::repeats_of_box-returns-clause-read t c = λ n h.
     let a = c.args in
     turns_spent (repeat_turn (exp_of n) a.room.nest a.room.round) (length (seen a.first.rest) + 1) c.loop.counter _ _ (c.loop.invariant.read n h) (omega arith) ∙ ap (λ m. Err (reading.Expected m)) (length_seen c.loop.whole.rest)
 
@@ -142,7 +142,7 @@ pub blocks::labels-returns-clause-read : goal.blocks::labels-returns-clause-read
 unfolding labels_read
 blocks::labels-returns-clause-read t c = λ n h.
     let a = c.args in
-    rw c.spent.ensures (turns_spent (λ s. label_read (exp_of n) a.room.nest a.room.round s (label_start s.rest)) (length (seen a.rest) + 1) c.loop.counter _ _ (c.loop.invariant.read n h) (omega arith))
+    rw c.no_turn_left.ensures (turns_spent (λ s. label_read (exp_of n) a.room.nest a.room.round s (label_start s.rest)) (length (seen a.rest) + 1) c.loop.counter _ _ (c.loop.invariant.read n h) (omega arith))
 
 pub declarations::entries-returns-in_err-list-clause-read : goal.declarations::entries-returns-in_err-list-clause-read
 unfolding entries_read
@@ -171,7 +171,7 @@ pub declarations::entries-returns-clause-read : goal.declarations::entries-retur
 unfolding entries_read
 declarations::entries-returns-clause-read t c = λ n h.
     let a = c.args in
-    rw c.spent.ensures (turns_spent (entry_turn (exp_of n) a.room.nest a.room.round) (length (seen a.rest) + 1) c.loop.counter _ _ (c.loop.invariant.read n h) (omega arith))
+    rw c.no_turn_left.ensures (turns_spent (entry_turn (exp_of n) a.room.nest a.room.round) (length (seen a.rest) + 1) c.loop.counter _ _ (c.loop.invariant.read n h) (omega arith))
 
 pub declarations::definitions-returns-in_err-list-clause-read : goal.declarations::definitions-returns-in_err-list-clause-read
 unfolding definitions_read definition_turn
@@ -201,7 +201,7 @@ pub declarations::definitions-returns-clause-read : goal.declarations::definitio
 unfolding definitions_read
 declarations::definitions-returns-clause-read t c = λ n h.
     let a = c.args in
-    rw c.spent.ensures (turns_spent (definition_turn (exp_of n) (command_of n) (definition_of n) a.room.nest a.room.round) (length (seen a.rest) + 1) c.loop.counter _ _ (c.loop.invariant.read n h) (omega arith))
+    rw c.no_turn_left.ensures (turns_spent (definition_turn (exp_of n) (command_of n) (definition_of n) a.room.nest a.room.round) (length (seen a.rest) + 1) c.loop.counter _ _ (c.loop.invariant.read n h) (omega arith))
 
 pub blocks::places-returns-in_err-list-clause-read : goal.blocks::places-returns-in_err-list-clause-read
 unfolding places_read
@@ -230,7 +230,7 @@ pub blocks::places-returns-clause-read : goal.blocks::places-returns-clause-read
 unfolding places_read
 blocks::places-returns-clause-read t c = λ n h.
     let a = c.args in
-    rw c.spent.ensures (turns_spent (place_turn (exp_of n) (command_of n) (definition_of n) a.mode a.room.nest a.room.round) (length (seen a.rest) + 1) c.loop.counter _ _ (c.loop.invariant.read n h) (omega arith))
+    rw c.no_turn_left.ensures (turns_spent (place_turn (exp_of n) (command_of n) (definition_of n) a.mode a.room.nest a.room.round) (length (seen a.rest) + 1) c.loop.counter _ _ (c.loop.invariant.read n h) (omega arith))
 
 pub commands::repeats-returns-in-None-clause-read : goal.commands::repeats-returns-in-None-clause-read
 commands::repeats-returns-in-None-clause-read t c = λ n h. let a = c.args in repeats_none (exp_of n) a.room.nest a.room.round (read_view command_view a.first) c.in-None.ensures
@@ -239,7 +239,7 @@ pub expressions::chosen-returns-clause-read : goal.expressions::chosen-returns-c
 expressions::chosen-returns-clause-read t c = λ n h place.
     let a = c.args in
     let same = ok_is (exp_view a.left.tree.exp) (exp_view c.in_ok-test.test.value) (Ok (exp_view a.left.tree.exp)) refl c.in_ok-test.ensures in
-    rw (choice_is (exp_of n) a.room.nest a.room.round a.begin a.left.height c.in_ok-this.this.height place _ (exp_view a.left.tree.exp) _ _ (seen a.rest) _ (omega arith) (c.in_ok-this.ensures.read n (omega arith)) same c.max.ensures) (c.otherwise.ensures.read n h)
+    rw (choice_is (exp_of n) a.room.nest a.room.round a.begin a.left.height c.in_ok-this.this.height place _ (exp_view a.left.tree.exp) _ _ (seen a.rest) _ (omega arith) (c.in_ok-this.ensures.read n (omega arith)) same c.max.ensures) (c.choice_rest.ensures.read n h)
 
 pub commands::test-returns-clause-read : goal.commands::test-returns-clause-read
 unfolding test_read
@@ -260,7 +260,7 @@ pub blocks::label_step-returns-in-Name-clause-read : goal.blocks::label_step-ret
 blocks::label_step-returns-in-Name-clause-read t c = λ n h. rw (← c.in-Name.ensures) (c.name_label.ensures.read n c.args.room.nest c.args.room.round)
 
 pub blocks::place_step-returns-clause-low : goal.blocks::place_step-returns-clause-low
-blocks::place_step-returns-clause-low t c = c.ended.ensures.low c.args.room.nest c.in_ok-found.ensures.low
+blocks::place_step-returns-clause-low t c = c.turn_of.ensures.low c.args.room.nest c.in_ok-found.ensures.low
 
 pub declarations::routine-returns-in-None-clause-read : goal.declarations::routine-returns-in-None-clause-read
 unfolding routine_read

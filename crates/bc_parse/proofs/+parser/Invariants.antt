@@ -8,23 +8,23 @@ use Rattle.bc_parse.proofs.+parser.Given as goal
 abbrev pub decreases-expressions::exp : goal.decreases-expressions::exp
 decreases-expressions::exp l = 64 * (l.room.nest + l.room.round) + 20
 
-abbrev pub decreases-expressions::exp_apart : goal.decreases-expressions::exp_apart
-decreases-expressions::exp_apart l = 64 * (l.room.nest + l.room.round) + 21
+abbrev pub decreases-expressions::boxed_exp : goal.decreases-expressions::boxed_exp
+decreases-expressions::boxed_exp l = 64 * (l.room.nest + l.room.round) + 21
 
 abbrev pub decreases-expressions::operand : goal.decreases-expressions::operand
 decreases-expressions::operand l = 64 * (l.room.nest + l.room.round) + 19
 
-abbrev pub decreases-expressions::started : goal.decreases-expressions::started
-decreases-expressions::started l = 64 * (l.room.nest + l.room.round) + 18
+abbrev pub decreases-expressions::operand_rest : goal.decreases-expressions::operand_rest
+decreases-expressions::operand_rest l = 64 * (l.room.nest + l.room.round) + 18
 
 abbrev pub decreases-expressions::bracket : goal.decreases-expressions::bracket
 decreases-expressions::bracket l = 64 * (l.room.nest + l.room.round) + 17
 
-abbrev pub decreases-expressions::grow : goal.decreases-expressions::grow
-decreases-expressions::grow l = 64 * (l.room.nest + l.room.round) + 19
+abbrev pub decreases-expressions::suffixes : goal.decreases-expressions::suffixes
+decreases-expressions::suffixes l = 64 * (l.room.nest + l.room.round) + 19
 
-abbrev pub decreases-expressions::grow_step : goal.decreases-expressions::grow_step
-decreases-expressions::grow_step l = 64 * (l.room.nest + l.room.round) + 18
+abbrev pub decreases-expressions::suffix_step : goal.decreases-expressions::suffix_step
+decreases-expressions::suffix_step l = 64 * (l.room.nest + l.room.round) + 18
 
 abbrev pub decreases-expressions::operated : goal.decreases-expressions::operated
 decreases-expressions::operated l = 64 * (l.room.nest + l.room.round) + 16
@@ -44,8 +44,8 @@ decreases-expressions::arguments l = 64 * (l.room.nest + l.room.round) + 23
 abbrev pub decreases-commands::command : goal.decreases-commands::command
 decreases-commands::command l = 64 * (l.room.nest + l.room.round) + 32
 
-abbrev pub decreases-commands::worded : goal.decreases-commands::worded
-decreases-commands::worded l = 64 * (l.room.nest + l.room.round) + 31
+abbrev pub decreases-commands::command_by_word : goal.decreases-commands::command_by_word
+decreases-commands::command_by_word l = 64 * (l.room.nest + l.room.round) + 31
 
 abbrev pub decreases-commands::compound : goal.decreases-commands::compound
 decreases-commands::compound l = 64 * (l.room.nest + l.room.round) + 30
@@ -74,14 +74,14 @@ decreases-commands::assigned l = 64 * (l.room.nest + l.room.round) + 28
 abbrev pub decreases-commands::repeats : goal.decreases-commands::repeats
 decreases-commands::repeats l = 64 * (l.room.nest + l.room.round) + 29
 
-abbrev pub decreases-commands::repeats_apart : goal.decreases-commands::repeats_apart
-decreases-commands::repeats_apart l = 64 * (l.room.nest + l.room.round) + 28
+abbrev pub decreases-commands::repeats_boxed : goal.decreases-commands::repeats_boxed
+decreases-commands::repeats_boxed l = 64 * (l.room.nest + l.room.round) + 28
 
 abbrev pub decreases-commands::step : goal.decreases-commands::step
 decreases-commands::step l = 64 * (l.room.nest + l.room.round) + 22
 
-abbrev pub decreases-commands::repeats_from : goal.decreases-commands::repeats_from
-decreases-commands::repeats_from l = 64 * (l.room.nest + l.room.round) + 27
+abbrev pub decreases-commands::repeats_of_box : goal.decreases-commands::repeats_of_box
+decreases-commands::repeats_of_box l = 64 * (l.room.nest + l.room.round) + 27
 
 abbrev pub decreases-commands::repeat_step : goal.decreases-commands::repeat_step
 decreases-commands::repeat_step l = 64 * (l.room.nest + l.room.round) + 26
@@ -131,8 +131,8 @@ decreases-declarations::declaration l = 64 * (l.room.nest + l.room.round) + 35
 abbrev pub decreases-blocks::item_part : goal.decreases-blocks::item_part
 decreases-blocks::item_part l = 64 * (l.room.nest + l.room.round) + 35
 
-abbrev pub decreases-blocks::part_of : goal.decreases-blocks::part_of
-decreases-blocks::part_of l = 64 * (l.room.nest + l.room.round) + 37
+abbrev pub decreases-blocks::add_element : goal.decreases-blocks::add_element
+decreases-blocks::add_element l = 64 * (l.room.nest + l.room.round) + 37
 
 abbrev pub decreases-blocks::place_step : goal.decreases-blocks::place_step
 decreases-blocks::place_step l = 64 * (l.room.nest + l.room.round) + 38
@@ -152,11 +152,11 @@ decreases-blocks::body l = 64 * (l.room.nest + l.room.round) + 42
 abbrev pub decreases-blocks::do_body : goal.decreases-blocks::do_body
 decreases-blocks::do_body l = 64 * (l.room.nest + l.room.round) + 43
 
-abbrev pub decreases-commands::unrepeated : goal.decreases-commands::unrepeated
-decreases-commands::unrepeated l = 64 * (l.room.nest + l.room.round) + 29
+abbrev pub decreases-commands::simple_command : goal.decreases-commands::simple_command
+decreases-commands::simple_command l = 64 * (l.room.nest + l.room.round) + 29
 
-abbrev pub decreases-expressions::otherwise : goal.decreases-expressions::otherwise
-decreases-expressions::otherwise l = 64 * (l.room.nest + l.room.round) + 15
+abbrev pub decreases-expressions::choice_rest : goal.decreases-expressions::choice_rest
+decreases-expressions::choice_rest l = 64 * (l.room.nest + l.room.round) + 15
 
 abbrev pub decreases-commands::test_else : goal.decreases-commands::test_else
 decreases-commands::test_else l = 64 * (l.room.nest + l.room.round) + 27
@@ -177,15 +177,15 @@ invariant-expressions::exps-loop l = record {
   read : (n : ℕ) → l.room.nest + l.room.round ≤ n → turns (exps_turn (exp_of n) l.room.nest l.room.round l.level l.limit) (length (seen l.rest) + 1 - l.counter) (read_view (list_view exps_view) l.found) ≡ turns (exps_turn (exp_of n) l.room.nest l.room.round l.level l.limit) (length (seen l.rest) + 1) (piece none 0 (seen l.rest));
 }
 
-abbrev pub invariant-expressions::grow-loop : goal.invariant-expressions::grow-loop
-invariant-expressions::grow-loop l = record {
+abbrev pub invariant-expressions::suffixes-loop : goal.invariant-expressions::suffixes-loop
+invariant-expressions::suffixes-loop l = record {
   total : l.turns ≡ length (seen l.fn.first.rest) + 1;
   low : l.left.height ≤ l.room.nest;
   read : (n : ℕ) → l.room.nest + l.room.round ≤ n + 1 → turns (grow_turn (exp_of n) l.room.nest l.room.round l.begin l.level) (length (seen l.fn.first.rest) + 1 - l.counter) (read_view levelled_view l.left) ≡ turns (grow_turn (exp_of n) l.room.nest l.room.round l.begin l.level) (length (seen l.fn.first.rest) + 1) (read_view levelled_view l.fn.first);
 }
 
-abbrev pub invariant-commands::repeats_from-loop : goal.invariant-commands::repeats_from-loop
-invariant-commands::repeats_from-loop l = record {
+abbrev pub invariant-commands::repeats_of_box-loop : goal.invariant-commands::repeats_of_box-loop
+invariant-commands::repeats_of_box-loop l = record {
   total : l.turns ≡ length (seen l.fn.first.rest) + 1;
   low : l.whole.height ≤ l.room.nest;
   read : (n : ℕ) → l.room.nest + l.room.round ≤ n + 1 → turns (repeat_turn (exp_of n) l.room.nest l.room.round) (length (seen l.fn.first.rest) + 1 - l.counter) (read_view (box_view command_view) l.whole) ≡ turns (repeat_turn (exp_of n) l.room.nest l.room.round) (length (seen l.fn.first.rest) + 1) (read_view (box_view command_view) l.fn.first);

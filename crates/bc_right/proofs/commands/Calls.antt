@@ -1,4 +1,4 @@
--- Calls and VALOFs do what they mean, by induction on how deep calls nest, and within it on the VALOFs.
+-- Calls and VALOFs do what they mean, by induction on the nesting depth of calls, and within it on the VALOFs.
 use Rattle.std.proofs.Common.{◌≡◌, ◌⊎◌, inl, inr, ⊎_elim, ℕ, zero, suc, ◌+◌, ◌%◌, ◌<◌, ◌≤◌, ◌==◌, Bool, true, false, Option, Some, None, List, [], ◌∷◌, ◌++◌, length, refl, sym, ap, ◌∙◌, subst, arith}
 use Rattle.std.specs.Prelude.{slice_set, slice_index, nat_le}
 use Rattle.std.proofs.lemmas.Bool.{cases_lt}
@@ -140,7 +140,7 @@ words_held : (m : List ℕ) (a v c : ℕ) (ws : List ℕ) → a < c → HasWords
 words_held m a v c [] lt h = tt
 words_held m a v c (w ∷ ws) lt h = (get_or-set_other m a c v 0 (λ e. omega arith) ∙ h.0, words_held m a v (c + 1) ws (omega arith) h.1)
 
--- the arguments become cells, above which none is live
+-- the arguments become the topmost live cells
 one_passed : (a : ℕ) (k : Cell) (cells : List Cell) (m : List ℕ) → ((w : ℕ) → k ≡ Set w → slice_index m a ≡ w) → Holds a cells m → Holds (a + 1) (slice_set cells a k) m
 one_passed a k cells m new h = record {
   agrees = λ n w e. ⊎_elim (λ ne. h.agrees n w (sym (get_or-set_other cells a n k Dead ne) ∙ e))
@@ -164,7 +164,7 @@ passed_holds (suc k) a (v ∷ vs) cells m w h =
     subst (λ z. Holds z (passed k (a + 1) vs (slice_set cells a (Set v))) m) e
     (passed_holds k (a + 1) vs (slice_set cells a (Set v)) m w.1 (one_passed a (Set v) cells m (λ u is. w.0 ∙ set_is v u (Set v) refl is) h))
 
--- an instruction that changes the store and the frame too
+-- an instruction that also changes the store and the frame
 moved : {K : Moment} {most : ℕ} {O : Moment} {x : State} {t top top1 p a b c g a1 b1 c1 p1 : ℕ} {m m1 : List ℕ} {st : outcomes.State} → Reached K most O x t top p a b c g m st → step (machine a b c p m st.streams) ≡ running (machine a1 b1 c1 p1 m1 st.streams)
     → Holds top1 st.cells m1 → Later O (moment top1 st.cells m1) → Reached K most O x t top1 p1 a1 b1 c1 (g + 1) m1 st
 unfolding runs
@@ -177,7 +177,7 @@ moved {x = x} r e holds later = record {
   later = later;
 }
 
--- the links that a call leaves at its frame
+-- the links that a call stores in the new frame
 abbrev linked : (f p c : ℕ) → List ℕ → List ℕ
 linked f p c m = slice_set (slice_set m f p) (f + 1) c
 
@@ -208,7 +208,7 @@ calls_at {O = O} {p = p} {s = s} {v = v} {b = b} {c = c} {end = end} {m = m} {st
       };
     })
 
--- cells below a frame, and its links, are no arguments
+-- arguments are neither below a frame nor its links
 passed_later : (M : Moment) (f top k : ℕ) (vs : List ℕ) (cells : List Cell) (m : List ℕ) → f + 2 ≤ top → Later M (moment f cells m) → Later M (moment top (passed k (f + 2) vs cells) m)
 passed_later M f top k vs cells m le l = record {
   low = omega (arith, l.low);
@@ -223,7 +223,7 @@ passed_later M f top k vs cells m le l = record {
 links_dead : (f k : ℕ) (vs : List ℕ) (cells : List Cell) (m : List ℕ) → Holds f cells m → (a : ℕ) → f ≤ a → a < f + 2 → cell_at (passed k (f + 2) vs cells) a ≡ Dead
 links_dead f k vs cells m h a lo hi = passed_outside k (f + 2) vs cells a (inl hi) ∙ h.above a lo
 
--- a frame's cells are given back
+-- the cells of a frame are freed
 given_back : (f k : ℕ) (cells0 cells : List Cell) (m0 m : List ℕ) → ((a : ℕ) → f ≤ a → a < f + 2 → cell_at cells0 a ≡ Dead) → Keeps (f + 2) cells0 m0 cells m → Holds (f + 2 + k) cells m → Holds f (closed k (f + 2) cells) m
 given_back f k cells0 cells m0 m links keeps h =
     let g = closed_holds k (f + 2) cells m h in
@@ -294,7 +294,7 @@ module _ (address : ℕ → ℕ) (S K : Moment) (old : Later S K) (most n : ℕ)
 nat_le_is : (a b : ℕ) → nat_le a b ≡ true → a ≤ b
 nat_le_is a b e = grind (arith, nat_tests)
 
--- a call into a frame, where what is done in it lands at its return
+-- a call with a new frame, if what is done in it reaches its return
 pub framed_lands : (S : Moment) (n v k size : ℕ) (run : ℕ → Run ℕ) (own : ℕ → ℕ) → ((K : Moment) → Later S K → (p limit a : ℕ) → p + size ≤ 65536 → Does K n (p + (2 + k)) p limit a v (return_goal own S) (run p))
     → CallLands S (suc n) v (λ vs f. in_frame f size (with_arguments k (f + 2) vs (run f)))
 framed_lands S n v k size run own body = record {
@@ -335,7 +335,7 @@ framed_lands S n v k size run own body = record {
       }))))
 
 module _ (S : Moment) (program : List Placed) (stands : ProgramStands S program) (library : LibraryLands S program) where
-  -- a call of a routine, over calls that nest less deep
+  -- a call of a routine, from calls that nest less deeply
   routine_lands : (n v : ℕ) (section : Placed) (r : Routine) → RoutineStands S section r v → ((w : ℕ) → CallLands S n w (calls program n w)) → CallLands S (suc n) v (λ vs f. entered (calls program n) (entered_of (Some (OfSection section r))) vs f)
   routine_lands n v section r own ih =
       let k = r.parameters in

@@ -69,19 +69,19 @@ module _ (C : Context) (address levels : ℕ → ℕ) (V : Bodies) (S : Moment) 
       (does_then (end_goal q.middle) goal (initialise C vs p s (s + n)) (λ u. rest) (variables_land K old vs p s (s + n) f c q.middle q.front (omega (arith, room)) l.0 limit a)
       (λ u a1 b1 c1 g turns h. does_at goal rest h (declarations_land K old ds p (s + n) x.1 q.middle mid top1 limit goal r q.back (omega (arith, room)) l.1 (omega arith) d a1))))
 
-  -- a list is entered at this item, or after it
+  -- a list is entered at this item or after it
   entry_lands : (K : Moment) → (top p limit a c c1 : ℕ) (goal : Goal Exit) (items : Entry → Run Exit) (at : Entry) (here rest : Bool) → (here || rest) ≡ true
       → (here ≡ true → c1 ≡ c) → Does K most top p limit a c goal (items Beginning) → (rest ≡ true → Does K most top p limit a c1 goal (items at)) → Does K most top p limit a c1 goal (items (met here at))
   entry_lands K top p limit a c c1 goal items at true rest e same h k = does_at goal (items Beginning) (same refl) h
   entry_lands K top p limit a c c1 goal items at false rest e same h k = k e
 
-  -- a list is entered at this CASE, or at one after it
+  -- a list is entered at this CASE or at one after it
   case_lands : (K : Moment) → (top p limit a c l later : ℕ) (goal : Goal Exit) (items : Entry → Run Exit) (at : Entry) (here rest : Bool) → (here || rest) ≡ true
       → address l ≡ c → Does K most top p limit a c goal (items Beginning) → (rest ≡ true → Does K most top p limit a (address later) goal (items at)) → Does K most top p limit a (address (cond here l later)) goal (items (met here at))
   case_lands K top p limit a c l later goal items at true rest e same h k = does_at goal (items Beginning) same h
   case_lands K top p limit a c l later goal items at false rest e same h k = k e
 
-  -- the limit is held in the frame: the loop is seen from the moment at which it is
+  -- the limit is kept in the frame: the loop is seen from the moment at which it was stored
   for_lands : (K : Moment) → Later S K → (p s c mid1 mid2 end limit a by : ℕ) (E : Exits) (start : Run (Unit {0})) (last variable : Run ℕ) (step : Run (Unit {0})) (body : Run Exit) → p + (s + 4) ≤ 65536
       → ((K1 : Moment) → Later S K1 → (limit a : ℕ) → Does K1 most (p + (s + 2)) p limit a c (end_goal mid1) start)
       → ((K1 : Moment) → Later S K1 → (limit a : ℕ) → StoresLast address S K1 most (p + (s + 2)) p limit a mid1 (s + 1) mid2 last)

@@ -1,4 +1,4 @@
--- A FOR's own test is a test like any other: it is read off over the cells with one more set, the limit's.
+-- The test of a FOR is a test like any other, in cells of which the limit's is set too.
 use Rattle.std.proofs.Common.{◌≡◌, ◌≢◌, ◌⊎◌, ⊎_elim, ℕ, ◌+◌, ◌%◌, ◌<◌, ◌≤◌, List, Bool, true, false, refl, sym, ap, ◌∙◌, subst, arith}
 use Rattle.std.specs.Prelude.{slice_set, slice_index, cond, nat_le}
 use Rattle.std.proofs.lemmas.List.{get_or-set_same, get_or-set_other, length-set}
@@ -24,7 +24,7 @@ use Rattle.bc_right.proofs.commands.Forms.{for_goal}
 use Rattle.bc_right.proofs.steps.Cells.{differ, set_is, dead_is_not}
 use Rattle.bc_right.proofs.steps.Steps.{later_then, later_refl}
 
--- a value is held in a dead cell
+-- a value is stored in a dead cell
 pub record Held (S K : Moment) (k n : ℕ) : Type 0 where
   pub dead : cell_at K.cells k ≡ Dead
   pub above : S.top ≤ k
@@ -34,7 +34,7 @@ pub record Held (S K : Moment) (k n : ℕ) : Type 0 where
 never_unset : (c : Cell) → c ≡ Dead → c ≡ Unset → ⊥
 never_unset c e h = let f : Dead ≡ Unset = sym e ∙ h in cc
 
--- what the test comes to, by the variable's cell
+-- the result of the test, given the variable's cell
 abbrev tested : Rel → Cell → ℕ → Run Bool
 tested rel Dead n st = Wild
 tested rel Unset n st = Wild
@@ -45,7 +45,7 @@ jumps_by true target end c g h = h
 jumps_by false target end c g h = h
 
 module _ (C : Context) (address levels : ℕ → ℕ) (V : Bodies) (S : Moment) (most : ℕ) (roots : Roots) (R : RootsLand C address levels V S most roots) where
-  -- the cells with the limit's
+  -- the cells with the limit's set
   abbrev more : ℕ → ℕ → outcomes.State → outcomes.State
   more k n st = record st { cells = slice_set st.cells k (Set n) }
 
@@ -58,7 +58,7 @@ module _ (C : Context) (address levels : ℕ → ℕ) (V : Bodies) (S : Moment) 
     then_greater : (i : ℕ) → outcomes.followed (outcomes.followed (read ((p + (s + 1)) % 65536) st) (λ y st1. Done (word_of (holds relations.Greater i y)) st1)) (λ v. Done (is_true v)) ≡ Done (is_true (word_of (holds relations.Greater i n))) st
     then_greater i = ap (λ z. outcomes.followed (outcomes.followed (content_of_cell z st) (λ y st1. Done (word_of (holds relations.Greater i y)) st1)) (λ v. Done (is_true v))) e2
 
-    -- the test over what the first read came to
+    -- the test after the first read
     over : Op → Outcome ℕ → Outcome Bool
     over op o = outcomes.followed (outcomes.second_side false o (read ((p + (s + 1)) % 65536)) (λ x y. given (value_of op x y)) st) (λ v. Done (is_true v))
 

@@ -1,4 +1,4 @@
--- The forms of commands, each over what its parts do.
+-- The forms of commands, each from what its parts do.
 use Rattle.std.proofs.Common.{◌≡◌, ℕ, ◌+◌, ◌<◌, ◌≤◌, ◌==◌, ◌||◌, Bool, true, false, not, List, [], ◌∷◌, refl, sym, ap, ◌∙◌, subst, arith}
 use Rattle.std.specs.Prelude.{cond}
 use Rattle.bc_text_items.specs.declared.item.Base.TheVariants as bases
@@ -22,11 +22,11 @@ use Rattle.bc_right.specs.commands.Exits.{exit_goal}
 use Rattle.bc_right.proofs.steps.Steps.{plain, at_place, jumped, lands_done, Onward, does_done, does_then, then_raw, does_onto, does_choose, does_at, does_jump, does_turn, turn, acts}
 use Rattle.bc_right.proofs.commands.Rounds.{round_goal, Raises, does_repeated}
 
--- a FOR's own test, of its variable with the limit n that is held
+-- the test of a FOR, which compares its variable with the stored limit n
 abbrev pub for_goal : (by n target end : ℕ) → Goal ℕ
 for_goal by n target end i a b c gain turns = jumps_to (holds (end_relation by) i n) target end c gain
 
--- where a test's sense is the other one of a condition's
+-- for a test whose sense is the opposite of a condition's
 abbrev pub Sides : (holds : Bool) → (target mid c : ℕ) → Type 0
 Sides holds target mid c = (holds ≡ true → c ≡ mid) × (holds ≡ false → c ≡ target)
 
@@ -43,7 +43,7 @@ has_default (case k is) = has_default is
 has_default (default is) = true
 has_default (label l is) = has_default is
 
--- a list has this entry
+-- the list has this point of entry
 abbrev pub Entered : Entry → Items → Type 0
 Entered Beginning is = Unit {0}
 Entered (AtCase v) is = has_case is v ≡ true
@@ -58,18 +58,18 @@ cased (case k is) f v = cond (k == v) f (cased is (f + 1) v)
 cased (default is) f v = cased is (f + 1) v
 cased (label k is) f v = cased is f v
 
--- where the code of a list that begins at c is entered
+-- the address at which the code of a list that begins at c is entered
 abbrev pub starts_at : (ℕ → ℕ) → Exits → Items → (first : ℕ) → ℕ → Entry → ℕ
 starts_at address E is first c Beginning = c
 starts_at address E is first c (AtCase v) = address (cased is first v)
 starts_at address E is first c AtDefault = address (defaulted is first 0)
 starts_at address E is first c (AtLabel l) = address (E.labels l)
 
--- what holds in a list whose labels are numbered from f on
+-- the exits in a list whose labels are numbered from f on
 abbrev pub in_list : Exits → Items → ℕ → Exits
 in_list E is f = record E { labels = labelled is f E.labels }
 
--- loops: E is what holds around, and l, l2, l3 are the labels of the beginning, of BREAK and of LOOP
+-- loops: E are the exits around the loop; l, l2, l3 are the labels of the beginning, of BREAK and of LOOP
 abbrev pub in_loop : Exits → (l2 l3 : ℕ) → Exits
 in_loop E l2 l3 = record E { broken = l2; looped = l3 }
 
@@ -97,7 +97,7 @@ module _ (address : ℕ → ℕ) (S K : Moment) (old : Later S K) (most : ℕ) w
   raise_exit E end low high le (Resulted v) a b c g turns h = h
   raise_exit E end low high le (Jumped l) a b c g turns h = (h.0, omega (arith, h.1))
 
-  -- code that goes on elsewhere
+  -- code that continues elsewhere
   pub goes_to : {top p limit a c : ℕ} (E : Exits) (mid end : ℕ) (r : Run Exit) → ((O : Moment) (x : State) (t a1 b1 c1 g : ℕ) (m : List ℕ) (st : outcomes.State) → c1 ≡ mid → Reached K most O x t top p a1 b1 c1 g m st → st.turns ≤ limit → Lands K most O x t top p limit (exit_goal address S E end limit) (Done Past st))
       → Does K most top p limit a c (exit_goal address S E mid limit) r → Does K most top p limit a c (exit_goal address S E end limit) r
   goes_to {top = top} {p = p} {limit = limit} E mid end r k d = does_onto (exit_goal address S E mid limit) (exit_goal address S E end limit) r d (λ O x t. on O x t) where
@@ -113,7 +113,7 @@ module _ (address : ℕ → ℕ) (S K : Moment) (old : Later S K) (most : ℕ) w
   pub ends_at : {top p limit a c : ℕ} (E : Exits) (mid end : ℕ) (r : Run Exit) → mid ≡ end → Does K most top p limit a c (exit_goal address S E mid limit) r → Does K most top p limit a c (exit_goal address S E end limit) r
   ends_at {top = top} {p = p} {limit = limit} {a = a} {c = c} E mid end r e d = subst (λ z. Does K most top p limit a c (exit_goal address S E z limit) r) e d
 
-  -- a command, and those after it
+  -- a command and those after it
   pub in_order : {top p limit a c : ℕ} (E : Exits) (mid end : ℕ) (r rest : Run Exit) → Does K most top p limit a c (exit_goal address S E mid limit) r → ((a1 : ℕ) → Does K most top p limit a1 mid (exit_goal address S E end limit) rest) → Does K most top p limit a c (exit_goal address S E end limit) (then_do r (onward rest))
   in_order {top = top} {p = p} {limit = limit} E mid end r rest d k = then_raw (exit_goal address S E mid limit) (exit_goal address S E end limit) r (onward rest) d (λ O x t. on O x t) where
     on : (O : Moment) (x : State) (t : ℕ) → Onward K most O x t top p limit (exit_goal address S E mid limit) (exit_goal address S E end limit) (onward rest)
@@ -181,7 +181,7 @@ module _ (address : ℕ → ℕ) (S K : Moment) (old : Later S K) (most : ℕ) w
   back_lands : {top p limit a c : ℕ} (E : Exits) (l end : ℕ) → JumpAt address S c l → Does K most top p limit a c (loop_goal E l end limit) back
   back_lands {limit = limit} E l end j = does_turn old (loop_goal E l end limit) (Again tt) j (λ b2 n lt. (refl, tt, lt))
 
-  -- a loop, over a round of it
+  -- a loop, from one iteration of it
   loop_lands : {top p limit a : ℕ} (E : Exits) (l end : ℕ) (round : LoopRound) → ((limit a : ℕ) → Does K most top p limit a (address l) (loop_goal E l end limit) round) → Does K most top p limit a (address l) (exit_goal address S E end limit) (repeated (λ u. round) tt)
   loop_lands E l end round h = does_repeated (λ u. round) (λ u. address l) (λ u. Unit {0}) (λ limit. exit_goal address S E end limit) (raise_exit E end) (λ u is limit a. h limit a) tt tt
 

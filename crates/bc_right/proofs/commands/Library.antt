@@ -1,4 +1,4 @@
--- The primitives do what they mean.
+-- The code of the primitives does what they mean.
 use Rattle.std.proofs.Common.{◌≡◌, ℕ, zero, suc, ◌+◌, ◌%◌, ◌/◌, ◌==◌, ◌<◌, ◌≤◌, List, [], ◌∷◌, true, false, refl, sym, ap, ◌∙◌, subst, arith}
 use Rattle.std.specs.Prelude.{slice_index, cond}
 use Rattle.bc_text_items.specs.declared.item.Item.{Item}
@@ -26,7 +26,7 @@ use Rattle.bc_right.specs.commands.Library.{argument_item, primitive_items, Prim
 use Rattle.bc_right.proofs.steps.Steps.{after_item, acts, went, plain, lands_done, leads_more}
 use Rattle.bc_right.proofs.commands.Calls.{zeroed, return_goal, framed_lands}
 
--- an instruction that changes A and the streams
+-- an instruction that changes only A and the streams
 streamed : {K : Moment} {most : ℕ} {O : Moment} {x : State} {t top p a b c g c1 : ℕ} {m : List ℕ} {st : outcomes.State} (a1 : ℕ) (streams : Content) → Reached K most O x t top p a b c g m st → step (machine a b c p m st.streams) ≡ running (machine a1 b c1 p m streams)
     → Reached K most O x t top p a1 b c1 (g + 1) m (record st { streams = streams })
 streamed {t = t} {g = g} a1 streams r e = record { few = r.few; are_words = r.are_words; leads = leads_more t g r.leads e; holds = r.holds; since = r.since; later = r.later }
@@ -39,7 +39,7 @@ SameOrWild (Going streams) x st = ⊥
 SameOrWild Wild x st = Unit {0}
 
 module _ (S K : Moment) (old : Later S K) (n : ℕ) where
-  -- the content of a cell is what the store has there, or the source is wild
+  -- the content of a cell is the store's word there, or the source is wild
   cell_lands : {top p limit a c : ℕ} (at : ℕ) (goal : Goal ℕ) (f : ℕ → Run ℕ) → ((O : Moment) (x : State) (t b : ℕ) (m : List ℕ) (st : outcomes.State) (w : ℕ) → slice_index m at ≡ w → st.turns ≤ limit → Reached K n O x t top p a b c 0 m st → Lands K n O x t top p limit goal (f w st)) → Does K n top p limit a c goal (then_do (read at) f)
   cell_lands {top = top} {p = p} {limit = limit} {a = a} {c = c} at goal f k = record { from = λ O x t b m st le here. by_cell O x t b m st le here (cell_at st.cells at) refl } where
     by_cell : (O : Moment) (x : State) (t b : ℕ) (m : List ℕ) (st : outcomes.State) → st.turns ≤ limit → Reached K n O x t top p a b c 0 m st → (cell : Cell) → cell_at st.cells at ≡ cell → Lands K n O x t top p limit goal (followed (content_of_cell cell st) f)
@@ -54,7 +54,7 @@ module _ (S K : Moment) (old : Later S K) (n : ℕ) where
       let loaded = acts old functions.Load true bases.P 2 rest s here ∙ ap (λ z. running (machine (slice_index m z) a (c + 1) p m st.streams)) at ∙ ap (λ z. running (machine z a (c + 1) p m st.streams)) e in
       (k w).from O x t a m st le (plain (went here loaded)))
 
-  -- streams change, and the value is 0
+  -- the streams change, and the value is 0
   changes : {top p limit a c end : ℕ} (change : Content → Content) (d : ℕ) → Stands (λ l. 0) S c (execute d ∷ return_items) end
       → ((O : Moment) (x : State) (t b : ℕ) (m : List ℕ) (st : outcomes.State) → Reached K n O x t top p a b c 0 m st → step (machine a b c p m st.streams) ≡ running (machine a b (c + 1) p m (change st.streams)))
       → Stands (λ l. 0) S (c + 1) return_items end → Does K n top p limit a c (return_goal (λ l. 0) S) (on_streams change 0)
@@ -63,7 +63,7 @@ module _ (S K : Moment) (old : Later S K) (n : ℕ) where
         lands_done limit (return_goal (λ l. 0) S) 0 (zeroed old (execute 4 ∷ []) tail (streamed a (change st.streams) here (e O x t b m st here))) le (refl, end, after_item tail);
   }
 
-  -- a byte of a string is read as the machine reads it, and so are n of them
+  -- the machine reads a byte of a string, and n bytes, as the source does
   byte_lands : {top : ℕ} (address k : ℕ) (m : List ℕ) (st : outcomes.State) → Holds top st.cells m → SameOrWild (byte_of_string address k st) (byte_at address k m) st
   byte_lands address k m st h = by_cell (cell_at st.cells ((address + k / 2) % 65536)) refl where
     by_cell : (cell : Cell) → cell_at st.cells ((address + k / 2) % 65536) ≡ cell → SameOrWild (followed (content_of_cell cell st) (λ word. Done (cond (k % 2 == 0) (word / 256) (word % 256)))) (byte_at address k m) st

@@ -1,4 +1,4 @@
--- Rounds, one after another.
+-- The iterations of a loop, by induction on the remaining turns.
 use Rattle.std.proofs.Common.{◌≡◌, ℕ, zero, suc, ◌<◌, ◌≤◌, List, arith}
 use Rattle.bc_machine_defs.specs.State.{State}
 use Rattle.bc_core.specs.Outcome as outcomes
@@ -6,7 +6,7 @@ use Rattle.bc_core.specs.Outcome.{Run, Round, Again, Leave, next_round, rounds, 
 use Rattle.bc_right.specs.steps.Landing.{Moment, Reached, Goal, Lands, Does}
 use Rattle.bc_right.proofs.steps.Steps.{plain, at_place, lands_done, bind, lands_map}
 
--- a round comes again at its beginning, having taken a turn, or leaves
+-- an iteration either returns to its beginning, having taken a turn, or leaves the loop
 abbrev pub round_goal : {A B : Type 0} → (start : A → ℕ) → (good : A → Type 0) → ℕ → Goal B → Goal (Round A B)
 round_goal start good limit goal (Again y) a b c g turns = (c ≡ start y) × good y × (turns < limit)
 round_goal start good limit goal (Leave z) a b c g turns = goal z a b c g turns

@@ -1,4 +1,4 @@
--- Where the sections' code stands, each routine's does.
+-- If the sections' code is in the store, each routine's code is at its address.
 use Rattle.std.proofs.Common.{◌≡◌, ℕ, ◌+◌, ◌==◌, Bool, true, false, Option, Some, None, List, [], ◌∷◌, refl, sym, ◌∙◌, subst}
 use Rattle.std.proofs.lemmas.Bool.{eqb-true}
 use Rattle.bc_core.specs.Commands as commands
@@ -29,7 +29,7 @@ no_callee k e = cc
 no_routine : (q : Primitive) (s : Placed) (r : Routine) → OfLibrary q ≡ OfSection s r → ⊥
 no_routine q s r e = cc
 
--- what is called by this address is a routine whose code stands there
+-- the routine that is called by this address has its code there
 abbrev Found : Moment → ℕ → Option Callee → Type 0
 Found S v k = (section : Placed) (r : Routine) → k ≡ Some (OfSection section r) → RoutineStands S section r v
 

@@ -1,4 +1,4 @@
--- SWITCHON: the machine's table, and the list that is entered by it.
+-- SWITCHON: the machine's table, and the list that it enters.
 use Rattle.std.proofs.Common.{◌≡◌, ℕ, ◌+◌, ◌<◌, ◌==◌, ◌||◌, Bool, true, false, List, ◌∷◌, ◌++◌, refl, sym, ap, ◌∙◌, subst, arith}
 use Rattle.std.specs.Prelude.{cond, slice_index}
 use Rattle.bc_text_items.specs.declared.item.Item.{Item}
@@ -52,7 +52,7 @@ defaulted_none (case k is) f without e = defaulted_none is (f + 1) without e
 defaulted_none (default is) f without e = absurd (let h : true ≡ false = e in cc)
 defaulted_none (label l is) f without e = defaulted_none is f without e
 
--- where there is a DEFAULT, its label is told by the list alone
+-- if there is a DEFAULT, its label depends only on the list
 defaulted_some : (is : Items) (f without : ℕ) → has_default is ≡ true → defaulted is f without ≡ defaulted is f 0
 defaulted_some no_item f without e = absurd (let h : false ≡ true = e in cc)
 defaulted_some (command c is) f without e = defaulted_some is f without e

@@ -1,4 +1,4 @@
--- A whole run.
+-- A whole run of the machine, from the boot code on.
 use Rattle.bc_right.proofs.commands.Library.{primitives_land}
 use Rattle.bc_right.proofs.commands.Section.{sections_stand}
 use Rattle.std.proofs.Common.{◌≡◌, ℕ, suc, ◌+◌, ◌≤◌, List, [], ◌∷◌, true, false, refl, ap, ◌∙◌, arith, subst}

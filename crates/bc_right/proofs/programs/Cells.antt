@@ -1,4 +1,4 @@
--- The first cells: globals and data as the store has them, and all else dead.
+-- The cells at the start: globals and data as in the store, and all others dead.
 use Rattle.std.proofs.Common.{◌≡◌, ◌⊎◌, inl, inr, ⊎_elim, ℕ, zero, suc, ◌+◌, ◌-◌, ◌<◌, ◌≤◌, ◌&&◌, Bool, true, false, Option, Some, None, List, [], ◌∷◌, ◌++◌, length, refl, sym, ap, ◌∙◌, arith}
 use Rattle.std.specs.Prelude.{slice_index, slice_get, nat_le, nat_lt}
 use Rattle.std.proofs.lemmas.Bool.{cases_lt}
@@ -12,7 +12,7 @@ use Rattle.bc_right.specs.steps.CodeAt.{HasWords}
 use Rattle.bc_right.proofs.programs.Globals.{or_zero}
 use Rattle.bc_right.proofs.programs.Standing.{word_at, DataAfter, DataAt}
 
--- a list that nothing unfolds
+-- hidden, so that no proof unfolds the list of 65,536 cells
 pub first_cells : List Standing → List Cell
 first_cells all = start_cells all
 
@@ -48,7 +48,7 @@ cell_is all a lt =
 pub cell_past : (all : List Standing) (a : ℕ) → 65536 ≤ a → cell_at (first_cells all) a ≡ Dead
 cell_past all a le = get_or-eq_default (first_cells all) Dead (let e = cells_length all in omega (arith, e))
 
--- no data stands at this address
+-- there is no data at this address
 abbrev pub ClearOf : ℕ → ℕ → Holding → Type 0
 ClearOf a from (ARoutine g) = Unit {0}
 ClearOf a from (Words ws) = (a < from) ⊎ (from + length ws ≤ a)
@@ -112,7 +112,7 @@ get_is [] k w e = absurd (let f : None ≡ Some w = e in cc)
 get_is (v ∷ ws) zero w e = (omega arith, let same : v ≡ w = cc in same)
 get_is (v ∷ ws) (suc k) w e = let h = get_is ws k w e in (omega (arith, h.0), h.1)
 
--- what data the source has at an address the store has there
+-- the data that the source has at an address is in the store there
 word_is : (store : List ℕ) (a w from : ℕ) (ws : List ℕ) → HasWords store from ws → word_of (Words ws) from a ≡ Some w → slice_index store a ≡ w
 word_is store a w from ws d f = by_test (nat_le from a) refl f where
   by_test : (t : Bool) → nat_le from a ≡ t → (elim t as (λ z. Option ℕ) [ true ↦ slice_get ws (a - from) | false ↦ None ]) ≡ Some w → slice_index store a ≡ w
@@ -141,7 +141,7 @@ is_global a e = by (nat_le 8 a) (nat_lt a 520) refl refl e where
   by true false f g h = absurd (let k : false ≡ true = h in cc)
   by false y f g h = absurd (let k : false ≡ true = h in cc)
 
--- outside of the globals a cell without data is dead
+-- outside the globals, a cell without data is dead
 pub cell_dead : (all : List Standing) (a : ℕ) → (a < 8) ⊎ (520 ≤ a) → Clear a all → cell_at (first_cells all) a ≡ Dead
 cell_dead all a out h = ⊎_elim (λ lt. cell_is all a lt ∙ by (nat_le 8 a && nat_lt a 520) refl) (λ ge. cell_past all a ge) (cases_lt a 65536) where
   by : (t : Bool) → (nat_le 8 a && nat_lt a 520) ≡ t → (elim t as (λ z. Cell) [ true ↦ global_cell (setting all (a - 8)) | false ↦ data_cell (data_word all a) ]) ≡ Dead
@@ -156,7 +156,7 @@ data_some : (o : Option ℕ) (w : ℕ) → data_cell o ≡ Set w → o ≡ Some 
 data_some None w e = absurd (let f : Dead ≡ Set w = e in cc)
 data_some (Some v) w e = let f : Set v ≡ Set w = e in let same : v ≡ w = cc in ap (λ z. Some z) same
 
--- a set cell is as the store has it
+-- a set cell has the store's value
 pub cells_agree : (all : List Standing) (store : List ℕ) (low high : ℕ) → DataAt store low high all → ((n : ℕ) → n < 512 → slice_index store (8 + n) ≡ or_zero (setting all n) 0)
     → (a w : ℕ) → cell_at (first_cells all) a ≡ Set w → slice_index store a ≡ w
 cells_agree all store low high stands globals a w e = ⊎_elim (λ lt. by (nat_le 8 a && nat_lt a 520) refl (sym (cell_is all a lt) ∙ e)) (λ ge. absurd (let f : Dead ≡ Set w = sym (cell_past all a ge) ∙ e in cc)) (cases_lt a 65536) where

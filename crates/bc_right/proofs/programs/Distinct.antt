@@ -1,4 +1,4 @@
--- What the linker refuses, and what holds where it refuses nothing: labels and globals that are distinct.
+-- What the linker refuses, and what holds if it refuses nothing: labels and globals are distinct.
 use Rattle.std.proofs.Common.{◌≡◌, ◌⊎◌, inl, inr, ℕ, ◌+◌, ◌==◌, Bool, true, false, Option, Some, None, List, [], ◌∷◌, ◌++◌, refl, sym, ap, ◌∙◌, subst, arith}
 use Rattle.std.specs.Prelude.{map, cond, ◌||◌, unwrap_or}
 use Rattle.std.specs.List.{list_any}
@@ -107,6 +107,6 @@ own_labels [] h = tt
 own_labels (p ∷ ps) h =
     (ap (λ t. unwrap_or (cond t (Some p.1) (address_in p.0 ps)) 0) (eqb_same p.0 p.0 refl), labels_further p ps ps h.0 (own_labels ps h.1))
 
--- where no label stands twice, each has its place for its address
+-- if no label is set twice, the address of each is its place
 pub labels_at : (c : ℕ) (is : List Item) → first_repeated (labels_of is) ≡ None → LabelsAt (label_address (label_places c is)) (label_places c is)
 labels_at c is e = own_labels (label_places c is) (subst Distinct (sym (firsts c is)) (are_distinct (labels_of is) e))

@@ -1,4 +1,4 @@
--- The law's premises are met: by the program whose START finishes, whatever derivations are chosen.
+-- The law's premises can be met: by the program whose START only finishes, whatever derivations are chosen.
 use Rattle.std.proofs.Common.{◌≡◌, ⊎_elim, ℕ, zero, suc, ◌-◌, ◌<◌, ◌≤◌, ◌&&◌, Bool, true, false, None, List, [], ◌∷◌, ◌++◌, length, refl, arith}
 use Rattle.std.specs.Prelude.{Some, All, slice_index, nat_lt, replicate}
 use Rattle.std.proofs.lemmas.Bool.{cases_lt}
@@ -46,7 +46,7 @@ small_then_zeros [] n i h = zeros_small n i
 small_then_zeros (w ∷ ws) n zero h = let k = (both_true (nat_lt w 65536) (are_small ws) h).0 in grind (arith, nat_tests)
 small_then_zeros (w ∷ ws) n (suc i) h = small_then_zeros ws n i (both_true (nat_lt w 65536) (are_small ws) h).1
 
--- START() BE FINISH
+-- `START() BE FINISH`
 abbrev finishing : Core
 finishing = record { places = Code (record { global = Some 1; parameters = 0; body = Does (block [] (command c.Finish no_item)) }) ∷ []; valofs = [] }
 

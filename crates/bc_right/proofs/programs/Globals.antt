@@ -1,4 +1,4 @@
--- The cells of the globals: what the linker writes there is what the sections and the primitives set.
+-- The linker writes into the cells of the globals exactly what the sections and the primitives set.
 use Rattle.std.proofs.Common.{◌≡◌, ℕ, ◌+◌, ◌==◌, ◌<◌, Bool, true, false, Option, Some, None, List, [], ◌∷◌, ◌++◌, length, append_assoc, refl, sym, ap, ◌∙◌, subst, arith}
 use Rattle.std.specs.Prelude.{map, slice_index, slice_set}
 use Rattle.std.specs.List.{flat_map}
@@ -72,7 +72,7 @@ absent_found (p ∷ ps) n h = by (p.0 == n) refl (absent_found ps n h.1) where
   by true e ih = absurd (h.0 (sym (eqb-true p.0 n e)))
   by false e ih = ih
 
--- where the globals are distinct, each cell holds what sets it
+-- if the globals are distinct, each cell holds what sets it
 pub written_found : (ps : Pairs) (cells : List ℕ) (n : ℕ) → Distinct (numbers ps) → n < length cells → slice_index (written ps cells) n ≡ or_zero (found ps n) (slice_index cells n)
 written_found [] cells n h lt = refl
 written_found (p ∷ ps) cells n h lt =
@@ -102,7 +102,7 @@ or_none : (o : Option ℕ) → or_else o None ≡ o
 or_none None = refl
 or_none (Some v) = refl
 
--- of distinct ones it is the same which come first
+-- for distinct globals the order doesn't matter
 pub found_exchanged : (ps qs : Pairs) (n : ℕ) → Distinct (numbers ps ++ numbers qs) → found (ps ++ qs) n ≡ or_else (found qs n) (found ps n)
 found_exchanged [] qs n h = sym (or_none (found qs n))
 found_exchanged (p ∷ ps) qs n h = by (p.0 == n) refl (found_exchanged ps qs n h.1) where
@@ -148,7 +148,7 @@ or_assoc : (a b c : Option ℕ) → or_else (or_else a b) c ≡ or_else a (or_el
 or_assoc None b c = refl
 or_assoc (Some v) b c = refl
 
--- what sets a global among a section's places, and then among others
+-- what sets a global, among a section's places and then among others
 pub setting_among : (address : ℕ → ℕ) (j : ℕ) (ps : List Place) (ss : List Standing) (n : ℕ) → setting (standing_from address (j + 1) ps ++ ss) n ≡ or_else (found (pairs_of address (global_settings (setting_items j ps))) n) (setting ss n)
 setting_among address j [] ss n = refl
 setting_among address j (commands.Code r ∷ ps) ss n = by_global r.global (setting_among address (j + 1) ps ss n) where
@@ -174,7 +174,7 @@ found_both (p ∷ ps) qs n = by (p.0 == n) (found_both ps qs n) where
   by true ih = refl
   by false ih = ih
 
--- the numbers of the globals that are set, as the linker looks for one twice
+-- the numbers of the globals that are set, in the form in which the linker looks for duplicates
 set_numbers : (address : ℕ → ℕ) (is : List Item) → numbers (pairs_of address (global_settings is)) ≡ globals_set is
 set_numbers address [] = refl
 set_numbers address (Label m ∷ is) = set_numbers address is

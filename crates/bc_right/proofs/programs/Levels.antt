@@ -1,4 +1,4 @@
--- In a section that fits, every VALOF stands at its level.
+-- In a well-formed section every VALOF is at its level.
 use Rattle.std.proofs.Common.{◌≡◌, ℕ, zero, suc, ◌+◌, ◌&&◌, Bool, true, false, List, [], ◌∷◌, refl}
 use Rattle.std.specs.Prelude.{map, slice_get, length, not, nat_le}
 use Rattle.std.proofs.lemmas.Bool.{eqb-true}
@@ -18,7 +18,7 @@ both_true : (a b : Bool) → (a && b) ≡ true → (a ≡ true) × (b ≡ true)
 both_true true b e = (refl, e)
 both_true false b e = absurd (let f : false ≡ true = e in cc)
 
--- what a body stands among has the levels of the section's VALOFs
+-- the context of a body has the levels of the section's VALOFs
 abbrev Agrees : (ℕ → ℕ) → Around → Type 0
 Agrees levels A = (n s : ℕ) → stands_at (slice_get A.levels n) s ≡ true → levels n ≡ s
 

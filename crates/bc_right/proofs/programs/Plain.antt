@@ -1,4 +1,4 @@
--- The code of routines holds no byte, and sets no global.
+-- The code of routines contains no byte and sets no global.
 use Rattle.std.proofs.Common.{ℕ, ◌+◌, ◌==◌, Bool, true, false, not, List, [], ◌∷◌, ◌++◌}
 use Rattle.bc_text_items.specs.declared.item.Item.{Item}
 use Rattle.bc_text_items.specs.declared.item.Item.TheVariants.{Label, Data, DataLabel, Byte, Operation, Global}
@@ -52,7 +52,7 @@ are_so (pieces.Body n ∷ ps) h = are_so ps h.1
 root_plain : {T : Table} {r : Root} (d : RootDerives T r) (t f : ℕ) → PlainPieces (root_code d t f)
 root_plain d t f = are_so (root_code d t f) (code_of_root_plain d t f)
 
--- and so with the bodies of VALOFs filled in
+-- the same with the bodies of VALOFs filled in
 filled_plain : (levels : ℕ → ℕ) (bodies : BodiesCode) → ((n s l f : ℕ) → Plain (bodies n s l f).0) → (ps : List Piece) (g : ℕ) → PlainPieces ps → Plain (fill (λ i. i) levels bodies ps g).0
 filled_plain levels bodies all [] g h = tt
 filled_plain levels bodies all (pieces.Item i ∷ ps) g h = plain_both (i ∷ []) (fill (λ i. i) levels bodies ps g).0 h.0 (filled_plain levels bodies all ps g h.1)

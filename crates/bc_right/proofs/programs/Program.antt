@@ -1,4 +1,4 @@
--- A whole program: what stands in the store that the linker makes, and the run from its start.
+-- A whole program: what is in the store that the linker makes, and the run from its start.
 use Rattle.std.proofs.Common.{◌≡◌, ◌⊎◌, inl, inr, ⊎_elim, ℕ, suc, ◌+◌, ◌-◌, ◌==◌, ◌<◌, ◌≤◌, Bool, true, false, Option, Some, None, List, [], ◌∷◌, ◌++◌, length, append_assoc, length-append, refl, sym, ap, ◌∙◌, subst, arith}
 use Rattle.std.specs.Prelude.{slice_index, nat_le, cond, All, replicate}
 use Rattle.std.proofs.lemmas.Bool.{eqb-true}
@@ -63,7 +63,7 @@ module _ (T : Table) (choice : Choice T) (store : List ℕ) where
   plain : (core : Core) → Plain (routines core)
   plain core = section_plain choice (level_of core.valofs) core.valofs core.places (length core.places + 1)
 
-  -- a section's routines, and after them its data
+  -- a section's routines, followed by its data
   pub record OneStands (address : ℕ → ℕ) (core : Core) (c end : ℕ) : Type 0 where
     pub code : HasItems address store c (routines core)
     pub data_at : DataAt store (c + words (routines core)) end (standing_from address 1 core.places)
@@ -92,7 +92,7 @@ module _ (T : Table) (choice : Choice T) (store : List ℕ) where
         within = omega (arith, apart.size, size);
       }
 
-  -- no label stands twice
+  -- no label is set twice
   abbrev pub NoneTwice : List Core → Type 0
   NoneTwice [] = Unit {0}
   NoneTwice (core ∷ cores) = (first_repeated (labels_of (section core)) ≡ None) × NoneTwice cores
@@ -133,7 +133,7 @@ module _ (T : Table) (choice : Choice T) (store : List ℕ) where
   all_fit (core ∷ cores) h = let first : 0 < suc (length cores) = omega arith in (h 0 core first, all_fit cores (λ k d lt. h (suc k) d (omega arith)))
 
   module _ (S : Moment) (same_store : S.store ≡ store) (all : List Standing) (dead : (a : ℕ) → (a < 8) ⊎ (520 ≤ a) → Clear a all → cell_at S.cells a ≡ Dead) (top_fits : S.top < 65536) where
-    -- the routines of all sections: no data stands among them
+    -- the routines of all sections, with no data among them
     all_stand : (cores : List Core) (c : ℕ) (before : List Standing) → HasWords store c (words_from c (sections cores)) → NoneTwice cores → AllFit cores → ((a : ℕ) → c ≤ a → Clear a before) → before ++ standing (placed cores (addresses_from c (sections cores))) ≡ all
         → 520 ≤ c → c + size_of_segments (sections cores) ≤ S.top → AllStand S (placed cores (addresses_from c (sections cores)))
     all_stand [] c before h e fit clear is low high = tt
@@ -204,7 +204,7 @@ known_stands S (k ∷ ks) v q h e = by (λ g. known_stands S ks v q h.1 g) (k.ad
 no_routine : (s : Placed) (r : commands.Routine) (q : Primitive) → Some (OfSection s r) ≡ Some (OfLibrary q) → ⊥
 no_routine s r q e = let f : OfSection s r ≡ OfLibrary q = cc in cc
 
--- what is called among a section's places is no primitive
+-- a call that finds its routine among a section's places is no call of a primitive
 no_primitive : (section : Placed) (l : ℕ) (ps : List Place) (v : ℕ) (q : Primitive) → callee_among section l ps v ≡ Some (OfLibrary q) → ⊥
 no_primitive section l [] v q e = let f : None ≡ Some (OfLibrary q) = e in cc
 no_primitive section l (commands.Code r ∷ ps) v q e = by (no_primitive section (l + 1) ps v q) (section.address l == v) e where
@@ -225,7 +225,7 @@ library_found (p ∷ ps) v q e = by (λ g. library_found ps v q g) (callee_among
   by ih None f g = ih g
   by ih (Some k) f g = absurd (no_primitive p 1 p.core.places v q (f ∙ g))
 
--- code without labels stands, whatever their addresses
+-- code without labels is right whatever the addresses of labels are
 abbrev library_address : ℕ → ℕ
 library_address = label_address (label_places 520 library_items)
 

@@ -1,4 +1,4 @@
--- The linker's addresses are a map: routines lie in order, and after them data, section after section.
+-- The linker's addresses are a map: section by section, routines are in order, followed by data.
 use Rattle.std.proofs.Common.{◌≡◌, inl, inr, ℕ, zero, suc, ◌+◌, ◌≤◌, List, [], ◌∷◌, ◌++◌, length, refl, ap, subst, arith}
 use Rattle.std.specs.Prelude.{map, All}
 use Rattle.bc_text_items.specs.Sizes.{size_of_all}
@@ -23,7 +23,7 @@ use Rattle.bc_right.proofs.programs.Standing.{words_front, DataAfter, DataAt}
 use Rattle.bc_right.proofs.programs.Cells.{in_bounds}
 use Rattle.bc_right.proofs.programs.Program.{section, routines, sections, first_part, one_stands, NoneTwice, after_first, section_words, sections_once}
 
--- routines lie in order between two bounds
+-- routines are in order between two bounds
 abbrev RoutineAfter : Holding → (a low : ℕ) → (ℕ → Type 0) → Type 0
 RoutineAfter (ARoutine g) a low rest = (low ≤ a) × rest (a + 1)
 RoutineAfter (Words ws) a low rest = rest low
@@ -32,7 +32,7 @@ abbrev RoutinesAt : (low high : ℕ) → List Standing → Type 0
 RoutinesAt low high [] = low ≤ high
 RoutinesAt low high (s ∷ ss) = RoutineAfter s.holding s.address low (λ z. RoutinesAt z high ss)
 
--- a routine has a word
+-- a routine has at least one word
 body_words : (roots : Roots) (b : Body) (s f : ℕ) → 1 ≤ words (emit_body (λ i. i) roots b s f).0
 body_words roots (Gives e) s f = let v = roots (Value s e) 0 f in let h = words_append v.0 (execute 4 ∷ []) in omega arith
 body_words roots (Does b) s f = let x = emit_block (λ i. i) roots b s (body_exits 0) f in let h = words_append x.0 (zero_item ∷ execute 4 ∷ []) in omega arith
@@ -53,7 +53,7 @@ routines_at roots address store low j (commands.Static w ∷ ps) f c le h = rout
 routines_at roots address store low j (commands.Table ws ∷ ps) f c le h = routines_at roots address store low (j + 1) ps f c le h
 routines_at roots address store low j (commands.Text bytes ∷ ps) f c le h = routines_at roots address store low (j + 1) ps f c le h
 
--- ranges that lie between bounds, and one of which lies apart from all others
+-- ranges between two bounds, and a range that overlaps none of the others
 abbrev Within : (low high : ℕ) → List Standing → Type 0
 Within low high [] = Unit {0}
 Within low high (s ∷ ss) = (low ≤ (range_of s).from) × ((range_of s).from + (range_of s).size ≤ high) × Within low high ss
@@ -93,7 +93,7 @@ routine_bounds low high (s ∷ ss) h = by s.address s.holding (λ z k. routine_b
   by from (ARoutine g) ih d = let k = ih (from + 1) d.1 in omega (arith, d.0)
   by from (Words ws) ih d = ih low d
 
--- each routine lies among the routines, and each place's words among the data
+-- each routine is among the routines, and each place's words are among the data
 section_within : (store : List ℕ) (rl rh dl dh : ℕ) (ss : List Standing) → rh ≤ dl → RoutinesAt rl rh ss → DataAt store dl dh ss → Within rl dh ss
 section_within store rl rh dl dh [] le r d = tt
 section_within store rl rh dl dh (s ∷ ss) le r d = by s.address s.holding (λ a b k l q. section_within store a rh b dh ss q k l) r d where
@@ -161,7 +161,7 @@ module _ (T : Table) (choice : Choice T) (store : List ℕ) where
         apart = each_both c end (end + size_of_segments (sections T choice store cores)) here rest own (section_apart store c middle middle end here (omega arith) ordered one.data_at) later.within later.apart;
       }
 
--- the same in the map's words
+-- the same in the terms of the map
 all_apart_from : (r : Range) (ss : List Standing) → ApartFrom r ss → All (Apart r) (map range_of ss)
 all_apart_from r [] h k d lt = absurd (omega arith)
 all_apart_from r (s ∷ ss) h zero d lt = h.0

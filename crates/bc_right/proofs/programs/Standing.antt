@@ -1,4 +1,4 @@
--- Words that stand in a store are items that stand there, and the data of a section's places.
+-- Words in a store are items that are there, and the data of a section's places.
 use Rattle.std.proofs.Common.{◌≡◌, ℕ, zero, suc, ◌+◌, ◌*◌, ◌<◌, ◌≤◌, Option, Some, None, List, [], ◌∷◌, ◌++◌, length, append_assoc, length-append, refl, sym, ap, ◌∙◌, subst, arith}
 use Rattle.std.specs.Prelude.{map, slice_index}
 use Rattle.bc_text_items.specs.declared.item.Item.{Item}
@@ -34,7 +34,7 @@ first_word : (front : List ℕ) (x : ℕ) (rest : List ℕ) → slice_index (fro
 first_word [] x rest = refl
 first_word (f ∷ fs) x rest = first_word fs x rest
 
--- what stands after other words
+-- what follows other words
 pub words_after : (front xs rest : List ℕ) → HasWords (front ++ (xs ++ rest)) (length front) xs
 words_after front [] rest = tt
 words_after front (x ∷ xs) rest =
@@ -57,7 +57,7 @@ pub labels_back : (address : ℕ → ℕ) (ps qs : List (ℕ × ℕ)) → Labels
 labels_back address [] qs h = h
 labels_back address (p ∷ ps) qs h = labels_back address ps qs h.1
 
--- words and labels at their places are items that stand
+-- words and labels at their places are items in the store
 pub items_stand : (address : ℕ → ℕ) (store : List ℕ) (c : ℕ) (is : List Item) → Plain is → HasWords store c (assembled address is) → LabelsAt address (label_places c is) → HasItems address store c is
 items_stand address store c [] plain h l = tt
 items_stand address store c (Byte b ∷ is) plain h l = absurd plain
@@ -80,7 +80,7 @@ plain_size (DataLabel n ∷ is) h = ap (λ z. 1 + z) (plain_size is h)
 plain_size (Operation f i b n ∷ is) h = ap (λ z. size (Operation f i b n) + z) (plain_size is h)
 plain_size (Global g m ∷ is) h = absurd h
 
--- data: the words of the places that have some stand at their addresses, in order between two bounds
+-- data: the words of the places that have some are at their addresses, in order between two bounds
 abbrev pub DataAfter : List ℕ → Holding → (a low : ℕ) → (ℕ → Type 0) → Type 0
 DataAfter store (ARoutine g) a low rest = rest low
 DataAfter store (Words ws) a low rest = HasWords store a ws × (low ≤ a) × rest (a + length ws)

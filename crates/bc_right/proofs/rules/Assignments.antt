@@ -1,4 +1,4 @@
--- The rules of assignments: one cell is set.
+-- The rules for assignments: one cell is set.
 use Rattle.std.proofs.Common.{◌≡◌, ◌⊎◌, ⊎_elim, ℕ, ◌+◌, ◌≤◌, ◌<◌, ◌||◌, List, [], ◌∷◌, ◌++◌, length, true, not, Some, None, refl, sym, ap, ◌∙◌, subst, arith}
 use Rattle.std.specs.Prelude.{slice_set, slice_index, cond, IsTrue, is_some}
 use Rattle.std.proofs.lemmas.Bool.{cases_lt}
@@ -99,7 +99,7 @@ pub side_above : (a : Exp) (s : ℕ) → operand_of a ≡ None → side_level a 
 side_above a s e = ap (λ z. cond (is_some z) s (s + 1)) e
 
 module _ (C : Context) (address levels : ℕ → ℕ) (V : Bodies) (S1 : Moment) (most : ℕ) (bodies : BodiesCode Item) (places : (l : ℕ) → address l ≡ C.place l) where
-  -- both sides of an assignment, and the cell
+  -- both sides of an assignment, then the store
   abbrev sided : (v a : Exp) (p s : ℕ) → Run (Unit {0})
   sided v a p s = both (has_call v || has_call a) (value C v p s) (value C a p s) (λ w at. write at w)
 

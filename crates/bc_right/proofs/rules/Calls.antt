@@ -1,4 +1,4 @@
--- The rule of calls and VALOFs.
+-- The rule for calls and VALOFs.
 use Rattle.std.proofs.Common.{◌≡◌, ℕ, ◌+◌, ◌≤◌, ◌<◌, List, [], ◌∷◌, ◌++◌, length, refl, sym, ap, ◌∙◌, subst, arith}
 use Rattle.std.specs.Prelude.{slice_set, slice_index}
 use Rattle.std.proofs.lemmas.List.{get_or-set_same}
@@ -30,7 +30,7 @@ use Rattle.bc_right.proofs.rules.Stretches.{gets_goal}
 use Rattle.bc_right.proofs.rules.Values.{Gives}
 
 module _ (C : Context) (address levels : ℕ → ℕ) (V : Bodies) (S : Moment) (most : ℕ) (bodies : BodiesCode Item) where
-  -- the arguments' values, each held at its offset
+  -- the arguments' values, each stored at its offset
   abbrev pub GivesAll : Args → ℕ → List Piece → Type 0
   GivesAll no_argument s xs = xs ≡ []
   GivesAll (argument e es) s xs =

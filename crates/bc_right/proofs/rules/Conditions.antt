@@ -1,4 +1,4 @@
--- The rules of comparisons with 0 in a test, and of conditions.
+-- The rules for tests that compare with 0, and for conditions.
 use Rattle.std.proofs.Common.{◌≡◌, ℕ, ◌+◌, ◌≤◌, ◌==◌, ◌||◌, List, [], ◌∷◌, ◌++◌, Bool, true, false, not, Some, None, refl, sym, ap, ◌∙◌, subst, arith}
 use Rattle.std.specs.Prelude.{cond}
 use Rattle.std.proofs.lemmas.Bool.{eqb-true}
@@ -26,7 +26,7 @@ use Rattle.bc_right.proofs.rules.Values.{Gives}
 use Rattle.bc_right.proofs.rules.Tests.{Tests, jumps, gained, flipped_back, word_is_true, closed_jump, jump_stands}
 
 module _ (C : Context) (address levels : ℕ → ℕ) (V : Bodies) (S : Moment) (most : ℕ) (bodies : BodiesCode Item) where
-  -- the value of a comparison, which A alone decides
+  -- the value of a comparison, which depends only on A
   abbrev compared : (Bool → Bool) → ℕ → Goal ℕ
   compared f end w a b c gain turns = (w ≡ word_of (f (a == 0))) × (c ≡ end)
 
@@ -80,7 +80,7 @@ module _ (C : Context) (address levels : ℕ → ℕ) (V : Bodies) (S : Moment) 
   closed_compared : {e : Exp} {s : ℕ} {xs : List Piece} (sense : Bool) (target : ℕ) → Gives C address levels V S most bodies Any e s xs → Closed (xs ++ jump_if sense target ∷ [])
   closed_compared {xs = xs} sense target h = closed_both xs (jump_if sense target ∷ []) h.closed (closed_jump sense target)
 
-  -- and its jump, on A
+  -- the jump of a comparison, which depends on A
   compared_jumps : (xs : List Piece) (f : Bool → Bool) (sense by : Bool) (target : ℕ) (run : Run ℕ) → ((zero : Bool) → agrees by (not zero) ≡ agrees sense (f zero)) → Closed xs → (K : Moment) → Later S K → (p s a c end limit g : ℕ) → Stands address S c (filled levels bodies (xs ++ jump_if by target ∷ []) g) end
       → ((mid : ℕ) → Stands address S c (filled levels bodies xs g) mid → Does K most (p + (s + 1)) p limit a c (compared f mid) run)
       → Does K most (p + s) p limit a c (test_goal sense (address target) end) (then_do run (λ v. Done (is_true v)))
@@ -116,7 +116,7 @@ module _ (C : Context) (address levels : ℕ → ℕ) (V : Bodies) (S : Moment) 
         (λ mid front. compares l r s operators.NotEqual (λ z. not z) (λ v w. refl) (is_zero r) (is_zero l) refl refl is h K old p a c mid limit g front room);
   }
 
-  -- a condition: the test jumps past the first part, at whose end a jump leads past the second
+  -- a condition: the test jumps past the first part, which ends with a jump past the second
   record InThree (c l1 l2 : ℕ) (cs xs ys : List Piece) (g end : ℕ) : Type 0 where
     tested : ℕ
     first_end : ℕ

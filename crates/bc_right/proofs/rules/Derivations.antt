@@ -1,4 +1,4 @@
--- Each derivation is right, by induction on it: one line a rule.
+-- Each derivation is right, by induction over the derivation, with one line for each rule.
 use Rattle.std.proofs.Common.{◌≡◌, ℕ, ◌+◌, ◌≤◌, Bool, true, false, Some, None, refl, subst}
 use Rattle.std.specs.Prelude.{cond}
 use Rattle.bc_word.specs.declared.operator.Op.{Op}
@@ -30,7 +30,7 @@ use Rattle.bc_right.proofs.rules.Conditions.{j8_tests, j9_tests, v20_gives, v21_
 use Rattle.bc_right.proofs.rules.Calls.{GivesAll, call_gives, valof_gives}
 use Rattle.bc_right.proofs.rules.Assignments.{a1_assigns, a2_assigns, a3_assigns, limit_stores, side_is, side_above}
 
--- what stands beside a 0 is one of the two sides
+-- the operand beside a 0 is one of the two sides
 beside_levelled : (levels : ℕ → ℕ) (a b c : Exp) (s : ℕ) (here there : Bool) → cond here (Some a) (cond there (Some b) None) ≡ Some c → Levelled levels a s → Levelled levels b s → Levelled levels c s
 beside_levelled levels a b c s true there e ha hb = let same : a ≡ c = cc in subst (λ z. Levelled levels z s) same ha
 beside_levelled levels a b c s false true e ha hb = let same : b ≡ c = cc in subst (λ z. Levelled levels z s) same hb

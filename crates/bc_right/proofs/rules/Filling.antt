@@ -1,4 +1,4 @@
--- Pieces whose bodies are filled in, in their parts.
+-- Filling bodies into pieces can be done part by part, since a label follows each body.
 use Rattle.std.proofs.Common.{◌≡◌, ℕ, List, [], ◌∷◌, ◌++◌, refl, sym, ap, ◌∙◌, subst, append_assoc}
 use Rattle.bc_text_items.specs.declared.item.Item.{Item}
 use Rattle.bc_text_items.specs.declared.item.Item.TheVariants as items
@@ -8,7 +8,7 @@ use Rattle.bc_gen_defs.specs.Bodies.{BodiesCode, label_ahead, fill}
 use Rattle.bc_right.specs.steps.Landing.{Moment, Stands}
 use Rattle.bc_right.proofs.steps.Steps.{parts}
 
--- a label stands right after each body
+-- a label comes right after each body
 abbrev pub LabelAhead : List Piece → Type 0
 LabelAhead (pieces.Item (items.Label l) ∷ ps) = Unit {0}
 LabelAhead _ = ⊥

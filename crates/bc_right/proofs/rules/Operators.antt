@@ -1,5 +1,4 @@
--- The rules of operators whose operands are computed one after the other: the second one is a push, or the first
--- one is held in the frame.
+-- The rules for operators that evaluate both operands: the second one in mode Push, or with the first one kept in the frame.
 use Rattle.std.proofs.Common.{◌≡◌, ℕ, ◌+◌, ◌-◌, ◌%◌, ◌<◌, ◌≤◌, ◌||◌, List, [], ◌∷◌, ◌++◌, true, false, Some, refl, sym, ap, ◌∙◌, arith}
 use Rattle.std.specs.Prelude.{slice_index, slice_set, length, IsTrue}
 use Rattle.std.proofs.lemmas.List.{get_or-set_same, get_or-set_other}
@@ -34,7 +33,7 @@ use Rattle.bc_right.proofs.rules.Stretches.{gets_goal, registers_small, raised, 
 use Rattle.bc_right.proofs.rules.Values.{Gives}
 
 module _ (C : Context) (address levels : ℕ → ℕ) (V : Bodies) (S : Moment) (most : ℕ) (bodies : BodiesCode Item) where
-  -- pieces in three parts, and where they stand
+  -- pieces in three parts with their addresses
   pub record InOrder (c : ℕ) (xs ys zs : List Piece) (g end : ℕ) : Type 0 where
     pub first_end : ℕ
     pub second_end : ℕ
@@ -48,7 +47,7 @@ module _ (C : Context) (address levels : ℕ → ℕ) (V : Bodies) (S : Moment) 
       let v = filled_parts levels bodies xs ys g hx u.front in
       record { first_end = v.middle; second_end = u.middle; first = v.front; second = v.back; third = u.back }
 
-  -- what is computed second as a push leaves the first value in B
+  -- a second operand in mode Push leaves the first value in B
   pushed : {e : Exp} {ys : List Piece} {K O : Moment} {x : State} {t p b c g : ℕ} {m : List ℕ} {st : outcomes.State} (s a end limit h : ℕ) (goal : Goal ℕ) (f : ℕ → Run ℕ) → Later S K → Gives C address levels V S most bodies Push e (s + 1) ys → Stands address S c (filled levels bodies ys h) end → p + cells_of_exp V e (s + 1) ≤ 65536
       → Reached K most O x t (p + (s + 1)) p a b c g m st → st.turns ≤ limit
       → ((w a2 b2 g2 : ℕ) (m2 : List ℕ) (st2 : outcomes.State) → Reached K most O x t (p + (s + 1)) p a2 b2 end g2 m2 st2 → st2.turns ≤ limit → a2 ≡ w → b2 ≡ a → Lands K most O x t (p + (s + 1)) p limit goal (f w st2))
@@ -113,11 +112,11 @@ module _ (C : Context) (address levels : ℕ → ℕ) (V : Bodies) (S : Moment) 
         lands_done limit goal ((n + (65536 - v)) % 65536) (at_place (at_end (after_item s3)) (negates [] old s3 r3)) le2 (minus a2 b2 n v k.a k.b is_n (is_v ∙ w.0), refl, tt)))));
   }
 
-  -- the first value is held, and back as `LIPs` or `AIPs` read it
+  -- the first value is kept, and read again by `LIPs` or `AIPs`
   pub at_held : (m : List ℕ) (p s v : ℕ) → p + s < 65536 → slice_index m (p + s) ≡ v → slice_index m ((s + p) % 65536) ≡ v
   at_held m p s v fits e = let at : (s + p) % 65536 ≡ p + s = omega arith in ap (λ z. slice_index m z) at ∙ e
 
-  -- both parts with the first one held: what comes after them
+  -- both parts with the first one kept, and what follows them
   pub held_parts : {B : Type 0} {second : Exp} {s : ℕ} {xs ys zs : List Piece} (f : ℕ → ℕ → Run B) (goal : Goal B) {K : Moment} {p c end : ℕ} (a limit g : ℕ) → Later S K → p + s < 65536 → Gives C address levels V S most bodies Any second (s + 1) ys → (u : InOrder c xs (SP s ∷ ys) zs g end) → p + cells_of_exp V second (s + 1) ≤ 65536
       → ((O : Moment) (x : State) (t v w b2 g2 : ℕ) (m2 : List ℕ) (st2 : outcomes.State) → Reached K most O x t (p + s) p w b2 u.second_end g2 m2 st2 → st2.turns ≤ limit → slice_index m2 (p + s) ≡ v → Lands K most O x t (p + s) p limit goal (f v w st2))
       → (O : Moment) (x : State) (t : ℕ) → Onward K most O x t (p + s) p limit (gets_goal Any a u.first_end) goal (λ v. then_do (value C second p (s + 1)) (f v))
@@ -193,7 +192,7 @@ module _ (C : Context) (address levels : ℕ → ℕ) (V : Bodies) (S : Moment) 
         lands_done limit goal ((v + (65536 - w)) % 65536) (at_place (at_end (after_item s3)) (added true bases.P s v [] old s3 (at_held m2 p s v fits is) r3)) le2 (same, refl, tt)));
   }
 
-  -- `SP(s+1) LIPs`: both values are held, the first one is in A and the second one in B
+  -- `SP(s+1) LIPs`: both values are kept, the first one is in A and the second one in B
   pub both_held : {K : Moment} {O : Moment} {x : State} {t p v w b c g end : ℕ} {m : List ℕ} {st : outcomes.State} (s : ℕ) (rest : List Item) → Later S K → p + (s + 1) < 65536 → Stands address S c (hold_item (s + 1) ∷ take_item s ∷ rest) end → slice_index m (p + s) ≡ v → Reached K most O x t (p + s) p w b c g m st
       → Reached K most O x t (p + s) p v w (c + operation_size bases.P (s + 1) + operation_size bases.P s) (g + 1 + 1) (slice_set m (p + (s + 1)) w) st
   both_held {p = p} {v = v} {w = w} {m = m} s rest old fits stands is r =

@@ -1,5 +1,4 @@
--- What the code of one derivation does, as seen by the machine before it: the moment from which all is seen is the one at which
--- it stands there.
+-- What the code of one derivation does, seen from the machine's own moment before the code.
 use Rattle.std.proofs.Common.{◌≡◌, ◌∙◌, ℕ, ◌+◌, ◌<◌, Bool, true, false, List, refl, sym, arith}
 use Rattle.std.specs.Prelude.{cond, slice_index}
 use Rattle.bc_machine_defs.specs.Run.{runs}
@@ -36,7 +35,7 @@ reached {top = top} x few ready = record {
   later = later_refl (here top x);
 }
 
--- where it landed
+-- the result, seen from the start
 seen : {A : Type 0} (S : Moment) (most top limit : ℕ) (x : Start) (goal : Goal A) (wanted : Registers A) (o : Outcome A)
     → ((v : A) (a b c g turns : ℕ) → goal v a b c g turns → wanted v a b c) → IsReady S top x
     → Lands S most (here top x) (machine_of x) x.source.turns top x.p limit goal o → DoesTheSame top x wanted o

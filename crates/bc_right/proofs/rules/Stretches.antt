@@ -1,5 +1,5 @@
--- Stretches of a root's code: an operand is read, operands are computed one after the other, a value is held in
--- the frame, an instruction works on A and B.
+-- Parts of a root's code: reading an operand, evaluating operands one after the other, keeping a value in the frame, and instructions
+-- on A and B.
 use Rattle.std.proofs.Common.{◌≡◌, ⊎_elim, ℕ, ◌+◌, ◌%◌, ◌<◌, ◌≤◌, List, [], ◌∷◌, Bool, true, false, not, Option, Some, None, refl, sym, ap, ◌∙◌, subst, arith}
 use Rattle.std.specs.Prelude.{slice_set, slice_index, cond, nat_le}
 use Rattle.std.proofs.lemmas.List.{get_or-set_same}
@@ -49,7 +49,7 @@ use Rattle.bc_right.proofs.steps.Operands.{Reads, operand_reads}
 use Rattle.bc_right.proofs.steps.Steps.{step_stops, stops_from, later_then, later_refl, at_end, after_item, acts, went, plain, at_place, Onward, bind_from, lands_from, lands_done, does_map}
 use Rattle.bc_right.proofs.steps.Holding.{reached_from, held_at}
 
--- a value lands after its code, in A
+-- after the code of a value, the value is in A
 abbrev pub gets_goal : Mode → (was end : ℕ) → Goal ℕ
 gets_goal m was end v a b c gain turns = (a ≡ v) × (c ≡ end) × Kept m was b
 
@@ -61,7 +61,7 @@ pub registers_small : {K : Moment} {most : ℕ} {O : Moment} {x : State} {t top 
 unfolding runs
 registers_small {x = x} r = let h = r.leads.by 0 in subst (λ z. AreWords z.0) h.2 (words_are_kept h.0 x r.are_words)
 
--- the frame's held values end higher up
+-- the top can be raised
 pub raised : {K : Moment} {most : ℕ} {O : Moment} {x : State} {t top p a b c g : ℕ} {m : List ℕ} {st : outcomes.State} (top1 : ℕ) → top ≤ top1 → Reached K most O x t top p a b c g m st → Reached K most O x t top1 p a b c g m st
 raised {top = top} {m = m} {st = st} top1 up r = record {
   few = r.few;
@@ -72,7 +72,7 @@ raised {top = top} {m = m} {st = st} top1 up r = record {
   later = record { low = omega (arith, r.later.low); keeps = r.later.keeps };
 }
 
--- what is computed at a higher level
+-- what is evaluated at a higher level
 pub does_lower : {A : Type 0} {K : Moment} {most p limit a c : ℕ} (top top1 : ℕ) (goal : Goal A) (run : Run A) → top ≤ top1 → Does K most top1 p limit a c goal run → Does K most top p limit a c goal run
 does_lower {K = K} {most = most} {p = p} {limit = limit} top top1 goal run up d = record {
   from = λ O x t b m st le here.
@@ -101,7 +101,7 @@ pub both_raw : {A B D : Type 0} {K : Moment} {most top p limit a c : ℕ} (goal1
     → ((O : Moment) (x : State) (t : ℕ) → Onward K most O x t top p limit goal1 goal (λ v. then_do r2 (f v))) → Does K most top p limit a c goal (both calls r1 r2 f)
 both_raw goal1 goal calls r1 r2 f d k = record { from = λ O x t b m st le here. sides goal1 goal calls (r1 st) r2 f st (d.from O x t b m st le here) (k O x t) }
 
--- the other order, or the source is wild
+-- evaluation in the other order, or the source is wild
 pub does_unless_wild : {A : Type 0} {K : Moment} {most top p limit a c : ℕ} (goal : Goal A) (source other : Run A) → ((st : outcomes.State) → SameUnlessWild (source st) (other st)) → Does K most top p limit a c goal other → Does K most top p limit a c goal source
 does_unless_wild {K = K} {most = most} {top = top} {p = p} {limit = limit} goal source other same d = record {
   from = λ O x t b m st le here.
@@ -189,7 +189,7 @@ operates {address = address} {S = S} {K = K} {most = most} {O = O} {x = x} {t = 
       (h.0, stops_from x y h.0 1 ends.ZeroDivide st.streams h.2 (step_stops y y ends.ZeroDivide (at_operator None e)))
   by_value (Some u) e = lands_done limit (gets_goal Any was end) u (at_place (at_end (after_item s)) (went r (at_operator (Some u) e))) le (refl, refl, tt)
 
--- a value is held at level s while another is computed
+-- a value is kept at level s while another is evaluated
 pub held_then : {B : Type 0} {address : ℕ → ℕ} {S K : Moment} {most : ℕ} {O : Moment} {x : State} {t p v b c g end0 : ℕ} {m : List ℕ} {st : outcomes.State} (s limit end1 was : ℕ) (rest : List Item) (goal : Goal B) (r2 : Run ℕ) (f : ℕ → Run B) → Later S K → p + s < 65536
     → Stands address S c (hold_item s ∷ rest) end0 → Reached K most O x t (p + s) p v b c g m st → st.turns ≤ limit
     → Does K most (p + (s + 1)) p limit v (c + operation_size bases.P s) (gets_goal Any was end1) r2

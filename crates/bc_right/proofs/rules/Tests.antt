@@ -1,4 +1,4 @@
--- The rules of tests, and of conditions.
+-- The rules for tests.
 use Rattle.std.proofs.Common.{◌≡◌, ℕ, ◌+◌, ◌≤◌, ◌==◌, List, [], ◌∷◌, ◌++◌, Bool, true, false, not, refl, sym, ap, ◌∙◌, subst, arith}
 use Rattle.std.specs.Prelude.{cond, IsTrue}
 use Rattle.bc_word.specs.declared.operator.Op.TheVariants as operators
@@ -30,13 +30,13 @@ use Rattle.bc_right.proofs.rules.Stretches.{gets_goal, does_lower}
 use Rattle.bc_right.proofs.rules.Values.{Gives}
 
 module _ (C : Context) (address levels : ℕ → ℕ) (V : Bodies) (S : Moment) (most : ℕ) (bodies : BodiesCode Item) where
-  -- wherever these pieces stand, they jump to the target where the truth of the expression at level s is the sense
+  -- wherever these pieces are placed, they jump to the target if the truth of the expression at level s is the sense
   pub record Tests (sense : Bool) (e : Exp) (s target : ℕ) (ps : List Piece) : Type 0 where
     pub closed : Closed ps
     pub does : (K : Moment) → Later S K → (p a c end limit g : ℕ) → Stands address S c (filled levels bodies ps g) end → p + cells_of_exp V e s ≤ 65536
         → Does K most (p + s) p limit a c (test_goal sense (address target) end) (truth C e p s)
 
--- a jump by A
+-- a jump that depends on A
 abbrev pub at_c : (a b c p : ℕ) → Registers
 at_c a b c p = record { a = a; b = b; c = c; p = p }
 
@@ -135,7 +135,7 @@ module _ (C : Context) (address levels : ℕ → ℕ) (V : Bodies) (S : Moment) 
     on K old p a c end limit g O x t b m st le here false e stands =
         lands_done limit (test_goal sense (address target) end) (is_true n) here le (subst (λ z. jumps_to z (address target) end c 0) (sym e) (at_end stands))
 
-  -- `&` and the bar: the second side is met only where the first doesn't decide
+  -- `&` and `|`: the second side is evaluated only if the first doesn't decide
   pub j2_tests : {l r : Exp} {s target : ℕ} {xs ys : List Piece} → Tests C address levels V S most bodies false l (s + 1) target xs → Tests C address levels V S most bodies false r (s + 1) target ys → Tests C address levels V S most bodies false (Bin operators.And l r) s target (xs ++ ys)
   j2_tests {l = l} {r = r} {s = s} {target = target} {xs = xs} {ys = ys} hx hy = record {
     closed = closed_both xs ys hx.closed hy.closed;

@@ -1,4 +1,4 @@
--- The rules of values, but for conditions and calls.
+-- The rules for values, except conditions and calls.
 use Rattle.std.proofs.Common.{◌≡◌, ℕ, ◌+◌, ◌-◌, ◌%◌, ◌<◌, ◌≤◌, ◌||◌, List, [], ◌∷◌, ◌++◌, Bool, true, false, not, Some, None, refl, sym, ap, ◌∙◌, subst, arith}
 use Rattle.std.specs.Prelude.{slice_index, cond, IsTrue}
 use Rattle.std.proofs.lemmas.Bool.{eqb-true}
@@ -33,7 +33,7 @@ use Rattle.bc_right.proofs.rules.Filling.{Closed, closed_both, filled, filled_pa
 use Rattle.bc_right.proofs.rules.Stretches.{Kept, gets_goal, registers_small, does_lower, both_raw, does_unless_wild, operand_then, stands_on, added, loaded, negates, operand_small}
 
 module _ (C : Context) (address levels : ℕ → ℕ) (V : Bodies) (S : Moment) (most : ℕ) (bodies : BodiesCode Item) where
-  -- wherever these pieces stand, with their bodies filled in, they give the value of the expression at level s
+  -- wherever these pieces are placed, with their bodies filled in, they give the value of the expression at level s
   pub record Gives (m : Mode) (e : Exp) (s : ℕ) (ps : List Piece) : Type 0 where
     pub closed : Closed ps
     pub does : (K : Moment) → Later S K → (p a c end limit g : ℕ) → Stands address S c (filled levels bodies ps g) end → p + cells_of_exp V e s ≤ 65536
@@ -97,7 +97,7 @@ module _ (C : Context) (address levels : ℕ → ℕ) (V : Bodies) (S : Moment) 
         lands_done limit (gets_goal q a end) (complemented v) (at_place (at_end (after_item u.back)) (went here (acts old functions.Execute false bases.Number 3 [] u.back here))) le (ap (λ z. complemented z) w.0, refl, w.2));
   }
 
-  -- both operands stand a level higher
+  -- both operands are one level higher
   abbrev sum : ℕ → ℕ → Run ℕ
   sum v w = given (value_of operators.Add v w)
 
@@ -130,7 +130,7 @@ module _ (C : Context) (address levels : ℕ → ℕ) (V : Bodies) (S : Moment) 
         (λ n e. lands_done limit (gets_goal q a end) ((n + v) % 65536) (let on = stands_on functions.Add o [] u.back in at_place (at_end (after_item on)) (added (not o.direct) o.base o.n n [] old on e (at_place w.1 here))) le (omega (arith, w.0), refl, w.2)))));
   }
 
-  -- a 0 is no operand
+  -- a right operand 0 can be dropped
   right_zero : {l : Exp} {q : Mode} {s : ℕ} {ps : List Piece} (op : Op) → ((v : ℕ) → v < 65536 → value_of op v 0 ≡ Some v) → G q l (s + 1) ps → G q (Bin op l (Num 0)) s ps
   right_zero {l = l} {q = q} {s = s} {ps = ps} op same h = record {
     closed = h.closed;

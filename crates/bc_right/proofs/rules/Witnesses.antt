@@ -1,5 +1,5 @@
--- The law's premises are met, whatever is chosen: where all calls and VALOFs are wild; and, from there, where a VALOF is
--- the code of 7 before its label.
+-- The law's premises can be met, whatever is chosen: if all calls and VALOFs are wild; and, by the law itself, if a VALOF is the code
+-- of 7 before its label.
 use Rattle.std.proofs.Common.{◌≡◌, ℕ, ◌+◌, [], ◌∷◌, refl, subst, arith}
 use Rattle.bc_text_items.specs.declared.item.Item.{Item}
 use Rattle.bc_text_items.specs.declared.item.Item.TheVariants.{Label}

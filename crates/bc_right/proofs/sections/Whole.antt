@@ -1,4 +1,4 @@
--- The laws of the scopes and of linked programs put together.
+-- The laws of scopes and of linked programs combined.
 use Rattle.std.proofs.Common.{◌≡◌, true, List, map, subst, sym}
 use Rattle.std.specs.Prelude.{All}
 use Rattle.std.proofs.lemmas.List.Elements.{All-map, All-weaker}
@@ -16,7 +16,7 @@ use Rattle.bc_right.specs.programs.Linked.{segments_of, linked_map}
 use Rattle.bc_right.proofs.programs.Program.{programs_run}
 use Rattle.bc_right.specs.sections.Whole.{IsFaultless, SectionsRun}
 
--- sections without fault fit
+-- sections without fault are well formed
 all_fit : (sections : List Declarations) → All IsFaultless sections → All (λ core. is_core core ≡ true) (map core_of sections)
 all_fit sections faultless =
     All-map (λ core. is_core core ≡ true) core_of sections

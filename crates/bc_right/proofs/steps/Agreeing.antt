@@ -1,4 +1,4 @@
--- Agreement of cells and store from one moment to the next.
+-- How the agreement of cells and store passes from one moment to the next.
 use Rattle.std.proofs.Common.{◌≡◌, ◌⊎◌, ⊎_elim, ℕ, ◌+◌, ◌<◌, ◌≤◌, List, [], ◌∷◌, length, sym, ap, ◌∙◌, arith}
 use Rattle.std.specs.Prelude.{slice_set}
 use Rattle.std.proofs.lemmas.List.{length-set, get_or-set_other}
@@ -23,7 +23,7 @@ keeps_down top top1 c0 c1 m0 m1 le k = record { dead = λ a lt d. k.dead a (omeg
 pub holds_up : (top top1 : ℕ) (cells : List Cell) (m : List ℕ) → top ≤ top1 → Holds top cells m → Holds top1 cells m
 holds_up top top1 cells m le h = record { agrees = h.agrees; above = λ a ge. h.above a (omega arith); whole = h.whole; spans = h.spans }
 
--- a value is held in a dead cell
+-- a value is stored in a dead cell
 pub holds_held : (top a v : ℕ) (cells : List Cell) (m : List ℕ) → Holds top cells m → cell_at cells a ≡ Dead → Holds top cells (slice_set m a v)
 holds_held top a v cells m h d = record {
   agrees = λ n w e. ⊎_elim (λ ne. get_or-set_other m a n v 0 ne ∙ h.agrees n w e)

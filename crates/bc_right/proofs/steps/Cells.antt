@@ -1,4 +1,4 @@
--- Cells are opened above all live ones, and given back.
+-- Cells are allocated above all live ones, and freed again.
 use Rattle.std.proofs.Common.{◌≡◌, ◌≢◌, ◌⊎◌, inl, inr, ⊎_elim, ℕ, zero, suc, ◌+◌, ◌≤◌, List, length, refl, sym, ap, ◌∙◌, subst, arith}
 use Rattle.std.specs.Prelude.{slice_set}
 use Rattle.std.proofs.lemmas.Bool.{cases_lt}
@@ -18,7 +18,7 @@ filled_length (suc n) a k cells = filled_length n (a + 1) k (slice_set cells a k
 pub differ : (n k : ℕ) → (n ≢ k) ⊎ (n ≡ k)
 differ n k = ⊎_elim (λ lt. inl (λ e. omega arith)) (λ ge. ⊎_elim (λ lt. inl (λ e. omega arith)) (λ le. inr (omega arith)) (cases_lt k n)) (cases_lt n k)
 
--- a cell is the new one, or as it was
+-- each cell is the new one or unchanged
 pub set_either : (cells : List Cell) (a b : ℕ) (k : Cell) → (cell_at (slice_set cells a k) b ≡ k) ⊎ (cell_at (slice_set cells a k) b ≡ cell_at cells b)
 set_either cells a b k = ⊎_elim (λ ne. inr (get_or-set_other cells a b k Dead ne)) (λ e. here e) (differ b a) where
   here : b ≡ a → (cell_at (slice_set cells a k) b ≡ k) ⊎ (cell_at (slice_set cells a k) b ≡ cell_at cells b)

@@ -1,4 +1,4 @@
--- What the machine does at the words of an operation.
+-- What the machine does at the words of an operation: they are decoded to that operation, short or long, with any base.
 use Rattle.std.proofs.Common.{◌≡◌, ℕ, ◌+◌, ◌*◌, ◌/◌, ◌%◌, ◌<◌, ◌≤◌, ◌==◌, List, [], ◌∷◌, Bool, true, false, refl, sym, ap, ◌∙◌, arith}
 use Rattle.std.specs.Prelude.{slice_index, cond, nat_le}
 use Rattle.std.proofs.lemmas.Bool.Decides.{nat_tests}
@@ -46,7 +46,7 @@ word_is n false bases.P low = omega arith
 word_is n false bases.G low = omega arith
 word_is n false bases.Label low = omega arith
 
--- at numbers
+-- the code as a sum of its bits, at numbers
 code_at : (n i p g l low : ℕ) → i ≤ 1 → p ≤ 1 → g ≤ 1 → l ≤ 1 → low < 512 → (8192 * n + 4096 * i + 2048 * p + 1024 * g + (512 * l + low)) / 512 ≡ 16 * n + 8 * i + 4 * p + 2 * g + l
 code_at n i p g l low hi hp hg hl h = omega arith
 
@@ -113,7 +113,7 @@ of_parts code word f i p g l low s hf h8 h4 h2 h1 hw =
     ∙ ap (λ z. perform f (d i p g z (word % 512)) (r z) s) h1
     ∙ ap (λ z. perform f (d i p g l z) (r l) s) hw
 
--- the address that an operation has, and then its operand
+-- the address of an operation, and its operand
 abbrev pub value_at : (ℕ → ℕ) → Base → ℕ → ℕ → ℕ
 value_at address bases.Number n p = n
 value_at address bases.P n p = (n + p) % 65536
@@ -153,7 +153,7 @@ stepped f i b l low s h e =
 next_is : (c : ℕ) → c + 1 < 65536 → next c ≡ c + 1
 next_is c h = omega arith
 
--- what the machine does at an operation: its function, with its operand, after its words
+-- what the machine does at an operation: it executes the function with the operand, and continues after the operation's words
 abbrev pub Executes : (ℕ → ℕ) → Function → Bool → Base → ℕ → State → Type 0
 Executes address f i b n s =
     step s ≡ perform (machine_function f) (operand_at address i b n s.registers.p s.store) (record s.registers { c = s.registers.c + operation_size b n }) s

@@ -1,4 +1,4 @@
--- Free operands may be computed in the other order.
+-- Free operands may be evaluated in the other order.
 use Rattle.std.proofs.Common.{◌≡◌, ◌⊎◌, inl, inr, ⊎_elim, ℕ, ◌+◌, ◌%◌, Bool, true, false, not, ◌||◌, Option, Some, None, refl, sym, ap, ◌∙◌, subst}
 use Rattle.std.specs.Prelude.{cond}
 use Rattle.bc_word.specs.declared.operator.Op.TheVariants as operators
@@ -16,7 +16,7 @@ not_direct : (o : Option Operand) → None ≡ o → is_direct o ≡ true → �
 not_direct None e h = cc
 not_direct (Some o) e h = cc
 
--- a direct operand is a value that depends on nothing
+-- the value of a direct operand depends on nothing
 abbrev Fixed : (C : Context) → Exp → ℕ → ℕ → Type 0
 Fixed C e p s = (v : ℕ) × ((st : State) → value C e p s st ≡ Done v st)
 
@@ -48,7 +48,7 @@ fixed C (Load e) h p s = absurd (content_direct (operand_of e) h)
 fixed C (Bin operators.Add a b) h p s = sum_fixed C a b h p s
 fixed C _ h p s = cc
 
--- neither side holds a call or VALOF
+-- neither side contains a call or a VALOF
 calm_exchange : {A : Type 0} (f : ℕ → ℕ → Run A) (va vb : Run ℕ) (st : State) (oa ob : Outcome ℕ) → va st ≡ oa → vb st ≡ ob → IsCalm st oa → IsCalm st ob
     → SameUnlessWild (second_side false oa vb f st) (followed ob (λ y. then_do va (λ x. f x y)))
 calm_exchange f va vb st (Done x sa) (Done y sb) ea eb ca cb =
@@ -100,7 +100,7 @@ not_true : (a : Bool) → not a ≡ true → a ≡ false
 not_true false h = refl
 not_true true h = cc
 
--- what is done with the values of two free expressions
+-- anything that is done with the values of two free expressions
 pub sides_exchange : {A : Type 0} (C : Context) (l r : Exp) (f : ℕ → ℕ → Run A) → are_free l r ≡ true → (p s : ℕ) (st : State)
     → SameUnlessWild (both (has_call l || has_call r) (value C l p s) (value C r p s) f st) (then_do (value C r p s) (λ y. then_do (value C l p s) (λ x. f x y)) st)
 sides_exchange C l r f h p s st =

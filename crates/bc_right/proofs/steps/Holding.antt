@@ -1,4 +1,4 @@
--- Values held in the frame, and what was reached as seen from an earlier moment.
+-- Values kept in the frame, and what was reached, seen from an earlier moment.
 use Rattle.std.proofs.Common.{◌≡◌, ℕ, ◌+◌, ◌%◌, ◌<◌, ◌≤◌, ⊎_elim, List, [], ◌∷◌, length, false, ap, ◌∙◌, arith}
 use Rattle.std.specs.Prelude.{slice_set}
 use Rattle.std.proofs.lemmas.Bool.{cases_lt}
@@ -17,7 +17,7 @@ use Rattle.bc_right.specs.steps.Landing.{Moment, moment, Later, Stands, Reached}
 use Rattle.bc_right.proofs.steps.Agreeing.{keeps_then, keeps_held, holds_held}
 use Rattle.bc_right.proofs.steps.Steps.{later_then, acts, leads_more}
 
--- what was reached since a later moment was reached since O
+-- what was reached since a later moment was also reached since O
 pub reached_from : {K : Moment} {most : ℕ} {O1 : Moment} {x : State} {t top1 p a b c g : ℕ} {m : List ℕ} {st : outcomes.State} (O : Moment) (top : ℕ) → Reached K most O1 x t top1 p a b c g m st → Later K O → Later O O1 → O.top ≤ top → top1 ≤ O1.top → ((i : ℕ) → top ≤ i → i < top1 → cell_at O1.cells i ≡ Dead)
     → Reached K most O x t top p a b c g m st
 reached_from {top1 = top1} O top r since l low in1 dead = record {

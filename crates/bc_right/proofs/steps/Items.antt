@@ -1,4 +1,4 @@
--- Lists of items in the store, in their parts.
+-- Lists of items in the store can be split and joined.
 use Rattle.std.proofs.Common.{◌≡◌, ℕ, ◌+◌, List, [], ◌∷◌, ◌++◌, length, Bool, true, false, refl, subst, arith}
 use Rattle.std.specs.Prelude.{cond, nat_le}
 use Rattle.bc_text_items.specs.declared.item.Item.{Item}

@@ -1,4 +1,4 @@
--- The machine keeps words in its registers and its store: each function, each operation, each operator does.
+-- The machine keeps words in its registers and its store, by cases on its functions, operations and operators.
 use Rattle.std.proofs.Common.{◌≡◌, ◌⊎◌, inl, inr, ⊎_elim, ℕ, zero, suc, ◌+◌, ◌-◌, ◌*◌, ◌/◌, ◌%◌, ◌<◌, ◌≤◌, ◌==◌, List, [], ◌∷◌, Bool, true, false, Option, Some, None, length, refl, sym, ap, ◌∙◌, subst, arith}
 use Rattle.std.specs.Prelude.{slice_index, slice_set, cond, nat_le, ◌^◌, ℤ, pos, negsuc}
 use Rattle.std.specs.List.{position_from}

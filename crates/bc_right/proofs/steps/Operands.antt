@@ -1,4 +1,4 @@
--- An operand is read in no step and changes nothing: it is the value of its expression.
+-- Reading an operand takes no step and changes nothing; it gives the value of its expression.
 use Rattle.std.proofs.Common.{◌≡◌, ℕ, ◌+◌, ◌%◌, List, Bool, true, false, not, Option, Some, None, refl, sym, ap, ◌∙◌, subst, arith}
 use Rattle.std.specs.Prelude.{slice_index, cond}
 use Rattle.bc_word.specs.declared.operator.Op.TheVariants as operators

@@ -1,4 +1,4 @@
--- Stretches of the machine's run, as seen from an earlier moment.
+-- Parts of the machine's run, seen from an earlier moment.
 use Rattle.std.proofs.Common.{◌≡◌, ⊎_elim, ℕ, zero, suc, ◌+◌, ◌<◌, ◌≤◌, List, [], ◌∷◌, ◌++◌, Bool, true, false, Some, None, refl, ap, ◌∙◌, subst, arith}
 use Rattle.bc_text_items.specs.declared.item.Item.{Item}
 use Rattle.bc_text_items.specs.declared.item.Item.TheVariants.{Label, Operation}
@@ -48,7 +48,7 @@ later_then {L = L} {M = M} {N = N} k l = record {
 pub later_refl : (M : Moment) → Later M M
 later_refl M = record { low = omega arith; keeps = record { dead = λ a lt d. d; same = λ a lt d. refl; unset = λ a lt u. (u, refl) } }
 
--- code that stands, in its parts
+-- code in the store, split into two parts
 pub record Parts (address : ℕ → ℕ) (K : Moment) (c : ℕ) (xs ys : List Item) (end : ℕ) : Type 0 where
   pub middle : ℕ
   pub front : Stands address K c xs middle
@@ -96,7 +96,7 @@ pub has_now : {address : ℕ → ℕ} {S K : Moment} {most : ℕ} {O : Moment} {
 has_now {address = address} {S = S} {c = c} {items = items} {m = m} {st = st} old s r =
     (code_kept address S.top c items S.cells st.cells S.store m (item_size address) (later_then (later_then old r.since) r.later).keeps s.code).has
 
--- an instruction that changes registers alone
+-- an instruction that changes only registers
 pub went : {K : Moment} {most : ℕ} {O : Moment} {x : State} {t top p a b c g a1 b1 c1 : ℕ} {m : List ℕ} {st : outcomes.State} → Reached K most O x t top p a b c g m st → step (machine a b c p m st.streams) ≡ running (machine a1 b1 c1 p m st.streams) → Reached K most O x t top p a1 b1 c1 (g + 1) m st
 unfolding runs
 went {x = x} {t = t} {p = p} {a = a} {b = b} {c = c} {g = g} {m = m} {st = st} r e = record {
@@ -117,7 +117,7 @@ at_place {K = K} {most = most} {O = O} {x = x} {t = t} {top = top} {p = p} {a = 
 pub jumped : {address : ℕ → ℕ} {S K : Moment} {most : ℕ} {O : Moment} {x : State} {t top p a b c g l : ℕ} {m : List ℕ} {st : outcomes.State} → Later S K → JumpAt address S c l → Reached K most O x t top p a b c g m st → Reached K most O x t top p a b (address l) (g + 1) m st
 jumped {l = l} old j r = went r (acts old functions.Jump false bases.Label l [] j.1 r)
 
--- a run that is given a value at once
+-- a run that gives a value at once
 pub lands_done : {A : Type 0} {K : Moment} {most : ℕ} {O : Moment} {x : State} {t top p a b c g : ℕ} {m : List ℕ} {st : outcomes.State} (limit : ℕ) (goal : Goal A) (v : A) → Reached K most O x t top p a b c g m st → st.turns ≤ limit → goal v a b c g st.turns → Lands K most O x t top p limit goal (Done v st)
 lands_done {a = a} {b = b} {c = c} {g = g} {m = m} limit goal v r le h = (a, b, c, g, m, r, le, h)
 
@@ -140,7 +140,7 @@ bind_from K1 K O1 O most x t top1 top p limit goal1 goal (Ended e streams) f l k
 bind_from K1 K O1 O most x t top1 top p limit goal1 goal (Going streams) f l k = l
 bind_from K1 K O1 O most x t top1 top p limit goal1 goal Wild f l k = tt
 
--- what was seen from a later moment O1, above which less was live, is seen from O
+-- what holds seen from a later moment O1 with a lower top holds seen from O
 pub lands_from : {A : Type 0} (K1 K O1 O : Moment) (most : ℕ) (x : State) (t top1 top p limit : ℕ) (goal : Goal A) (o : Outcome A) → Later K O → Later O O1 → O.top ≤ top → top ≤ top1 → top1 ≤ O1.top → ((a : ℕ) → top ≤ a → a < top1 → cell_at O1.cells a ≡ Dead)
     → Lands K1 most O1 x t top1 p limit goal o → Lands K most O x t top p limit goal o
 lands_from K1 K O1 O most x t top1 top p limit goal (Done v st) since l low le in1 dead w =
@@ -171,14 +171,14 @@ pub leads_more : {x y z : State} {t1 : ℕ} (t g : ℕ) → Ahead x (t + g) y t1
 unfolding runs
 leads_more t g l e = record { by = λ k. let h = l.by (suc k) in (h.0, omega (arith, h.1), h.2 ∙ ap (λ (z : Effect). elim z.1 [ None ↦ runs k z.0 | Some end ↦ ended z.0 end ]) e) }
 
--- another goal, and a higher limit
+-- a weaker goal and a higher limit
 pub lands_map : {A : Type 0} (K : Moment) (most : ℕ) (O : Moment) (x : State) (t top p limit1 limit : ℕ) (goal1 goal : Goal A) (o : Outcome A) → limit1 ≤ limit → ((v : A) (a b c g turns : ℕ) → goal1 v a b c g turns → goal v a b c g turns) → Lands K most O x t top p limit1 goal1 o → Lands K most O x t top p limit goal o
 lands_map K most O x t top p limit1 limit goal1 goal (Done v st) le h l = (l.0, l.1, l.2, l.3, l.4, l.5, omega (arith, l.6), h v l.0 l.1 l.2 l.3 st.turns l.7)
 lands_map K most O x t top p limit1 limit goal1 goal (Ended e streams) le h l = l
 lands_map K most O x t top p limit1 limit goal1 goal (Going streams) le h l = l
 lands_map K most O x t top p limit1 limit goal1 goal Wild le h l = tt
 
--- Does, put together
+-- composing `Does`
 pub does_done : {A : Type 0} {K : Moment} {most : ℕ} {top p limit a c : ℕ} (goal : Goal A) (v : A) → ((b turns : ℕ) → turns ≤ limit → goal v a b c 0 turns) → Does K most top p limit a c goal (Done v)
 does_done {limit = limit} goal v h = record { from = λ O x t b m st le r. lands_done limit goal v r le (h b st.turns le) }
 
@@ -187,7 +187,7 @@ does_then {limit = limit} goal1 goal r f h k = record {
   from = λ O x t b m st le here. bind limit goal1 goal (r st) f (h.from O x t b m st le here) (λ v a1 b1 c1 g m1 st1 there le1 w. (k v a1 b1 c1 g st1.turns w).from O x t b1 m1 st1 le1 (plain there));
 }
 
--- where what follows depends on the moment
+-- for a continuation that depends on the moment
 pub then_raw : {A B : Type 0} {K : Moment} {most : ℕ} {top p limit a c : ℕ} (goal1 : Goal A) (goal : Goal B) (r : Run A) (f : A → Run B) → Does K most top p limit a c goal1 r → ((O : Moment) (x : State) (t : ℕ) → Onward K most O x t top p limit goal1 goal f) → Does K most top p limit a c goal (then_do r f)
 then_raw {limit = limit} goal1 goal r f h k = record { from = λ O x t b m st le here. bind limit goal1 goal (r st) f (h.from O x t b m st le here) (k O x t) }
 
@@ -210,11 +210,11 @@ does_at goal r e d = record { from = λ O x t b m st le here. d.from O x t b m s
 pub does_map : {A : Type 0} {K : Moment} {most : ℕ} {top p limit a c : ℕ} (goal1 goal : Goal A) (r : Run A) → ((v : A) (a1 b1 c1 g turns : ℕ) → goal1 v a1 b1 c1 g turns → goal v a1 b1 c1 g turns) → Does K most top p limit a c goal1 r → Does K most top p limit a c goal r
 does_map {K = K} {most = most} {top = top} {p = p} {limit = limit} goal1 goal r h d = record { from = λ O x t b m st le here. let same : limit ≤ limit = omega arith in lands_map K most O x t top p limit limit goal1 goal (r st) same h (d.from O x t b m st le here) }
 
--- a jump, and then
+-- a jump and what follows
 pub does_jump : {A : Type 0} {address : ℕ → ℕ} {S K : Moment} {most : ℕ} {top p limit a c l : ℕ} → Later S K → (goal : Goal A) (r : Run A) → JumpAt address S c l → Does K most top p limit a (address l) goal r → Does K most top p limit a c goal r
 does_jump old goal r j d = record { from = λ O x t b m st le here. d.from O x t b m st le (plain (jumped old j here)) }
 
--- a turn, for which there was an instruction
+-- a turn, paid for by an instruction
 pub turn : {A : Type 0} {K : Moment} {most : ℕ} {O : Moment} {x : State} {t top p a b c g : ℕ} {m : List ℕ} {st : outcomes.State} (top1 p1 limit : ℕ) (goal : Goal A) (r : Run A) → 1 ≤ g → Reached K most O x t top p a b c g m st → st.turns ≤ limit
     → ((n : ℕ) → n < limit → Reached K most O x t top p a b c 0 m (record st { turns = n }) → Lands K most O x t top1 p1 limit goal (r (record st { turns = n })))
     → Lands K most O x t top1 p1 limit goal (in_turn r st)

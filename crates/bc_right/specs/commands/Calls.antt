@@ -1,4 +1,4 @@
--- Calls and routines: where their code stands, and that it does what they mean.
+-- Calls and routines: when their code is in the store, and that it does what they mean.
 use Rattle.std.specs.Prelude.{ℕ, ◌≡◌, ◌+◌, List, Some}
 use Rattle.bc_core.specs.Commands.{Routine}
 use Rattle.bc_core.specs.Level.{level_after_parameters}
@@ -10,7 +10,7 @@ use Rattle.bc_right.specs.steps.Landing.{Moment, Stands}
 use Rattle.bc_right.specs.steps.Premises.{Roots, BodiesCode, CallLands, RootsRight}
 use Rattle.bc_right.specs.commands.Levelled.{BodyLevelled, ValofsLevelled}
 
--- a routine's code stands at its address, and the VALOFs in it at their levels
+-- The code of a routine is at the routine's address, and the VALOFs in it are at their levels.
 pub record RoutineStands (S : Moment) (section : Placed) (r : Routine) (v : ℕ) : Type 0 where
   pub over : BodiesCode → Roots
   pub first : ℕ
@@ -29,7 +29,7 @@ LibraryLands S program =
     (most v : ℕ) (q : Primitive) → callee program v ≡ Some (OfLibrary q)
     → CallLands S most v (λ vs f. in_frame f primitive_frame (with_arguments 1 (f + 2) vs (primitive_work q f)))
 
--- each call does what it means
+-- If routines and primitives are in the store, each call does what it means.
 abbrev pub CallsLand : Type 0
 CallsLand =
     (S : Moment) (program : List Placed) → ProgramStands S program → LibraryLands S program

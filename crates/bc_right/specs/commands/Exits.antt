@@ -1,4 +1,4 @@
--- Where a command's exits lead.
+-- Where the machine is after each exit of a command.
 use Rattle.std.specs.Prelude.{ℕ, ◌≡◌, ◌+◌, ◌<◌, ◌≤◌, List, [], ◌∷◌}
 use Rattle.bc_text_items.specs.declared.item.Item.{Item}
 use Rattle.bc_core.specs.Exit.{Exit, Past, Broke, Looped, LeftCases, Returned, Resulted, Jumped}
@@ -16,7 +16,7 @@ use Rattle.bc_right.specs.commands.Levelled.{CommandLevelled}
 abbrev pub return_items : List Item
 return_items = zero_item ∷ execute 4 ∷ []
 
--- The machine is after the code, or where it is about to jump or to return; a GOTO has jumped, and taken a turn.
+-- The machine is after the code, or about to jump or to return; a GOTO has already jumped and taken a turn.
 abbrev pub exit_goal : (ℕ → ℕ) → Moment → Exits → (end limit : ℕ) → Goal Exit
 exit_goal address S E end limit Past a b c gain turns = c ≡ end
 exit_goal address S E end limit Broke a b c gain turns = JumpAt address S c E.broken
@@ -26,7 +26,7 @@ exit_goal address S E end limit Returned a b c gain turns = (last : ℕ) × Stan
 exit_goal address S E end limit (Resulted v) a b c gain turns = (a ≡ v) × JumpAt address S c E.result
 exit_goal address S E end limit (Jumped l) a b c gain turns = (c ≡ address (E.labels l)) × (turns < limit)
 
--- wherever the code of a command stands, it does what the command means
+-- Wherever the code of a command is placed, it does what the command means, if the code of its roots does.
 abbrev pub CommandsLand : Type 0
 CommandsLand =
     (C : Context) (address levels : ℕ → ℕ) (V : Bodies) (S : Moment) (most : ℕ) (roots : Roots) → RootsLand C address levels V S most roots

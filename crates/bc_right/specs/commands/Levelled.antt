@@ -1,4 +1,4 @@
--- Commands whose VALOFs stand at their levels: what a section's type keeps, as the landing of its commands wants it.
+-- Commands whose VALOFs are at their levels. The type of a section ensures this; the laws of commands need it in this form.
 use Rattle.std.specs.Prelude.{ℕ, ◌+◌, List, [], ◌∷◌}
 use Rattle.bc_core.specs.Tree.{Exp, Frame}
 use Rattle.bc_core.specs.Commands.{Variable, Initial, Vector, Command, Block, block, Items, no_item, command, case, default, label, Body, Gives, Does, Valof}

@@ -1,4 +1,4 @@
--- The code of the primitives.
+-- The code of the primitives, and that it does what they mean.
 use Rattle.std.specs.Prelude.{ℕ, ◌≡◌, true, List, [], ◌∷◌, Some}
 use Rattle.bc_text_items.specs.declared.item.Item.{Item}
 use Rattle.bc_text_items.specs.declared.item.Item.TheVariants.{Operation}
@@ -41,5 +41,6 @@ abbrev pub LibraryStands : Moment → List Placed → Type 0
 LibraryStands S program =
     (v : ℕ) (q : Primitive) → callee program v ≡ Some (OfLibrary q) → (end : ℕ) × Stands (λ l. 0) S v (primitive_items q) end
 
+-- If the primitives' code is in the store, each does what it means.
 abbrev pub PrimitivesLand : Type 0
 PrimitivesLand = (S : Moment) (program : List Placed) → LibraryStands S program → LibraryLands S program

@@ -1,4 +1,4 @@
--- Sections whose routines' code stands in the store.
+-- Sections whose routines' code is in the store.
 use Rattle.std.specs.Prelude.{ℕ, List, [], ◌∷◌}
 use Rattle.bc_core.specs.Commands as commands
 use Rattle.bc_core.specs.Commands.{Place}
@@ -18,7 +18,7 @@ PlacesLevelled levels (commands.Static w ∷ places) = PlacesLevelled levels pla
 PlacesLevelled levels (commands.Table ws ∷ places) = PlacesLevelled levels places
 PlacesLevelled levels (commands.Text bytes ∷ places) = PlacesLevelled levels places
 
--- the routines' code of a section stands somewhere, and its labels are the section's places
+-- The code of a section's routines is somewhere in the store, and its labels are the section's places.
 pub record SectionStands (S : Moment) (section : Placed) : Type 0 where
   pub over : BodiesCode → Roots
   pub begin : ℕ
@@ -30,9 +30,11 @@ pub record SectionStands (S : Moment) (section : Placed) : Type 0 where
   pub stands : Stands section.address S begin
       (emit_routines (λ i. i) (over (bodies_from (λ i. i) over 0 section.core.valofs)) 0 section.core.places first).0 end
 
+-- all sections' code is in the store
 abbrev pub AllStand : Moment → List Placed → Type 0
 AllStand S [] = Unit {0}
 AllStand S (section ∷ sections) = SectionStands S section × AllStand S sections
 
+-- If all sections' code is in the store, the program is as the law of calls needs it.
 abbrev pub SectionsStand : Type 0
 SectionsStand = (S : Moment) (program : List Placed) → AllStand S program → ProgramStands S program

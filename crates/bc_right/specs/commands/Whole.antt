@@ -1,4 +1,4 @@
--- A whole run: from the start of an image, whose code calls START.
+-- A whole run, from the start of an image, whose boot code calls START.
 use Rattle.std.specs.Prelude.{ℕ, ◌≡◌, ◌+◌, ◌≤◌, true, List, [], ◌∷◌}
 use Rattle.bc_text_items.specs.declared.item.Item.{Item}
 use Rattle.bc_text_items.specs.declared.item.Item.TheVariants.{Operation}
@@ -24,8 +24,8 @@ use Rattle.bc_right.specs.commands.Section.{AllStand}
 abbrev pub boot_items : List Item
 boot_items = Operation functions.Load true bases.G 1 ∷ call_item 2 ∷ execute 22 ∷ []
 
--- where boot, routines and primitives stand in the store, and its cells are held there, a run of the machine does
--- what the source means
+-- If the boot code, the routines and the primitives are in the store, and it agrees with the cells, a run of the machine does what the
+-- source means.
 abbrev pub RunsAreSame : Type 0
 RunsAreSame =
     (S : Moment) (program : List Placed) (address : ℕ → ℕ) (stack_base end : ℕ)
@@ -34,7 +34,7 @@ RunsAreSame =
     → (streams : Content) (n : ℕ) → AreWords (start S.store stack_base streams)
     → Same (meaning_over S.cells (entered_at program) stack_base streams n) n (start S.store stack_base streams)
 
--- the same of sections and a map
+-- The same for sections and a map.
 abbrev pub MeaningIsRun : Type 0
 MeaningIsRun =
     (S : Moment) (cores : List Core) (map : Map) (address : ℕ → ℕ) (end : ℕ)

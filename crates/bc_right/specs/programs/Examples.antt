@@ -1,5 +1,5 @@
--- Worked examples: three small programs, what they mean and what the machine does, each computed from the
--- definitions alone. The items are a generator's, written down here; cells and store go a few words beyond the code.
+-- Worked examples: three small programs, with their meaning and the machine's run, each computed by the prover from the
+-- definitions. The items are written by hand as a generator would; cells and store extend a few words past the code.
 use Rattle.std.specs.Prelude.{ℕ, ◌≡◌, true, false, List, [], ◌∷◌, ◌++◌, replicate, Some, None, refl}
 use Rattle.bc_word.specs.declared.operator.Op.TheVariants.{Add, Subtract, Divide, Less, Equal}
 use Rattle.bc_text_items.specs.declared.item.Item.{Item}
@@ -32,7 +32,7 @@ use Rattle.bc_link.specs.Store.{boot, words_from, globals_of}
 use Rattle.bc_gen_defs.specs.Emit.{execute}
 use Rattle.bc_right.specs.programs.Linked.{library_items}
 
--- one output, selected
+-- streams with one output, which is selected
 abbrev streams : Content
 streams = start_streams [] ((79 ∷ []) ∷ [])
 
@@ -87,7 +87,7 @@ at k = Content_of (Frame k)
 abbrev print : Exp → c.Command
 print e = c.Call (Call (argument e no_argument) (Content_of (Glob 14)))
 
--- LET I = 0; L: I := I+1; IF I<3 GOTO L; WRCH(I + '0')
+-- `LET I = 0; L: I := I+1; IF I<3 GOTO L; WRCH(I + '0')`
 abbrev with_goto : Core
 with_goto = record {
   places =
@@ -121,7 +121,7 @@ pub goto_does : does goto_items 50 ≡ (ends.Finished, printed (51 ∷ []))
 unfolding runs step
 goto_does = refl
 
--- LET F(N) = N = 0 -> 0, N + F(N-1); WRCH(F(3) + '0')
+-- `LET F(N) = N = 0 -> 0, N + F(N-1); WRCH(F(3) + '0')`
 abbrev with_recursion : Core
 with_recursion = record {
   places =
@@ -158,7 +158,7 @@ pub recursion_does : does recursion_items 90 ≡ (ends.Finished, printed (54 ∷
 unfolding runs step
 recursion_does = refl
 
--- WRCH('A'); WRCH(1/0)
+-- `WRCH('A'); WRCH(1/0)`
 abbrev with_division : Core
 with_division = record {
   places = Code (record {

@@ -1,4 +1,5 @@
--- The image of a program: by the generator's definitions of its sections' items, and the linker's of the store.
+-- The image of a program, and the laws about its map and its run. The items are those of the generator's definitions, the store is
+-- that of the linker's.
 use Rattle.std.specs.Prelude.{ℕ, ◌≡◌, ◌+◌, ◌<◌, List, [], ◌∷◌, ◌++◌, map, All, None, true, false, slice_index}
 use Rattle.bc_text_items.specs.Sizes.{size_of_all}
 use Rattle.bc_text_items.specs.Assembled.{label_places}
@@ -29,7 +30,7 @@ argument = Operation functions.Load true bases.P 2
 abbrev pub nought : Item
 nought = Operation functions.Load false bases.Number 0
 
--- the first segment of every program: the eight primitives, with their globals
+-- the first segment of every program: the eight primitives with their globals
 abbrev pub library_routines : List Item
 library_routines =
     Label 1 ∷ argument ∷ execute 24 ∷ nought ∷ execute 4 ∷
@@ -47,34 +48,33 @@ library_settings = Global 11 1 ∷ Global 12 2 ∷ Global 13 3 ∷ Global 14 4 �
 abbrev pub library_items : List Item
 library_items = library_routines ++ library_settings
 
--- the segments of a program: the primitives, and then its sections
+-- the segments of a program: the primitives, followed by its sections
 abbrev pub sections_of : Coding → List Core → List (List Item)
 sections_of coding cores = map (section_items coding) cores
 
 abbrev pub segments_of : Coding → List Core → List (List Item)
 segments_of coding cores = library_items ∷ sections_of coding cores
 
--- the addresses of each segment's labels, where the segments stand from `start` on
+-- the addresses of each segment's labels, where the segments are placed from `start` on
 abbrev pub addresses_from : ℕ → List (List Item) → List (ℕ → ℕ)
 addresses_from start [] = []
 addresses_from start (segment ∷ segments) = label_address (label_places start segment) ∷ addresses_from (start + size_of_all segment) segments
 
--- where the linker puts the sections' places and the stack
+-- the addresses of the sections' places and of the stack, as the linker gives them
 abbrev pub linked_map : Coding → List Core → Map
 linked_map coding cores = record {
   places = addresses_from (520 + size_of_all library_items) (sections_of coding cores);
   stack_base = stack_base_of (segments_of coding cores);
 }
 
--- where the linker refuses nothing, the addresses in the image are a map
+-- If the linker refuses nothing, the addresses in the image are a map.
 abbrev pub LinkedMapIsMap : Type 0
 LinkedMapIsMap =
     (T : Table) (choice : Choice T) (cores : List Core)
     → refusal_of (segments_of (coding_of choice) cores) ≡ None → IsMap cores (linked_map (coding_of choice) cores)
 
--- For every list of sections, every choice of derivations by either table, all inputs and n: where the linker
--- refuses nothing and the store holds words, the run of the machine from the image's start does what the sections
--- mean.
+-- For every list of well-formed sections, every choice of derivations by either table, all inputs and n: if the linker refuses
+-- nothing and the store holds words, the run of the machine from the image's start does what the sections mean.
 abbrev pub ProgramsRun : Type 0
 ProgramsRun =
     (T : Table) (choice : Choice T) (cores : List Core) → All (λ core. is_core core ≡ true) cores

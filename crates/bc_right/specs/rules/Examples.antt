@@ -1,5 +1,5 @@
--- Worked examples: the code of derivations, run on the machine from a small store, and the value that the meaning
--- gives, each computed from the definitions alone.
+-- Worked examples: the code of derivations is run on the machine from a small store, and gives the value that the meaning gives. The
+-- prover computes each from the definitions.
 use Rattle.std.specs.Prelude.{ℕ, ◌≡◌, ◌+◌, ◌-◌, ◌==◌, cond, true, false, List, [], ◌∷◌, ◌++◌, length, replicate, slice_index, slice_set, refl}
 use Rattle.bc_word.specs.declared.operator.Op.TheVariants.{Add, Subtract, Multiply, Divide, Equal}
 use Rattle.bc_text_items.specs.declared.item.Item.{Item}
@@ -31,11 +31,11 @@ no_stream = start_streams [] []
 abbrev pub no_body : BodiesCode Item
 no_body n s l f = ([], f)
 
--- the words of a root's code, where all labels have one address
+-- the words of a root's code, where all labels have the same address
 abbrev words_of : {T : _} {r : _} → (target : ℕ) → RootDerives T r → List ℕ
 words_of target d = assembled (λ l. target) (fill (λ i. i) (λ n. 0) no_body (root_code d 0 1) 9).0
 
--- A after n instructions of this code at 0, with its frame after it
+-- A after n instructions of this code at address 0, with the frame after the code
 abbrev gives : (n : ℕ) → (code frame : List ℕ) → ℕ
 gives n code frame = (runs n (machine 0 0 0 (length code) (code ++ frame) no_stream)).0.registers.a
 
@@ -58,7 +58,7 @@ push = v1 refl
 abbrev get : {T : _} {k : ℕ} → Derives T (at k) (Gets Any)
 get = v0 (v1 refl)
 
--- A and B after n instructions of this code at 0, where A was 40, with its frame after it
+-- A and B after n instructions of this code at address 0, where A was 40, with the frame after the code
 abbrev from_forty : {T : _} {e : Exp} {m : _} → (n : ℕ) → Derives T e (Gets m) → ℕ × ℕ
 from_forty n d =
     let words = assembled (λ l. 0) (fill (λ i. i) (λ n. 0) no_body (code d 6 0 1) 9).0 in
@@ -67,7 +67,7 @@ from_forty n d =
 abbrev eleven : Exp
 eleven = Bin Add (at 2) (at 4)
 
--- 2 + 9 in Push: B is what A was
+-- 2 + 9 in mode Push: B holds what A held before
 abbrev in_push : Derives One eleven (Gets Push)
 in_push = v6 refl push
 
@@ -75,7 +75,7 @@ pub in_push_keeps : from_forty 2 in_push ≡ (11, 40)
 unfolding runs step
 in_push_keeps = refl
 
--- otherwise B may be another, here the first operand
+-- in mode Any B may hold something else, here the first operand
 abbrev in_any : Derives One eleven (Gets Any)
 in_any = v12 get push
 
@@ -104,7 +104,7 @@ pub held_gives : gives 10 (words_of 0 held) frame ≡ 20
 unfolding runs step
 held_gives = refl
 
--- (9 * 5) / (2 * 3), the right operand first
+-- (9 * 5) / (2 * 3), the right operand evaluated first
 abbrev quotient : Exp
 quotient = Bin Divide (Bin Multiply (at 4) (at 5)) (Bin Multiply (at 2) (at 3))
 
@@ -118,7 +118,7 @@ pub exchanged_gives : gives 9 (words_of 0 exchanged) frame ≡ 7
 unfolding runs step
 exchanged_gives = refl
 
--- the cell at 4 + 5 is set to 7: the address is computed first
+-- the cell at 4 + 5 is set to 7; the address is evaluated first
 abbrev addressed : RootDerives One (Assign 6 (at 5) (Bin Add (at 2) (at 3)))
 addressed = a2 refl refl (v0 (v6 refl push)) get
 
@@ -135,7 +135,7 @@ pub addressed_sets : slice_index (runs 5 (machine 0 0 0 5 (words_of 0 addressed 
 unfolding runs step
 addressed_sets = refl
 
--- nothing else changes but what is held at the level, the address 9
+-- nothing else changes except the cell at the level, which keeps the address 9
 abbrev after_addressed : List ℕ → List ℕ
 after_addressed frame = (runs 5 (machine 0 0 0 5 (words_of 0 addressed ++ frame) no_stream)).0.store
 
@@ -143,7 +143,7 @@ pub addressed_leaves : after_addressed (0 ∷ 0 ∷ 4 ∷ 5 ∷ 1 ∷ 7 ∷ 0 �
 unfolding runs step
 addressed_leaves = refl
 
--- x + f() and f() + x, where f sets x from 7 to 5 and gives 3: x is global 2, f is global 1
+-- x + f() and f() + x, where f sets x from 7 to 5 and returns 3; x is global 2, f is global 1
 abbrev x : Exp
 x = Load (Glob 2)
 
@@ -190,8 +190,8 @@ pub f_and_x_gives : after_calls 7 (words_of 0 f_and_x ++ replicate 7 0) ≡ 8
 unfolding runs step
 f_and_x_gives = refl
 
--- g(1) op h(2), where g adds 5 and h adds 1 to what it is given: g is global 1, h is global 2, and the value of the
--- left call is held while the right one is at work
+-- g(1) op h(2), where g adds 5 and h adds 1 to its argument; g is global 1, h is global 2, and the value of the left call is kept
+-- during the right one
 abbrev g_of_1 : Exp
 g_of_1 = Call (argument (Num 1) no_argument) (Load (Glob 1))
 
@@ -224,7 +224,7 @@ abbrev adds_to : ℕ → List ℕ
 adds_to n = assembled (λ l. 0) (Operation functions.Load true bases.P 2 ∷ Operation functions.Add false bases.Number n
     ∷ Operation functions.Execute false bases.Number 4 ∷ [])
 
--- A after n instructions of this code at 9 + 2, with g and h after it, and the frame at 50
+-- A after n instructions of this code at address 11, with g and h after it, and the frame at 50
 abbrev of_calls : (n : ℕ) → List ℕ → ℕ
 of_calls n code =
     let store = replicate 9 0 ++ 30 ∷ 33 ∷ code ++ replicate (19 - length code) 0 ++ adds_to 5 ++ adds_to 1 ++ replicate 30 0 in
@@ -264,7 +264,7 @@ pub as_sum_gives : of_calls 16 (words_of 0 as_sum) ≡ 9
 unfolding runs step
 as_sum_gives = refl
 
--- (2 * 3) * (9 * 5) at the last level whose cell has an address of one word, and at the next
+-- (2 * 3) * (9 * 5) at the last level whose cell is addressed by an instruction of one word, and at the next level
 abbrev squares : Exp
 squares = Bin Multiply (Bin Multiply (at 2) (at 3)) (Bin Multiply (at 4) (at 5))
 
@@ -288,7 +288,7 @@ pub squares_at_512_gives : (length (words_of 0 (squares_at 512)) ≡ 11) × (wid
 unfolding runs step
 squares_at_512_gives = (refl, refl)
 
--- a jump to 50 unless 2 = 0, by the second table: C is 50
+-- a jump to 50 unless 2 = 0, by table 2: C is 50
 abbrev is_zero : RootDerives Two (Test 6 false (Bin Equal (at 2) (Num 0)))
 is_zero = test (j8 refl refl get)
 

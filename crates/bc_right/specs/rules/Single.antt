@@ -1,5 +1,5 @@
--- What the code of one derivation does to a machine that stands before it. Nothing is said of the code of other roots, nor
--- of how the derivation was chosen.
+-- What the code of one derivation does on a machine that is about to execute it. It doesn't matter what code other roots have or how
+-- the derivation was chosen.
 use Rattle.std.specs.Prelude.{ℕ, ◌≡◌, ◌+◌, ◌<◌, ◌≤◌, Bool, cond, List, [], ◌∷◌, slice_index}
 use Rattle.bc_text_items.specs.declared.item.Item.{Item}
 use Rattle.bc_machine_defs.specs.declared.state.End.TheVariants.{BudgetSpent}
@@ -27,7 +27,7 @@ use Rattle.bc_right.specs.steps.Landing.{Moment, moment, Later, Stands}
 use Rattle.bc_right.specs.steps.Items.{hold_item}
 use Rattle.bc_right.specs.steps.Premises.{Levelled, CallLands, ValofsLand}
 
--- a machine, with A, B, C, P and its store, and the source as it is at that moment
+-- a machine with its registers A, B, C, P and its store, and the state of the source at that moment
 pub record Start : Type 0 where
   pub a : ℕ
   pub b : ℕ
@@ -39,23 +39,23 @@ pub record Start : Type 0 where
 abbrev pub machine_of : Start → machines.State
 machine_of x = machine x.a x.b x.c x.p x.store x.source.streams
 
--- Its store has what the cells of the source hold, of which none is live from the top on; it holds words; and what stood as code
--- at the moment S stands there still.
+-- Its store agrees with the source's cells, of which none is live from the top on; it holds words; and the code that was in the store
+-- at the moment S is still there.
 pub record IsReady (S : Moment) (top : ℕ) (x : Start) : Type 0 where
   pub holds : Holds top x.source.cells x.store
   pub are_words : AreWords (machine_of x)
   pub since : Later S (moment top x.source.cells x.store)
 
--- below the top, where a cell of the source is as it was, its word is as it was in the store
+-- Below the top, a word of the store is unchanged if the source's cell there is.
 abbrev pub NothingElseChanges : (top : ℕ) → (cells : List Cell) (store : List ℕ) (cells1 : List Cell) (store1 : List ℕ) → Type 0
 NothingElseChanges top cells store cells1 store1 = (i : ℕ) → i < top → cell_at cells1 i ≡ cell_at cells i → slice_index store1 i ≡ slice_index store i
 
--- what A, B and C are to be, by a value
+-- a condition on A, B and C, given a value
 abbrev pub Registers : Type 0 → Type 1
 Registers A = A → (a b c : ℕ) → Type 0
 
--- After this many instructions, at least one for each turn that the source took, the machine is still running, in the same frame, with
--- A, B and C as they are to be and with the source's streams; its store has what the source's cells hold now, and nothing else changed.
+-- After this many instructions, at least one for each turn that the source took, the machine is still running in the same frame. A, B and
+-- C fulfil the condition, the streams are the source's, the store agrees with the source's cells, and nothing else changed.
 pub record Comes {A : Type 0} (top : ℕ) (x : Start) (wanted : Registers A) (v : A) (now : State) : Type 0 where
   pub instructions : ℕ
   pub a : ℕ
@@ -68,20 +68,20 @@ pub record Comes {A : Type 0} (top : ℕ) (x : Start) (wanted : Registers A) (v 
   pub holds : Holds top now.cells store
   pub others : NothingElseChanges top x.source.cells x.store now.cells store
 
--- By what the source comes to: the machine comes there; or it ends as the source does; or it is still running after an instruction for
--- each turn, where the source is going on; and of a wild source nothing is said.
+-- The machine does the same as the source: it comes to the same state, or it ends in the same way, or both are still running, with at
+-- least one instruction for each turn. If the source is wild, nothing is claimed.
 abbrev pub DoesTheSame : {A : Type 0} → (top : ℕ) → Start → Registers A → Outcome A → Type 0
 DoesTheSame top x wanted (Done v now) = Comes top x wanted v now
 DoesTheSame top x wanted (Ended e streams) = (n : ℕ) × StopsAt (machine_of x) n (end_of e) streams
 DoesTheSame top x wanted (Going streams) = (n : ℕ) × (x.source.turns ≤ n) × StopsAt (machine_of x) n BudgetSpent streams
 DoesTheSame top x wanted Wild = Unit {0}
 
--- in Push, B is what A was
+-- in mode Push, B holds what A held before
 abbrev pub Kept : Mode → (was b : ℕ) → Type 0
 Kept Any was b = Unit {0}
 Kept Push was b = b ≡ was
 
--- the value in A, after the code; a test's jump where its truth is the sense; an assignment's end
+-- the value is in A after the code; a test has jumped if its truth is the sense; an assignment has ended
 abbrev pub has_value : Mode → (was end : ℕ) → Registers ℕ
 has_value m was end v a b c = (a ≡ v) × (c ≡ end) × Kept m was b
 
@@ -91,20 +91,20 @@ has_jumped sense target end v a b c = c ≡ cond (agrees sense v) target end
 abbrev pub is_after : ℕ → Registers (Unit {0})
 is_after end v a b c = c ≡ end
 
--- labels have the addresses of the source's places, and calls and the bodies of VALOFs do what they mean
+-- Labels have the addresses of the source's places, and calls and the bodies of VALOFs do what they mean.
 pub record Surrounds (address levels : ℕ → ℕ) (S : Moment) (most : ℕ) (C : Context) (V : Bodies) (bodies : BodiesCode Item) : Type 0 where
   pub places : (l : ℕ) → address l ≡ C.place l
   pub calls : (v : ℕ) → CallLands S most v (C.call v)
   pub valofs : ValofsLand address levels S most V bodies C.valof
 
--- pieces, with these bodies filled in, stand as code from where the machine is to `end`, since the moment S
+-- The pieces, with these bodies filled in, have been in the store since the moment S, from the machine's C to `end`.
 abbrev pub CodeStands : (address levels : ℕ → ℕ) → Moment → BodiesCode Item → List Piece → (g : ℕ) → Start → (end : ℕ) → Type 0
 CodeStands address levels S bodies ps g x end = Stands address S x.c (fill (λ i. i) levels bodies ps g).0 end
 
--- One derivation of any expression by either table, at any level and with any labels: where its code stands, and the frame has room for
--- it, the machine comes to the expression's value in A, and in Push B is then what A was; or it jumps where the expression's truth is the
--- sense. One derivation of an assignment: the machine does what the assignment means. A FOR's limit has no cell that is live, and its code is
--- that of the value and a store of A at the limit's offset.
+-- One derivation of any expression by either table, at any level and with any labels. If its code is in the store and the frame has
+-- room, the machine loads the expression's value into A, and in mode Push B then holds what A held before; or it jumps if the
+-- expression's truth is the sense. One derivation of an assignment: the machine does what the assignment means. The limit of a FOR
+-- has no live cell; its code is that of the value, and a store of A at the limit's offset.
 pub record EachIsRight (address levels : ℕ → ℕ) (S : Moment) (most : ℕ) (C : Context) (V : Bodies) (bodies : BodiesCode Item) : Type 0 where
   pub values : {T : Table} {e : Exp} {m : Mode} (d : Derives T e (Gets m)) (s t f g end : ℕ) (x : Start)
       → Levelled levels e s → CodeStands address levels S bodies (code d s t f) g x end → x.p + cells_of_exp V e s ≤ 65536
@@ -125,6 +125,7 @@ pub record EachIsRight (address levels : ℕ → ℕ) (S : Moment) (most : ℕ) 
       → (middle : ℕ) × Stands address S middle (hold_item (s + 1) ∷ []) end
       × DoesTheSame (x.p + (s + 2)) x (has_value Any x.a middle) (value C e x.p (s + 2) x.source)
 
+-- Each derivation is right, if labels have the addresses of places, and calls and the bodies of VALOFs are right.
 abbrev pub EachDerivationIsRight : Type 0
 EachDerivationIsRight =
     (address levels : ℕ → ℕ) (S : Moment) (most : ℕ) (C : Context) (V : Bodies) (bodies : BodiesCode Item)

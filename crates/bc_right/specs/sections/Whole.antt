@@ -1,4 +1,4 @@
--- From sections as they are parsed to the run of the machine.
+-- From parsed sections to the run of the machine.
 use Rattle.std.specs.Prelude.{ℕ, ◌≡◌, ◌≤◌, ◌<◌, List, map, All, None, slice_index}
 use Rattle.bc_machine_defs.specs.Streams.{Content, HoldBytes}
 use Rattle.bc_machine_defs.specs.State.{start}
@@ -15,12 +15,13 @@ use Rattle.bc_link.specs.Refusals.{refusal_of}
 use Rattle.bc_link.specs.Store.{store_of}
 use Rattle.bc_right.specs.programs.Linked.{segments_of, linked_map}
 
--- a section that is not refused, and no greater than any that is parsed
+-- The section has no fault, and is within the parser's limits.
 pub record IsFaultless (section : Declarations) : Type 0 where
   pub no_fault : section_fault section ≡ None
   pub size : declarations_size section ≤ 524288
 
--- The addresses are those that the linker gives, the words of the store are words, and the inputs hold bytes.
+-- For every choice of derivations, all faultless sections that the linker accepts, all inputs of bytes and every n: the machine's
+-- run of the linked store does the same as the meaning of the sections. The addresses are those that the linker gives.
 abbrev pub SectionsRun : Type 0
 SectionsRun =
     (T : Table) (choice : Choice T) (sections : List Declarations) → All IsFaultless sections

@@ -1,4 +1,4 @@
--- Code in the store: the words of its items stand at their place, in cells that are dead.
+-- Code in the store: the words of its items are at its address, in cells that are dead for the source.
 use Rattle.std.specs.Prelude.{ℕ, ◌≡◌, ◌+◌, ◌<◌, ◌≤◌, List, [], ◌∷◌, slice_index}
 use Rattle.bc_text_items.specs.declared.item.Item.{Item}
 use Rattle.bc_text_items.specs.declared.item.Item.TheVariants.{Label}
@@ -10,7 +10,7 @@ abbrev pub HasWords : List ℕ → ℕ → List ℕ → Type 0
 HasWords store c [] = Unit {0}
 HasWords store c (w ∷ ws) = (slice_index store c ≡ w) × HasWords store (c + 1) ws
 
--- a label stands where its address is
+-- a label is at its own address
 abbrev pub StandsAt : (ℕ → ℕ) → Item → ℕ → Type 0
 StandsAt address (Label m) c = address m ≡ c
 StandsAt address _ c = Unit {0}
@@ -25,7 +25,7 @@ abbrev pub words : List Item → ℕ
 words [] = 0
 words (i ∷ is) = size i + words is
 
--- where `address m` is the address of the label m
+-- The items are code at the address c, where `address m` is the address of the label m.
 pub record IsCode (address : ℕ → ℕ) (top : ℕ) (cells : List Cell) (store : List ℕ) (c : ℕ) (items : List Item) : Type 0 where
   pub has : HasItems address store c items
   pub dead : (a : ℕ) → c ≤ a → a < c + words items → cell_at cells a ≡ Dead

@@ -1,4 +1,4 @@
--- The instructions of which code is made.
+-- The instructions that code consists of.
 use Rattle.std.specs.Prelude.{ℕ, Bool, true, false, not, [], ◌∷◌}
 use Rattle.bc_word.specs.declared.operator.Op.{Op}
 use Rattle.bc_word.specs.Words.{number_of}
@@ -14,14 +14,14 @@ use Rattle.bc_right.specs.steps.Landing.{Moment, Stands}
 abbrev pub with_operand : Function → Operand → Item
 with_operand f o = Operation f (not o.direct) o.base o.n
 
--- `Xn`, and `Xn` for an operator on B and A
+-- `Xn`, and the `Xn` of an operator on B and A
 abbrev pub execute : ℕ → Item
 execute n = Operation functions.Execute false bases.Number n
 
 abbrev pub operate : Op → Item
 operate op = execute (number_of op)
 
--- `SPk` holds A at offset k, `LIPk` takes it back, `AIPk` adds it to A, and `SIPk` stores A at the address there
+-- `SPk` stores A at offset k, `LIPk` loads it again, `AIPk` adds it to A, and `SIPk` stores A at the address that is there
 abbrev pub hold_item : ℕ → Item
 hold_item k = Operation functions.Store false bases.P k
 
@@ -46,6 +46,6 @@ abbrev pub test_item : Bool → ℕ → Item
 test_item true l = Operation functions.JumpIfTrue false bases.Label l
 test_item false l = Operation functions.JumpIfFalse false bases.Label l
 
--- a jump to this label stands here
+-- a jump to this label is at this address
 abbrev pub JumpAt : (ℕ → ℕ) → Moment → (c label : ℕ) → Type 0
 JumpAt address S c l = (end : ℕ) × Stands address S c (jump l ∷ []) end

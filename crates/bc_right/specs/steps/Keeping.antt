@@ -4,6 +4,6 @@ use Rattle.bc_machine_defs.specs.State.{State}
 use Rattle.bc_machine_defs.specs.Run.{runs}
 use Rattle.bc_right.specs.steps.Leads.{AreWords}
 
--- after any number of instructions they are words, where they were at first
+-- If registers and store hold words at first, they do after any number of instructions.
 abbrev pub WordsAreKept : Type 0
 WordsAreKept = (n : ℕ) (x : State) → AreWords x → AreWords (runs n x).0

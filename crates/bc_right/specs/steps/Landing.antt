@@ -1,4 +1,4 @@
--- What the machine does for a run of the source, as seen from an earlier moment.
+-- What the machine does for a run of the source, seen from an earlier moment, the origin.
 use Rattle.std.specs.Prelude.{ℕ, ◌≡◌, ◌+◌, ◌≤◌, ◌<◌, List}
 use Rattle.bc_text_items.specs.declared.item.Item.{Item}
 use Rattle.bc_machine_defs.specs.declared.state.End.TheVariants.{BudgetSpent}
@@ -11,7 +11,7 @@ use Rattle.bc_right.specs.steps.Leads.{machine, Ahead, StopsAt, AreWords}
 use Rattle.bc_right.specs.steps.Agreement.{Holds, Keeps}
 use Rattle.bc_right.specs.steps.CodeAt.{IsCode, words}
 
--- the cells and the store at a moment of a run, no cell from the top on being live
+-- a moment of a run: the cells, the store, and the top, from which on no cell is live
 pub record Moment : Type 0 where
   pub top : ℕ
   pub cells : List Cell
@@ -20,19 +20,19 @@ pub record Moment : Type 0 where
 abbrev pub moment : ℕ → List Cell → List ℕ → Moment
 moment top cells store = record { top = top; cells = cells; store = store }
 
--- what was dead below the top at the earlier moment is dead still, and as it was in the store; and what is unset now was so,
--- and is as it was
+-- N is later than M: cells that were dead below the top at M are still dead and unchanged in the store, and cells that are unset now
+-- were unset and are unchanged
 pub record Later (M N : Moment) : Type 0 where
   pub low : M.top ≤ N.top
   pub keeps : Keeps M.top M.cells M.store N.cells N.store
 
--- the items stand as code from c to end, since the moment K
+-- the items have been in the store as code since the moment K, from c to end
 pub record Stands (address : ℕ → ℕ) (K : Moment) (c : ℕ) (items : List Item) (end : ℕ) : Type 0 where
   pub code : IsCode address K.top K.cells K.store c items
   pub ends : c + words items ≡ end
 
--- The machine, which was at x with t turns left for the source at the moment O, has come to this state, in at
--- least as many instructions as turns were taken, and `gain` more.
+-- The machine was in the state x at the moment O, when t turns remained for the source. It has now come to this state, in at least as
+-- many instructions as turns were taken, and `gain` more.
 pub record Reached (K : Moment) (most : ℕ) (O : Moment) (x : State) (t top p a b c gain : ℕ) (store : List ℕ) (st : outcomes.State) : Type 0 where
   pub few : st.turns < most
   pub are_words : AreWords x
@@ -41,11 +41,11 @@ pub record Reached (K : Moment) (most : ℕ) (O : Moment) (x : State) (t top p a
   pub since : Later K O
   pub later : Later O (moment top st.cells store)
 
--- where the machine is, by the value that the run gives: what A, B and C hold, what was gained, the turns left
+-- a goal: given the value of the run, a condition on A, B, C, the gain and the remaining turns
 abbrev pub Goal : Type 0 → Type 1
 Goal A = A → (a b c gain turns : ℕ) → Type 0
 
--- it has come to where the goal says; or it ended, or is going on, as the source; of a wild source nothing is said
+-- The machine has reached the goal; or it has ended, or is still running, as the source. If the source is wild, nothing is claimed.
 abbrev pub Lands : {A : Type 0} → (K : Moment) → (most : ℕ) → (O : Moment) → State → (t top p limit : ℕ) → Goal A → Outcome A → Type 0
 Lands K most O x t top p limit goal (outcomes.Done v st) =
     (a : ℕ) × (b : ℕ) × (c : ℕ) × (gain : ℕ) × (store : List ℕ)
@@ -54,7 +54,7 @@ Lands K most O x t top p limit goal (outcomes.Ended e streams) = (j : ℕ) × St
 Lands K most O x t top p limit goal (outcomes.Going streams) = (j : ℕ) × (t ≤ j) × StopsAt x j BudgetSpent streams
 Lands K most O x t top p limit goal outcomes.Wild = Unit {0}
 
--- a run that begins with the machine at c, with a in A, with at most `limit` turns left, lands where the goal says
+-- A run that begins with C = c, A = a and at most `limit` remaining turns reaches the goal.
 pub record Does {A : Type 0} (K : Moment) (most top p limit a c : ℕ) (goal : Goal A) (r : Run A) : Type 0 where
   pub from : (O : Moment) (x : State) (t b : ℕ) (store : List ℕ) (st : outcomes.State)
       → st.turns ≤ limit → Reached K most O x t top p a b c 0 store st → Lands K most O x t top p limit goal (r st)

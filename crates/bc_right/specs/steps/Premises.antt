@@ -1,4 +1,4 @@
--- What is asked of calls, of VALOFs and of the code of roots.
+-- The premises about calls, VALOFs and the code of roots.
 use Rattle.std.specs.Prelude.{ℕ, ◌≡◌, ◌+◌, ◌≤◌, Bool, List, [], ◌∷◌, ◌++◌, length}
 use Rattle.bc_text_items.specs.declared.item.Item.{Item}
 use Rattle.bc_text_items.specs.declared.item.Item.TheVariants.{Label}
@@ -18,15 +18,15 @@ use Rattle.bc_right.specs.steps.Goals.{value_goal, test_goal, end_goal}
 abbrev pub Code : Type 0
 Code = List Item × ℕ
 
--- a root's code, by its target and its first label
+-- the code of a root, given its target and its first label
 abbrev pub Roots : Type 0
 Roots = Root → (target first : ℕ) → Code
 
--- the code of a VALOF's body, by its number, its level, its label and its first label
+-- the code of a VALOF's body, given the VALOF's number, its level, the label after it, and the first free label
 abbrev pub BodiesCode : Type 0
 BodiesCode = (number level label first : ℕ) → Code
 
--- each VALOF in an expression at level s stands at its own level
+-- each VALOF in an expression at level s is at the level that `levels` has for it
 abbrev mutual
   pub Levelled : (ℕ → ℕ) → Exp → ℕ → Type 0
   Levelled levels (Load e) s = Levelled levels e s
@@ -42,27 +42,27 @@ abbrev mutual
   AllLevelled levels no_argument s = Unit {0}
   AllLevelled levels (argument e es) s = Levelled levels e s × AllLevelled levels es (s + 1)
 
--- With the arguments held after the new frame's links and the value v that is called in A, the machine at `Ks`
--- lands after it, with the call's value in A.
+-- With the arguments stored after the links of the new frame, and the called value v in A, the machine gets from `Ks` to the
+-- instruction after it, with the call's value in A.
 pub record CallLands (S : Moment) (most v : ℕ) (call : List ℕ → ℕ → Run ℕ) : Type 0 where
   pub from : (K : Moment) → Later S K → (address : ℕ → ℕ) (O : Moment) (x : State) (t p s b c end limit : ℕ) (vs store : List ℕ) (st : outcomes.State)
       → Stands address S c (call_item s ∷ []) end → HasWords store (p + s + 2) vs → p + s + 2 + length vs ≤ 65536
       → st.turns ≤ limit → Reached K most O x t (p + s) p v b c 0 store st
       → Lands K most O x t (p + s) p limit (value_goal end) (call vs (p + s) st)
 
--- where the code of a VALOF's body stands, with its label right after, it gives the VALOF's value at its level
+-- The code of a VALOF's body, with its label right after it, gives the VALOF's value at its level.
 pub record ValofsLand (address levels : ℕ → ℕ) (S : Moment) (most : ℕ) (V : Bodies) (bodies : BodiesCode) (valof : ℕ → ℕ → ℕ → Run ℕ) : Type 0 where
   pub from : (K : Moment) → Later S K → (n p l first a c end limit : ℕ)
       → Stands address S c ((bodies n (levels n) l first).0 ++ Label l ∷ []) end → p + V n (levels n) ≤ 65536
       → Does K most (p + levels n) p limit a c (value_goal end) (valof n p (levels n))
 
--- a value's code, and then its store at an offset of the frame
+-- the code of a value, followed by a store of it at an offset of the frame
 pub record StoresLast (address : ℕ → ℕ) (S K : Moment) (most top p limit a c k end : ℕ) (r : Run ℕ) : Type 0 where
   pub middle : ℕ
   pub gives : Does K most top p limit a c (value_goal middle) r
   pub stores : Stands address S middle (hold_item k ∷ []) end
 
--- wherever the code of a root stands, it does what the root means
+-- Wherever the code of a root is placed, it does what the root means.
 pub record RootsLand (C : Context) (address levels : ℕ → ℕ) (V : Bodies) (S : Moment) (most : ℕ) (roots : Roots) : Type 0 where
   pub gives : (K : Moment) → Later S K → (e : Exp) (p s first a c end limit : ℕ)
       → Stands address S c (roots (Value s e) 0 first).0 end → p + cells_of_exp V e s ≤ 65536 → Levelled levels e s
@@ -74,13 +74,12 @@ pub record RootsLand (C : Context) (address levels : ℕ → ℕ) (V : Bodies) (
       → Stands address S c (roots (Assign s e f) 0 first).0 end → p + cells_of_assignment V e f s ≤ 65536
       → Levelled levels e (side_level f s) → Levelled levels f (side_level f s)
       → Does K most (p + s) p limit a c (end_goal end) (assign C e f p s)
-  -- a FOR's limit, which has no live cell
+  -- the limit of a FOR, which has no live cell
   pub limits : (K : Moment) → Later S K → (e : Exp) (p s first a c end limit : ℕ)
       → Stands address S c (roots (Assign (s + 2) e (Frame (s + 1))) 0 first).0 end → p + cells_of_exp V e (s + 2) ≤ 65536 → Levelled levels e (s + 2)
       → StoresLast address S K most (p + (s + 2)) p limit a c (s + 1) end (value C e p (s + 2))
 
--- code of roots that is right for any calls and VALOFs that are, where labels have the addresses of the source's
--- places
+-- The code of roots is right for all calls and VALOFs that are right, if labels have the addresses of the source's places.
 pub record RootsRight (address levels : ℕ → ℕ) (S : Moment) (over : BodiesCode → Roots) : Type 0 where
   pub from : (most : ℕ) (C : Context) (V : Bodies) (bodies : BodiesCode)
       → ((l : ℕ) → address l ≡ C.place l) → ((v : ℕ) → CallLands S most v (C.call v)) → ValofsLand address levels S most V bodies C.valof

@@ -1,4 +1,4 @@
-//! Laws of the commands' code. Each is the contract of a function that does nothing.
+//! Laws of the code of commands. Each is the contract of a function with an empty body.
 
 ghost use Rattle.bc_right.specs.commands.Exits.{CommandsLand};
 ghost use Rattle.bc_right.specs.commands.Calls.{CallsLand};
@@ -6,32 +6,32 @@ ghost use Rattle.bc_right.specs.commands.Library.{PrimitivesLand};
 ghost use Rattle.bc_right.specs.commands.Section.{SectionsStand};
 ghost use Rattle.bc_right.specs.commands.Whole.{RunsAreSame, MeaningIsRun};
 
-/// The code of a command does what the command means, over code of roots that does.
+/// The code of a command does what the command means, if the code of its roots does.
 pub fn commands_land()
     ensures { CommandsLand }
 {}
 
-/// Calls do what they mean, where the routines' code stands.
+/// Calls do what they mean, if the routines' code is in the store.
 pub fn calls_land()
     ensures { CallsLand }
 {}
 
-/// The primitives do what they mean.
+/// The code of the primitives does what they mean.
 pub fn primitives_land()
     ensures { PrimitivesLand }
 {}
 
-/// Where the code of the sections stands, that of each routine stands at its address.
+/// If the code of the sections is in the store, that of each routine is at the routine's address.
 pub fn sections_stand()
     ensures { SectionsStand }
 {}
 
-/// A whole run of the machine does what the source means.
+/// A whole run of the machine does what the source means, if boot code, routines and primitives are in the store.
 pub fn runs_are_same()
     ensures { RunsAreSame }
 {}
 
-/// A run of sections means what the machine does, where their code and their first cells stand in the store.
+/// The same stated for sections: the meaning of sections is what the machine does, if their code and their first cells are in the store.
 pub fn meaning_is_run()
     ensures { MeaningIsRun }
 {}

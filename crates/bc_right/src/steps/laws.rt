@@ -1,21 +1,20 @@
-//! Laws of the simulation. Each is the contract of a function that does nothing.
+//! Laws of the simulation. Each is the contract of a function with an empty body.
 
 ghost use Rattle.bc_right.specs.steps.Free.{FreeOperandsExchange, FreeSidesExchange};
 ghost use Rattle.bc_right.specs.steps.Keeping.{WordsAreKept};
 
-/// Where an operator's operands are free, that is neither holds a call or VALOF, or one is a number or
-/// an address, the right one computed first gives the same, or the source is wild.
+/// If an operator's operands are free, evaluating the right one first gives the same, or the source is wild. They are free if neither
+/// contains a call or a VALOF, or one is a number or an address.
 pub fn free_operands_exchange()
     ensures { FreeOperandsExchange }
 {}
 
-/// Where the sides of an assignment are free, the address computed first gives the same, or the source
-/// is wild.
+/// If the sides of an assignment are free, evaluating the address first gives the same, or the source is wild.
 pub fn free_sides_exchange()
     ensures { FreeSidesExchange }
 {}
 
-/// Registers and store of the machine hold words all along, where they do at first.
+/// If the machine's registers and store hold words at first, they do after any number of instructions.
 pub fn words_are_kept()
     ensures { WordsAreKept }
 {}

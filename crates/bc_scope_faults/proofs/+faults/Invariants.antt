@@ -11,7 +11,7 @@ use Rattle.bc_scope_names.specs.View.{Extends, scope_view, numbers_view}
 use Rattle.bc_scope_faults.specs.Seen.{allowed_view, names_view, met_view, frames_fit}
 use Rattle.bc_scope_faults.proofs.+faults.Given as goal
 
--- each measure is 16 times the size of what is left to walk, with a rank among the functions that hand the same on
+-- each measure is 16 times the size of the trees that are left to walk, plus a rank among functions that pass the same trees on
 
 abbrev pub decreases-expressions::expression : goal.decreases-expressions::expression
 decreases-expressions::expression l = 16 * exp_size (exp_view l.e.now)

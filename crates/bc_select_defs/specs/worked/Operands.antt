@@ -1,4 +1,4 @@
--- Worked examples: what one instruction takes as its operand, and its words.
+-- Worked examples: which expressions are operands of one instruction, and the words of that instruction.
 use Rattle.std.specs.Prelude.{◌≡◌, ℕ, true, false, Some, None, refl}
 use Rattle.bc_word.specs.declared.operator.Op.TheVariants.{Add, Subtract}
 use Rattle.bc_text_items.specs.declared.item.Base.TheVariants.{Number, P, G, Label}
@@ -24,11 +24,11 @@ global = refl
 static : operand_of (Load (Place 3)) ≡ Some (content (direct Label 3))
 static = refl
 
--- `!5` is the content of the cell at 5: I on a number
+-- `!5` is the content of the cell at address 5: I on a number
 content_of_number : operand_of (Load (Num 5)) ≡ Some (content (direct Number 5))
 content_of_number = refl
 
--- `!!v` is none: one instruction reads one cell
+-- `!!v` is no operand: one instruction reads only one cell
 content_of_content : operand_of (Load (Load (Frame 2))) ≡ None
 content_of_content = refl
 
@@ -39,21 +39,21 @@ moved_by_three = refl
 three_and_moved : operand_of (Bin Add (Num 3) (Frame 2)) ≡ Some (direct P 5)
 three_and_moved = refl
 
--- the sum of offset and number is a word
+-- the sum of offset and number wraps to a word
 wraps : operand_of (Bin Add (Frame 65535) (Num 3)) ≡ Some (direct P 2)
 wraps = refl
 
 wraps_global : operand_of (Load (Bin Add (Num 65535) (Glob 4))) ≡ Some (content (direct G 3))
 wraps_global = refl
 
--- `v!2`, where v is a vector's address in the code, and `(@v)!2`
+-- `(@v)!2` is an operand; `v!2` isn't, since v must be loaded first
 element : operand_of (Load (Bin Add (Frame 2) (Num 2))) ≡ Some (content (direct P 4))
 element = refl
 
 element_of_variable : operand_of (Load (Bin Add (Load (Frame 2)) (Num 2))) ≡ None
 element_of_variable = refl
 
--- `(@static)!2` is none: a label's address is known to the linker alone
+-- `(@static)!2` is no operand: only the linker knows a label's address
 element_of_static : operand_of (Load (Bin Add (Place 3) (Num 2))) ≡ None
 element_of_static = refl
 
@@ -69,7 +69,7 @@ difference = refl
 negative : operand_of (Neg (Num 5)) ≡ None
 negative = refl
 
--- a number up to 511 takes one word, a greater one two; a label's address two
+-- a number up to 511 takes one word, a greater one two; a label takes two
 short : operand_words (direct Number 511) ≡ 1
 short = refl
 

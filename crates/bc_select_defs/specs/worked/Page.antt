@@ -1,5 +1,5 @@
--- Worked examples: those of docs/rules.md, as they stand there. a, b, c and d stand at 2 to 5, the level is 6, f and g are the globals 100 and 101, and
--- a test jumps to 9.
+-- Worked examples: those of docs/rules.md. a, b, c and d are at the offsets 2 to 5, the level is 6, f and g are the globals 100
+-- and 101, and a test jumps to label 9.
 use Rattle.std.specs.Prelude.{◌≡◌, ℕ, true, false, List, [], ◌∷◌, refl}
 use Rattle.bc_word.specs.declared.operator.Op.TheVariants.{Add, Subtract, Multiply, Divide, Less, Equal, And}
 use Rattle.bc_text_items.specs.declared.item.Item.TheVariants.{Operation}
@@ -119,7 +119,7 @@ by_v18 = refl
 by_v19 : code_of (v19 {a = f_1} {b = g_2} get_f_1 get_g_2) ≡ L 1 ∷ SP 9 ∷ LIG 100 ∷ K 7 ∷ SP 6 ∷ L 2 ∷ SP 9 ∷ LIG 101 ∷ K 7 ∷ X 2 ∷ AIP 6 ∷ []
 by_v19 = refl
 
--- a -> b, c, in two ways; f(a)
+-- a -> b, c by both rules; f(a)
 by_v20 : code_of (v20 {c = a} {x = b} {y = c} (j6 refl get) get get) ≡ LIP 2 ∷ jump_if false 1 ∷ LIP 3 ∷ J 2 ∷ label 1 ∷ LIP 4 ∷ label 2 ∷ []
 by_v20 = refl
 
@@ -129,7 +129,7 @@ by_v21 = refl
 by_v22 : code_of (v22 {es = argument a no_argument} {f = Load (Glob 100)} (one_more get no_more) (v0 (v1 refl))) ≡ LIP 2 ∷ SP 8 ∷ LIG 100 ∷ K 6 ∷ []
 by_v22 = refl
 
--- a & b in True; a = b in False; a = 0 in False, by table 2
+-- a & b, to jump on true; a = b, to jump on false; a = 0, to jump on false by table 2
 abbrev both_in_true : RootDerives One (Test 6 true (Bin And a b))
 both_in_true = test (j3 (j6 refl get) (j6 refl get))
 
@@ -161,7 +161,7 @@ a_b_gets_c = a2 refl refl (v6 refl get) get
 by_a2 : root_code a_b_gets_c 0 1 ≡ LIP 2 ∷ AIP 3 ∷ SP 6 ∷ LIP 4 ∷ SIP 6 ∷ []
 by_a2 = refl
 
--- f(1)!a := b is by A3 alone: the call may write b
+-- f(1)!a := b: only A3 applies, since the call may write b
 abbrev f_1_a : Exp
 f_1_a = Bin Add f_1 a
 

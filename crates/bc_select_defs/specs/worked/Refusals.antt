@@ -1,4 +1,4 @@
--- Worked examples: what each rule doesn't apply to.
+-- Worked examples: expressions to which a rule doesn't apply.
 use Rattle.std.specs.Prelude.{◌≡◌, ℕ, true, false, refl}
 use Rattle.bc_word.specs.declared.operator.Op.TheVariants.{Add, Subtract, Multiply, Divide, Less, Equal, NotEqual, And, Or, ShiftLeft}
 use Rattle.bc_core.specs.Tree.{Exp, Num, Frame, Glob, Load, Neg, Not, Bin, Cond, Call, no_argument, Root, Value, Assign}
@@ -30,7 +30,7 @@ v1_of_a_sum : Never One (Bin Add (at 2) (at 3)) (Gets Push) rule.V1
 v1_of_a_sum (v1 h) parts e = cc
 v1_of_a_sum _ parts e = cc
 
--- V2, V3 and V4: each is for one operator
+-- V2, V3 and V4: each applies to one operator
 v2_of_a_negative : Never One (Neg (at 2)) (Gets Any) rule.V2
 v2_of_a_negative (v0 d) parts e = cc
 v2_of_a_negative _ parts e = cc
@@ -43,17 +43,17 @@ v4_of_a_negative : Never One (Neg (at 2)) (Gets Any) rule.V4
 v4_of_a_negative (v0 d) parts e = cc
 v4_of_a_negative _ parts e = cc
 
--- V6: the right side is no operand
+-- V6: the right side isn't an operand
 v6_by_a_product : Never One (Bin Add (at 2) (Bin Multiply (at 3) (at 4))) (Gets Any) rule.V6
 v6_by_a_product (v6 h a) parts e = cc
 v6_by_a_product _ parts e = cc
 
--- V7: the variable may be set by the call, so that it isn't to be read after it
+-- V7: the call may set the variable, so the variable must not be read after it
 v7_beside_a_call : Never One (Bin Add (at 2) f) (Gets Any) rule.V7
 v7_beside_a_call (v7 h free b) parts e = cc
 v7_beside_a_call _ parts e = cc
 
--- V8: 0 - v has no 0 to drop, nor has 0 * v
+-- V8: neither 0 - v nor 0 * v has a 0 that can be dropped
 v8_of_a_negative : Never One (Bin Subtract (Num 0) (at 2)) (Gets Any) rule.V8
 v8_of_a_negative (v8 h c) parts e = cc
 v8_of_a_negative _ parts e = cc
@@ -62,12 +62,12 @@ v8_of_a_product : Never One (Bin Multiply (Num 0) (at 2)) (Gets Any) rule.V8
 v8_of_a_product (v8 h c) parts e = cc
 v8_of_a_product _ parts e = cc
 
--- V9: v is no number
+-- V9: v isn't a number
 v9_by_a_variable : Never One (Bin Subtract (at 2) (at 3)) (Gets Any) rule.V9
 v9_by_a_variable (v0 d) parts e = cc
 v9_by_a_variable _ parts e = cc
 
--- V10: the right side is no operand
+-- V10: the right side isn't an operand
 v10_by_a_product : Never One (Bin Subtract (at 2) (Bin Multiply (at 3) (at 4))) (Gets Any) rule.V10
 v10_by_a_product (v10 h a) parts e = cc
 v10_by_a_product _ parts e = cc
@@ -76,12 +76,12 @@ v11_beside_a_call : Never One (Bin Subtract (at 2) f) (Gets Any) rule.V11
 v11_beside_a_call (v11 h free b) parts e = cc
 v11_beside_a_call _ parts e = cc
 
--- V12: where B is to be what A was, no two parts are computed
+-- V12 isn't in mode Push: no rule that evaluates two parts is
 v12_pushed : Never One (Bin Multiply (at 2) (at 3)) (Gets Push) rule.V12
 v12_pushed (v1 h) parts e = cc
 v12_pushed _ parts e = cc
 
--- V13: over `x + f()` the sides are not free, and `<<` has no mirror
+-- V13: the sides of `x + f()` are not free, and `<<` has no mirror
 v13_beside_a_call : Never One (Bin Add (at 2) f) (Gets Any) rule.V13
 v13_beside_a_call (v13 h free b a) parts e = cc
 v13_beside_a_call _ parts e = cc
@@ -102,7 +102,7 @@ v16_beside_a_call : Never One (Bin Divide (at 2) f) (Gets Any) rule.V16
 v16_beside_a_call (v16 free b a) parts e = cc
 v16_beside_a_call _ parts e = cc
 
--- V18 is for sums, V19 for differences
+-- V18 applies to sums, V19 to differences
 v18_of_a_difference : Never One (Bin Subtract f f) (Gets Any) rule.V18
 v18_of_a_difference (v0 d) parts e = cc
 v18_of_a_difference _ parts e = cc
@@ -111,7 +111,7 @@ v19_of_a_sum : Never One (Bin Add f f) (Gets Any) rule.V19
 v19_of_a_sum (v0 d) parts e = cc
 v19_of_a_sum _ parts e = cc
 
--- V20 and V21 leave B alone no more than V12 does
+-- V20 and V21 aren't in mode Push either
 v20_pushed : Never One (Cond (at 2) (at 3) (at 4)) (Gets Push) rule.V20
 v20_pushed (v1 h) parts e = cc
 
@@ -121,7 +121,7 @@ v21_pushed (v1 h) parts e = cc
 v22_pushed : Never One f (Gets Push) rule.V22
 v22_pushed (v1 h) parts e = cc
 
--- J1 to J5: each is for one operator and sense
+-- J1 to J5: each applies to one operator, J2 to J5 to one sense
 j1_of_a_negative : Never One (Neg (at 2)) (Jumps true) rule.J1
 j1_of_a_negative (j6 h d) parts e = cc
 
@@ -141,7 +141,7 @@ j5_on_true : Never One (Bin Or (at 2) (at 3)) (Jumps true) rule.J5
 j5_on_true (j6 h d) parts e = cc
 j5_on_true _ parts e = cc
 
--- J6: a NOT in a test is no value
+-- J6: the value of a NOT isn't tested
 j6_of_not : Never One (Not (at 2)) (Jumps false) rule.J6
 j6_of_not (j6 h d) parts e = cc
 j6_of_not _ parts e = cc
@@ -153,7 +153,7 @@ j6_of_and _ parts e = cc
 j7_of_a_variable : Never One (at 2) (Jumps false) rule.J7
 j7_of_a_variable (j6 h d) parts e = cc
 
--- J8 and J9 are not of the first table, and want a 0
+-- J8 and J9 aren't in table 1, and need a 0
 j8_by_table_1 : Never One (Bin Equal (at 2) (Num 0)) (Jumps false) rule.J8
 j8_by_table_1 (j8 h k c) parts e = cc
 j8_by_table_1 _ parts e = cc
@@ -166,7 +166,7 @@ j9_by_table_1 : Never One (Bin NotEqual (at 2) (Num 0)) (Jumps true) rule.J9
 j9_by_table_1 (j9 h k c) parts e = cc
 j9_by_table_1 _ parts e = cc
 
--- A1 wants an operand as its address, A2 and A3 none, and A2 sides that are free
+-- A1 needs an address that is an operand, A2 and A3 one that isn't; A2 also needs free sides
 a1_to_a_content : RootNever One (Assign 4 (Num 1) (Load (at 2))) rule.A1
 a1_to_a_content (a1 h v) parts e = cc
 a1_to_a_content _ parts e = cc

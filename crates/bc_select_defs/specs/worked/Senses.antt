@@ -1,4 +1,5 @@
--- Worked examples: tests on false and on true, by the rules that have a code for each, and what has no derivation at all. A test jumps to 9.
+-- Worked examples: tests to jump on false and on true, by the rules that have code for both, and expressions without any
+-- derivation for an aim. A test jumps to label 9.
 use Rattle.std.specs.Prelude.{◌≡◌, Bool, true, false, List, [], ◌∷◌, refl}
 use Rattle.bc_word.specs.declared.operator.Op.TheVariants.{Multiply, Divide, Equal, NotEqual}
 use Rattle.bc_core.specs.Tree.{Exp, Num, Not, Bin, Cond, Valof}
@@ -19,24 +20,24 @@ use Rattle.bc_select_defs.specs.worked.Refusals.{Never, f}
 abbrev code_of : {T : Table} {sense : Bool} {e : Exp} → Derives T e (Jumps sense) → List Piece
 code_of x = root_code (test {s = 4} x) 9 1
 
--- NOT v: on false v on true, on true v on false
+-- NOT v: to jump on false it jumps where v is true, and the other way round
 of_not : (code_of {T = One} {sense = false} (j1 {e = at 2} (j6 refl get)) ≡ LIP 2 ∷ jump_if true 9 ∷ [])
     × (code_of {T = One} {sense = true} (j1 {e = at 2} (j6 refl get)) ≡ LIP 2 ∷ jump_if false 9 ∷ [])
 of_not = (refl, refl)
 
--- v: on false, on true
+-- v, to jump on false and on true
 of_variable : (code_of {T = One} {sense = false} (j6 {e = at 2} refl get) ≡ LIP 2 ∷ jump_if false 9 ∷ [])
     × (code_of {T = One} {sense = true} (j6 {e = at 2} refl get) ≡ LIP 2 ∷ jump_if true 9 ∷ [])
 of_variable = (refl, refl)
 
--- 1 and 0: on false, on true
+-- 1 and 0, to jump on false and on true
 of_one : (code_of {T = One} {sense = false} (j7 {n = 1}) ≡ []) × (code_of {T = One} {sense = true} (j7 {n = 1}) ≡ J 9 ∷ [])
 of_one = (refl, refl)
 
 of_zero : (code_of {T = One} {sense = false} (j7 {n = 0}) ≡ J 9 ∷ []) × (code_of {T = One} {sense = true} (j7 {n = 0}) ≡ [])
 of_zero = (refl, refl)
 
--- v = 0, and 0 = v
+-- v = 0 and 0 = v
 equal_zero : (code_of {T = Two} {sense = false} (j8 {a = at 2} {b = Num 0} {c = at 2} refl refl get) ≡ LIP 2 ∷ jump_if true 9 ∷ [])
     × (code_of {T = Two} {sense = true} (j8 {a = at 2} {b = Num 0} {c = at 2} refl refl get) ≡ LIP 2 ∷ jump_if false 9 ∷ [])
 equal_zero = (refl, refl)
@@ -44,7 +45,7 @@ equal_zero = (refl, refl)
 zero_equal : code_of {T = Two} {sense = false} (j8 {a = Num 0} {b = at 2} {c = at 2} refl refl get) ≡ LIP 2 ∷ jump_if true 9 ∷ []
 zero_equal = refl
 
--- v NE 0, and 0 NE v
+-- v NE 0 and 0 NE v
 not_zero : (code_of {T = Two} {sense = false} (j9 {a = at 2} {b = Num 0} {c = at 2} refl refl get) ≡ LIP 2 ∷ jump_if false 9 ∷ [])
     × (code_of {T = Two} {sense = true} (j9 {a = at 2} {b = Num 0} {c = at 2} refl refl get) ≡ LIP 2 ∷ jump_if true 9 ∷ [])
 not_zero = (refl, refl)
@@ -52,7 +53,7 @@ not_zero = (refl, refl)
 zero_not : code_of {T = Two} {sense = false} (j9 {a = Num 0} {b = at 2} {c = at 2} refl refl get) ≡ LIP 2 ∷ jump_if false 9 ∷ []
 zero_not = refl
 
--- J8 isn't for v NE 0, nor J9 for v = 0
+-- J8 doesn't apply to v NE 0, nor J9 to v = 0
 j8_of_not_equal : Never Two (Bin NotEqual (at 2) (Num 0)) (Jumps false) rule.J8
 j8_of_not_equal (j9 h k c) parts e = cc
 j8_of_not_equal _ parts e = cc
@@ -61,12 +62,12 @@ j9_of_equal : Never Two (Bin Equal (at 2) (Num 0)) (Jumps false) rule.J9
 j9_of_equal (j8 h k c) parts e = cc
 j9_of_equal _ parts e = cc
 
--- V0 isn't for what is to leave B alone
+-- V0 isn't in mode Push
 v0_pushed : Never One (at 2) (Gets Push) rule.V0
 v0_pushed (v1 h) parts e = cc
 v0_pushed _ parts e = cc
 
--- No derivation at all leaves B alone: of v * w, v / w, f(), v -> w, x, and a VALOF
+-- v * w, v / w, f(), v -> w, x and a VALOF have no derivation in mode Push
 product_pushed : ¬ Derives One (Bin Multiply (at 2) (at 3)) (Gets Push)
 product_pushed (v1 h) = cc
 product_pushed (v8 h c) = cc
@@ -84,7 +85,7 @@ choice_pushed (v1 h) = cc
 valof_pushed : ¬ Derives One (Valof 0) (Gets Push)
 valof_pushed (v1 h) = cc
 
--- and no test of NOT v is by its value
+-- no test of NOT v is by its value
 not_by_value : Never Two (Not (at 2)) (Jumps true) rule.J6
 not_by_value (j6 h d) parts e = cc
 not_by_value _ parts e = cc

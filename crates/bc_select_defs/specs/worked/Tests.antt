@@ -1,5 +1,5 @@
--- Worked examples: a derivation by each rule of tests that `Examples` of the rule table has none of, with its code: a jump to 9
--- on false or on true.
+-- Worked examples: a derivation by each rule for tests that has none in `Examples` of the rule table, with its code. Each jumps to
+-- label 9 on false or on true.
 use Rattle.std.specs.Prelude.{◌≡◌, ℕ, true, false, [], ◌∷◌, refl}
 use Rattle.bc_word.specs.declared.operator.Op.TheVariants.{NotEqual, And, Or}
 use Rattle.bc_core.specs.Tree.{Num, Not, Bin, Root, Test}
@@ -11,35 +11,35 @@ use Rattle.bc_select_defs.specs.worked.Values.{at, get}
 
 -- ---- Worked examples
 
--- NOT v on false: v on true
+-- NOT v, to jump on false: a jump where v is true
 abbrev not_true : RootDerives One (Test 4 false (Not (at 2)))
 not_true = test (j1 (j6 refl get))
 
 not_true_code : root_code not_true 9 1 ≡ LIP 2 ∷ jump_if true 9 ∷ []
 not_true_code = refl
 
--- v & w on false: each of them on false
+-- v & w, to jump on false: a jump where either is false
 abbrev both_true : RootDerives One (Test 4 false (Bin And (at 2) (at 3)))
 both_true = test (j2 (j6 refl get) (j6 refl get))
 
 both_true_code : root_code both_true 9 1 ≡ LIP 2 ∷ jump_if false 9 ∷ LIP 3 ∷ jump_if false 9 ∷ []
 both_true_code = refl
 
--- v & w on true: where v is false, past the jump
+-- v & w, to jump on true: where v is false, the jump on w is skipped
 abbrev if_both : RootDerives One (Test 4 true (Bin And (at 2) (at 3)))
 if_both = test (j3 (j6 refl get) (j6 refl get))
 
 if_both_code : root_code if_both 9 1 ≡ LIP 2 ∷ jump_if false 1 ∷ LIP 3 ∷ jump_if true 9 ∷ label 1 ∷ []
 if_both_code = refl
 
--- v | w on true: each of them on true
+-- v | w, to jump on true: a jump where either is true
 abbrev if_either : RootDerives One (Test 4 true (Bin Or (at 2) (at 3)))
 if_either = test (j4 (j6 refl get) (j6 refl get))
 
 if_either_code : root_code if_either 9 1 ≡ LIP 2 ∷ jump_if true 9 ∷ LIP 3 ∷ jump_if true 9 ∷ []
 if_either_code = refl
 
--- a number jumps always, or never and then has no code
+-- a number jumps always, or never and then without code
 abbrev always : RootDerives One (Test 4 true (Num 1))
 always = test j7
 
@@ -59,7 +59,7 @@ of_zero = test j7
 of_zero_words : root_cost of_zero ≡ 2
 of_zero_words = refl
 
--- 0 NE v on true: v on true, by the second table
+-- 0 NE v, to jump on true, by table 2: a jump where v is true
 abbrev not_zero : RootDerives Two (Test 4 true (Bin NotEqual (Num 0) (at 2)))
 not_zero = test (j9 refl refl get)
 

@@ -1,5 +1,5 @@
--- Worked examples: a derivation by each rule of values and of assignments that `Examples` of the rule table has none of, with
--- its code.
+-- Worked examples: a derivation by each rule for values and assignments that has none in `Examples` of the rule table, with its
+-- code.
 use Rattle.std.specs.Prelude.{◌≡◌, ℕ, true, false, [], ◌∷◌, refl}
 use Rattle.bc_word.specs.declared.operator.Op.TheVariants.{Add, Subtract, Multiply, Less}
 use Rattle.bc_text_items.specs.declared.item.Item.TheVariants.{Operation}
@@ -17,7 +17,7 @@ use Rattle.bc_rules_defs.specs.Code.{root_code, root_cost, root_labels}
 
 -- ---- Worked examples
 
--- the variable at an offset of the frame, and the call of the global 100
+-- the variable at an offset of the frame, and a call of the global 100
 abbrev pub at : ℕ → Exp
 at k = Load (Frame k)
 
@@ -63,14 +63,14 @@ complement = value (v4 get)
 complement_code : root_code complement 0 1 ≡ LIP 2 ∷ X 3 ∷ []
 complement_code = refl
 
--- v + !!w, by V7: the right one is computed, and the variable added
+-- v + !!w, by V7: the right operand is evaluated and the variable added
 abbrev added : RootDerives One (Value 4 (Bin Add (at 2) (Load (at 3))))
 added = value (v7 refl refl (v2 get))
 
 added_code : root_code added 0 1 ≡ LIP 3 ∷ X 1 ∷ AIP 2 ∷ []
 added_code = refl
 
--- a number may be added to a call whichever stands first
+-- a number may be added to a call in either order
 abbrev to_a_call : RootDerives One (Value 4 (Bin Add (Num 3) (f_of (Num 1))))
 to_a_call = value (v7 refl refl call)
 
@@ -84,28 +84,28 @@ less = value (v10 refl get)
 less_code : root_code less 0 1 ≡ LIP 2 ∷ X 2 ∷ AIP 3 ∷ X 2 ∷ []
 less_code = refl
 
--- v < !!w, by V13: the right one first, and the mirrored relation `>`
+-- v < !!w, by V13: the right operand first, with the mirrored relation `>`
 abbrev mirrored : RootDerives One (Value 4 (Bin Less (at 2) (Load (at 3))))
 mirrored = value (v13 refl refl (v2 get) push)
 
 mirrored_code : root_code mirrored 0 1 ≡ LIP 3 ∷ X 1 ∷ LIP 2 ∷ X 14 ∷ []
 mirrored_code = refl
 
--- v - !!w, by V14: !!w first, the difference the other way round, and its negative
+-- v - !!w, by V14: !!w first, then the reversed difference, negated
 abbrev turned : RootDerives One (Value 4 (Bin Subtract (at 2) (Load (at 3))))
 turned = value (v14 refl (v2 get) push)
 
 turned_code : root_code turned 0 1 ≡ LIP 3 ∷ X 1 ∷ LIP 2 ∷ X 9 ∷ X 2 ∷ []
 turned_code = refl
 
--- f(1) * f(1), by V15: the first one is held at the level, and is the second operand
+-- f(1) * f(1), by V15: the first value is stored at the level and becomes the second operand
 abbrev held : RootDerives One (Value 4 (Bin Multiply (f_of (Num 1)) (f_of (Num 1))))
 held = value (v15 refl call call)
 
 held_code : root_code held 0 1 ≡ L_number 1 ∷ SP 7 ∷ LIG 100 ∷ K 5 ∷ SP 4 ∷ L_number 1 ∷ SP 7 ∷ LIG 100 ∷ K 5 ∷ LIP 4 ∷ X 5 ∷ []
 held_code = refl
 
--- f(1) - f(1), by V19: the second one is negated, and the first one added
+-- f(1) - f(1), by V19: the second value is negated and the first one added
 abbrev subtracted : RootDerives One (Value 4 (Bin Subtract (f_of (Num 1)) (f_of (Num 1))))
 subtracted = value (v19 call call)
 
@@ -132,7 +132,7 @@ to_variable = a1 refl (v0 (v6 refl push))
 to_variable_code : root_code to_variable 0 1 ≡ LIP 3 ∷ Item (Operation functions.Add false Number 1) ∷ SP_variable 2 ∷ []
 to_variable_code = refl
 
--- v := (a number) of one word and of two
+-- v := a number of one word, and of two
 abbrev to_511 : RootDerives One (Assign 4 (Num 511) (Frame 2))
 to_511 = a1 refl (v0 (v1 refl))
 
@@ -145,7 +145,7 @@ to_512 = a1 refl (v0 (v1 refl))
 to_512_words : root_cost to_512 ≡ 3
 to_512_words = refl
 
--- !f(1) := f(1), by A3: the value is held, then the address, and then the value is stored
+-- !f(1) := f(1), by A3: the value and then the address are kept in cells, then the value is stored
 abbrev both_held : RootDerives One (Assign 4 (f_of (Num 1)) (f_of (Num 1)))
 both_held = a3 refl call call
 

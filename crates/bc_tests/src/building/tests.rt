@@ -1,8 +1,10 @@
+//! `build` without sources.
+
 use bc_build::{Built, Source, build};
 use std::alloc::Global;
 use std::test::Fail;
 
-/// What is built of no source at all; none where that is refused.
+/// Builds without any source. None if that is refused.
 fn built_of_nothing(alloc: Global) -> Result<Option<Built>, Fail> {
     let sources: Vec<Source<'_>> = Vec::new(alloc);
     let mains: Vec<usize> = Vec::new(alloc);
@@ -12,7 +14,7 @@ fn built_of_nothing(alloc: Global) -> Result<Option<Built>, Fail> {
     }
 }
 
-/// Where the stack begins of what was built; 0 of nothing.
+/// The address at which the stack begins, or 0 if nothing was built.
 fn stack_base(built: &Option<Built>) -> u16 {
     match built {
         Some(built) => built.image.stack_base.get(),
@@ -20,7 +22,7 @@ fn stack_base(built: &Option<Built>) -> u16 {
     }
 }
 
-/// The image of the primitives alone.
+/// Without sources the image consists of the primitives, and the stack begins after them at 546.
 #[test]
 fn nothing_is_built_of_nothing(rt: HostRuntime) -> Result<(), Fail> {
     let built = built_of_nothing(rt.alloc())?;

@@ -1,3 +1,5 @@
+//! The writer of certificates: its text for two kinds of roots, a writer that fails, and allocations that fail.
+
 use bc_cert_write::{CertFault, Entry, write_cert};
 use bc_core::{CoreExp, Root};
 use bc_rules_defs::{Derivation, Rule};
@@ -6,16 +8,19 @@ use std::alloc::Global;
 use std::io;
 use std::io::{ErrorKind, Write};
 
+/// The certificate without entries.
 const NONE: &[u8] = b"BCPLCERT 2\nZ 0\n";
 
-/// A test, and an assignment whose segment is the greatest one.
+/// The certificate of a test and of an assignment whose segment has the greatest number.
 const TWO: &[u8] =
     b"BCPLCERT 2\nE 0 1 9 10 3\n4 P2 1 1 3 3 -\n4 ! 1 1 3 3 V0.V1\n4 N0 1 1 2 0 -\n3 X10 3 - 3 3 J8\nR F\nC LIP2 TL9\n\
     E 18446744073709551615 7 0 20 1\n5 V3 0 - 2 2 V22\n5 P2 1 1 3 3 -\n5 ! 1 1 3 3 -\nR A1 5\nC ?12 20 SIP2\nZ 2\n";
 
+/// The certificate of the sample below.
 const SAMPLE: &[u8] =
     b"BCPLCERT 2\nE 0 1 0 2 4\n4 N65 1 1 0 2 V0.V1\n5 G14 1 1 3 3 -\n5 ! 1 1 3 3 V0.V1\n2 K1 4 - 6 6 V22\nR V\nC L65 SP4 LIG14 K2\nZ 1\n";
 
+/// A derivation by one rule without parts.
 fn leaf(alloc: Global, rule: Rule) -> Derivation {
     Derivation {
         rule,
@@ -23,19 +28,19 @@ fn leaf(alloc: Global, rule: Rule) -> Derivation {
     }
 }
 
-/// A rule over one derivation.
+/// A derivation by a rule with one part.
 fn over(alloc: Global, rule: Rule, part: Derivation) -> Result<Derivation, Memory> {
     let mut parts = Vec::new(alloc);
     parts.push(part)?;
     Ok(Derivation { rule, parts })
 }
 
-/// V0 over V1.
+/// The derivation `(V0 V1)`.
 fn pushed(alloc: Global) -> Result<Derivation, Memory> {
     over(alloc, Rule::V0, leaf(alloc, Rule::V1))
 }
 
-/// V22 over two of these.
+/// The derivation `(V22 (V0 V1) (V0 V1))`.
 fn derivation(alloc: Global) -> Result<Derivation, Memory> {
     let mut parts = Vec::new(alloc);
     for _ in 0..2 {
@@ -47,20 +52,20 @@ fn derivation(alloc: Global) -> Result<Derivation, Memory> {
     })
 }
 
-/// What global 14 holds.
+/// The content of global 14.
 fn routine(alloc: Global) -> Result<Box<CoreExp>, Memory> {
     let global = Box::new(alloc, CoreExp::Glob(14))?;
     Ok(Box::new(alloc, CoreExp::Load(global))?)
 }
 
-/// A call of that with 65.
+/// A call of it with the argument 65.
 fn call(alloc: Global) -> Result<CoreExp, Memory> {
     let mut arguments = Vec::new(alloc);
     arguments.push(CoreExp::Num(Word::new(65)))?;
     Ok(CoreExp::Call(arguments, routine(alloc)?))
 }
 
-/// The entry of the sample, with this root and this derivation.
+/// An entry of a value at level 2 with this derivation.
 fn entry(alloc: Global, expression: CoreExp, derivation: Derivation) -> Entry {
     Entry {
         segment: 0,
@@ -76,6 +81,7 @@ fn entry(alloc: Global, expression: CoreExp, derivation: Derivation) -> Entry {
     }
 }
 
+/// The entries of the sample, which is `WRCH('A')`.
 fn sample(alloc: Global) -> Result<Vec<Entry>, Memory> {
     let mut entries = Vec::new(alloc);
     let derivation = derivation(alloc)?;
@@ -83,27 +89,27 @@ fn sample(alloc: Global) -> Result<Vec<Entry>, Memory> {
     Ok(entries)
 }
 
-// The text has its room at once: where a writer can't grow, its failure is one to write.
+/// The certificate of these entries. Its memory is allocated before it is written, since a vector that can't grow is a writer that fails.
 fn written(alloc: Global, entries: &[Entry]) -> Result<Vec<u8>, CertFault> {
     let mut text = Vec::with_capacity(alloc, 512)?;
     write_cert(alloc, entries, &mut text)?;
     Ok(text)
 }
 
-/// What the cell at offset 2 holds.
+/// The variable at offset 2.
 fn variable(alloc: Global) -> Result<CoreExp, Memory> {
     let cell = Box::new(alloc, CoreExp::Frame(2))?;
     Ok(CoreExp::Load(cell))
 }
 
-/// That against 0.
+/// The comparison of that variable with 0.
 fn comparison(alloc: Global) -> Result<CoreExp, Memory> {
     let variable = Box::new(alloc, variable(alloc)?)?;
     let zero = Box::new(alloc, CoreExp::Num(Word::new(0)))?;
     Ok(CoreExp::Bin(Op::Equal, variable, zero))
 }
 
-/// A test of that by its content.
+/// The entry of a test of that comparison by the rule J8.
 fn test(alloc: Global) -> Result<Entry, Memory> {
     Ok(Entry {
         segment: 0,
@@ -120,7 +126,7 @@ fn test(alloc: Global) -> Result<Entry, Memory> {
     })
 }
 
-/// A VALOF of 12 items, assigned through the variable.
+/// The entry of an assignment of a VALOF, whose body has 12 items, to the variable.
 fn assignment(alloc: Global) -> Result<Entry, Memory> {
     let mut bodies = Vec::new(alloc);
     bodies.push(12)?;
@@ -139,7 +145,7 @@ fn assignment(alloc: Global) -> Result<Entry, Memory> {
     })
 }
 
-/// Whether both have their certificate.
+/// Whether the certificate of both is right.
 fn has_two(alloc: Global) -> Result<bool, CertFault> {
     let mut entries = Vec::new(alloc);
     entries.push(test(alloc)?)?;
@@ -147,7 +153,7 @@ fn has_two(alloc: Global) -> Result<bool, CertFault> {
     Ok(written(alloc, entries.as_slice())?.as_slice() == TWO)
 }
 
-/// Whether no entry has its certificate.
+/// Whether the certificate without entries is right.
 fn has_none(alloc: Global) -> Result<bool, CertFault> {
     Ok(written(alloc, &[])?.as_slice() == NONE)
 }
@@ -158,7 +164,7 @@ fn writes_a_test_and_an_assignment(rt: HostRuntime) {
     assert_eq!(rt; has_none(rt.alloc()), Ok(true));
 }
 
-// Takes some bytes, and then fails or takes nothing.
+/// A writer that takes `left` bytes, and then fails or takes nothing.
 #[derive(Drop)]
 struct Stuck {
     left: usize,
@@ -180,13 +186,13 @@ impl Write for Stuck {
     }
 }
 
-/// Whether a writer that is stuck so is answered by its fault.
+/// Whether `write_cert` returns `Write` with such a writer.
 fn is_answered(alloc: Global, entries: &[Entry], left: usize, fails: bool) -> bool {
     let mut out = Stuck { left, fails };
     write_cert(alloc, entries, &mut out) == Err(CertFault::Write)
 }
 
-/// The first length of what is taken at which a writer is answered otherwise.
+/// The first number of bytes after which a writer gets stuck and the result isn't `Write`.
 fn otherwise(alloc: Global, entries: &[Entry]) -> Option<usize> {
     for left in 0..SAMPLE.len() {
         for fails in [true, false] {
@@ -198,6 +204,7 @@ fn otherwise(alloc: Global, entries: &[Entry]) -> Option<usize> {
     None
 }
 
+/// The same for the sample.
 fn otherwise_of_sample(alloc: Global) -> Result<Option<usize>, Memory> {
     let entries = sample(alloc)?;
     Ok(otherwise(alloc, entries.as_slice()))
@@ -208,7 +215,7 @@ fn a_failing_writer_is_answered(rt: HostRuntime) {
     assert_eq!(rt; otherwise_of_sample(rt.alloc()), Ok(None));
 }
 
-// Whether the sample is written, or want of memory is answered if it may be.
+/// Whether the sample is written, or `Memory` is returned where that is allowed.
 fn calls(alloc: Global, may_refuse: bool) -> bool {
     match sample_text(alloc) {
         Ok(text) => text.as_slice() == SAMPLE,
@@ -216,6 +223,7 @@ fn calls(alloc: Global, may_refuse: bool) -> bool {
     }
 }
 
+/// The certificate of the sample.
 fn sample_text(alloc: Global) -> Result<Vec<u8>, CertFault> {
     let entries = sample(alloc)?;
     written(alloc, entries.as_slice())
@@ -226,6 +234,7 @@ fn growth_is_given(rt: HostRuntime) {
     assert!(rt; calls(rt.alloc(), false));
 }
 
+/// Under `tests/stress/failed-allocations` each allocation fails in turn. The result must be right, or a failed allocation.
 #[test]
 fn refused_growth_is_memory(rt: HostRuntime) {
     assert!(rt; calls(rt.alloc(), true));

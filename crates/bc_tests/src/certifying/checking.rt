@@ -1,12 +1,15 @@
+//! The checker with a reader of one byte at a time, with a reader that fails, and with allocations that fail.
+
 use bc_cert::{CheckFault, check, check_sums};
 use std::alloc::Global;
 use std::io;
 use std::io::{ErrorKind, Read};
 
+/// The certificate of `WRCH('A')` by table 1.
 const SAMPLE: &[u8] =
     b"BCPLCERT 1\nE 0 1 0 2 4\n4 N65 1 1 0 2 V0.V1\n5 G14 1 1 3 3 -\n5 ! 1 1 3 3 V0.V1\n2 K1 4 - 6 6 V22\nR V\nC L65 SP4 LIG14 K2\nZ 1\n";
 
-// Gives a byte a call, and fails after the last one if it is to.
+/// A reader that returns one byte for each call, and after the last one fails if `fails` is set.
 #[derive(Drop)]
 struct Slow<'b> {
     bytes: &'b [u8],
@@ -35,6 +38,7 @@ impl<'b> Read for Slow<'b> {
     }
 }
 
+/// The number of entries of a certificate that comes from such a reader.
 fn given_slowly(alloc: Global, bytes: &[u8], fails: bool) -> Result<usize, CheckFault> {
     Ok(check(alloc, Slow { bytes, fails })?.entries.len())
 }
@@ -56,7 +60,7 @@ fn whole_lines_come_before_a_failure(rt: HostRuntime) {
     }
 }
 
-// The number of entries of the sample, and their words, by both calls.
+/// The number of the sample's entries by `check`, and their number and words by `check_sums`.
 fn entries(alloc: Global) -> Result<(usize, u64, u64), CheckFault> {
     let verdict = check(alloc, SAMPLE)?;
     let sums = check_sums(
@@ -74,7 +78,7 @@ fn growth_is_given(rt: HostRuntime) {
     assert_eq!(rt; entries(rt.alloc()), Ok((1, 1, 4)));
 }
 
-// With `.ci/refusals`, which has each allocation refused in turn: `Memory` is the answer then, and nothing else.
+/// Under `tests/stress/failed-allocations` each allocation fails in turn. The result must be right, or a failed allocation.
 #[test]
 fn refused_growth_is_memory(rt: HostRuntime) {
     let got = entries(rt.alloc());

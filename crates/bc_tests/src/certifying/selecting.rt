@@ -1,36 +1,40 @@
+//! The selector with allocations that fail.
+
 use bc_core::{CoreExp, Root};
 use bc_select::{is_selectable, rows, select};
 use bc_word::{Memory, Op};
 use std::alloc::Global;
 
-/// The variable at an offset of the frame.
+/// The variable at this offset in the frame.
 fn at(alloc: Global, offset: u16) -> Result<CoreExp, Memory> {
     Ok(CoreExp::Load(Box::new(alloc, CoreExp::Frame(offset))?))
 }
 
+/// A dyadic operator.
 fn bin(alloc: Global, op: Op, left: CoreExp, right: CoreExp) -> Result<CoreExp, Memory> {
     let left = Box::new(alloc, left)?;
     Ok(CoreExp::Bin(op, left, Box::new(alloc, right)?))
 }
 
+/// A root that is a value.
 fn value(level: u16, expression: CoreExp) -> Root {
     Root::Value { level, expression }
 }
 
-/// An operator over the variables at two offsets.
+/// A dyadic operator with the variables at these offsets.
 fn of_two(alloc: Global, op: Op, left: u16, right: u16) -> Result<CoreExp, Memory> {
     let left = at(alloc, left)?;
     bin(alloc, op, left, at(alloc, right)?)
 }
 
-/// The product of a sum and a difference of a, b, c and d, at 2 to 5.
+/// `(a + b) * (c - d)` with the variables at the offsets 2 to 5.
 fn product(alloc: Global) -> Result<CoreExp, Memory> {
     let sum = of_two(alloc, Op::Add, 2, 3)?;
     let difference = of_two(alloc, Op::Subtract, 4, 5)?;
     bin(alloc, Op::Multiply, sum, difference)
 }
 
-/// Whether a root can be selected for, and has 22 rows by the calls that can answer because memory ran out together.
+/// Whether the root is selectable, and `select` and `rows` together have 22 rows for it. Both can run out of memory.
 fn has_rows(alloc: Global, root: &Root) -> Result<bool, Memory> {
     if !is_selectable(root) {
         return Ok(false);
@@ -40,6 +44,7 @@ fn has_rows(alloc: Global, root: &Root) -> Result<bool, Memory> {
     Ok(selected.table.len() + table.len() == 22)
 }
 
+/// Whether this holds for the product.
 fn is_right(alloc: Global) -> Result<bool, Memory> {
     let root = value(6, product(alloc)?);
     has_rows(alloc, &root)
@@ -50,6 +55,7 @@ fn growth_is_given(rt: HostRuntime) {
     assert_eq!(rt; is_right(rt.alloc()), Ok(true));
 }
 
+/// Under `tests/stress/failed-allocations` each allocation fails in turn. The result must be right, or a failed allocation.
 #[test]
 fn refused_growth_is_memory(rt: HostRuntime) {
     let got = is_right(rt.alloc());

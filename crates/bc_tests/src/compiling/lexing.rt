@@ -1,8 +1,10 @@
+//! The lexer with allocations that fail.
+
 use bc_lex::{LexError, Source, lex};
 use bc_library::LIBHDR;
 use std::alloc::Global;
 
-/// How many tokens a small program has that names the library's declarations by a GET.
+/// The number of tokens of a small program that gets the library's declarations.
 fn small_program(alloc: Global) -> Result<usize, LexError> {
     let sources = [
         Source {
@@ -22,7 +24,7 @@ fn growth_is_given(rt: HostRuntime) {
     assert_eq!(rt; small_program(rt.alloc()), Ok(76));
 }
 
-// With `.ci/refusals`, which has each allocation refused in turn: `Memory` is the answer then, and nothing else.
+/// Under `tests/stress/failed-allocations` each allocation fails in turn. The result must be right, or a failed allocation.
 #[test]
 fn refused_growth_is_memory(rt: HostRuntime) {
     let got = small_program(rt.alloc());

@@ -1,3 +1,5 @@
+//! Calls about names that no source leads to by itself: what names mean at a place, constants, side levels, labels, and many names.
+
 use crate::compiling::sections::{Answer, Asked, answered};
 use bc_parse_tree::{Block, Command, Declaration, Definition, Exp, Section};
 use bc_scope_names::{
@@ -7,14 +9,14 @@ use bc_scope_names::{
 use bc_word::{Memory, Word};
 use std::alloc::Global;
 
-/// A name, and what it means.
+/// A name and its meaning.
 #[derive(Clone, Copy)]
 struct Meaning {
     name: &'static [u8],
     meant: Meant,
 }
 
-/// Whether each of these names means what stands beside it.
+/// Whether each of these names has the meaning beside it.
 fn are_known(scope: &Scope<'_>, wanted: &[Meaning]) -> bool {
     for known in wanted {
         if scope.meant_by(known.name) != known.meant {
@@ -27,7 +29,7 @@ fn are_known(scope: &Scope<'_>, wanted: &[Meaning]) -> bool {
 /// A LET outside routines.
 const LET: &[u8] = b"LET A, B = 1, 2 AND V = VEC 3 AND F() = A AND G() = A";
 
-/// What its names mean for its constants.
+/// What its names mean where its constants are evaluated.
 const PENDING: [Meaning; 3] = [
     Meaning {
         name: b"V",
@@ -71,7 +73,7 @@ const DECLARED: [Meaning; 6] = [
     },
 ];
 
-/// What they mean in a routine in it with the parameter A.
+/// What they mean in a routine inside it with the parameter A.
 const INSIDE: [Meaning; 3] = [
     Meaning {
         name: b"A",
@@ -87,7 +89,7 @@ const INSIDE: [Meaning; 3] = [
     },
 ];
 
-/// What they mean in a routine in that.
+/// What they mean in a routine inside that one.
 const DEEPER: [Meaning; 2] = [
     Meaning {
         name: b"A",
@@ -99,7 +101,7 @@ const DEEPER: [Meaning; 2] = [
     },
 ];
 
-/// Whether the names of a LET are known to its constants.
+/// Whether the names of a LET mean the right thing where its constants are evaluated.
 fn is_pending<'s>(scope: &mut Scope<'s>, list: &[Definition<'s>]) -> Result<bool, Memory> {
     let before = scope.mark();
     declare_let_pending(scope, list)?;
@@ -108,7 +110,7 @@ fn is_pending<'s>(scope: &mut Scope<'s>, list: &[Definition<'s>]) -> Result<bool
     Ok(is_right)
 }
 
-/// Whether they are known after it, from offset 5 on up to 12.
+/// Whether they mean the right thing after it, with variables from offset 5 up to 12.
 fn is_declared<'s>(scope: &mut Scope<'s>, list: &[Definition<'s>]) -> Result<bool, Memory> {
     let priors = priors_of_let(scope, list)?;
     let is_undeclared = scope.meant_by(b"V") == Meant::Undeclared;
@@ -116,7 +118,7 @@ fn is_declared<'s>(scope: &mut Scope<'s>, list: &[Definition<'s>]) -> Result<boo
     Ok(is_undeclared && following == 12 && are_known(scope, &DECLARED))
 }
 
-/// Whether they are known in a routine in it, in a routine in that, and after both.
+/// Whether they mean the right thing in a routine inside it, in a routine inside that one, and after both.
 fn is_known_inside(scope: &mut Scope<'_>) -> Result<bool, Memory> {
     let outside = scope.mark();
     declare_parameters(scope, &[b"A"])?;
@@ -127,7 +129,7 @@ fn is_known_inside(scope: &mut Scope<'_>) -> Result<bool, Memory> {
     Ok(is_inside && is_deeper && are_known(scope, &DECLARED))
 }
 
-/// Whether the names of this LET after a global are known where they are.
+/// Whether the names of this LET, after the declaration of a global, mean the right thing everywhere.
 fn is_let<'s>(alloc: Global, list: &[Definition<'s>]) -> Result<bool, Memory> {
     let mut scope = Scope::new(alloc);
     scope.declare(b"G", Meant::Global(7))?;
@@ -135,7 +137,7 @@ fn is_let<'s>(alloc: Global, list: &[Definition<'s>]) -> Result<bool, Memory> {
     Ok(is_right && is_known_inside(&mut scope)?)
 }
 
-/// The definitions of a declaration that is a LET.
+/// The definitions of a declaration if it is a LET; else none.
 fn definitions_in<'t, 's>(declaration: &'t Declaration<'s>) -> &'t [Definition<'s>] {
     match declaration {
         Declaration::Let(list) => list.as_slice(),
@@ -143,7 +145,7 @@ fn definitions_in<'t, 's>(declaration: &'t Declaration<'s>) -> &'t [Definition<'
     }
 }
 
-/// The definitions of the LET that a section is.
+/// The definitions of a section that consists of one LET.
 fn definitions<'t, 's>(section: &'t Section<'s>) -> &'t [Definition<'s>] {
     match section.declarations.as_slice() {
         [declaration] => definitions_in(declaration),
@@ -151,11 +153,12 @@ fn definitions<'t, 's>(section: &'t Section<'s>) -> &'t [Definition<'s>] {
     }
 }
 
+/// Whether the names of the LET that the section is mean the right thing everywhere.
 pub fn of_let(alloc: Global, section: &Section<'_>) -> Result<bool, Memory> {
     is_let(alloc, definitions(section))
 }
 
-/// A LET after a global, outside routines: what its names mean for its constants, after it, in a routine in it, in a routine in that, and after both.
+/// A LET outside routines after a global: what its names mean in its constants, after it, and in routines inside it.
 #[test]
 fn a_let_is_declared(rt: HostRuntime) {
     assert_eq!(rt; answered(rt.alloc(), Asked::Let, LET), Answer::Right);
@@ -169,7 +172,7 @@ fn block_in<'t, 's>(definition: &'t Definition<'s>) -> Option<&'t Block<'s>> {
     }
 }
 
-/// The block of the one routine that a section is.
+/// The block of a section that consists of one routine.
 fn block<'t, 's>(section: &'t Section<'s>) -> Option<&'t Block<'s>> {
     match definitions(section) {
         [definition] => block_in(definition),
@@ -177,9 +180,10 @@ fn block<'t, 's>(section: &'t Section<'s>) -> Option<&'t Block<'s>> {
     }
 }
 
+/// A routine with one assignment.
 const ASSIGNMENT: &[u8] = b"LET F() BE X, X!2 := N - 2, X * 2";
 
-/// Whether of two expressions the first is the constant 5, and the second none.
+/// Whether the first of two expressions is the constant 5, and the second isn't a constant.
 fn are_constants(scope: &Scope<'_>, values: &[Exp<'_>]) -> bool {
     match values {
         [first, second] => {
@@ -189,7 +193,7 @@ fn are_constants(scope: &Scope<'_>, values: &[Exp<'_>]) -> bool {
     }
 }
 
-/// Whether the sides of an assignment are right where N is 7 and X a variable.
+/// Whether the levels and constants of an assignment are right, if N is the constant 7 and X a variable.
 fn are_sides(alloc: Global, places: &[Exp<'_>], values: &[Exp<'_>]) -> Result<bool, Memory> {
     let mut scope = Scope::new(alloc);
     scope.declare(b"N", Meant::Constant(7))?;
@@ -206,6 +210,7 @@ fn command<'t, 's>(block: &'t Block<'s>) -> Option<&'t Command<'s>> {
     }
 }
 
+/// The same for a section that consists of a routine with one assignment.
 pub fn of_assignment(alloc: Global, section: &Section<'_>) -> Result<bool, Memory> {
     match block(section).and_then(command) {
         Some(Command::Assign(places, values)) => are_sides(alloc, places, values),
@@ -213,7 +218,7 @@ pub fn of_assignment(alloc: Global, section: &Section<'_>) -> Result<bool, Memor
     }
 }
 
-/// `N - 2` is a constant, and `X * 2` none; the sides of an assignment to `X!2` stand one level above those to `X`.
+/// `N - 2` is a constant and `X * 2` isn't; the sides of an assignment to `X!2` are one level higher than those to `X`.
 #[test]
 fn parts_of_an_assignment(rt: HostRuntime) {
     assert_eq!(rt;
@@ -222,6 +227,7 @@ fn parts_of_an_assignment(rt: HostRuntime) {
     );
 }
 
+/// Whether the block of a section that consists of one routine has two labels.
 pub fn of_labels(section: &Section<'_>) -> Result<bool, Memory> {
     match block(section) {
         Some(block) => Ok(labels_in(block.items.as_slice())? == 2),
@@ -229,7 +235,7 @@ pub fn of_labels(section: &Section<'_>) -> Result<bool, Memory> {
     }
 }
 
-/// `L: DEFAULT: M:` has two labels with a name.
+/// `L: DEFAULT: M:` has two named labels.
 #[test]
 fn labels_are_counted(rt: HostRuntime) {
     assert_eq!(rt;
@@ -247,7 +253,7 @@ const NAMES: &[u8] =
     b"A0A1A2A3A4A5A6A7A8A9B0B1B2B3B4B5B6B7B8B9C0C1C2C3C4C5C6C7C8C9D0D1D2D3D4D5D6D7D8D9E0E1E2E3E4E5E6E7E8E9\
       F0F1F2F3F4F5F6F7F8F9G0G1G2G3G4G5G6G7G8G9H0H1H2H3H4H5H6H7H8H9I0I1I2I3I4I5I6I7I8I9J0J1J2J3J4J5J6J7J8J9";
 
-/// All names, with this meaning.
+/// Declares all names with this meaning.
 fn declare_all(scope: &mut Scope<'_>, meant: Meant) -> Result<(), Memory> {
     for name in NAMES.chunks(2) {
         scope.declare(name, meant)?;
@@ -255,7 +261,7 @@ fn declare_all(scope: &mut Scope<'_>, meant: Meant) -> Result<(), Memory> {
     Ok(())
 }
 
-/// Whether all names mean this.
+/// Whether all names have this meaning.
 fn all_mean(scope: &Scope<'_>, meant: Meant) -> bool {
     for name in NAMES.chunks(2) {
         if scope.meant_by(name) != meant {
@@ -265,8 +271,8 @@ fn all_mean(scope: &Scope<'_>, meant: Meant) -> bool {
     true
 }
 
-/// Where all names are constants, in a VALOF where each of them is a label as well: whether each is a label outside of its VALOF in one more, and a
-/// constant after both.
+/// All names are constants. In a VALOF they are declared as labels too, and in a VALOF inside it they must be labels outside of their
+/// VALOF. After both they must be constants again.
 fn known_in_valofs(scope: &mut Scope<'_>) -> Result<bool, Memory> {
     let outside = scope.mark();
     scope.enter_valof()?;
@@ -277,8 +283,8 @@ fn known_in_valofs(scope: &mut Scope<'_>) -> Result<bool, Memory> {
     Ok(is_outside && all_mean(scope, Meant::Constant(4)))
 }
 
-/// Where all names are variables, in a routine where each of them is a constant as well: whether each is another routine's variable before that, a
-/// constant then, also before VALOFs, in them and after them, and a variable after the routine.
+/// All names are variables. In a routine inside they must be variables of an outer routine. Declared there as constants, they must be
+/// constants, before and after VALOFs too. After the routine they must be variables again.
 fn known_in_routine(scope: &mut Scope<'_>) -> Result<bool, Memory> {
     let outside = scope.mark();
     scope.enter_routine()?;
@@ -289,7 +295,7 @@ fn known_in_routine(scope: &mut Scope<'_>) -> Result<bool, Memory> {
     Ok(is_outer && is_inner && all_mean(scope, Meant::Variable(3)))
 }
 
-/// Whether a hundred variables of a routine are known in it, and what each of them means otherwise in routines and VALOFs in it.
+/// Whether a hundred variables of a routine mean the right thing in it, and in routines and VALOFs inside it.
 pub fn known(alloc: Global) -> Result<bool, Memory> {
     let mut scope = Scope::new(alloc);
     scope.enter_routine()?;
@@ -297,7 +303,7 @@ pub fn known(alloc: Global) -> Result<bool, Memory> {
     known_in_routine(&mut scope)
 }
 
-/// What is known inside, and what is known again after it.
+/// A hundred names mean the right thing inside and outside of routines and VALOFs.
 #[test]
 fn many_names_are_known(rt: HostRuntime) {
     assert_eq!(rt; known(rt.alloc()), Ok(true));

@@ -1,6 +1,8 @@
+//! The parser with allocations that fail.
+
 use crate::compiling::sections::{Answer, Asked, answered};
 
-/// What makes `parse` take memory in each of its ways.
+/// A section for which `parse` allocates in every way that it can.
 const TEXT: &[u8] =
     b"MANIFEST $( N = 1 $); LET F(P, Q) = -P -> Q, TABLE 1 AND S() BE $(A $( CASE N: F('A') REPEATWHILE A+B*C; B := C $)A REPEATUNTIL D REPEAT";
 
@@ -9,7 +11,7 @@ fn growth_is_given(rt: HostRuntime) {
     assert_eq!(rt; answered(rt.alloc(), Asked::Tree, TEXT), Answer::Right);
 }
 
-// With `.ci/refusals`, which has each allocation refused in turn: `Memory` is the answer then, and nothing else.
+/// Under `tests/stress/failed-allocations` each allocation fails in turn. The result must be right, or a failed allocation.
 #[test]
 fn refused_growth_is_memory(rt: HostRuntime) {
     assert!(rt; answered(rt.alloc(), Asked::Tree, TEXT).is_lawful());

@@ -1,4 +1,4 @@
-//! What is answered of the section that a source is. A tree is drop in one function alone, since that is what costs most here.
+//! Asks one question about the section of a source. Trees are dropped only in this file, because drops are expensive to prove.
 
 ghost use Rattle.std.specs.Prelude.{◌≤◌};
 ghost use Rattle.bc_parse_tree.specs.View.{section_view};
@@ -13,29 +13,38 @@ use bc_scope::{ScopeError, resolve};
 use bc_word::Memory;
 use std::alloc::Global;
 
-/// What is asked of a section.
+/// A question about a section.
 #[derive(Clone, Copy)]
 pub enum Asked {
+    /// Whether it parses.
     Tree,
+    /// Whether its spelling is right, for the section of `spelling.rt`.
     Spelling,
+    /// Whether its translation is right, for the section of `translating.rt`.
     Translation,
+    /// Whether it resolves and has code.
     Code,
+    /// Whether the names of its LET mean the right thing, for the section of `names.rt`.
     Let,
+    /// Whether the levels and constants of its assignment are right, for the section of `names.rt`.
     Assignment,
+    /// Whether its block has two labels.
     Labels,
 }
 
-/// What is answered.
+/// The answer.
 #[derive(Clone, Copy, Debug, PartialEq)]
 pub enum Answer {
+    /// Yes.
     Right,
-    /// Memory was refused.
+    /// An allocation failed.
     Memory,
+    /// No, or an error other than a failed allocation.
     Wrong,
 }
 
 impl Answer {
-    /// Of a fault, which may be want of memory.
+    /// The answer for an error, which may be a failed allocation.
     fn fault(is_memory: bool) -> Answer {
         if is_memory {
             Answer::Memory
@@ -44,7 +53,7 @@ impl Answer {
         }
     }
 
-    /// Of what is right or not, where memory may be refused.
+    /// The answer for a result that is right or not, unless an allocation failed.
     pub fn of(found: Result<bool, Memory>) -> Answer {
         match found {
             Ok(true) => Answer::Right,
@@ -53,7 +62,7 @@ impl Answer {
         }
     }
 
-    /// Whether memory alone was refused, if anything.
+    /// Whether the answer is allowed when an allocation fails.
     pub fn is_lawful(self) -> bool {
         self != Answer::Wrong
     }
@@ -67,6 +76,7 @@ fn coded(alloc: Global, core: &Core) -> Answer {
     }
 }
 
+/// Whether the section resolves and has code.
 fn of_resolved(alloc: Global, resolved: Result<Core, ScopeError<'_>>) -> Answer {
     match resolved {
         Ok(core) => coded(alloc, &core),
@@ -74,6 +84,7 @@ fn of_resolved(alloc: Global, resolved: Result<Core, ScopeError<'_>>) -> Answer 
     }
 }
 
+/// The answer about a section.
 fn of_section(alloc: Global, asked: Asked, section: &Section<'static>) -> Answer
     requires { declarations_size (section_view section.now) ≤ 60000 }
 {
@@ -88,6 +99,7 @@ fn of_section(alloc: Global, asked: Asked, section: &Section<'static>) -> Answer
     }
 }
 
+/// The answer about the section that these tokens are.
 fn of_tokens(alloc: Global, asked: Asked, tokens: &[Token<'static>]) -> Answer {
     if tokens.len() > 60_000 {
         return Answer::Wrong;
@@ -98,7 +110,7 @@ fn of_tokens(alloc: Global, asked: Asked, tokens: &[Token<'static>]) -> Answer {
     }
 }
 
-/// What is answered of the section that a text is.
+/// The answer about the section that a text is.
 pub fn answered(alloc: Global, asked: Asked, text: &'static [u8]) -> Answer {
     let source = Source { name: b"A", text };
     match lex(alloc, &[source], 0) {

@@ -1,12 +1,14 @@
+//! The speller with allocations that fail.
+
 use crate::compiling::sections::{Answer, Asked, answered};
 use bc_parse_tree::{Section, render, spell};
 use bc_word::Memory;
 use std::alloc::Global;
 
-/// A routine of one word.
+/// A routine with one command.
 const TEXT: &[u8] = b"LET S() BE BREAK";
 
-/// Whether a section's spelling has eight tokens, and 24 bytes as text.
+/// Whether the spelling of a section has eight tokens, and 24 bytes as text.
 pub fn is_right(alloc: Global, section: &Section<'_>) -> Result<bool, Memory> {
     let kinds = spell(alloc, section)?;
     let text = render(alloc, kinds.as_slice())?;
@@ -18,7 +20,7 @@ fn growth_is_given(rt: HostRuntime) {
     assert_eq!(rt; answered(rt.alloc(), Asked::Spelling, TEXT), Answer::Right);
 }
 
-// With `.ci/refusals`, which has each allocation refused in turn: `Memory` is the answer then, and nothing else.
+/// Under `tests/stress/failed-allocations` each allocation fails in turn. The result must be right, or a failed allocation.
 #[test]
 fn refused_growth_is_memory(rt: HostRuntime) {
     assert!(rt; answered(rt.alloc(), Asked::Spelling, TEXT).is_lawful());

@@ -1,3 +1,5 @@
+//! The translation of a section, with allocations that fail.
+
 use crate::compiling::sections::{Answer, Asked, answered};
 use bc_core::{Body, Place, Routine};
 use bc_parse_tree::Section;
@@ -6,14 +8,15 @@ use bc_scope_translate::{Translated, translate};
 use bc_word::Memory;
 use std::alloc::Global;
 
+/// A function with a VALOF and a string.
 const TEXT: &[u8] = b"LET F(x) = VALOF $( RESULTIS x $) ! \"a\"";
 
-/// Whether a routine has one parameter and a value, and sets no global.
+/// Whether a routine is a function with one parameter and sets no global.
 fn has_value(routine: &Routine) -> bool {
     routine.parameters == 1 && routine.global.is_none() && matches!(&routine.body, Body::Value(_))
 }
 
-/// Whether a place is that routine.
+/// Whether a place is that function.
 fn is_function(place: &Place) -> bool {
     match place {
         Place::Routine(routine) => has_value(routine),
@@ -21,7 +24,7 @@ fn is_function(place: &Place) -> bool {
     }
 }
 
-/// Whether a place is the string.
+/// Whether a place is that string.
 fn is_text(place: &Place) -> bool {
     match place {
         Place::Text(bytes) => bytes.as_slice() == b"a".as_slice(),
@@ -29,7 +32,7 @@ fn is_text(place: &Place) -> bool {
     }
 }
 
-/// Whether the routine is followed by the string.
+/// Whether the places are the function followed by the string.
 fn are_places(places: &[Place]) -> bool {
     match places {
         [first, second] => is_function(first) && is_text(second),
@@ -37,7 +40,7 @@ fn are_places(places: &[Place]) -> bool {
     }
 }
 
-/// Whether there is one VALOF, whose body stands above the two links, the parameter and the address.
+/// Whether there is one VALOF, and its body is at level 4: above the frame's two links, the parameter and the left operand.
 fn is_translated(found: &Translated) -> bool {
     match found.valofs.as_slice() {
         [valof] => valof.level == 4 && are_places(found.places.as_slice()),
@@ -45,7 +48,7 @@ fn is_translated(found: &Translated) -> bool {
     }
 }
 
-/// Whether a section is translated rightly.
+/// Whether the translation of the section is right.
 pub fn is_right(alloc: Global, section: &Section<'_>) -> Result<bool, Memory> {
     let found = translate(&mut Scope::new(alloc), &section.declarations)?;
     Ok(is_translated(&found))
@@ -59,7 +62,7 @@ fn growth_is_given(rt: HostRuntime) {
     );
 }
 
-// With `.ci/refusals`, which has each allocation refused in turn: `Memory` is the answer then, and nothing else.
+/// Under `tests/stress/failed-allocations` each allocation fails in turn. The result must be right, or a failed allocation.
 #[test]
 fn refused_growth_is_memory(rt: HostRuntime) {
     assert!(rt; answered(rt.alloc(), Asked::Translation, TEXT).is_lawful());

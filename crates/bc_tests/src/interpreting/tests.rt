@@ -1,11 +1,13 @@
+//! Runs by their meaning: each way to end, a device that fails, and allocations that fail.
+
 use bc_build::{BuildError, GenError, LexError, LinkError, ParseError, ScopeFault, build};
-use bc_interpret_sources::{Cause, Ending, Outcome, Program, Source, interpret};
+use bc_interpret_sources::{BuiltProgram, Cause, Ending, Outcome, Source, interpret};
 use bc_machine::{MemoryStreams, Named, StreamsError};
 use bc_word::Memory;
 use std::alloc::Global;
 use std::test::Fail;
 
-/// Writes A, and then reads the cell of a variable that was never set.
+/// Writes A, and then reads a cell of a vector that was never set.
 const LETTER: &[u8] = b"GLOBAL $( START:1; WRCH:14; FINDOUTPUT:16; SELECTOUTPUT:12 $)
 LET START() BE
 $( LET F(X) = X + 1
@@ -16,15 +18,18 @@ $( LET F(X) = X + 1
 $)
 ";
 
-/// What comes of a source: what its run came to, or whether it was memory that was refused.
+/// What happened to a source: the outcome of its run, a failed allocation, or any other error.
 #[derive(Drop)]
 enum Came {
+    /// The run had this outcome.
     To(Outcome),
+    /// An allocation failed.
     Memory,
+    /// Any other error.
     Other,
 }
 
-/// Streams with one output of so many bytes.
+/// Streams with one output that has room for this number of bytes.
 fn streams(alloc: Global, room: usize) -> Result<MemoryStreams, StreamsError> {
     let mut outputs = Vec::new(alloc);
     outputs
@@ -33,7 +38,7 @@ fn streams(alloc: Global, room: usize) -> Result<MemoryStreams, StreamsError> {
     MemoryStreams::new(alloc, Vec::new(alloc), outputs, room)
 }
 
-/// Whether memory was refused.
+/// Whether an allocation failed.
 fn is_memory(fault: &BuildError) -> bool {
     matches!(
         fault,
@@ -61,7 +66,7 @@ fn outcome_of(alloc: Global, text: &[u8], room: usize, turns: u64) -> Came {
         Err(StreamsError::Memory) => return Came::Memory,
         Err(_) => return Came::Other,
     };
-    let program = Program {
+    let program = BuiltProgram {
         sources: &sources,
         mains: &mains,
         image: &built.image,
@@ -72,7 +77,7 @@ fn outcome_of(alloc: Global, text: &[u8], room: usize, turns: u64) -> Came {
     }
 }
 
-/// A run ends, or is cut off, or is wild, or fails where the output has no room left.
+/// A run finishes, divides by zero, uses up its turns, meets a full output, or is wild.
 #[test]
 fn runs_come_to_what_they_mean(rt: HostRuntime) -> Result<(), Fail> {
     let finish = b"GLOBAL $( START:1 $)\nLET START() BE FINISH".as_slice();
@@ -94,7 +99,7 @@ fn runs_come_to_what_they_mean(rt: HostRuntime) -> Result<(), Fail> {
     Ok(())
 }
 
-/// The calls that take memory: whether each gave its answer, or else only a fault because memory ran out.
+/// Builds and runs `LETTER`. The first result is whether it was wild as expected; the second also allows a failed allocation.
 fn grown(alloc: Global) -> (bool, bool) {
     match outcome_of(alloc, LETTER, 100, 1000) {
         Came::To(Outcome::Wild(Cause::Unset(_))) => (true, true),
@@ -109,6 +114,7 @@ fn growth_is_given(rt: HostRuntime) {
     assert!(rt; given);
 }
 
+/// Under `tests/stress/failed-allocations` each allocation fails in turn. The result must be right, or a failed allocation.
 #[test]
 fn refused_growth_is_memory(rt: HostRuntime) {
     let (_, lawful) = grown(rt.alloc());

@@ -1,4 +1,4 @@
-//! A reader and a writer that fail where they are told to, and what streams in memory are made of.
+//! A reader and a writer that fail at a given call, and streams in memory.
 
 ghost use Rattle.std.specs.Prelude.{◌≤◌, length};
 
@@ -8,15 +8,18 @@ use std::alloc::Global;
 use std::io;
 use std::io::{ErrorKind, Read, Write};
 
-/// A reader that gives a byte a call, and fails where `left` calls are over.
+/// A reader that returns one byte for each call, and fails after `left` calls.
 #[derive(Drop)]
 pub struct Source<'a> {
+    /// The remaining bytes.
     pub bytes: &'a [u8],
+    /// The number of calls before it fails.
     pub left: usize,
+    /// The error with which it fails.
     pub failure: ErrorKind,
 }
 
-/// Takes the first of these bytes into a buffer: how many it took.
+/// Moves the first of these bytes into a buffer, and returns how many it moved.
 fn take(bytes: &mut &[u8], buf: &mut [u8]) -> usize
     ensures { result ≤ length buf.old }
 {
@@ -40,29 +43,38 @@ impl Read for Source<'_> {
     }
 }
 
-/// A writer that keeps what it takes, at most `most` bytes a call, and takes nothing at its call number `fails` (from 1), or fails there.
+/// A writer that keeps the bytes that it takes, and gets stuck at one call.
 #[derive(Drop)]
 pub struct Sink {
+    /// The bytes that it took.
     pub taken: Vec<u8>,
+    /// The greatest number of bytes that it takes at a call.
     pub most: usize,
+    /// The number of calls of `write` up to here.
     pub calls: u32,
+    /// The number of the call, counted from 1, at which it gets stuck; 0 for none.
     pub fails: u32,
+    /// The error that it returns at that call. None if it takes nothing instead.
     pub failure: Option<ErrorKind>,
+    /// Whether it can be flushed, and was.
     pub flushing: Flushing,
 }
 
 /// Whether a writer can be flushed, and was.
 #[derive(Clone, Copy, PartialEq)]
 pub enum Flushing {
+    /// Flushing fails.
     Fails,
+    /// It can be flushed and wasn't yet.
     Waits,
+    /// It was flushed.
     Done,
 }
 
 impl Sink {
     ghost use Rattle.std.specs.Prelude.{◌≤◌, IfOk, length};
 
-    /// A writer of one byte a call that fails nowhere.
+    /// A writer that takes one byte at a call and never gets stuck.
     pub fn new(alloc: Global) -> Sink {
         Sink {
             taken: Vec::new(alloc),
@@ -74,6 +86,7 @@ impl Sink {
         }
     }
 
+    /// Takes the first of these bytes.
     fn take(&mut self, buf: &[u8]) -> io::Result<usize>
         ensures { IfOk result (λ count. count ≤ length buf.now) }
     {
@@ -82,6 +95,7 @@ impl Sink {
         Ok(count)
     }
 
+    /// What the call at which it gets stuck returns.
     fn fail(&self) -> io::Result<usize>
         ensures { IfOk result (λ count. count ≤ 0) }
     {
@@ -111,7 +125,7 @@ impl Write for Sink {
     }
 }
 
-/// A table of one device with this name.
+/// A table of one device with this name. Returns `Memory` if an allocation fails.
 pub fn named<T: Drop>(alloc: Global, name: &[u8], device: T) -> Result<Vec<Named<T>>, Memory> {
     let name = Vec::from_slice(alloc, name)?;
     let mut table = Vec::new(alloc);
@@ -131,7 +145,7 @@ fn outputs(alloc: Global) -> Result<Vec<Vec<u8>>, Memory> {
     Ok(names)
 }
 
-/// Streams in memory with this input and so much room for an output.
+/// Streams in memory with the input SYSIN and the output SYSPRINT, which has room for this number of bytes.
 pub fn memory(alloc: Global, input: &[u8], room: usize) -> Result<MemoryStreams, StreamsError> {
     let outputs = outputs(alloc)?;
     MemoryStreams::new(alloc, inputs(alloc, input)?, outputs, room)

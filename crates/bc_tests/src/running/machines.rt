@@ -1,3 +1,5 @@
+//! The machine and its streams, with devices and allocations that fail.
+
 use crate::running::devices::{Flushing, Sink, Source, memory, named};
 use bc_link::link;
 use bc_machine::{
@@ -13,10 +15,10 @@ use std::io::ErrorKind;
 /// Writes an A.
 const PRINTS: &[u8] = b"1 L65 SP4 LIG14 K2 X4 G1L1 Z";
 
-/// Writes the next byte of the input.
+/// Copies one byte of the input to the output.
 const ECHOES: &[u8] = b"1 LIG13 K2 SP4 LIG14 K2 X4 G1L1 Z";
 
-/// The image of a text after the primitives.
+/// The image of a text, linked after the primitives.
 fn image(alloc: Global, text: &[u8]) -> Option<Image> {
     let segments = read_all(alloc, &[text]).ok()?;
     let all = after_primitives(alloc, segments).ok()?;
@@ -29,7 +31,7 @@ fn machine(alloc: Global, text: &[u8]) -> Option<Machine> {
     Machine::new(alloc, &image).ok()
 }
 
-/// A reader that fails, if it is to.
+/// A reader of these bytes, which fails at once if `fails` is set.
 fn source(bytes: &[u8], fails: bool) -> Source<'_> {
     Source {
         bytes,
@@ -62,7 +64,7 @@ fn files<'a>(
     FileStreams::new(alloc, inputs, named(alloc, b"SYSPRINT", sink)?)
 }
 
-/// What the writer of output 1 took.
+/// The bytes that the writer of output 1 took.
 fn taken<'a>(streams: &'a FileStreams<Source<'_>, Sink>) -> &'a [u8] {
     match streams.writers() {
         [] => &[],
@@ -70,12 +72,12 @@ fn taken<'a>(streams: &'a FileStreams<Source<'_>, Sink>) -> &'a [u8] {
     }
 }
 
-/// Whether a machine ends for a device over streams in memory, with nothing written.
+/// Whether a run with these streams ends because of a device, with nothing written.
 fn fails_over(machine: &mut Machine, streams: &mut MemoryStreams) -> bool {
     machine.run(streams, 1000) == End::Device && streams.written().is_empty()
 }
 
-/// Whether a machine over an output without room ends for the device, and again over one with room.
+/// Whether a run with a full output ends because of the device, and the same machine then also with an output that has room.
 fn ends_for_good(alloc: Global) -> Option<bool> {
     let mut machine = machine(alloc, PRINTS)?;
     for room in [0, 10] {
@@ -87,7 +89,7 @@ fn ends_for_good(alloc: Global) -> Option<bool> {
     Some(true)
 }
 
-/// Whether a machine over such a reader and such a writer ends for the device, with nothing taken.
+/// Whether a run with this reader and writer ends because of a device, with nothing taken.
 fn ends_over(alloc: Global, text: &[u8], source: Source<'_>, sink: Sink) -> Option<bool> {
     let mut machine = machine(alloc, text)?;
     let mut streams = files(alloc, source, sink).ok()?;
@@ -116,25 +118,35 @@ fn a_failing_reader_ends_the_run(rt: HostRuntime) {
     assert_eq!(rt; ended, Some(true));
 }
 
-/// A call of streams.
+/// A call to streams.
 #[derive(Clone, Copy)]
 enum Call {
+    /// `find` with a name.
     Find(Side, &'static [u8]),
+    /// `select` with a number.
     Select(Side, u16),
+    /// `write`.
     Write(u8),
+    /// `read`.
     Read,
+    /// `end`.
     End(Side),
 }
 
-/// What a call of streams answers.
+/// What a call to streams returns.
 #[derive(Clone, Copy, PartialEq)]
 enum Told {
+    /// The number that `find` returns.
     Number(u16),
+    /// Success.
     Done,
+    /// `DeviceFault`.
     Failed,
+    /// What `read` returns.
     Byte(Option<u8>),
 }
 
+/// What `read` returns.
 fn read<S: Streams>(streams: &mut S) -> Told {
     match streams.read() {
         Ok(byte) => Told::Byte(byte),
@@ -142,6 +154,7 @@ fn read<S: Streams>(streams: &mut S) -> Told {
     }
 }
 
+/// What a call without a value returns.
 fn done(answer: Result<(), DeviceFault>) -> Told {
     match answer {
         Ok(()) => Told::Done,
@@ -149,11 +162,13 @@ fn done(answer: Result<(), DeviceFault>) -> Told {
     }
 }
 
+/// What `select` returns.
 fn select<S: Streams>(streams: &mut S, side: Side, number: u16) -> Told {
     streams.select(side, Word::new(number));
     Told::Done
 }
 
+/// Makes a call.
 fn called<S: Streams>(streams: &mut S, call: Call) -> Told {
     match call {
         Call::Find(side, name) => Told::Number(streams.find(side, name).get()),
@@ -164,7 +179,7 @@ fn called<S: Streams>(streams: &mut S, call: Call) -> Told {
     }
 }
 
-/// Calls of streams over a reader of two bytes and a writer that can't be flushed, with what each answers.
+/// Calls to streams with a reader of two bytes and a writer that can't be flushed, each with what it must return.
 const CALLS: [(Call, Told); 10] = [
     (Call::Find(Side::Output, b"SYSPRINT"), Told::Number(1)),
     (Call::Find(Side::Output, b"SYSIN"), Told::Number(0)),
@@ -178,7 +193,7 @@ const CALLS: [(Call, Told); 10] = [
     (Call::Write(b'y'), Told::Done),
 ];
 
-/// The first of the calls that is answered otherwise.
+/// The first of the calls that returns something else.
 fn differing<S: Streams>(streams: &mut S) -> Option<usize> {
     for (number, (call, told)) in CALLS.iter().enumerate() {
         if called(streams, *call) != *told {
@@ -188,7 +203,7 @@ fn differing<S: Streams>(streams: &mut S) -> Option<usize> {
     None
 }
 
-/// Whether each call is answered as it must be, and the writer took the one byte that was written to it.
+/// Whether each call returns what it must, and the writer took the one byte that was written to it.
 fn answers_calls(alloc: Global) -> Option<bool> {
     let mut streams = files(alloc, source(b"ab", false), unflushed(alloc)).ok()?;
     Some(differing(&mut streams).is_none() && taken(&streams) == b"x".as_slice())
@@ -199,7 +214,7 @@ fn streams_are_found_selected_and_ended(rt: HostRuntime) {
     assert_eq!(rt; answers_calls(rt.alloc()), Some(true));
 }
 
-/// Streams over two writers, the first of which can't be flushed.
+/// Streams with two writers, of which the first can't be flushed.
 fn two_outputs(alloc: Global) -> Result<FileStreams<Source<'static>, Sink>, StreamsError> {
     let mut outputs = named(alloc, b"A", unflushed(alloc))?;
     let second = named(alloc, b"B", Sink::new(alloc))?;
@@ -209,7 +224,7 @@ fn two_outputs(alloc: Global) -> Result<FileStreams<Source<'static>, Sink>, Stre
     FileStreams::new(alloc, Vec::new(alloc), outputs)
 }
 
-/// Whether of two writers the second one was flushed alone.
+/// Whether only the second of two writers was flushed.
 fn is_second_flushed(writers: &[Sink]) -> bool {
     match writers {
         [first, second] => {
@@ -219,7 +234,7 @@ fn is_second_flushed(writers: &[Sink]) -> bool {
     }
 }
 
-/// Whether closing answers that the first writer failed, and flushes the second.
+/// Whether closing reports that the first writer failed, and still flushes the second.
 fn closes_all(alloc: Global) -> Option<bool> {
     let mut streams = two_outputs(alloc).ok()?;
     Some(streams.close() == Err(DeviceFault) && is_second_flushed(streams.writers()))
@@ -230,6 +245,7 @@ fn close_flushes_every_output(rt: HostRuntime) {
     assert_eq!(rt; closes_all(rt.alloc()), Some(true));
 }
 
+/// An image of zeros.
 fn blank(alloc: Global) -> Result<Image, Memory> {
     let words = vec![in alloc; Word::new(0); 65536]?;
     Ok(Image {
@@ -239,7 +255,7 @@ fn blank(alloc: Global) -> Result<Image, Memory> {
     })
 }
 
-/// Runs a machine over streams in memory that it makes: the next byte of their input.
+/// Runs a machine with streams in memory, and returns the next byte of their input.
 fn over_memory(alloc: Global) -> Result<Option<u8>, StreamsError> {
     let mut machine = Machine::new(alloc, &blank(alloc)?)?;
     let mut memory = memory(alloc, b"h", 10)?;
@@ -247,13 +263,13 @@ fn over_memory(alloc: Global) -> Result<Option<u8>, StreamsError> {
     Ok(memory.read().unwrap_or(None))
 }
 
-/// The next byte of the input of streams over files that it makes.
+/// The next byte of the input of streams with a reader and a writer.
 fn over_files(alloc: Global) -> Result<Option<u8>, StreamsError> {
     let mut files = files(alloc, source(b"h", false), Sink::new(alloc))?;
     Ok(files.read().unwrap_or(None))
 }
 
-/// Makes a machine and both kinds of streams, and reads a byte of each.
+/// Makes a machine and both kinds of streams, and reads a byte from each.
 fn makes_all(alloc: Global) -> Result<[Option<u8>; 2], StreamsError> {
     Ok([over_memory(alloc)?, over_files(alloc)?])
 }
@@ -263,8 +279,7 @@ fn growth_is_given(rt: HostRuntime) {
     assert_eq!(rt; makes_all(rt.alloc()), Ok([Some(b'h'), Some(b'h')]));
 }
 
-// With `.ci/refusals`, which has each allocation refused in turn: `Memory` is the answer then, and
-// nothing else.
+/// Under `tests/stress/failed-allocations` each allocation fails in turn. The result must be right, or a failed allocation.
 #[test]
 fn refused_growth_is_memory(rt: HostRuntime) {
     let got = makes_all(rt.alloc());

@@ -1,3 +1,5 @@
+//! `run_text` with a reader that is slow or fails, and with allocations that fail.
+
 use crate::running::devices::{Source, memory};
 use bc_link::LinkError;
 use bc_machine::MemoryStreams;
@@ -7,23 +9,23 @@ use bc_text::TextError;
 use std::alloc::Global;
 use std::io::ErrorKind;
 
-/// Writes A.
+/// A program that writes A.
 const HELLO: &[u8] = b"1 L65 SP4 LIG14 K2 X4 G1L1 Z";
 
-/// Whether these bytes were written.
+/// Whether exactly these bytes were written.
 fn has_written(streams: &MemoryStreams, bytes: &[u8]) -> bool {
     let written = streams.written();
     written.len() == bytes.len() && written.iter().zip(bytes).all(|(one, byte)| one.1 == *byte)
 }
 
-/// What is wanted of a text that is read.
+/// The expected result and output of a text.
 #[derive(Clone, Copy)]
 struct Wanted {
     answer: Result<End, RunFault>,
     output: &'static [u8],
 }
 
-/// Whether running a text that is read a byte a call answers what is wanted, where the reader fails after so many calls.
+/// Whether running a text has the expected result and output. It is read one byte at a time, and the reader fails after `left` calls.
 fn is_answered(alloc: Global, bytes: &[u8], left: usize, wanted: &Wanted) -> Option<bool> {
     let mut streams = memory(alloc, b"", 1000).ok()?;
     let text = Source {
@@ -35,7 +37,7 @@ fn is_answered(alloc: Global, bytes: &[u8], left: usize, wanted: &Wanted) -> Opt
     Some(answer == wanted.answer && has_written(&streams, wanted.output))
 }
 
-/// The first call at which a reader of `HELLO` fails and the answer isn't Read, with nothing written.
+/// The first number of calls after which a reader of `HELLO` fails and the result isn't `Read` with nothing written.
 fn other_answer(alloc: Global) -> Option<usize> {
     let wanted = Wanted {
         answer: Err(RunFault::Read),
@@ -44,13 +46,13 @@ fn other_answer(alloc: Global) -> Option<usize> {
     (0..=HELLO.len()).find(|left| is_answered(alloc, HELLO, *left, &wanted) != Some(true))
 }
 
-/// A reader that fails at each call in turn answers Read.
+/// If the reader fails, at whichever call, the result is `Read`.
 #[test]
 fn readers_fail(rt: HostRuntime) {
     assert_eq!(rt; other_answer(rt.alloc()), None);
 }
 
-/// One that gives a byte a call changes nothing.
+/// A reader of one byte at a time makes no difference.
 #[test]
 fn slow_readers_change_nothing(rt: HostRuntime) {
     let wanted = Wanted {
@@ -60,7 +62,7 @@ fn slow_readers_change_nothing(rt: HostRuntime) {
     assert_eq!(rt; is_answered(rt.alloc(), HELLO, 1000, &wanted), Some(true));
 }
 
-/// A refusal of the text stands before a failure after it.
+/// A fault of the text takes precedence over a later failure of the reader.
 #[test]
 fn refusals_come_before_failures(rt: HostRuntime) {
     let wanted = Wanted {
@@ -70,15 +72,18 @@ fn refusals_come_before_failures(rt: HostRuntime) {
     assert_eq!(rt; is_answered(rt.alloc(), b"Q", 1, &wanted), Some(true));
 }
 
-/// What the calls that take memory come to.
+/// The result of the calls that allocate.
 #[derive(Clone, Copy, Debug, PartialEq)]
 enum Growth {
+    /// As expected.
     Given,
+    /// An allocation failed.
     Refused,
+    /// Anything else.
     Other,
 }
 
-/// Whether an answer is the end that is wanted, or want of memory.
+/// Whether a result is the expected end or a failed allocation.
 fn came_to(answer: Result<End, RunFault>, end: End) -> Growth {
     match answer {
         Ok(found) if found == end => Growth::Given,
@@ -89,7 +94,7 @@ fn came_to(answer: Result<End, RunFault>, end: End) -> Growth {
     }
 }
 
-/// What running a text comes to.
+/// Runs a text, which is expected to end so.
 fn grown_by(alloc: Global, text: &[u8], end: End) -> Growth {
     match memory(alloc, b"", 1000) {
         Ok(mut streams) => came_to(run_text(alloc, text, &mut streams, 12), end),
@@ -97,7 +102,7 @@ fn grown_by(alloc: Global, text: &[u8], end: End) -> Growth {
     }
 }
 
-/// What the calls that take memory come to: the first answer that isn't given.
+/// Makes the calls that allocate: the first result that isn't `Given`.
 fn grown(alloc: Global) -> Growth {
     if primitives(alloc).is_err() {
         return Growth::Refused;
@@ -113,6 +118,7 @@ fn growth_is_given(rt: HostRuntime) {
     assert_eq!(rt; grown(rt.alloc()), Growth::Given);
 }
 
+/// Under `tests/stress/failed-allocations` each allocation fails in turn. The result must be right, or a failed allocation.
 #[test]
 fn refused_growth_is_memory(rt: HostRuntime) {
     assert!(rt; grown(rt.alloc()) != Growth::Other);

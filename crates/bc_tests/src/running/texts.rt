@@ -1,3 +1,5 @@
+//! The reader and the writer of INTCODE texts, with writers and allocations that fail.
+
 use crate::running::devices::Sink;
 use bc_text::{Reader, TextError, print, read_all};
 use bc_text_items::{Base, Function, GlobalNumber, Item, Segment};
@@ -5,8 +7,10 @@ use bc_word::Word;
 use std::alloc::Global;
 use std::io::ErrorKind;
 
+/// A program that writes A.
 const PROGRAM: &[u8] = b"1 L65 SP4 LIG14 K2 X4 G1L1 Z";
 
+/// An operation of INTCODE.
 fn op(function: Function, indirect: bool, base: Base, number: u16) -> Item {
     Item::Operation {
         function,
@@ -16,7 +20,7 @@ fn op(function: Function, indirect: bool, base: Base, number: u16) -> Item {
     }
 }
 
-/// `G1L1`, where there is such a global.
+/// `G1L1`.
 fn start() -> Option<Item> {
     Some(Item::Global {
         number: GlobalNumber::new(1)?,
@@ -24,7 +28,7 @@ fn start() -> Option<Item> {
     })
 }
 
-/// The items of `PROGRAM` but for the last one.
+/// The items of `PROGRAM` except the last one.
 fn program() -> [Item; 6] {
     [
         Item::Label(Word::new(1)),
@@ -44,7 +48,7 @@ fn is_program(segment: &Segment) -> bool {
     }
 }
 
-/// Whether one segment was read, which is `PROGRAM`.
+/// Whether exactly one segment was read, and it is `PROGRAM`.
 fn is_read(segments: &[Segment]) -> bool {
     match segments {
         [segment] => is_program(segment),
@@ -52,14 +56,14 @@ fn is_read(segments: &[Segment]) -> bool {
     }
 }
 
-/// Whether a reader that refused answers `Failed` from then on.
+/// Whether a reader that returned an error returns `Failed` from then on.
 fn has_failed(mut reader: Reader) -> bool {
     reader.feed(b" Z") == Err(TextError::Failed)
         && reader.feed(b"") == Err(TextError::Failed)
         && reader.finish().err() == Some(TextError::Failed)
 }
 
-/// Whether reading `PROGRAM` gives its items; its fault, where the reader answers `Failed` after it.
+/// Whether reading `PROGRAM` gives its items. Returns the error if there is one and the reader returns `Failed` after it.
 fn read_program(alloc: Global) -> Result<bool, TextError> {
     let mut reader = Reader::new(alloc);
     match reader.feed(PROGRAM) {
@@ -79,8 +83,7 @@ fn growth_is_given(rt: HostRuntime) {
     assert_eq!(rt; read_program(rt.alloc()), Ok(true));
 }
 
-// With `.ci/refusals`, which has each allocation refused in turn: `Memory` is the answer then, and
-// nothing else.
+/// Under `tests/stress/failed-allocations` each allocation fails in turn. The result must be right, or a failed allocation.
 #[test]
 fn refused_growth_is_memory(rt: HostRuntime) {
     let got = read_program(rt.alloc());
@@ -94,19 +97,20 @@ fn answers_failed_after_a_refusal(rt: HostRuntime) {
     assert!(rt; is_refused && has_failed(reader));
 }
 
-/// A text with an item of each kind, and how it is printed.
+/// A text with an item of each kind.
 const ITEMS: &[u8] = b"L5 X22 A-1 SIP512 G511L65535 D-1 DL7 C255 0 Z";
 
+/// How it is printed.
 const PRINTED: &[u8] = b"L5\nX22\nA65535\nSIP512\nG511L65535\nD65535\nDL7\nC255\n0\nZ\n";
 
-/// Whether a writer of at most so many bytes a call that fails at a call, or at none, is answered so.
+/// Whether printing to this writer returns the expected result and the writer took the right bytes.
 fn is_answered(segment: &Segment, mut out: Sink, wanted: Result<(), TextError>) -> bool {
     print(segment, &mut out) == wanted
         && PRINTED.starts_with(out.taken.as_slice())
         && (wanted.is_err() || out.taken.len() == PRINTED.len())
 }
 
-/// How a call of a writer fails: it takes nothing, or it answers an error of a kind.
+/// How a writer gets stuck: it takes nothing (None), or it returns an error.
 const FAILURES: [Option<ErrorKind>; 4] = [
     None,
     Some(ErrorKind::Other),
@@ -114,14 +118,14 @@ const FAILURES: [Option<ErrorKind>; 4] = [
     Some(ErrorKind::BrokenPipe),
 ];
 
-/// How much a writer takes a call, and how many calls that are.
+/// How many bytes a writer takes at a call, and how many calls the text needs then.
 #[derive(Clone, Copy)]
 struct Way {
     most: usize,
     calls: u32,
 }
 
-/// One byte a call, and all at once.
+/// One byte at a call, and a whole item at a call.
 const WAYS: [Way; 2] = [
     Way { most: 1, calls: 52 },
     Way {
@@ -131,7 +135,7 @@ const WAYS: [Way; 2] = [
 ];
 
 impl Way {
-    /// A writer whose call of this number fails so.
+    /// A writer that gets stuck in this way at the call with this number.
     fn writer(self, alloc: Global, failure: Option<ErrorKind>, fails: u32) -> Sink {
         let mut out = Sink::new(alloc);
         out.most = self.most;
@@ -140,7 +144,7 @@ impl Way {
         out
     }
 
-    /// What printing answers where the call of this number fails: none is made after the last one.
+    /// The expected result if the writer would get stuck at the call with this number. There is no call after the last one.
     fn wanted(self, fails: u32) -> Result<(), TextError> {
         if fails > 0 && fails <= self.calls {
             Err(TextError::Write)
@@ -149,7 +153,7 @@ impl Way {
         }
     }
 
-    /// Whether printing answers as it must where no call fails, where each does in turn, and where the one after the last does.
+    /// Whether printing returns the expected result if no call fails, if each call fails in turn, and if the one after the last would fail.
     fn is_lawful(self, alloc: Global, segment: &Segment, failure: Option<ErrorKind>) -> bool {
         for fails in 0..=self.calls.saturating_add(1) {
             let out = self.writer(alloc, failure, fails);
@@ -161,7 +165,7 @@ impl Way {
     }
 }
 
-/// Whether printing a segment answers as it must, in all ways.
+/// The same, for all numbers of bytes at a call and all ways to get stuck.
 fn is_printed(alloc: Global, segment: &Segment) -> bool {
     for way in WAYS {
         for failure in FAILURES {
@@ -173,7 +177,7 @@ fn is_printed(alloc: Global, segment: &Segment) -> bool {
     true
 }
 
-/// Whether the segment of a text is printed to any writer.
+/// Whether the segment of `ITEMS` is printed correctly to all these writers.
 fn prints(alloc: Global) -> Option<bool> {
     let segments = read_all(alloc, &[ITEMS]).ok()?;
     match segments.as_slice() {

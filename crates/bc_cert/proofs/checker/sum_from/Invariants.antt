@@ -1,4 +1,4 @@
--- What is left of the entries goes on from the sum so far.
+-- The remaining entries continue from the sum up to here.
 use Rattle.std.proofs.Common.{◌≡◌, map, drop}
 use Rattle.bc_cert_defs.specs.View.{judged}
 use Rattle.bc_cert.specs.View.{summed}

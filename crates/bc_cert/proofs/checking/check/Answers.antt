@@ -1,4 +1,4 @@
--- What the bytes so far say, and at their end.
+-- The state after the bytes read up to here, and the result at the end of the input.
 use Rattle.std.specs.Prelude.{OnOk, Ok, Err}
 use Rattle.std.proofs.Common.{◌∙◌, subst, ◌++◌, ◌≤◌, ◌+◌, [], take, length, length-take, arith}
 use Rattle.bc_cert_defs.specs.View.{verdict}

@@ -1,4 +1,4 @@
--- What was found so far is what the bytes say that the reader gave.
+-- The state is that of the bytes read up to here.
 use Rattle.std.proofs.Common.{◌≡◌, ◌≤◌, ◌+◌, ℕ, List, [], Ok}
 use Rattle.std.specs.Io.KnownBytes.{Consumes}
 use Rattle.bc_cert_read.specs.Stacks.{AreParallel}

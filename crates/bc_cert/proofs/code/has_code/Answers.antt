@@ -1,4 +1,4 @@
--- Codes of other lengths are not the same.
+-- Codes of different lengths differ.
 use Rattle.std.proofs.Common.{arith}
 use Rattle.bc_cert.proofs.Lengths.{other_length}
 use Rattle.bc_cert.proofs.code.has_code.Goals as goal

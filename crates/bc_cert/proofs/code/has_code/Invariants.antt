@@ -1,4 +1,4 @@
--- The pieces so far are the same.
+-- The pieces compared up to here are the same.
 use Rattle.std.proofs.Common.{◌≡◌, drop}
 use Rattle.bc_cert_laws.specs.Judging.{same_code}
 use Rattle.bc_cert.proofs.code.has_code.Given as goal

@@ -1,4 +1,4 @@
--- The code and the labels of a derivation are told by its rules.
+-- The code and the labels of a derivation depend only on its rules.
 use Rattle.std.proofs.Common.{sym}
 use Rattle.bc_cert_read.specs.TreeView.{rooted}
 use Rattle.bc_cert.proofs.Codes.{no_room, right_found}

@@ -1,4 +1,4 @@
--- No end of a line stands among the bytes so far.
+-- The bytes checked up to here contain no LF.
 use Rattle.std.proofs.Common.{◌≡◌, take, drop}
 use Rattle.bc_cert_read.specs.Fields.{cut, longer}
 use Rattle.bc_cert.proofs.ends.first_line.Given as goal

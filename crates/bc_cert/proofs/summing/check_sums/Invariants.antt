@@ -1,4 +1,4 @@
--- What was found so far is what the bytes say that the reader gave, after entries that are no longer kept.
+-- The state is that of the bytes read up to here, after entries that were dropped.
 use Rattle.std.proofs.Common.{◌≡◌, ◌≤◌, ◌+◌, []}
 use Rattle.bc_cert_read.specs.Stacks.{AreParallel}
 use Rattle.bc_cert.specs.View.{own}

@@ -1,4 +1,4 @@
--- The first entry that does not fit, and an entry that does.
+-- The first entry that doesn't fit, and an entry that fits.
 use Rattle.std.proofs.Common.{subst, map}
 use Rattle.bc_cert_defs.specs.declared.mismatch.Mismatch.TheVariants as faults
 use Rattle.bc_cert_defs.specs.View.{judged}

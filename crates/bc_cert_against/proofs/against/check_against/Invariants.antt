@@ -1,4 +1,4 @@
--- What holds of the entries that are left holds of all.
+-- What holds of the remaining entries holds of all entries.
 use Rattle.std.proofs.Common.{drop, map}
 use Rattle.bc_cert_defs.specs.View.{judged}
 use Rattle.bc_cert_defs.proofs.Fitting.{Gone}

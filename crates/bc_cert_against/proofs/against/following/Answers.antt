@@ -1,4 +1,4 @@
--- A body is passed over.
+-- The items of a body are skipped.
 use Rattle.std.proofs.Common.{subst, sym}
 use Rattle.bc_rules_defs.specs.declared.piece.Piece.TheVariants as pieces
 use Rattle.bc_cert_defs.specs.Against.{Passes}

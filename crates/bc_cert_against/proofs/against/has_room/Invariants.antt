@@ -1,4 +1,4 @@
--- The pieces that are left have room just where all have.
+-- The remaining pieces fit into the remaining items exactly if all pieces fit into all items.
 use Rattle.std.proofs.Common.{◌≤◌, ◌↔◌, drop}
 use Rattle.bc_cert_defs.specs.Against.{extent}
 use Rattle.bc_cert_against.proofs.against.has_room.Given as goal

@@ -1,4 +1,4 @@
--- Equal items are the same.
+-- The items' own equality is equality.
 use Rattle.std.proofs.Common.{sym, ◌∙◌}
 use Rattle.bc_cert_against.proofs.Items.{same}
 use Rattle.bc_cert_against.proofs.against.is_same.Goals as goal

@@ -1,4 +1,4 @@
--- A piece more, and the ends.
+-- One more piece, and both ends of the loop.
 use Rattle.std.proofs.Common.{◌≡◌, true, false, subst, sym, refl}
 use Rattle.std.proofs.Math.ListN.{drop_of_length-le}
 use Rattle.bc_cert_defs.specs.Against.{Passes, Stands, nothing_more}

@@ -1,4 +1,4 @@
--- The pieces that are left stand in the items that are left just where all stand in all.
+-- The remaining items begin with the remaining pieces exactly if all items begin with all pieces.
 use Rattle.std.proofs.Common.{◌↔◌, drop}
 use Rattle.bc_cert_defs.specs.Against.{Stands}
 use Rattle.bc_cert_against.proofs.against.is_there.Given as goal

@@ -1,4 +1,4 @@
--- Each turn takes a field off.
+-- Each iteration cuts off one field.
 use Rattle.std.proofs.Common.{sym, ◌∙◌, ap, Some, arith}
 use Rattle.bc_cert_read.specs.Fields.{fields}
 use Rattle.bc_cert_read.specs.Chains.{names_from, ended}

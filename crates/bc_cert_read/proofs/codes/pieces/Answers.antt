@@ -1,4 +1,4 @@
--- Each turn takes a field off.
+-- Each iteration cuts off one field.
 use Rattle.std.proofs.Common.{sym, ◌∙◌, ap, subst, arith}
 use Rattle.bc_cert_read.specs.Lines.{piece, Adds}
 use Rattle.bc_cert_read.specs.View.{cut as seen_cut, slice}

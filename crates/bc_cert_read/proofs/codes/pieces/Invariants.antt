@@ -1,4 +1,4 @@
--- What is left goes on from the pieces so far, and gets shorter.
+-- The remaining text continues from the pieces read up to here, and gets shorter.
 use Rattle.std.proofs.Common.{◌≡◌, ◌+◌, ◌≤◌, length, []}
 use Rattle.bc_cert_read.specs.Fields.{fields}
 use Rattle.bc_cert_read.specs.Lines.{pieces_after}

@@ -1,4 +1,4 @@
--- No separator stands among the bytes so far.
+-- The bytes checked up to here contain no separator.
 use Rattle.std.proofs.Common.{◌≡◌, take, drop}
 use Rattle.bc_cert_read.specs.Fields.{cut, longer}
 use Rattle.bc_cert_read.proofs.fields.cut.Given as goal

@@ -1,4 +1,4 @@
--- What is left goes on from the number so far.
+-- The remaining digits continue from the number read up to here.
 use Rattle.std.proofs.Common.{◌≡◌, ◌<◌, ◌^◌, drop}
 use Rattle.bc_cert_read.specs.Fields.{digits_from}
 use Rattle.bc_cert_read.proofs.fields.digits.Given as goal

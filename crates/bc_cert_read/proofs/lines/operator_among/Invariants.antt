@@ -1,4 +1,4 @@
--- The operator is not among those so far.
+-- The operator isn't among those checked up to here.
 use Rattle.std.proofs.Common.{◌≡◌, drop}
 use Rattle.bc_cert_read.specs.Lines.{op_among}
 use Rattle.bc_cert_read.proofs.lines.operator_among.Given as goal

@@ -1,4 +1,4 @@
--- The trees so far show no rules.
+-- The trees checked up to here show no rules.
 use Rattle.std.proofs.Common.{◌≡◌, drop}
 use Rattle.bc_cert_read.specs.Marks.{all_bare}
 use Rattle.bc_cert_read.proofs.mark.all_bare.Given as goal

@@ -1,4 +1,4 @@
--- What is left goes on from the depth so far.
+-- The remaining parts continue from the depth of those before them.
 use Rattle.std.proofs.Common.{◌≡◌, ◌≤◌, drop}
 use Rattle.bc_cert_read.specs.Marks.{depth_from}
 use Rattle.bc_cert_read.proofs.mark.depth_over.Given as goal

@@ -1,4 +1,4 @@
--- The parts so far have their levels.
+-- The parts checked up to here have their levels.
 use Rattle.std.proofs.Common.{◌≡◌, ◌+◌, ◌≤◌, drop}
 use Rattle.bc_cert_read.specs.Marks.{levels_from, levels_fit}
 use Rattle.bc_cert_read.proofs.mark.levels_fit.Given as goal

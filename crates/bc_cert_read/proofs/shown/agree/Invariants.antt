@@ -1,4 +1,4 @@
--- The parts so far show what is asked of them.
+-- The parts checked up to here show what the rule requires of them.
 use Rattle.std.proofs.Common.{◌≡◌, drop}
 use Rattle.bc_cert_read.specs.Showing.{agree}
 use Rattle.bc_cert_read.proofs.shown.agree.Given as goal

@@ -1,4 +1,4 @@
--- The parts so far hold no call.
+-- The parts checked up to here contain no call.
 use Rattle.std.proofs.Common.{◌≡◌, drop}
 use Rattle.bc_cert_read.specs.Stacks.{any_calls}
 use Rattle.bc_cert_read.proofs.stack.calls.Given as goal

@@ -1,4 +1,4 @@
--- The tree is seen with the list of its parts.
+-- The tree from the list of its parts.
 use Rattle.std.proofs.Common.{rules}
 use Rattle.bc_rules_defs.specs.declared.derivation.Derivation.{roll-Derivation, the_lemmas}
 use Rattle.bc_cert_read.proofs.Derived.{tree_view}

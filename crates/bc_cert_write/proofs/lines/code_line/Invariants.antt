@@ -1,4 +1,4 @@
--- The fields so far, and those of the pieces that are left, are those of all.
+-- The fields appended up to here, followed by those of the remaining pieces, are those of all pieces.
 use Rattle.std.proofs.Common.{◌≡◌, ◌≤◌, ◌++◌, drop, length}
 use Rattle.bc_cert_write.specs.Lines.{line_end, code_fields, code_line}
 use Rattle.bc_cert_write.proofs.lines.code_line.Given as goal

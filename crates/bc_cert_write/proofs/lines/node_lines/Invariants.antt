@@ -1,4 +1,4 @@
--- The lines so far, and those of the nodes that are left, are those of all.
+-- The lines appended up to here, followed by those of the remaining nodes, are those of all nodes.
 use Rattle.std.proofs.Common.{◌≡◌, ◌++◌, drop}
 use Rattle.bc_cert_write.specs.Printed.{mark_lines}
 use Rattle.bc_cert_write.proofs.lines.node_lines.Given as goal

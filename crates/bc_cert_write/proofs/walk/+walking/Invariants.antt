@@ -1,4 +1,4 @@
--- The nodes of the arguments so far, and those of the others, are those of all.
+-- The nodes appended up to here, followed by those of the remaining arguments, are those of all arguments.
 use Rattle.std.proofs.Common.{◌≡◌, ◌≤◌, ◌+◌, ◌*◌, ◌^◌, ◌++◌, drop}
 use Rattle.bc_core.specs.View.{exp, args}
 use Rattle.bc_core.specs.WellFormed.{nodes, nodes_of_args}

@@ -1,4 +1,4 @@
--- What was taken before, and what was taken now.
+-- The bytes taken before, followed by those taken now.
 use Rattle.bc_text.proofs.Fronts.{taken_more, fits_more}
 use Rattle.bc_cert_write.proofs.writing.put.Goals as goal
 

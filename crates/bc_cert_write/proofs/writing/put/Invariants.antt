@@ -1,4 +1,4 @@
--- The writer has taken the bytes so far.
+-- The writer has taken the bytes up to here.
 use Rattle.std.proofs.Common.{length, take, ◌-◌, ◌≤◌}
 use Rattle.std.specs.Io.KnownBytes.{Appends}
 use Rattle.bc_cert_write.proofs.writing.put.Given as goal

@@ -1,4 +1,4 @@
--- The writer has taken the header and the lines of the entries so far.
+-- The writer has taken the header and the lines of the entries up to here.
 use Rattle.std.proofs.Common.{◌≡◌, List, ◌++◌, map, take, flat_map}
 use Rattle.std.specs.Io.KnownBytes.{Appends}
 use Rattle.bc_rules_defs.specs.declared.rule.Table.TheVariants.{Two}

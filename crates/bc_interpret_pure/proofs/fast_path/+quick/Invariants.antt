@@ -1,4 +1,4 @@
--- A call of less depth, or one of the same depth and of a later rank.
+-- Each call decreases the depth, or keeps it and goes to a function of later rank.
 use Rattle.std.specs.Prelude.{◌+◌, ◌*◌}
 use Rattle.bc_interpret_pure.proofs.fast_path.+quick.Given as goal
 

@@ -5,7 +5,7 @@ use Rattle.bc_rules_defs.specs.ByShape.{labels_of_parts, code_of_parts}
 use Rattle.bc_rules_defs.specs.View.{derivations}
 use Rattle.bc_rules.proofs.writing.+writing.Given as goal
 
--- the level of the next argument; the rest of the labels and of the code make those of the whole
+-- the level of the next argument; what was written and the remaining labels and code make the whole
 abbrev pub invariant-call-loop-i : goal.invariant-call-loop-i
 invariant-call-loop-i l =
     (l.level ≡ l.node.level + 2 + l.i)

@@ -1,4 +1,4 @@
--- The rule is not among those so far.
+-- None of the rules visited so far has the name.
 use Rattle.std.proofs.Common.{◌≡◌, drop}
 use Rattle.bc_rules_defs.specs.Names.{found}
 use Rattle.bc_rules_defs.proofs.names.among.Given as goal

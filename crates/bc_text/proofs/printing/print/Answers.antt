@@ -1,4 +1,4 @@
--- What a writer that failed has taken is a front of the text.
+-- A writer that failed has taken the beginning of the text.
 use Rattle.std.proofs.Common.{ap, sym, ◌∙◌}
 use Rattle.bc_text.specs.Printed.{printed_segment}
 use Rattle.bc_text.proofs.Fronts.{front_joined, segment_parted_at, segment_whole}

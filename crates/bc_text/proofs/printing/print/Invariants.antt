@@ -1,4 +1,4 @@
--- The writer has taken the lines so far.
+-- The writer has taken the lines up to here.
 use Rattle.std.proofs.Common.{take, flat_map}
 use Rattle.std.specs.Io.KnownBytes.{Appends}
 use Rattle.bc_text.specs.Printed.{line}

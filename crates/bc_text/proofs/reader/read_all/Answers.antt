@@ -1,4 +1,4 @@
--- The pieces so far, and what is answered after them.
+-- The pieces up to here, and the result after them.
 use Rattle.std.proofs.lemmas.Result.{err_from_is_err_and}
 use Rattle.bc_text.proofs.Feeding.{whole_only, whole_refused, piece_refused, all_read}
 use Rattle.bc_text.proofs.reader.read_all.Goals as goal

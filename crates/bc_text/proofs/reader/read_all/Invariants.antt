@@ -1,4 +1,4 @@
--- The reader has read the pieces so far.
+-- The reader has read the pieces up to here.
 use Rattle.std.proofs.Common.{take}
 use Rattle.bc_text.specs.Reading.{HasRead, bytes_of}
 use Rattle.bc_text.proofs.reader.read_all.Given as goal

@@ -1,4 +1,4 @@
--- Each turn takes a line off.
+-- Each iteration takes one line.
 use Rattle.std.proofs.Common.{ap, subst, ◌∙◌, arith}
 use Rattle.bc_cert_read.specs.View.{cut as seen_cut, slice}
 use Rattle.bc_cert_read.specs.TreeView.{Steps}

@@ -1,4 +1,4 @@
--- What is left of the bytes goes on from what was found so far, and gets shorter.
+-- The remaining bytes continue from the current state, and get shorter.
 use Rattle.std.proofs.Common.{◌≡◌, ◌≤◌, ◌+◌, length}
 use Rattle.bc_cert_read.specs.Stacks.{AreParallel}
 use Rattle.bc_cert_laws.specs.Judging.{feed_from}

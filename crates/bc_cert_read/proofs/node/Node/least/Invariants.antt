@@ -1,4 +1,4 @@
--- What is left of the rules goes on from the least so far.
+-- The remaining rules continue from the least of those before them.
 use Rattle.std.proofs.Common.{◌≡◌, ◌+◌, ◌<◌, ◌^◌, None, drop}
 use Rattle.std.specs.Prelude.{IfSome}
 use Rattle.bc_cert_read.specs.Node.{node, least}

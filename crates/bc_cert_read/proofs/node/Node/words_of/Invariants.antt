@@ -1,4 +1,4 @@
--- What is left of the parts adds what is missing; and a part adds less than 2^65.
+-- The remaining parts add what is still missing, and a part adds less than 2^65.
 use Rattle.std.proofs.Common.{◌≡◌, ◌+◌, ◌*◌, ◌≤◌, ◌^◌, drop}
 use Rattle.std.specs.Prelude.{IfSome}
 use Rattle.bc_cert_read.specs.Node.{words_from, words_of}

@@ -11,9 +11,9 @@ use Rattle.bc_gen_defs.specs.Bodies.{fill, level_of, label_ahead}
 use Rattle.bc_rules_defs.specs.View.{derivation}
 use Rattle.bc_gen_defs.specs.Entries.{Plain, Begins, count_items, marked_over}
 use Rattle.bc_gen.specs.Chosen.{coding}
-use Rattle.bc_gen.specs.declared.root_mark.Mark.{Mark}
-use Rattle.bc_gen.specs.declared.marked_items.Part.{Part}
-use Rattle.bc_gen.specs.declared.marked_items.Part.TheVariants as variants
+use Rattle.bc_gen.specs.declared.root_mark.RootMark.{RootMark}
+use Rattle.bc_gen.specs.declared.marked_items.MarkedItem.{MarkedItem}
+use Rattle.bc_gen.specs.declared.marked_items.MarkedItem.TheVariants as variants
 use Rattle.bc_gen.specs.Parts.{parts, mark}
 use Rattle.bc_gen.specs.Room.{room_in}
 use Rattle.bc_gen.specs.Surroundings.{roots_in, exits_of, valofs_in, bodies_of, label_in, one_piece}
@@ -232,7 +232,7 @@ body-returns-clause-count t c =
     let code = bodies_of vs c.args.around.now.least c.args.number (level_of vs c.args.number) c.args.label c.args.self.now.next in
     let n : c.len-before.result ≡ length c.args.self.now.parts.items = omega (arith, c.len-before.ensures, c.args.self.now.parts.ok.0) in
     c.count_items.ensures
-    ∙ ap (λ (xs : List Part). count_items (parts xs)) (c.following.ensures ∙ ap (λ (k : ℕ). drop k c.deref.result.now) n ∙ ap (λ (xs : List Part). drop (length c.args.self.now.parts.items) xs) c.deref.ensures.value)
+    ∙ ap (λ (xs : List MarkedItem). count_items (parts xs)) (c.following.ensures ∙ ap (λ (k : ℕ). drop k c.deref.result.now) n ∙ ap (λ (xs : List MarkedItem). drop (length c.args.self.now.parts.items) xs) c.deref.ensures.value)
     ∙ ap count_items (written_is c.args.self.now c.valof.new.self code.0 c.in_ok-valof.ensures.0)
 
 pub valof-returns-then-number-around : goal.valof-returns-then-number-around
@@ -276,7 +276,7 @@ valof-returns-in_ok-block-in-Some t c =
     c.args.self.now c.block.new.self c.zero.new.self c.if-number-around.false c.in-Some.ensures.lookup.3.0 c.in-Some.ensures.lookup.1 c.body-within.ensures.roots c.body-within.ensures.exits
     c.in_ok-block-in-Some.ensures c.zero.ensures
 
--- where labels run out in a part of a form
+-- if labels run out in a part of a form
 pub if_command-returns-in_err-past : goal.if_command-returns-in_err-past
 if_command-returns-in_err-past t c =
     fails c.from_residual.result c.in_err-past.field-0.0 c.args.self.now c.take.new.self (c.args.self.now.next + 1)
@@ -561,7 +561,7 @@ root-returns t c =
     root_marked c.args.around.now (root c.args.root) c.args.target (derivation c.in_ok-derivation.field-0.derivation) c.deref.result.now c.in_ok-bodies.bodies.items c.args.self.now c.coded.new.self c.fill.new.self
     c.insert.new.self.items (variants.Begins c.in_ok-new.field-0) c.len-at.result
     c.in_ok-derivation.ensures.derivation (c.deref.ensures.value ∙ c.in_ok-code.ensures.chosen) c.in_ok-code.ensures.next c.in_ok-code.ensures.parts
-    (c.in_ok-bodies.ensures.written, c.in_ok-bodies.ensures.counts) (ap (λ (m : Mark). Begins (mark m)) c.in_ok-new.ensures.ok) (omega (arith, c.len-at.ensures, c.coded.new.self.parts.ok.0))
+    (c.in_ok-bodies.ensures.written, c.in_ok-bodies.ensures.counts) (ap (λ (m : RootMark). Begins (mark m)) c.in_ok-new.ensures.ok) (omega (arith, c.len-at.ensures, c.coded.new.self.parts.ok.0))
     c.in_ok-insert.ensures.items
 
 pub valof-returns-in_err-block-in-Some : goal.valof-returns-in_err-block-in-Some

@@ -1,4 +1,4 @@
--- A step at a time is the run.
+-- Taking byte after byte is the run over the piece.
 use Rattle.std.proofs.Common.{sym, ◌∙◌}
 use Rattle.std.proofs.lemmas.Result.{err_from_is_err_and}
 use Rattle.bc_text.proofs.Runs.{run-step, run-refused, run-all}

@@ -1,4 +1,4 @@
--- What is left of the piece leads from here to where the whole of it leads from the beginning.
+-- The remaining bytes of the piece lead from here to where the whole piece leads from the start.
 use Rattle.std.proofs.Common.{◌≡◌, drop}
 use Rattle.bc_text.specs.Steps.{run}
 use Rattle.bc_text.specs.Reached.{progress_of}

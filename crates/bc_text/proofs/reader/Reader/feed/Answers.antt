@@ -1,4 +1,4 @@
--- What `advance` does, said of the bytes.
+-- What `advance` does, in terms of the bytes.
 use Rattle.bc_text.proofs.Feeding.{feeds_answer, feeds_read}
 use Rattle.bc_text.proofs.reader.Reader.feed.Goals as goal
 

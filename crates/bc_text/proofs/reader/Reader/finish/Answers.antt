@@ -1,4 +1,4 @@
--- What `close` does, said of the bytes.
+-- What `close` does, in terms of the bytes.
 use Rattle.bc_text.proofs.Feeding.{finishes_answer}
 use Rattle.bc_text.proofs.reader.Reader.finish.Goals as goal
 

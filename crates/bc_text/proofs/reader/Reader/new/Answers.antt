@@ -1,4 +1,4 @@
--- No byte was read.
+-- No byte has been read.
 use Rattle.bc_text.proofs.Feeding.{nothing_read}
 use Rattle.bc_text.proofs.reader.Reader.new.Goals as goal
 
