@@ -1,6 +1,6 @@
 #!/usr/bin/env python3
 """against_tcc.py PROGRAM FOLDER: the processor time of `build` with a certificate on the folder's file whole, and of `tcc -c` on its file
-whole.c, which has the same routines: forty runs of each, taken in turn. It tells medians and best times, the pages of memory that each asked
+whole.c, which has the same routines: forty runs of each, taken in turn. It prints medians and best times, the pages of memory that each requested
 the system for, and how many times as long the build takes."""
 import os
 import statistics
@@ -8,7 +8,7 @@ import sys
 
 
 def run(command):
-    """The processor time, and the pages asked for."""
+    """The processor time, and the pages requested."""
     silent = [(os.POSIX_SPAWN_OPEN, 1, os.devnull, os.O_WRONLY, 0)]
     process = os.posix_spawnp(command[0], command, os.environ, file_actions=silent)
     _, status, usage = os.wait4(process, 0)

@@ -1,6 +1,6 @@
 #!/usr/bin/env python3
-"""make_names.py KIND TOKENS: a BCPL section of about so many tokens that asks much of scopes. Kinds: constants (many names of one scope, each
-used once), routines (many routines, each with a block), blocks (many blocks with a VALOF behind many names), nested (190 routines one
+"""make_names.py KIND TOKENS: a BCPL section of about so many tokens that is hard for scopes. Kinds: constants (many names of one scope, each
+used once), routines (many routines, each with a block), blocks (many blocks with a VALOF after many names), nested (190 routines one
 within another with the same number of parameters each), one (the same parameters of one routine), scopes (190 blocks one within another
 with a LET each), lets (the same LETs in one block), let (the same variables of one LET), tiny (routines of one parameter each, below thousands of globals)."""
 import sys

@@ -1,6 +1,6 @@
 #!/usr/bin/env python3
 """make_program.py TOKENS: a BCPL section of about so many tokens that compiles: routines with declarations, loops, switches, calls,
-strings, tables and VALOFs, each of which calls the ones in front of it."""
+strings, tables and VALOFs, each of which calls the ones before it."""
 import re
 import sys
 

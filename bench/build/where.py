@@ -2,7 +2,7 @@
 """where.py CALLGRIND..: where the instructions of a build go, from files that valgrind's callgrind wrote: millions in each part, a column a file.
 
 What a part calls counts for it: memory and copies too. What the program's own crates do themselves, with what they free, is "the rest". The
-last line is no part: it tells what asking for memory and giving it back takes of all."""
+last line is no part: it has what allocating and freeing memory takes of all."""
 import re
 import sys
 
@@ -23,7 +23,7 @@ PARTS = {
 # The crates around the parts, which hand one's answer to the next.
 AROUND = ["bcpl", "bc_build", "bc_scope", "bc_cert"]
 
-# What a program asks for memory by.
+# The functions by which a program allocates memory.
 MEMORY = ["rattle_alloc", "rattle_realloc", "rattle_dealloc"]
 
 

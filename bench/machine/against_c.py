@@ -5,7 +5,7 @@
 
 COUNT (3,000) texts are made at random: instructions of all forms, any words as code, calls of the primitives, and the examples with a
 byte changed. Each runs for at most 3,000 instructions over a random input, by PROGRAM and by the C interpreter: status, output and
-what is told on standard error must be equal.
+what is printed on standard error must be equal.
 """
 import os
 import random

@@ -5,12 +5,12 @@
 
 PROGRAM parses a source from standard input (bench/parse/run.sh builds it). COUNT (1,000) programs are derived from the grammar
 at random, each within the bounds, and so must be accepted. Then each has one token taken away, put in or exchanged, and the parser
-must accept it or name the token at which Earley's algorithm finds that no section goes on.
+must accept it or name the token at which Earley's algorithm finds that no section continues.
 
 One thing differs on purpose: the parser takes the longest expression and the longest command at each place and never goes back. So
 it refuses `F(VALOF G(), 1)`, where the grammar could end the VALOF at the comma, and `IF A !B := 1`, where it could end the test at
-the `!`. Here TABLE and VALOF stand behind a round bracket alone, a VALOF in front of a block, and a body without DO begins with no
-sign that goes on with an expression. The grammar below is that of docs/language.md.
+the `!`. Here TABLE and VALOF come only after a parenthesis, a VALOF before a block, and a body without DO begins with no
+sign that continues an expression. The grammar below is that of docs/language.md.
 """
 import random
 import re
@@ -19,7 +19,7 @@ import sys
 from concurrent.futures import ThreadPoolExecutor
 
 # One rule a line; alternatives are separated by " / ". A word in lower case is a rule, all else a token; "" is nothing.
-# N is a name, K another operand. E1 to E12 is what may stand where that level is wanted, L1 to L12 is of that level.
+# N is a name, K another operand. E1 to E12 is what may be where that level is required, L1 to L12 is of that level.
 GRAMMAR = """
 section -> decl_last / decl_more section / "" / sep section
 decl_last -> decl
@@ -121,7 +121,7 @@ def derive(chance, name, depth):
 
 
 def settle(tokens):
-    """A derived list with `nl` only where a line break gives it; else a semicolon stands there, or nothing."""
+    """A derived list with `nl` only where a line break gives it; else a semicolon is there, or nothing."""
     settled = []
     for at, token in enumerate(tokens):
         if token == "nl":
@@ -144,12 +144,12 @@ def is_closed(tokens):
 
 
 def is_open(name, one, token):
-    """Whether a rule's alternative may begin with this token: a body without DO not with a sign that goes on with the expression before."""
+    """Whether a rule's alternative may begin with this token: a body without DO not with a sign that continues the expression before."""
     return not (name == "do" and one == ["body"] and token in ("!", "-", "("))
 
 
 def first_wrong(tokens):
-    """The place of the first token at which no section goes on, or None for a section."""
+    """The place of the first token at which no section continues, or None for a section."""
     sets = [{("section", tuple(one), 0, 0) for one in RULES["section"]}]
     for at in range(len(tokens) + 1):
         here, todo, done = sets[at], list(sets[at]), set()
@@ -205,7 +205,7 @@ def changed(chance, tokens):
 
 
 def is_without_choice(tokens):
-    """Whether each TABLE and VALOF stands as the head of this file says."""
+    """Whether each TABLE and VALOF is where the head of this file says."""
     return all(tokens[at - 1 : at] == ["("] and (token == "TABLE" or tokens[at + 1 : at + 2] == ["$("])
                for at, token in enumerate(tokens) if token in ("TABLE", "VALOF"))
 

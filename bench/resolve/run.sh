@@ -1,7 +1,7 @@
 #!/usr/bin/env bash
-# bench/resolve/run.sh: the time of `resolve` alone, on a generated program of almost 60,000 tokens and on one of half as many, and on programs that
+# bench/resolve/run.sh: the time of `resolve` by itself, on a generated program of almost 60,000 tokens and on one of half as many, and on programs that
 # ask much of scopes (bench/build/make_names.py): the best of twenty runs of each, taken in turn, each of which resolves its program five times. All of it
-# three times: as the C library asks the system for memory, with memory that was used before, and with such memory in pages of 2 MB.
+# three times: as the C library requests memory from the system, with memory that was used before, and with such memory in pages of 2 MB.
 set -eu
 cd "$(dirname "$0")"
 . ../workspace.sh
@@ -27,7 +27,7 @@ measure() {
     done
 }
 
-echo "As the C library asks the system for memory:"
+echo "As the C library requests memory from the system:"
 measure
 echo "With memory that the C library keeps from call to call:"
 kept=glibc.malloc.mmap_max=0:glibc.malloc.trim_threshold=17179869184

@@ -23,7 +23,7 @@ class Node:
 
 
 def direct(e):
-    """The operand that an address or a number is, as it stands behind an instruction's letter."""
+    """The operand that an address or a number is, as it is written after an instruction's letter."""
     if e.kind == "N":
         return f"{e.value}"
     if e.kind in "PGL":
@@ -179,7 +179,7 @@ def derivations(e, aim):
 
 
 def write(derivation, target, first, bodies):
-    """The code of a derivation, and the next label behind its own."""
+    """The code of a derivation, and the next label after its own."""
     rule, chosen, code = derivation
     own = {1: first, 2: first + 1, "t": target}
     after = first + len({piece[1] for piece in code if isinstance(piece, tuple) and piece[0] == "own"})

@@ -12,7 +12,7 @@ echo '0 10' | build_program
 
 # The trees are walked by recursion, to their depth.
 ulimit -s unlimited
-echo "As the C library asks for memory: in a first call all of it comes new from the system, zeroed; in a further one what is large."
+echo "As the C library requests memory: in a first call all of it comes new from the system, zeroed; in a further one what is large."
 python3 against_sizes.py "$program"
 echo "With memory that the C library keeps from call to call:"
 kept=glibc.malloc.mmap_max=0:glibc.malloc.trim_threshold=17179869184

@@ -1,4 +1,4 @@
-# Writes ten million bytes of INTCODE text, as `print` would: items of all kinds, a `Z` behind each thousand.
+# Writes ten million bytes of INTCODE text, as `print` would: items of all kinds, a `Z` after each thousand.
 import random
 
 random.seed(1)
