@@ -20,7 +20,7 @@ PARTS = {
     "select for the certificate": [],
 }
 
-# The crates around the parts, which hand one's answer to the next.
+# The crates around the parts, which pass one's answer to the next.
 AROUND = ["bcpl", "bc_build", "bc_scope", "bc_cert"]
 
 # The functions by which a program allocates memory.

@@ -1,7 +1,7 @@
 #!/usr/bin/env bash
 # The time of `parse` and of `spell` over a generated program of almost 60,000 tokens and over one of half as many: the
-# best of forty runs of each, taken in turn. Prints the rates and the ratios, then how much stack the deepest programs
-# that are accepted take, and then how many random programs the parser and the grammar answer otherwise (against_grammar.py).
+# best of forty runs of each, taken in turn. Prints the rates and the ratios, then how much stack the deepest
+# accepted programs take, and then for how many random programs parser and grammar differ (against_grammar.py).
 set -eu
 cd "$(dirname "$0")"
 . ../workspace.sh

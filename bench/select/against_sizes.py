@@ -1,7 +1,7 @@
 #!/usr/bin/env python3
 """against_sizes.py PROGRAM [ROUNDS]: runs the selector's bench on roots of four kinds that double from a thousand nodes to a million.
 
-Each round (20, if nothing is said; the largest roots have a third of them) runs each root and the one of twice its nodes, one directly
+Each round (20 by default; the largest roots have a third of them) runs each root and the one of twice its nodes, one directly
 after the other, so that what else the machine does disturbs both alike. For how many times as long the second takes the median of all
 rounds counts, and for nodes a second the best time.
 """
