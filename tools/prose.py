@@ -39,6 +39,7 @@ def prose_of(path, text):
     if path.endswith((".rt", ".antt")):
         return comments_of(path, text)
     lines, is_code = [], False
+    text = re.sub(r"<!-- The list of files begins here.*?The list of files ends here. -->", "", text, flags=re.S)
     for line in text.splitlines():
         if line.startswith("```"):
             is_code = not is_code
