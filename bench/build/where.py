@@ -9,7 +9,7 @@ import sys
 # The parts, by the crate that is called from outside of them all.
 PARTS = {
     "lex": ["bc_lex"],
-    "parse": ["bc_parse", "bc_parse_close", "bc_parse_spell"],
+    "parse": ["bc_parse", "bc_parse_defs", "bc_parse_tree"],
     "scope: faults": ["bc_scope_faults"],
     "scope: translation": ["bc_scope_translate"],
     "generate, without select": ["bc_gen"],

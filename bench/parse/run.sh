@@ -5,7 +5,7 @@
 set -eu
 cd "$(dirname "$0")"
 . ../workspace.sh
-make_workspace parse_bench parse.rt.in anyhow bc_lex bc_parse bc_parse_spell
+make_workspace parse_bench parse.rt.in anyhow bc_lex bc_parse bc_parse_tree
 python3 make_program.py 59900 >"$work/whole"
 python3 make_program.py 29950 >"$work/half"
 build_program <"$work/half"

@@ -1,3 +1,4 @@
+-- What it means that the code of commands, calls and routines is right.
 pub mod Levelled
 pub mod Exits
 pub mod Calls

@@ -1,2 +1,3 @@
+-- What it means that a linked program is right.
 pub mod Linked
 pub mod Examples

@@ -1,3 +1,4 @@
+-- How a machine step corresponds to a step of the source.
 pub mod Leads
 pub mod Agreement
 pub mod CodeAt
