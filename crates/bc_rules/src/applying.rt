@@ -25,7 +25,7 @@ fn plain(e: &CoreExp) -> bool
         CoreExp::Num(_)
         | CoreExp::Frame(_)
         | CoreExp::Glob(_)
-        | CoreExp::CodeContext(_)
+        | CoreExp::Place(_)
         | CoreExp::Load(_)
         | CoreExp::Neg(_)
         | CoreExp::Cond(_, _, _)
@@ -154,7 +154,7 @@ fn node_parts<'a>(rule: Rule, aim: Aim, e: &'a CoreExp) -> Parts<'a>
             (Rule::J7, Aim::Jumps(_)) => Parts::Leaf(false),
             _ => Parts::NoRule,
         },
-        CoreExp::Frame(_) | CoreExp::Glob(_) | CoreExp::CodeContext(_) => Parts::NoRule,
+        CoreExp::Frame(_) | CoreExp::Glob(_) | CoreExp::Place(_) => Parts::NoRule,
         CoreExp::Load(a) => match (rule, aim) {
             (Rule::V2, Aim::Gets(_)) => of_one(takes, a),
             _ => Parts::NoRule,

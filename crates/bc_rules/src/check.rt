@@ -46,7 +46,7 @@ fn direct_side(e: &CoreExp) -> bool
         CoreExp::Num(_)
         | CoreExp::Frame(_)
         | CoreExp::Glob(_)
-        | CoreExp::CodeContext(_)
+        | CoreExp::Place(_)
         | CoreExp::Load(_)
         | CoreExp::Neg(_)
         | CoreExp::Not(_)

@@ -28,7 +28,7 @@ fn calls(e: &CoreExp) -> bool
         CoreExp::Bin(_, a, b) => calls(a) || calls(b),
         CoreExp::Cond(c, x, y) => calls(c) || calls(x) || calls(y),
         CoreExp::Call(_, _) | CoreExp::Valof(_) => true,
-        CoreExp::Num(_) | CoreExp::Frame(_) | CoreExp::Glob(_) | CoreExp::CodeContext(_) => false,
+        CoreExp::Num(_) | CoreExp::Frame(_) | CoreExp::Glob(_) | CoreExp::Place(_) => false,
     }
 }
 

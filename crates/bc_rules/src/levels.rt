@@ -42,7 +42,7 @@ fn cells(e: &CoreExp, level: u32) -> u32
         CoreExp::Num(_)
         | CoreExp::Frame(_)
         | CoreExp::Glob(_)
-        | CoreExp::CodeContext(_)
+        | CoreExp::Place(_)
         | CoreExp::Valof(_) => 0,
     }
 }

@@ -63,7 +63,7 @@ fn put_parts<'a>(
         CoreExp::Num(_)
         | CoreExp::Frame(_)
         | CoreExp::Glob(_)
-        | CoreExp::Site(_)
+        | CoreExp::Place(_)
         | CoreExp::Valof(_) => Ok(None),
         CoreExp::Load(part) => Ok(Some(at_level(part, level))),
         CoreExp::Neg(part) => Ok(Some(at_level(part, level))),

@@ -35,7 +35,7 @@ fn count(e: &CoreExp) -> u64
         CoreExp::Num(_)
         | CoreExp::Frame(_)
         | CoreExp::Glob(_)
-        | CoreExp::Site(_)
+        | CoreExp::Place(_)
         | CoreExp::Valof(_) => 1,
         CoreExp::Load(e) | CoreExp::Neg(e) | CoreExp::Not(e) => count(e).saturating_add(1),
         CoreExp::Bin(_, left, right) => {

@@ -199,7 +199,7 @@ pub fn node(e: &CoreExp, level: u64, below: &Nodes) -> PartNode
 {
     match e {
         CoreExp::Num(number) => leaf(number_choices(own_operand(e), *number)),
-        CoreExp::Frame(_) | CoreExp::Glob(_) | CoreExp::Site(_) => {
+        CoreExp::Frame(_) | CoreExp::Glob(_) | CoreExp::Place(_) => {
             leaf(leaf_choices(own_operand(e)))
         }
         CoreExp::Load(address) => unary_part(Rule::V2, cell_operand(address), &last(below)),

@@ -88,7 +88,7 @@ fn own<'a>(
         CoreExp::Num(_)
         | CoreExp::Frame(_)
         | CoreExp::Glob(_)
-        | CoreExp::Site(_)
+        | CoreExp::Place(_)
         | CoreExp::Valof(_) => Ok(()),
         CoreExp::Load(part) => one_read(part, nodes, step, waiting),
         CoreExp::Neg(part) => one_read(part, nodes, step, waiting),

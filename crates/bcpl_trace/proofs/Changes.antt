@@ -8,7 +8,7 @@ use Rattle.bc_machine_defs.specs.declared.state.End.{End}
 use Rattle.bc_word.specs.Words.{value_of}
 use Rattle.bc_machine_defs.specs.State.{State}
 use Rattle.bc_machine_defs.specs.Effect.{Effect, effect}
-use Rattle.bc_machine_defs.specs.Operand.{next, operand_of, following}
+use Rattle.bc_machine_defs.specs.Operand.{next, operand_of, after_operand}
 use Rattle.bc_machine_defs.specs.Operation.{operation_of}
 use Rattle.bc_machine_defs.specs.declared.operation.Operation.{Operation}
 use Rattle.bc_machine_defs.specs.declared.operation.Operation.TheVariants.{Indirect, Negate, Complement, Return, Operate, Finish, Switch, Select, Read, Write, Find, EndStream, Bad}
@@ -95,4 +95,4 @@ leaves s t end word e lt h =
     let code = code_of word in
     let w : effect t end ≡ step_at (code_of word) word s = h ∙ ap (λ (x : ℕ). step_at (code_of x) x s) (sym e) in
     by_kind (code_of word / 16) (operand_of (code_of word) word s.registers s.store)
-    (record s.registers { c = following (code_of word) s.registers.c }) s t end lt w
+    (record s.registers { c = after_operand (code_of word) s.registers.c }) s t end lt w

@@ -29,7 +29,7 @@ use Rattle.bc_machine_defs.specs.Operation.{operation_of}
 use Rattle.bc_machine_defs.specs.Instruction.{code_of, has_bit, function_of}
 use Rattle.bc_machine_defs.specs.Step.{step, perform}
 use Rattle.bc_machine_defs.specs.Run.{runs, ended}
-use Rattle.bc_machine_defs.specs.Operand.{next, based, address_of, operand_of, following}
+use Rattle.bc_machine_defs.specs.Operand.{next, based, address_of, operand_of, after_operand}
 use Rattle.bc_machine_defs.specs.Switch.{case_of, switch_of}
 use Rattle.bc_machine_defs.proofs.Bytes.{numbered_at, read_keeps, write_keeps, end_keeps}
 use Rattle.bc_right.specs.steps.Leads.{AreWords}
@@ -200,7 +200,7 @@ step_keeps s h =
     let at = based (has_bit code 4) (has_bit code 2) s.registers (address_of (has_bit code 1) word s.registers s.store) in
     let at_small = based_small (has_bit code 4) (has_bit code 2) s.registers (address_of (has_bit code 1) word s.registers s.store)
     (cond_small (has_bit code 1) (slice_index s.store (next s.registers.c)) (word % 512) (h.store (next s.registers.c)) (omega arith)) in
-    perform_keeps (function_of code) (operand_of code word s.registers s.store) (record s.registers { c = following code s.registers.c }) s
+    perform_keeps (function_of code) (operand_of code word s.registers s.store) (record s.registers { c = after_operand code s.registers.c }) s
     (cond_small (has_bit code 8) (slice_index s.store at) at (h.store at) at_small)
     (record { a = h.a; b = h.b; c = cond_small (has_bit code 1) (next (next s.registers.c)) (next s.registers.c) (omega arith) (omega arith); p = h.p }) h
 
