@@ -23,7 +23,7 @@ use Rattle.bc_parse_tree.specs.Tree.{Declarations}
 use Rattle.bc_scope_defs.specs.Translation.{core_of}
 use Rattle.bc_rules_defs.specs.declared.rule.Table.TheVariants.{Two}
 use Rattle.bc_select_defs.specs.Chosen.{chosen}
-use Rattle.bc_gen_laws.proofs.roots.Words.{size_is_by_the_roots}
+use Rattle.bc_gen_laws.proofs.root_lemmas.Words.{size_is_by_the_roots}
 use Rattle.bc_gen.specs.Chosen.{coding}
 use Rattle.bc_build.specs.Code.{items_of}
 use Rattle.bc_build.specs.Size.{section_words, words_of, HasSize}

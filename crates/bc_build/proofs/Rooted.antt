@@ -10,7 +10,7 @@ use Rattle.bc_select_defs.specs.Chosen.{chosen}
 use Rattle.bc_scope_defs.specs.Translation.{core_of}
 use Rattle.bc_gen_defs.specs.Entries.{section_entries}
 use Rattle.bc_gen.specs.Chosen.{coding}
-use Rattle.bc_gen_laws.proofs.roots.Marks.{entries_are_of_the_roots}
+use Rattle.bc_gen_laws.proofs.root_lemmas.Marks.{entries_are_of_the_roots}
 use Rattle.bc_build.specs.Code.{in_segment, entries_of, entries_from}
 use Rattle.bc_build.specs.Size.{section_roots}
 

@@ -25,7 +25,7 @@ use Rattle.bc_select_defs.specs.LeastDerivation.{least_derivation}
 use Rattle.bc_gen_defs.specs.Bodies.{level_of}
 use Rattle.bc_gen_defs.specs.Emit.{entries_in, end_of_for}
 use Rattle.bc_gen_defs.specs.Size.{words_within, words_within_args, words_within_root}
-use Rattle.bc_gen_laws.proofs.sizes.Within.{within, root_within}
+use Rattle.bc_gen_laws.proofs.size_lemmas.Within.{within, root_within}
 use Rattle.bc_gen.specs.Chosen.{coding}
 use Rattle.bc_gen.specs.Room.{Bodies, PieceHasRoom, RootHasRoom, VariablesHaveRoom, DeclarationsHaveRoom, CommandHasRoom, BlockHasRoom, ItemsHaveRoom, ValofHasRoom, BodyHasRoom, RoutineHasRoom, SettingHasRoom, StringHasRoom}
 

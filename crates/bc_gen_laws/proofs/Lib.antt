@@ -1,3 +1,3 @@
-pub mod labels
-pub mod sizes
-pub mod roots
+pub mod label_lemmas
+pub mod size_lemmas
+pub mod root_lemmas

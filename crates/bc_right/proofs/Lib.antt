@@ -1,5 +1,5 @@
-pub mod steps
-pub mod rules
-pub mod commands
-pub mod programs
-pub mod sections
+pub mod step_lemmas
+pub mod rule_lemmas
+pub mod command_lemmas
+pub mod program_lemmas
+pub mod section_lemmas

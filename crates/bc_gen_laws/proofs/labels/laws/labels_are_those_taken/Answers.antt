@@ -1,4 +1,4 @@
-use Rattle.bc_gen_laws.proofs.labels.Refusing.{labels_are_those_taken}
+use Rattle.bc_gen_laws.proofs.label_lemmas.Refusing.{labels_are_those_taken}
 use Rattle.bc_gen_laws.proofs.labels.laws.labels_are_those_taken.Goals as goal
 
 pub returns : goal.returns

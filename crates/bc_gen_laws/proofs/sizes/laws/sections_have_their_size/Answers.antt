@@ -1,4 +1,4 @@
-use Rattle.bc_gen_laws.proofs.sizes.Sections.{sections_have_their_size}
+use Rattle.bc_gen_laws.proofs.size_lemmas.Sections.{sections_have_their_size}
 use Rattle.bc_gen_laws.proofs.sizes.laws.sections_have_their_size.Goals as goal
 
 pub returns : goal.returns

@@ -1,4 +1,4 @@
-use Rattle.bc_right.proofs.commands.Calls.{calls_land}
+use Rattle.bc_right.proofs.command_lemmas.Calls.{calls_land}
 use Rattle.bc_right.proofs.commands.laws.calls_land.Goals as goal
 
 pub returns : goal.returns

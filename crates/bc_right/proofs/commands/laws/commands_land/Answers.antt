@@ -1,4 +1,4 @@
-use Rattle.bc_right.proofs.commands.Commands.{commands_land}
+use Rattle.bc_right.proofs.command_lemmas.Commands.{commands_land}
 use Rattle.bc_right.proofs.commands.laws.commands_land.Goals as goal
 
 pub returns : goal.returns

@@ -1,4 +1,4 @@
-use Rattle.bc_right.proofs.commands.Whole.{meaning_is_run}
+use Rattle.bc_right.proofs.command_lemmas.Whole.{meaning_is_run}
 use Rattle.bc_right.proofs.commands.laws.meaning_is_run.Goals as goal
 
 pub returns : goal.returns

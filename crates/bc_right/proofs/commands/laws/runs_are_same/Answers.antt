@@ -1,4 +1,4 @@
-use Rattle.bc_right.proofs.commands.Whole.{runs_are_same}
+use Rattle.bc_right.proofs.command_lemmas.Whole.{runs_are_same}
 use Rattle.bc_right.proofs.commands.laws.runs_are_same.Goals as goal
 
 pub returns : goal.returns

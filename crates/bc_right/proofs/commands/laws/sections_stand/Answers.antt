@@ -1,4 +1,4 @@
-use Rattle.bc_right.proofs.commands.Section.{sections_stand}
+use Rattle.bc_right.proofs.command_lemmas.Section.{sections_stand}
 use Rattle.bc_right.proofs.commands.laws.sections_stand.Goals as goal
 
 pub returns : goal.returns

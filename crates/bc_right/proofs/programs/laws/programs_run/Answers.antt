@@ -1,4 +1,4 @@
-use Rattle.bc_right.proofs.programs.Program.{programs_run}
+use Rattle.bc_right.proofs.program_lemmas.Program.{programs_run}
 use Rattle.bc_right.proofs.programs.laws.programs_run.Goals as goal
 
 pub returns : goal.returns

@@ -1,4 +1,4 @@
-use Rattle.bc_right.proofs.rules.Single.{each_derivation_is_right}
+use Rattle.bc_right.proofs.rule_lemmas.Single.{each_derivation_is_right}
 use Rattle.bc_right.proofs.rules.laws.each_derivation_is_right.Goals as goal
 
 pub returns : goal.returns
