@@ -1,9 +1,9 @@
-mod Counts
-mod Derivations
-mod Fresh
-mod Speaking
-mod Names
-mod Runs
-mod Commands
-mod Sections
+pub mod Counts
+pub mod Derivations
+pub mod Fresh
+pub mod Speaking
+pub mod Names
+pub mod Runs
+pub mod Commands
+pub mod Sections
 pub mod Refusing

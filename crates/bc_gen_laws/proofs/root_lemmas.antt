@@ -1,3 +1,3 @@
-mod Valofs
+pub mod Valofs
 pub mod Marks
 pub mod Words

@@ -7,5 +7,5 @@ pub mod Conditions
 pub mod Calls
 pub mod Assignments
 pub mod Derivations
-mod Single
+pub mod Single
 pub mod Witnesses
