@@ -1,33 +1,38 @@
+//! Chains of relations, such as `A<=B<=C`, are split into relations joined by `&`.
+
 use crate::complaint::Fault;
 use crate::notes::Notes;
 use crate::operands::{is_plain, is_too_long, take_out};
 use bc_convert_tokens::{Kind, TokenizedText};
 
-/// What was read of a chain of relations: where it begins, the indices around its last operand, and what is to be put after it.
+/// The part of a chain of relations read up to here: where it begins, the range of its last operand, and its state.
 #[derive(Clone, Copy)]
 pub struct Chain {
+    /// The first token of the chain.
     pub at: usize,
+    /// The first token of the last operand.
     pub from: usize,
+    /// The token after the last operand.
     pub to: usize,
     pub state: ChainState,
 }
 
-/// How far a chain has come.
+/// How a chain has been rewritten up to here.
 #[derive(Clone, Copy)]
 pub enum ChainState {
     /// One relation, which needs no change.
     Single,
-    /// Relations that are joined by `&`.
+    /// Relations joined by `&`, in parentheses.
     Joined,
-    /// The same, within brackets.
+    /// The same, in a second pair of parentheses.
     Wrapped,
-    /// The same, within a VALOF.
+    /// The same, inside a VALOF.
     Valof,
 }
 
 impl Chain {
-    /// Joins a relation whose operator stands at the index after the last operand. `is_inner` says whether the chain is an
-    /// operand of an operator that binds more tightly than `&`.
+    /// Adds a relation whose operator is at `to`. `is_inner` says whether the chain is an operand of an operator that
+    /// binds more tightly than `&`.
     pub fn join(self, source: TokenizedText<'_>, notes: &mut Notes, is_inner: bool) -> ChainState {
         if let Some(percent) = self.percent(source) {
             notes.complain(source, percent, Fault::PercentOr);
@@ -42,7 +47,7 @@ impl Chain {
         }
     }
 
-    /// The index of the first `%` in the last operand, where `=` stands before that or after it.
+    /// The index of the first `%` in the last operand, if `=` comes before or after that operand.
     fn percent(self, source: TokenizedText<'_>) -> Option<usize> {
         let is_equality = source.kind(self.to) == Kind::Equal
             || source.kind(self.from.saturating_sub(1)) == Kind::Equal;
@@ -50,7 +55,7 @@ impl Chain {
         if is_equality { percent } else { None }
     }
 
-    /// Joins a relation after an operand that may be computed twice.
+    /// Adds a relation after an operand that may be evaluated twice.
     fn join_plain(
         self,
         source: TokenizedText<'_>,
@@ -66,7 +71,7 @@ impl Chain {
         self.open(notes, is_inner)
     }
 
-    /// Puts `&` and the middle before the operator.
+    /// Puts `&` and the middle operand before the operator.
     fn link(self, source: TokenizedText<'_>, notes: &mut Notes, middle: &[u8]) {
         let gap: &[u8] = if source.gap(self.to).is_empty() {
             b""
@@ -77,7 +82,7 @@ impl Chain {
         notes.take_gap(source, self.to);
     }
 
-    /// Puts the opening bracket before the chain, where none stands there yet.
+    /// Puts the opening parenthesis before the chain, unless it already has one.
     fn open(self, notes: &mut Notes, is_inner: bool) -> ChainState {
         match (self.state, is_inner) {
             (ChainState::Single, false) => {
@@ -92,7 +97,7 @@ impl Chain {
         }
     }
 
-    /// Keeps the value of the middle in a variable of a VALOF.
+    /// Stores the value of the middle operand in a variable of a VALOF.
     fn keep(self, source: TokenizedText<'_>, notes: &mut Notes) -> ChainState {
         let middle = notes.rendered(source, self.from, self.to);
         let name = notes.fresh_name(source);
@@ -108,7 +113,7 @@ impl Chain {
         ChainState::Valof
     }
 
-    /// Puts a variable instead of the middle.
+    /// Replaces the middle operand by a variable.
     fn put_name(self, source: TokenizedText<'_>, notes: &mut Notes, name: &[u8]) {
         take_out(source, notes, self.from.saturating_add(1), self.to);
         notes.clear(self.from);
@@ -117,7 +122,7 @@ impl Chain {
     }
 }
 
-/// Puts after a chain what its state wants.
+/// Puts after a chain the closing brackets that its state needs.
 pub fn close_chain(notes: &mut Notes, end: usize, state: ChainState) {
     match state {
         ChainState::Single => {}

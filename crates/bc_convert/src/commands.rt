@@ -1,9 +1,11 @@
+//! Assignments to bytes, and assignments with an operator.
+
 use crate::notes::Notes;
 use crate::operands::Operand;
 use bc_convert_tokens::TokenizedText;
 
-/// Makes of an assignment to a byte a call of PUTBYTE, whose closing bracket is still to come: `%` stands at the second
-/// index, and the sign that assigns at the third.
+/// Turns an assignment to a byte into a call of PUTBYTE, except for its closing parenthesis. `percent` is the index
+/// of the `%`, `assign` that of the `:=`.
 pub fn put_byte_of(
     source: TokenizedText<'_>,
     notes: &mut Notes,
@@ -17,8 +19,8 @@ pub fn put_byte_of(
     notes.replace(assign, b",");
 }
 
-/// Makes of an assignment with an operator one without: the operator stands after the left side, the sign that assigns
-/// after the operator, and the right side ends at the last index.
+/// Turns an assignment with an operator into one without. The operator follows the left side, `:=` follows the
+/// operator, and the right side ends before `end`.
 pub fn put_compound(
     source: TokenizedText<'_>,
     notes: &mut Notes,
@@ -50,7 +52,7 @@ pub fn put_compound(
     }
 }
 
-/// Puts the sign that assigns instead of an operator, and after it the left side, which is no byte.
+/// Replaces the operator by `:=` and repeats the left side after it. The left side is not a byte.
 fn put_cell(source: TokenizedText<'_>, notes: &mut Notes, at: usize, operator: usize) {
     let assign = operator.saturating_add(1);
     let whole = notes.rendered(source, at, operator);
@@ -59,7 +61,8 @@ fn put_cell(source: TokenizedText<'_>, notes: &mut Notes, at: usize, operator: u
     notes.put_after(assign.saturating_add(1), whole.as_slice());
 }
 
-/// A byte on the left side of an assignment with an operator: where it begins, and where its `%` and the operator stand.
+/// A byte on the left of an assignment with an operator: the indices of its first token, of its `%` and of the
+/// operator.
 #[derive(Clone, Copy)]
 struct Byte {
     at: usize,
@@ -67,7 +70,7 @@ struct Byte {
     operator: usize,
 }
 
-/// Makes of a byte the beginning of a call of PUTBYTE, and of the operator after it a call of GETBYTE.
+/// Turns a byte into the beginning of a call of PUTBYTE, and the operator after it into a call of GETBYTE.
 fn put_byte(source: TokenizedText<'_>, notes: &mut Notes, byte: Byte) {
     let assign = byte.operator.saturating_add(1);
     let string = notes.rendered(source, byte.at, byte.percent);

@@ -1,6 +1,8 @@
+//! What can't be converted, with the messages for it.
+
 use std::fmt;
 
-/// What can't be converted, with what is to be done by hand.
+/// A construct that can't be converted.
 #[derive(Clone, Copy, PartialEq, Eq)]
 pub enum Fault {
     /// A call of LEVEL or LONGJUMP.
@@ -9,9 +11,9 @@ pub enum Fault {
     VectorOfAnySize,
     /// A call of a routine for coroutines.
     Coroutine,
-    /// A label's name as a value.
+    /// The name of a label, used as a value.
     LabelAsValue,
-    /// A GOTO whose destination is no name.
+    /// A GOTO whose destination isn't a name.
     GotoOfValue,
     /// SLCT, OF, `::` or a structure.
     Field,
@@ -23,224 +25,233 @@ pub enum Fault {
     Floating,
     /// A number over 65,535.
     NumberTooLarge,
-    /// Digits that are none of their base.
+    /// A digit that its base doesn't have.
     BadNumber,
-    /// A character constant that has not one character.
+    /// A character constant that doesn't have exactly one character.
     NotOneCharacter,
-    /// An escape that is not known.
+    /// An unknown escape.
     BadEscape,
     /// A string with more than 255 characters.
     StringTooLong,
     /// A comment, a string or a constant that is not closed.
     Unclosed,
-    /// A character that begins no token.
+    /// A character with which no token begins.
     UnknownByte,
-    /// A full stop after a section, with another one after it.
+    /// A full stop after a section, with another section after it.
     SectionEnd,
-    /// A bracket without its partner.
+    /// A bracket that nothing closes.
     OpenBracket,
-    /// A list of assignments one of which is to a byte.
+    /// A list of assignments, one of them to a byte.
     ByteInList,
-    /// An assignment with an operator to what holds a call.
+    /// An assignment with an operator whose left side has a call.
     CallOnTheLeft,
     /// A chain of relations with calls in it.
     CallInChain,
-    /// What is so long that it isn't written out twice.
+    /// An operand too long to be written out twice.
     TooLongToRepeat,
-    /// ABS of what is no number, where a constant is wanted.
+    /// ABS of something other than a number, where a constant is required.
     ConstantAbs,
     /// A list of assignments with an operator.
     OperatorInList,
-    /// A GOTO past a declaration after commands.
+    /// A GOTO to a label after a later declaration.
     LabelInBlock,
-    /// A range of cases that is no range of constants, or over 256.
+    /// A range of cases that isn't a range of constants, or has over 256 of them.
     CaseRange,
     /// The first name of a GLOBAL, without a number.
     FirstGlobal,
     /// A declaration after a command in the list of a SWITCHON.
     LateDeclaration,
-    /// What is nested too deep to be read.
+    /// Nesting too deep to be read.
     TooDeep,
-    /// `*(` after what is no vector, in a source where it begins a subscript.
+    /// `*(` after something that isn't a vector, in a source where `*(` begins a subscript.
     StarProduct,
-    /// A format that is no string, where LIBHDR is got.
+    /// A WRITEF whose format isn't a string, with LIBHDR.
     HiddenFormat,
-    /// A call of WRITEF that LIBHDR's doesn't serve, where LIBHDR is got by choice.
+    /// A call of WRITEF that needs EXTHDR, where LIBHDR was chosen.
     FurtherCall,
-    /// What wants EXTHDR, in a source that gets a header of its own, where no source gets the library's.
+    /// Something that needs EXTHDR, in a source with its own header, where no source gets the library's header.
     NoHeader,
-    /// GETVEC, where nothing makes its pool.
+    /// GETVEC, where nothing sets up its pool.
     NoPool,
-    /// A name that is a reserved word here.
+    /// A name that is a reserved word in this dialect.
     ReservedName,
-    /// `%` that may be `|`.
+    /// `%` that may mean `|`.
     PercentOr,
-    /// A line of a list of names with one name.
+    /// A line of a list of names that has only one name.
     NameAlone,
-    /// An old name that stands in an earlier line of a list of names.
+    /// An old name that an earlier line of a list of names has.
     NameTwice,
-    /// A new name that no library here has.
+    /// A new name that neither library has.
     NoLibraryName,
 }
 
-/// What is told of each fault, and what is to be done by hand, in their order.
+/// The message and the remedy for each fault, in the order of the faults.
 static WORDS: [(&str, &str); 39] = [
     (
-        "no jump leaves a routine here",
-        "let each routine on the way back look at a flag, in place of LEVEL and LONGJUMP",
+        "a jump can't leave a routine in this dialect",
+        "instead of LEVEL and LONGJUMP, set a flag that each routine checks after a call",
     ),
     (
-        "a vector's size is a constant here",
-        "declare the largest one with VEC, or take it with GETVEC, in place of APTOVEC",
+        "the size of a vector must be a constant in this dialect",
+        "instead of APTOVEC, declare a vector of the largest size with VEC, or allocate one with GETVEC",
     ),
     (
-        "there are no coroutines here",
-        "keep what the routine has to remember in statics, and call it anew for each turn",
+        "this dialect has no coroutines",
+        "keep the routine's state in statics, and call it again for each step",
     ),
     (
-        "a label is no value here",
-        "keep a number in its place, and choose among the labels by SWITCHON",
+        "a label can't be used as a value in this dialect",
+        "store a number instead, and choose the label by SWITCHON",
     ),
     (
-        "GOTO takes a label's name here",
-        "choose among the labels by SWITCHON",
+        "GOTO needs the name of a label in this dialect",
+        "choose the label by SWITCHON",
     ),
     (
-        "there are no fields of words here",
-        "write a shift and a mask, as (W>>4)&15",
+        "this dialect has no fields of words",
+        "write a shift and a mask, for example (W>>4)&15",
     ),
     (
-        "names of other files are globals here",
-        "give each one the same number in GLOBAL in all of the files",
+        "this dialect has no EXTERNAL; files share names as globals",
+        "declare each name by GLOBAL with the same number in all files",
     ),
     (
-        "no sign joins two commands into one here",
-        "put them between $( and $), with a ; between them",
+        "no sign joins two commands into one in this dialect",
+        "write them between $( and $), separated by ;",
     ),
     (
-        "there are no floating-point numbers here",
-        "count in smaller units, or use MULDIV of EXTLIB",
+        "this dialect has no floating-point numbers",
+        "use integers in smaller units, or MULDIV of EXTLIB",
     ),
     (
-        "a word has 16 bits, and this number is over 65535",
-        "split it into two words",
+        "this number is over 65535, and a word has 16 bits",
+        "store it in two words",
     ),
     (
-        "this is no number of its base",
-        "write it in decimal digits",
+        "this number has a digit that its base lacks",
+        "write it in decimal",
     ),
     (
-        "a character constant has one character",
-        "write a string, or the characters one by one",
+        "a character constant must have exactly one character",
+        "write a string, or one constant for each character",
     ),
     (
-        "this dialect knows no such escape",
-        "write the character's number outside the string with WRCH",
-    ),
-    ("a string has at most 255 characters", "cut it into two"),
-    ("what begins here is not closed", "add the closing sign"),
-    (
-        "no token begins with this character",
-        "remove it, or write what it stands for",
+        "this dialect doesn't have this escape",
+        "write the character with WRCH and its number instead",
     ),
     (
-        "a full stop ends a section, and a file is one section here",
-        "put what stands behind it into a file of its own, and take it out",
+        "this string has over 255 characters",
+        "split it into two strings",
     ),
     (
-        "no bracket closes this one, or its tag stands at no other",
-        "add the closing one, or mend its tag",
+        "the comment, string or constant that begins here isn't closed",
+        "add its closing sign",
     ),
     (
-        "a byte is assigned to by PUTBYTE, which no list holds",
-        "write one assignment after the other",
+        "no token can begin with this character",
+        "remove it, or write what it means",
     ),
     (
-        "the left side would be worked out twice",
-        "keep the left side's address in a variable first",
+        "this full stop ends a section, but a file can have only one section in this dialect",
+        "move everything after it to another file, and remove it",
     ),
     (
-        "the middle of this chain of relations would be worked out twice",
-        "keep its value in a variable first",
+        "this bracket isn't closed, or no closing bracket has its tag",
+        "add the closing bracket, or correct its tag",
     ),
     (
-        "what would be written out several times is over 200 bytes long",
-        "keep its value in a variable first",
-    ),
-    ("a constant has no ABS here", "write the value itself"),
-    (
-        "several are assigned to with one operator",
-        "write one assignment after the other",
+        "this list assigns to a byte, which needs a call of PUTBYTE",
+        "write separate assignments",
     ),
     (
-        "the label now stands in a block that this GOTO is outside of",
-        "declare at the head of the block what the LET behind commands does, and assign to it there",
+        "the left side would be evaluated twice, and it contains a call",
+        "store its address in a variable first",
     ),
     (
-        "this range of cases is no range of at most 256 numbers or characters",
-        "write the cases out, or choose by IF in DEFAULT",
+        "the middle of this chain of relations would be evaluated twice, and it contains a call",
+        "store its value in a variable first",
     ),
     (
-        "nothing in front says which number this global has",
-        "write its number behind the name, with a colon between them",
+        "this operand would be written out several times, and it is over 200 bytes long",
+        "store its value in a variable first",
     ),
     (
-        "a list's declarations stand in front of its commands",
-        "put this one and what needs it between $( and $)",
+        "a constant can't contain ABS in this dialect",
+        "write its value",
     ),
     (
-        "this is nested too deep to be converted",
-        "cut it into smaller parts, or convert it by hand",
+        "this list is assigned to with an operator",
+        "write separate assignments",
     ),
     (
-        "a number stands in front of *( here, which is a subscript elsewhere in this program",
-        "this one was left a product; if it is a subscript, write ! in place of the star",
+        "the label is now inside a block, and this GOTO is outside",
+        "move the names of the later LET to the head of the enclosing block, and assign to them where the LET is",
     ),
     (
-        "this format is no string, so what stands behind % in it can't be seen",
-        "convert by --header exthdr, whose WRITEF knows all letters; by --header libhdr, if %N, %S and %C are all that it has",
+        "this isn't a range of at most 256 numbers or characters",
+        "write out the cases, or test the range by IF in DEFAULT",
     ),
     (
-        "the WRITEF of LIBHDR knows %N, %S and %C alone, and takes four arguments behind the format",
-        "convert by --header exthdr, or write the parts one by one",
+        "this global has no number, and no entry before it has one",
+        "write a colon and its number after the name",
     ),
     (
-        "this wants EXTHDR, and no source that is converted gets the library's header",
-        "convert all files of the program in one go, with the header that gets the library's",
+        "a declaration can't follow commands in this list",
+        "write $( before it and $) after the last command that needs it",
     ),
     (
-        "GETVEC gives 0 here until INITVEC has made its pool, and no INITVEC is called",
-        "at the beginning of START hand in a vector, as INITVEC(POOL, 4000) behind LET POOL = VEC 4000",
+        "this is nested too deeply to be converted",
+        "split it into smaller parts, or convert it by hand",
     ),
     (
-        "this name is a reserved word here",
-        "give the name another spelling wherever it stands",
+        "*( follows a number here, but is a subscript elsewhere in this program",
+        "it was left as a product; if it is a subscript, write ! instead of *",
     ),
     (
-        "perhaps this % is or, not a byte of a string",
-        "write | in its place, or GETBYTE(S, I), if it is byte I of S",
+        "this format isn't a string, so the letters after % in it are unknown",
+        "use --header exthdr, whose WRITEF knows all letters, or --header libhdr if it has only %N, %S and %C",
     ),
     (
-        "this name stands alone in its line",
-        "write behind it the name that it has here, with blanks between",
+        "the WRITEF of LIBHDR knows only %N, %S and %C, and takes at most four arguments after the format",
+        "use --header exthdr, or write the parts with separate calls",
     ),
     (
-        "this name stands in an earlier line",
-        "take one of the two lines out",
+        "this needs EXTHDR, but no source in this conversion gets the library's header",
+        "convert all files of the program together, including the header that gets the library's",
     ),
     (
-        "no library here has the name that this one gets",
-        "docs/library.md lists the names, all in capitals; for another one declare a routine with the old name",
+        "GETVEC returns 0 until INITVEC has set up its pool, and no source calls INITVEC",
+        "at the beginning of START write LET POOL = VEC 4000, then INITVEC(POOL, 4000)",
+    ),
+    (
+        "this name is a reserved word in this dialect",
+        "rename it everywhere",
+    ),
+    (
+        "this % may mean | rather than a byte of a string",
+        "write | instead, or GETBYTE(S, I) if it is byte I of S",
+    ),
+    (
+        "this line has only one name",
+        "write after it, separated by blanks, its name in this dialect's library",
+    ),
+    (
+        "this name is already in an earlier line",
+        "remove one of the two lines",
+    ),
+    (
+        "neither LIBHDR nor EXTHDR has the new name of this one",
+        "use a name listed in docs/library.md, all in upper case, or declare a routine with the old name in the source",
     ),
 ];
 
 impl Fault {
-    /// What is told of it, and what is to be done by hand.
+    /// The message and the remedy.
     fn words(self) -> (&'static str, &'static str) {
         WORDS.get(self as usize).copied().unwrap_or(("", ""))
     }
 
-    /// What is to be done by hand.
+    /// What to do by hand.
     pub fn remedy(self) -> &'static str {
         self.words().1
     }
@@ -252,7 +263,7 @@ impl fmt::Display for Fault {
     }
 }
 
-/// What can't be converted, and the stretch of the text that it begins with: its first byte, and the byte after it.
+/// A construct that can't be converted: its fault, and the bytes from `start` up to `end` with which it begins.
 #[derive(Clone, Copy)]
 pub struct Complaint {
     pub start: usize,

@@ -1,3 +1,5 @@
+//! The public call `convert`.
+
 ghost use Rattle.std.specs.Prelude.{◌≡◌, [], length, IfOk};
 ghost use Rattle.bc_convert_edits.specs.Converted.{converted, RiseWithin, ChangesText};
 
@@ -15,18 +17,18 @@ use bc_convert_tokens::{Dialect, Kind, TokenizedText};
 use bc_word::Memory;
 use std::alloc::Global;
 
-/// What becomes of a source.
+/// The result of a conversion.
 #[derive(Drop)]
 pub struct Conversion {
-    /// The text as it is converted.
+    /// The converted text.
     pub text: Vec<u8>,
-    /// The spans of the old text that were replaced, in their order: all else is as it was.
+    /// The replaced spans of the old text, in order. Everything else is unchanged.
     pub replacements: Vec<Replacement>,
-    /// What can't be converted, in the order of the old text.
+    /// The constructs that can't be converted, in the order of the old text.
     pub complaints: Vec<Complaint>,
 }
 
-/// Labels that are used as values.
+/// Reports the names of labels that are used as values.
 fn find_label_values(source: TokenizedText<'_>, notes: &mut Notes) {
     for index in 0..source.tokens.len() {
         if is_label_value(source, notes, index) {
@@ -35,7 +37,7 @@ fn find_label_values(source: TokenizedText<'_>, notes: &mut Notes) {
     }
 }
 
-/// Whether the token at an index is a label's name as a value.
+/// Whether the token at an index is the name of a label, used as a value.
 fn is_label_value(source: TokenizedText<'_>, notes: &Notes, index: usize) -> bool {
     source.kind(index) == Kind::Name
         && has_label(source, notes.labels(), index)
@@ -53,7 +55,7 @@ fn has_label(source: TokenizedText<'_>, labels: &[usize], index: usize) -> bool 
     false
 }
 
-/// Jumps past a declaration after commands, to a label that now stands in the block of that.
+/// Reports each GOTO to a label that is now in the block of a later declaration.
 fn find_parted_jumps(source: TokenizedText<'_>, notes: &mut Notes) {
     for index in 0..source.tokens.len() {
         if notes.is_parted(source, index) {
@@ -62,7 +64,7 @@ fn find_parted_jumps(source: TokenizedText<'_>, notes: &mut Notes) {
     }
 }
 
-/// Calls of WRITEF that may not do here what they are to do with the header that the source gets.
+/// Reports calls of WRITEF that may not work with the header that the source gets.
 fn tell_formats(
     source: TokenizedText<'_>,
     notes: &mut Notes,
@@ -82,7 +84,7 @@ fn tell_formats(
     }
 }
 
-/// The first token that wants EXTHDR, in a source that gets a header of its own.
+/// Reports the first token that needs EXTHDR, in a source with its own header.
 fn tell_want(source: TokenizedText<'_>, notes: &mut Notes, options: Options<'_>) {
     for index in 0..source.tokens.len() {
         if let Some(Format::Further) = format_at(source, index, options.library) {
@@ -91,7 +93,7 @@ fn tell_want(source: TokenizedText<'_>, notes: &mut Notes, options: Options<'_>)
     }
 }
 
-/// The first call of GETVEC, where no source of the program makes its pool.
+/// Reports the first call of GETVEC, where no source of the program sets up its pool.
 fn tell_pool(source: TokenizedText<'_>, notes: &mut Notes, options: Options<'_>) {
     for index in 0..source.tokens.len() {
         if is_called(source, index) && is_for(source.bytes(index), options.library, b"GETVEC") {
@@ -100,7 +102,7 @@ fn tell_pool(source: TokenizedText<'_>, notes: &mut Notes, options: Options<'_>)
     }
 }
 
-/// What there is to tell of the library, where something becomes of the source.
+/// Reports problems with the library. A source in which nothing is replaced has none.
 fn tell_library(
     source: TokenizedText<'_>,
     notes: &mut Notes,
@@ -120,7 +122,7 @@ fn tell_library(
     }
 }
 
-/// What is found in a source whose tokens are told apart, which shows this dialect by itself.
+/// The notes on a classified source, whose own dialect is `shown`.
 fn found(
     alloc: Global,
     source: TokenizedText<'_>,
@@ -137,7 +139,7 @@ fn found(
     Ok(notes)
 }
 
-/// What a source that shows this dialect by itself and the others of its program show together.
+/// The facts about the whole program, as they apply to a source whose own dialect is `shown`.
 fn shown_with(source: TokenizedText<'_>, shown: Dialect, options: Options<'_>) -> Program {
     match options.program {
         Some(program) => program.seen_from(shown),
@@ -145,7 +147,7 @@ fn shown_with(source: TokenizedText<'_>, shown: Dialect, options: Options<'_>) -
     }
 }
 
-/// Writes down what is found in a source of a program.
+/// Collects the notes on a source of a program.
 fn find(source: TokenizedText<'_>, notes: &mut Notes, options: Options<'_>, program: Program) {
     let dialect = program.dialect;
     let header = options.header.unwrap_or(program.header());
@@ -161,7 +163,7 @@ fn find(source: TokenizedText<'_>, notes: &mut Notes, options: Options<'_>, prog
     tell_library(source, notes, options, program);
 }
 
-/// What is found in a text: what becomes of its tokens, and what can't be converted.
+/// The candidate replacements and the complaints of a text.
 fn found_in(
     alloc: Global,
     text: &[u8],
@@ -172,16 +174,15 @@ fn found_in(
     found(alloc, source, reading.dialect, options)?.finished(source)
 }
 
-/// What becomes of a source in an old dialect, so that it is one in this dialect, and what is to be done by hand. A source in this
-/// dialect has nothing to replace.
+/// Converts a source from an old dialect to this one.
 ///
-/// The text is the old one with each of some spans replaced, and these are just the ones that are listed: they rise, don't overlap
-/// and lie within the old text, and each has other bytes than its replacement. Where none is listed the text is the old one, byte
-/// for byte. Which spans these are is not promised: it is tested.
+/// The new text is the old one with some spans replaced, exactly those listed in `replacements`. They rise, don't
+/// overlap and lie within the old text, and each changes its span. If the list is empty, the text is the old one byte
+/// for byte. Which spans are replaced is tested, not proved.
 ///
 /// # Errors
 ///
-/// `Memory` where an allocation was refused.
+/// `Memory` if an allocation failed.
 pub fn convert(alloc: Global, text: &[u8], options: Options<'_>) -> Result<Conversion, Memory>
     ensures rise { IfOk result (λ c. RiseWithin 0 (length text.now) c.replacements.items) }
     ensures change { IfOk result (λ c. ChangesText text.now c.replacements.items) }

@@ -1,11 +1,13 @@
+//! Definitions of several names with a vector among the values, and declared names without a number.
+
 use crate::complaint::Fault;
 use crate::names::is_first_free;
 use crate::notes::Notes;
 use crate::numbers::value_of_number;
 use bc_convert_tokens::{Kind, TokenizedText};
 
-/// The names of a definition: where the first one stands, how many they are, with a comma between each two, and where the
-/// sign after them stands.
+/// The names of a definition: the index of the first one, their number, with a comma between each two, and the index
+/// of the sign after them.
 #[derive(Clone, Copy)]
 pub struct Values {
     pub first: usize,
@@ -14,7 +16,7 @@ pub struct Values {
 }
 
 impl Values {
-    /// The names of a definition the first of which stands at an index.
+    /// The names of a definition whose first name is at an index.
     pub fn of(source: TokenizedText<'_>, first: usize, to: usize) -> Values {
         let mut equal = first.saturating_add(1);
         let mut count: usize = 1;
@@ -35,7 +37,8 @@ impl Values {
     }
 }
 
-/// Gives each name of a definition a definition of its own: the commas between their values stand at these indices.
+/// Gives each name of a definition a definition of its own. `commas` are the indices of the commas between the
+/// values.
 pub fn put_values(source: TokenizedText<'_>, notes: &mut Notes, values: Values, commas: &[usize]) {
     let mut name = values.first;
     for comma in commas {
@@ -49,17 +52,17 @@ pub fn put_values(source: TokenizedText<'_>, notes: &mut Notes, values: Values, 
     }
 }
 
-/// What the next entry without a number counts on from.
+/// The value after which the next entry without a number continues.
 #[derive(Clone, Copy)]
 pub enum Last {
     /// A number.
     Number(u32),
-    /// The value between two indices, and so many more.
+    /// The value in a range of tokens, plus `more`.
     Value { from: usize, to: usize, more: u32 },
 }
 
 impl Last {
-    /// One more.
+    /// The value plus one.
     fn next(self) -> Last {
         match self {
             Last::Number(number) => Last::Number(number.saturating_add(1)),
@@ -72,7 +75,7 @@ impl Last {
     }
 }
 
-/// What is counted on from after an entry whose value stands between two indices.
+/// The value after which the list continues, if an entry's value is in this range.
 pub fn continued(source: TokenizedText<'_>, from: usize, to: usize) -> Option<Last> {
     if from >= to {
         return None;
@@ -86,7 +89,7 @@ pub fn continued(source: TokenizedText<'_>, from: usize, to: usize) -> Option<La
     Some(Last::Value { from, to, more: 0 })
 }
 
-/// What is counted on from an entry's value; 0 where there is none.
+/// The next value; 0 if there was none.
 fn counted_on(last: Option<Last>) -> Last {
     match last {
         Some(last) => last.next(),
@@ -94,8 +97,9 @@ fn counted_on(last: Option<Last>) -> Last {
     }
 }
 
-/// Gives a value to the entry without one at an index, of the declaration whose word stands at `word`: one more than the last
-/// one's, and where there is none 0, if it is no global. A static gets 0. Gives what is counted on from after it.
+/// Gives a value to the entry without one at `index`. `word` is the index of GLOBAL, MANIFEST or STATIC. A static
+/// gets 0. Others get one more than the last value, or 0 if there is none; for a global that is reported instead.
+/// Returns the value after which the list continues.
 pub fn put_entry(
     source: TokenizedText<'_>,
     notes: &mut Notes,
@@ -120,7 +124,7 @@ pub fn put_entry(
     Some(next)
 }
 
-/// Puts a value that is counted on after a token.
+/// Puts such a value after a token.
 fn put_next(source: TokenizedText<'_>, notes: &mut Notes, following: usize, next: Last) {
     match next {
         Last::Number(number) => notes.put_number_after(following, number),

@@ -1,22 +1,24 @@
+//! Which header a program needs: formats of WRITEF, names, and GETs of the library's header.
+
 use crate::names::{has_routine, is_for, renamed};
 use crate::options::Renaming;
 use crate::spelling::inside;
 use bc_convert_tokens::{Kind, TokenizedText, span};
 use bc_library_ext::further_bit;
 
-/// How a call of WRITEF hands over its format.
+/// The format of a call of WRITEF.
 #[derive(Clone, Copy)]
 pub enum Format {
-    /// As a string, in a call that LIBHDR's WRITEF serves.
+    /// A string, in a call that LIBHDR's WRITEF supports.
     Plain,
-    /// As a string with letters, or with more arguments after it, that EXTHDR's WRITEF alone serves.
+    /// A string with letters, or with more arguments, that only EXTHDR's WRITEF supports.
     Further,
-    /// Otherwise than as a string.
+    /// Something other than a string.
     Hidden,
 }
 
-/// The format of the call of WRITEF whose name stands at an index; `None` where no such call stands there, or where the source declares
-/// a routine of that name.
+/// The format of the call of WRITEF whose name is at an index. `None` if there is no such call, or if the source
+/// declares a routine of that name.
 pub fn format_at(
     source: TokenizedText<'_>,
     index: usize,
@@ -40,8 +42,8 @@ pub fn format_at(
     }
 }
 
-/// Whether the format after the bracket at an index wants EXTHDR, where it is a string or a choice between strings; `None` where it is
-/// neither.
+/// Whether the format after the parenthesis at an index needs EXTHDR. `None` if it is neither a string nor a choice
+/// between strings.
 fn seen(source: TokenizedText<'_>, opening: usize) -> Option<bool> {
     let format = opening.saturating_add(1);
     if source.kind(format) == Kind::Text {
@@ -74,7 +76,7 @@ fn seen(source: TokenizedText<'_>, opening: usize) -> Option<bool> {
     is_further
 }
 
-/// The bytes of the string at an index; none where none stands there.
+/// The bytes of the string at an index; empty if there is none.
 fn text_at(source: TokenizedText<'_>, index: usize) -> &[u8] {
     match source.kind(index) {
         Kind::Text => source.bytes(index),
@@ -82,7 +84,7 @@ fn text_at(source: TokenizedText<'_>, index: usize) -> &[u8] {
     }
 }
 
-/// How many arguments stand after the bracket at an index: a comma in no further bracket parts two, but for those of a choice.
+/// The number of arguments after the parenthesis at an index. The comma of a choice doesn't count.
 fn arguments(source: TokenizedText<'_>, opening: usize) -> usize {
     let mut count: usize = 1;
     let mut depth: usize = 0;
@@ -98,7 +100,7 @@ fn arguments(source: TokenizedText<'_>, opening: usize) -> usize {
     count
 }
 
-/// Whether a format has a letter that BLIB's WRITEF does not know.
+/// Whether a format has a letter that BLIB's WRITEF doesn't know.
 fn has_further_letter(format: &[u8]) -> bool {
     format.windows(2).any(|pair| {
         matches!(
@@ -124,12 +126,12 @@ fn has_further_letter(format: &[u8]) -> bool {
     })
 }
 
-/// Whether a string stands at an index which, as a format, has such a letter.
+/// Whether the token at an index is a string with such a letter.
 pub fn is_further_string(source: TokenizedText<'_>, index: usize) -> bool {
     has_further_letter(text_at(source, index))
 }
 
-/// The bit of the name at an index, once names of an old library have those that they have here, if EXTHDR alone has it; else 0.
+/// The bit of the name at an index, if only EXTHDR has it, else 0. Names of an old library count as their new names.
 pub fn bit_at(source: TokenizedText<'_>, index: usize, library: &[Renaming<'_>]) -> u32 {
     let word = source.bytes(index);
     if source.kind(index) != Kind::Name {
@@ -141,7 +143,7 @@ pub fn bit_at(source: TokenizedText<'_>, index: usize, library: &[Renaming<'_>])
     }
 }
 
-/// Whether a string stands after GET and names the library's header, in either case and with any ending.
+/// Whether the string at an index follows GET and names the library's header, in either case and with any extension.
 pub fn gets_header(source: TokenizedText<'_>, index: usize) -> bool {
     let name = inside(source.bytes(index));
     let stem = match name.iter().position(|byte| *byte == b'.') {
@@ -153,7 +155,7 @@ pub fn gets_header(source: TokenizedText<'_>, index: usize) -> bool {
         && (stem.eq_ignore_ascii_case(b"LIBHDR") || stem == b"EXTHDR".as_slice())
 }
 
-/// Whether the library's header is all that the source gets.
+/// Whether the source gets no header but the library's.
 pub fn gets_header_alone(source: TokenizedText<'_>) -> bool {
     (1..source.tokens.len()).all(|index| source.kind(index - 1) != Kind::Get
         || gets_header(source, index))

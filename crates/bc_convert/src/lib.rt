@@ -1,4 +1,4 @@
-//! From a source in an old dialect of the language to one in this dialect: the spans to replace, and what is to be done by
+//! Converts a source from an old dialect of BCPL to this one: finds the spans to replace, and what must be done by
 //! hand.
 #![tactic(auto)]
 

@@ -1,11 +1,13 @@
+//! ABS, which this dialect doesn't have.
+
 use crate::complaint::Fault;
 use crate::notes::Notes;
 use crate::numbers::value_of_number;
 use crate::operands::{is_plain, is_too_long};
 use bc_convert_tokens::{Kind, TokenizedText};
 
-/// The index of the number or the character that ABS at an index stands before, a sign aside; `None` where it stands in front
-/// of something else.
+/// The index of the number or character to which the ABS at an index applies, with or without a sign between them.
+/// `None` if it applies to something else.
 fn magnitude(source: TokenizedText<'_>, at: usize) -> Option<usize> {
     let next = at.saturating_add(1);
     let index = if source.kind(next) == Kind::Add {
@@ -21,7 +23,8 @@ fn magnitude(source: TokenizedText<'_>, at: usize) -> Option<usize> {
     if is_positive { Some(index) } else { None }
 }
 
-/// Writes down where ABS stands between two indices with no number after it: there a constant is wanted.
+/// Reports each ABS between two indices that doesn't apply to a number. These are places where a constant is
+/// required.
 pub fn tell_absolutes(source: TokenizedText<'_>, notes: &mut Notes, from: usize, to: usize) {
     for index in from..to {
         if source.kind(index) == Kind::Abs && magnitude(source, index).is_none() {
@@ -30,8 +33,7 @@ pub fn tell_absolutes(source: TokenizedText<'_>, notes: &mut Notes, from: usize,
     }
 }
 
-/// Whether an index stands where a constant is wanted: after VEC, or after TABLE and any number of its elements. What stands
-/// between is of the kinds that constants are made of.
+/// Whether a constant is required at an index: after VEC, or among the elements of a TABLE.
 fn wants_constant(source: TokenizedText<'_>, index: usize) -> bool {
     let mut closed: usize = 0;
     let mut has_comma = false;
@@ -53,7 +55,7 @@ fn wants_constant(source: TokenizedText<'_>, index: usize) -> bool {
     false
 }
 
-/// Whether such a token may stand in a constant.
+/// Whether a constant may contain such a token.
 fn is_of_constant(kind: Kind) -> bool {
     matches!(
         kind,
@@ -76,7 +78,7 @@ fn is_of_constant(kind: Kind) -> bool {
     )
 }
 
-/// Takes out ABS at an index, and the sign, if one stands before the number at another one.
+/// Removes the ABS at an index, and the sign before the number at another one, if there is a sign.
 fn drop_absolute(source: TokenizedText<'_>, notes: &mut Notes, at: usize, number: usize) {
     for index in at..number {
         notes.replace(index, b"");
@@ -84,8 +86,8 @@ fn drop_absolute(source: TokenizedText<'_>, notes: &mut Notes, at: usize, number
     }
 }
 
-/// Writes down that ABS stands at an index, and its operand after it up to another one: the operand is computed twice where
-/// it holds no call, and else kept in a variable of a VALOF. Of a number its sign goes.
+/// Rewrites the ABS at `at` with its operand, which ends before `end`. A number loses its sign. An operand without a
+/// call is evaluated twice, another one is stored in a variable of a VALOF.
 pub fn put_absolute(source: TokenizedText<'_>, notes: &mut Notes, at: usize, end: usize) {
     let start = at.saturating_add(1);
     match magnitude(source, at) {
@@ -96,7 +98,7 @@ pub fn put_absolute(source: TokenizedText<'_>, notes: &mut Notes, at: usize, end
     }
 }
 
-/// Keeps the operand of ABS in a variable of a VALOF.
+/// Stores the operand of ABS in a variable of a VALOF.
 fn put_kept(source: TokenizedText<'_>, notes: &mut Notes, at: usize, end: usize) {
     let start = at.saturating_add(1);
     let name = notes.fresh_name(source);
@@ -108,7 +110,7 @@ fn put_kept(source: TokenizedText<'_>, notes: &mut Notes, at: usize, end: usize)
     notes.put_all_after(end, &[b" ", name, b" $))"]);
 }
 
-/// Has the operand of ABS computed twice, where its text isn't too long.
+/// Evaluates the operand of ABS twice, if its text isn't too long.
 fn put_twice(source: TokenizedText<'_>, notes: &mut Notes, at: usize, end: usize) {
     let start = at.saturating_add(1);
     let bare = notes.rendered(source, start, end);
@@ -122,7 +124,7 @@ fn put_twice(source: TokenizedText<'_>, notes: &mut Notes, at: usize, end: usize
     put_choice_of(source, notes, at, end);
 }
 
-/// Puts the choice between the operand of ABS and its negative instead of both.
+/// Replaces ABS and its operand by a choice between the operand and its negative.
 fn put_choice_of(source: TokenizedText<'_>, notes: &mut Notes, at: usize, end: usize) {
     let start = at.saturating_add(1);
     let text = notes.rendered(source, start, end);
@@ -134,7 +136,7 @@ fn put_choice_of(source: TokenizedText<'_>, notes: &mut Notes, at: usize, end: u
     notes.put_after(end, b")");
 }
 
-/// Puts after a token the test whether a value is negative, and the value that it has then without its sign.
+/// Puts after a token the test whether a value is negative, and the negated value.
 fn put_choice(notes: &mut Notes, end: usize, value: &[u8]) {
     notes.put_all_after(end, &[value, b"<0 -> -", value, b","]);
 }

@@ -1,3 +1,5 @@
+//! What a name is called in this dialect, where it is declared, and how it is used.
+
 use crate::formats::gets_header_alone;
 use crate::library::library_name;
 use crate::numbers::{decimal, value_of_number};
@@ -11,18 +13,19 @@ fn meets(one: &[u8], other: &[u8]) -> bool {
     one.len() == other.len() && one.iter().zip(other).all(|(a, b)| dotted(*a) == dotted(*b))
 }
 
-/// A byte of a name, a dot in place of an underline.
+/// A byte of a name, with a dot for an underline.
 pub fn dotted(byte: u8) -> u8 {
     if byte == b'_' { b'.' } else { byte }
 }
 
-/// Whether the name at an index stands there for the first time.
+/// Whether the name at an index occurs there for the first time.
 pub fn is_first(source: TokenizedText<'_>, index: usize) -> bool {
     let mut earlier = 0..index;
     !earlier.any(|other| source.kind(other) == Kind::Name && source.is_same(index, other))
 }
 
-/// How many other names meet the one at an index: those without an underline, and of the others those that come before it.
+/// How many other names become the same as the one at an index once underlines are dots, and take precedence: those
+/// without an underline, and of the others those that come before it.
 fn rank(source: TokenizedText<'_>, index: usize) -> u32 {
     let bytes = source.bytes(index);
     let mut rank: u32 = 0;
@@ -41,13 +44,13 @@ fn rank(source: TokenizedText<'_>, index: usize) -> u32 {
     rank
 }
 
-/// Whether a name of the source has this spelling.
+/// Whether the source has a name with this spelling.
 fn has_name(source: TokenizedText<'_>, bytes: &[u8]) -> bool {
     (0..source.tokens.len()).any(|index| source.kind(index) == Kind::Name
         && source.bytes(index) == bytes)
 }
 
-/// A name with dots for its underlines, and after it a number, if it is not 1.
+/// A name with dots for its underlines, followed by the number if that isn't 1.
 fn with_dots(alloc: Global, bytes: &[u8], number: u32) -> Result<Vec<u8>, Memory> {
     let mut text = Vec::new(alloc);
     for byte in bytes {
@@ -59,8 +62,8 @@ fn with_dots(alloc: Global, bytes: &[u8], number: u32) -> Result<Vec<u8>, Memory
     Ok(text)
 }
 
-/// The name at an index with dots for its underlines. Where it meets other names so, it gets a number from 2 on that no name
-/// has, and that no name before it gets.
+/// The name at an index with dots for its underlines. If that is another name, it also gets a number from 2 on that
+/// makes it unique.
 fn without_underlines(
     alloc: Global,
     source: TokenizedText<'_>,
@@ -82,7 +85,7 @@ fn without_underlines(
     with_dots(alloc, bytes, number)
 }
 
-/// What a name of an old library is called here, if it is listed.
+/// The new name of an old library's name, if it is listed.
 pub fn renamed<'o>(library: &[Renaming<'o>], bytes: &[u8]) -> Option<&'o [u8]> {
     for renaming in library {
         if renaming.old.eq_ignore_ascii_case(bytes) {
@@ -92,7 +95,7 @@ pub fn renamed<'o>(library: &[Renaming<'o>], bytes: &[u8]) -> Option<&'o [u8]> {
     None
 }
 
-/// Whether a word, once names of an old library have those that they have here, is this name of the library in either case.
+/// Whether a word is this name of the library, in either case, or is renamed to it.
 pub fn is_for(word: &[u8], library: &[Renaming<'_>], name: &[u8]) -> bool {
     match renamed(library, word) {
         Some(new) => new == name,
@@ -100,12 +103,12 @@ pub fn is_for(word: &[u8], library: &[Renaming<'_>], name: &[u8]) -> bool {
     }
 }
 
-/// Whether a word has no capital letter.
+/// Whether a word has no upper-case letter.
 fn is_small(word: &[u8]) -> bool {
     !word.iter().any(|byte| byte.is_ascii_uppercase())
 }
 
-/// The library's name that the name at an index is for, in a dialect that writes it otherwise.
+/// The library's name that the name at an index means, in a dialect that spells it otherwise.
 fn for_library(source: TokenizedText<'_>, index: usize, dialect: Dialect) -> Option<&'static [u8]> {
     let bytes = source.bytes(index);
     let is_meant = dialect.has_small_words || dialect.has_small_library && is_small(bytes);
@@ -115,7 +118,7 @@ fn for_library(source: TokenizedText<'_>, index: usize, dialect: Dialect) -> Opt
     }
 }
 
-/// Whether the name at an index is the number of the first global that is free, in a list of GLOBAL.
+/// Whether the name at an index is `UG`, the number of the first free global, in a list of GLOBAL.
 pub fn is_first_free(source: TokenizedText<'_>, index: usize) -> bool {
     index > 0
         && source.bytes(index).eq_ignore_ascii_case(b"UG")
@@ -124,7 +127,7 @@ pub fn is_first_free(source: TokenizedText<'_>, index: usize) -> bool {
         && !is_declared(source, index)
 }
 
-/// What the name at an index is called here, where it is called otherwise.
+/// The new name of the name at an index, if it changes.
 pub fn name_change(
     alloc: Global,
     source: TokenizedText<'_>,
@@ -141,7 +144,7 @@ pub fn name_change(
     Ok(None)
 }
 
-/// The same, where another name is chosen for it.
+/// The new name, if the library or the list of names gives one.
 fn new_name<'o>(
     source: TokenizedText<'_>,
     index: usize,
@@ -160,15 +163,15 @@ fn new_name<'o>(
     None
 }
 
-/// Whether the name at an index is declared somewhere: after LET, AND, FOR or a comma among these, as a parameter, or with
-/// a number.
+/// Whether the name at an index is declared somewhere in the source.
 pub fn is_declared(source: TokenizedText<'_>, index: usize) -> bool {
     (0..source.tokens.len()).any(|other| source.kind(other) == Kind::Name
         && source.is_same(index, other)
         && declares(source, other))
 }
 
-/// Whether the name at an index is declared there.
+/// Whether the name at an index is declared there: after LET, AND or FOR, as a parameter, or in a list of GLOBAL,
+/// MANIFEST or STATIC.
 pub fn declares(source: TokenizedText<'_>, index: usize) -> bool {
     if index == 0 {
         return false;
@@ -181,7 +184,7 @@ pub fn declares(source: TokenizedText<'_>, index: usize) -> bool {
     }
 }
 
-/// Whether a name stands in a list of GLOBAL, MANIFEST or STATIC.
+/// Whether a name is in a list of GLOBAL, MANIFEST or STATIC.
 pub fn is_entry(source: TokenizedText<'_>, index: usize) -> bool {
     matches!(
         listing_word(source, index),
@@ -189,7 +192,8 @@ pub fn is_entry(source: TokenizedText<'_>, index: usize) -> bool {
     )
 }
 
-/// The token before the section bracket that a name stands in, after which no other section bracket stands.
+/// The token before the innermost section bracket around a name; `End` if the nearest section bracket before the name
+/// is a closing one.
 fn listing_word(source: TokenizedText<'_>, index: usize) -> Kind {
     for back in 1..=index {
         let at = index - back;
@@ -208,12 +212,12 @@ fn listing_word(source: TokenizedText<'_>, index: usize) -> Kind {
     Kind::End
 }
 
-/// Whether a name is spelled as the one at an index.
+/// Whether the token at `other` is a name, spelled like the one at `index`.
 fn is_same_name(source: TokenizedText<'_>, index: usize, other: usize) -> bool {
     source.kind(other) == Kind::Name && source.is_same(index, other)
 }
 
-/// Whether a round bracket stands after the name at an index.
+/// Whether a parenthesis follows the name at an index.
 pub fn is_called(source: TokenizedText<'_>, index: usize) -> bool {
     source.kind(index.saturating_add(1)) == Kind::OpenRound
 }
@@ -223,20 +227,20 @@ pub fn declares_routine(source: TokenizedText<'_>, index: usize) -> bool {
     index > 0 && matches!(source.kind(index - 1), Kind::Let | Kind::And) && is_called(source, index)
 }
 
-/// Whether the source declares a routine of the name at an index.
+/// Whether the source declares a routine with the name at an index.
 pub fn has_routine(source: TokenizedText<'_>, index: usize) -> bool {
     (0..source.tokens.len()).any(|other| is_same_name(source, index, other)
         && declares_routine(source, other))
 }
 
-/// Whether the name at an index is declared by MANIFEST, or is the variable of a FOR, somewhere in the source, or is set to or compared
-/// with a number other than 0.
+/// Whether the name at an index is used as a number somewhere in the source: declared by MANIFEST, the variable of a
+/// FOR, or set to or compared with a number other than 0.
 pub fn is_number(source: TokenizedText<'_>, index: usize) -> bool {
     (0..source.tokens.len()).any(|other| is_same_name(source, index, other)
         && stands_as_number(source, other))
 }
 
-/// Whether the name at an index stands there as no vector's.
+/// Whether the name at an index is used there as a number.
 fn stands_as_number(source: TokenizedText<'_>, index: usize) -> bool {
     let before = if index == 0 {
         Kind::End
@@ -249,7 +253,7 @@ fn stands_as_number(source: TokenizedText<'_>, index: usize) -> bool {
         || declares(source, index) && listing_word(source, index) == Kind::Manifest
 }
 
-/// Whether a number other than 0 stands at an index, or a sign and a number.
+/// Whether a number other than 0 is at an index, with or without a sign.
 fn begins_number(source: TokenizedText<'_>, index: usize) -> bool {
     let number = if source.kind(index) == Kind::Add {
         index.saturating_add(1)
@@ -259,8 +263,8 @@ fn begins_number(source: TokenizedText<'_>, index: usize) -> bool {
     value_of_number(source, number).is_ok_and(|value| value != 0)
 }
 
-/// Where the value begins that the name at an index is set to or compared with; the name's own index where it is neither. In a
-/// list it is the value with as many others before it as the name has.
+/// The index of the value that the name at an index is set to or compared with, or the name's own index if there is
+/// none. In a list it is the value with the same position as the name.
 fn value_of_name(source: TokenizedText<'_>, index: usize) -> usize {
     let next = index.saturating_add(1);
     let sign = if source.kind(next) == Kind::Comma {
@@ -276,7 +280,7 @@ fn value_of_name(source: TokenizedText<'_>, index: usize) -> usize {
     }
 }
 
-/// The index after what is left of a list of variables, from a comma in it on.
+/// The index after the rest of a list of variables, from a comma in it on.
 fn after_list(source: TokenizedText<'_>, comma: usize) -> usize {
     let mut open: usize = 0;
     for at in comma..source.tokens.len() {
@@ -294,7 +298,7 @@ fn after_list(source: TokenizedText<'_>, comma: usize) -> usize {
     comma
 }
 
-/// How many others stand before the name at an index in its list: as many as commas, outside of brackets.
+/// How many names precede the name at an index in its list. Commas inside brackets don't count.
 fn names_before(source: TokenizedText<'_>, index: usize) -> usize {
     let mut count: usize = 0;
     let mut closed: usize = 0;
@@ -315,8 +319,8 @@ fn names_before(source: TokenizedText<'_>, index: usize) -> usize {
     count
 }
 
-/// Where the value of the list after a sign begins that has as many others before it as the name at an index has: after so many
-/// commas, outside of brackets and choices. The name's own index where there is none.
+/// The index of the value after `sign` that has the same position in its list as `name` has. Commas inside brackets
+/// and choices don't count. It is `name` if there is no such value.
 fn value_after(source: TokenizedText<'_>, sign: usize, name: usize) -> usize {
     let mut left = names_before(source, name);
     let mut open: usize = 0;
@@ -341,13 +345,13 @@ fn value_after(source: TokenizedText<'_>, sign: usize, name: usize) -> usize {
     name
 }
 
-/// Whether the name at an index is declared there, and not by GLOBAL.
+/// Whether the name at an index is declared there, other than by GLOBAL.
 fn declares_own(source: TokenizedText<'_>, index: usize) -> bool {
     declares(source, index) && listing_word(source, index) != Kind::Global
 }
 
-/// Whether the name at an index is the source's own, though the library has it: a routine other than START, or what is declared
-/// otherwise than by GLOBAL and never called.
+/// Whether the name at an index is the source's own, although the library has it. Either it is a routine other than
+/// START, or it is declared other than by GLOBAL and never called.
 fn is_own(source: TokenizedText<'_>, index: usize) -> bool {
     let count = source.tokens.len();
     if has_routine(source, index) {
@@ -357,7 +361,7 @@ fn is_own(source: TokenizedText<'_>, index: usize) -> bool {
         && !(0..count).any(|other| is_same_name(source, index, other) && is_called(source, other))
 }
 
-/// Whether the tokens before a name, back to LET, AND or FOR, are names, commas and an opening bracket alone.
+/// Whether only names, commas and opening parentheses are between LET or AND and a name.
 fn is_in_heading(source: TokenizedText<'_>, index: usize) -> bool {
     for back in 1..=index {
         match source.kind(index - back) {

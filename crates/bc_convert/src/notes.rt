@@ -1,3 +1,7 @@
+//! The changes and complaints found in a source. Methods that allocate return nothing: a failed allocation is
+//! remembered and reported by `finished`. Code that puts text around tokens therefore needs no `?`, which would be
+//! expensive to prove.
+
 use crate::complaint::{Complaint, Fault};
 use crate::numbers::decimal;
 use bc_convert_edits::Replacement;
@@ -5,7 +9,8 @@ use bc_convert_tokens::{Kind, TokenizedText, is_name_byte};
 use bc_word::Memory;
 use std::alloc::Global;
 
-/// What becomes of a token: what stands before it, in its place and after it, and whether the blanks before it go.
+/// The changes to a token: the text before it, instead of it and after it, and whether the blanks before it are
+/// removed.
 #[derive(Drop)]
 struct Slot {
     before: Vec<u8>,
@@ -15,6 +20,7 @@ struct Slot {
 }
 
 impl Slot {
+    /// Global) -> Slot: A token that doesn't change.
     fn new(alloc: Global) -> Slot {
         Slot {
             before: Vec::new(alloc),
@@ -24,11 +30,12 @@ impl Slot {
         }
     }
 
+    /// Whether the token doesn't change.
     fn is_untouched(&self) -> bool {
         self.before.is_empty() && self.instead.is_none() && self.after.is_empty() && !self.takes_gap
     }
 
-    /// Puts bytes before all that was put there before.
+    /// Puts bytes before the text that is already before the token.
     fn put_before(&mut self, alloc: Global, bytes: &[u8]) -> Result<(), Memory> {
         let mut whole = Vec::from_slice(alloc, bytes)?;
         whole.extend_from_slice(self.before.as_slice())?;
@@ -36,14 +43,15 @@ impl Slot {
         Ok(())
     }
 
-    /// Puts bytes in the token's place.
+    /// Replaces the token.
     fn replace(&mut self, alloc: Global, bytes: &[u8]) -> Result<(), Memory> {
         self.instead = Some(Vec::from_slice(alloc, bytes)?);
         Ok(())
     }
 }
 
-/// A list from an index on, with a declaration after commands that begins a block up to the end of the list.
+/// A declaration after commands at index `at`, in a list from `from` up to `to`. It begins a block that ends with the
+/// list.
 #[derive(Clone, Copy)]
 pub struct LateBlock {
     pub from: usize,
@@ -51,24 +59,27 @@ pub struct LateBlock {
     pub to: usize,
 }
 
-/// What was found in a source so far: what becomes of each token, and what can't be converted. That an allocation was refused is kept
-/// until all is found: then nothing was.
+/// The changes and complaints found up to here.
 #[derive(Drop)]
 pub struct Notes {
     alloc: Global,
     slots: Vec<Slot>,
     complaints: Vec<Complaint>,
+    /// The indices of the labels.
     labels: Vec<usize>,
+    /// The indices of the destinations of GOTO.
     destinations: Vec<usize>,
     blocks: Vec<LateBlock>,
+    /// The number of the last new name.
     fresh: u32,
-    /// The index after the last nest that is too deep.
+    /// The index after the last nest that was reported as too deep.
     told_until: usize,
+    /// Whether an allocation failed. Then everything else here is void.
     is_refused: bool,
 }
 
 impl Notes {
-    /// Notes of nothing yet, for so many tokens.
+    /// Empty notes for this number of tokens.
     pub fn new(alloc: Global, count: usize) -> Result<Notes, Memory> {
         let mut slots = Vec::new(alloc);
         for _ in 0..count {
@@ -92,12 +103,12 @@ impl Notes {
         self.alloc
     }
 
-    /// Writes down that an allocation was refused.
+    /// Remembers that an allocation failed.
     pub fn refuse(&mut self) {
         self.is_refused = true;
     }
 
-    /// What was made, if no allocation was refused; else that is written down.
+    /// The value of a result; `None` if an allocation failed, which is remembered.
     pub fn made<T: Drop>(&mut self, made: Result<T, Memory>) -> Option<T> {
         match made {
             Ok(value) => Some(value),
@@ -108,7 +119,7 @@ impl Notes {
         }
     }
 
-    /// Puts bytes before a token and of all that was put there before.
+    /// Puts bytes before a token and before all that was put there earlier.
     pub fn put_before(&mut self, index: usize, bytes: &[u8]) {
         if index < self.slots.len() {
             let slot = &mut self.slots[index];
@@ -118,7 +129,7 @@ impl Notes {
         }
     }
 
-    /// Puts bytes after the token before an index and after all that was put there before.
+    /// Puts bytes after the token that precedes index `end`, and after all that was put there earlier.
     pub fn put_after(&mut self, end: usize, bytes: &[u8]) {
         if 0 < end && end <= self.slots.len() {
             let slot = &mut self.slots[end - 1];
@@ -128,21 +139,21 @@ impl Notes {
         }
     }
 
-    /// Puts these before a token and of all that was put there before, each before the one before it.
+    /// Puts these texts before a token one after the other, so that the last one comes first.
     pub fn put_all_before(&mut self, index: usize, texts: &[&[u8]]) {
         for bytes in texts {
             self.put_before(index, bytes);
         }
     }
 
-    /// Puts these after the token before an index and after all that was put there before, in their order.
+    /// Puts these texts, in this order, after the token that precedes index `end`.
     pub fn put_all_after(&mut self, end: usize, texts: &[&[u8]]) {
         for bytes in texts {
             self.put_after(end, bytes);
         }
     }
 
-    /// Puts a number after the token before an index and after all that was put there before.
+    /// Puts a number after the token that precedes index `end`.
     pub fn put_number_after(&mut self, end: usize, number: u32) {
         let digits = decimal(self.alloc, i64::from(number));
         if let Some(digits) = self.made(digits) {
@@ -150,7 +161,7 @@ impl Notes {
         }
     }
 
-    /// Puts bytes instead of a token.
+    /// Replaces a token.
     pub fn replace(&mut self, index: usize, bytes: &[u8]) {
         if index < self.slots.len() {
             let slot = &mut self.slots[index];
@@ -160,7 +171,7 @@ impl Notes {
         }
     }
 
-    /// Takes out the blanks before a token, where no comment and no line break is among them.
+    /// Removes the blanks before a token, unless there is a comment or a line break among them.
     pub fn take_gap(&mut self, source: TokenizedText<'_>, index: usize) {
         if index < self.slots.len() && is_plain_gap(source.gap(index)) {
             let slot = &mut self.slots[index];
@@ -168,7 +179,7 @@ impl Notes {
         }
     }
 
-    /// Takes away what was put around a token.
+    /// Drops what was put around a token.
     pub fn clear(&mut self, index: usize) {
         if index < self.slots.len() {
             let slot = &mut self.slots[index];
@@ -177,14 +188,14 @@ impl Notes {
         }
     }
 
-    /// Takes out a token and the blanks before it.
+    /// Removes a token and the blanks before it.
     pub fn take_out(&mut self, source: TokenizedText<'_>, index: usize) {
         self.clear(index);
         self.replace(index, &[]);
         self.take_gap(source, index);
     }
 
-    /// The text of the tokens from an index up to another one as it is to be, a blank where any blanks stand.
+    /// The new text of the tokens in a range, with a single space for each gap.
     pub fn rendered(&mut self, source: TokenizedText<'_>, from: usize, to: usize) -> Vec<u8> {
         let mut whole = Vec::new(self.alloc);
         if self.render(source, from, to, &mut whole).is_err() {
@@ -193,7 +204,7 @@ impl Notes {
         whole
     }
 
-    /// Puts that text after another one.
+    /// Appends that text.
     fn render(
         &self,
         source: TokenizedText<'_>,
@@ -212,8 +223,8 @@ impl Notes {
         Ok(())
     }
 
-    /// Writes down that what begins at a token can't be converted. A nest that is too deep is written down once: where it was found
-    /// first.
+    /// Reports that the construct that begins at a token can't be converted. Nesting that is too deep is reported
+    /// once, where it was found first.
     pub fn complain(&mut self, source: TokenizedText<'_>, index: usize, fault: Fault) {
         if fault == Fault::TooDeep {
             if index < self.told_until {
@@ -231,34 +242,34 @@ impl Notes {
         }
     }
 
-    /// Whether something becomes of a token.
+    /// Whether any token changes.
     pub fn has_changes(&self) -> bool {
         self.slots.iter().any(|slot| !slot.is_untouched())
     }
 
-    /// Writes down that a label stands at an index.
+    /// Notes a label.
     pub fn note_label(&mut self, index: usize) {
         if self.labels.push(index).is_err() {
             self.refuse();
         }
     }
 
-    /// Writes down that a GOTO's destination stands at an index.
+    /// Notes the destination of a GOTO.
     pub fn note_destination(&mut self, index: usize) {
         if self.destinations.push(index).is_err() {
             self.refuse();
         }
     }
 
-    /// Writes down that a declaration after commands begins a block.
+    /// Notes a declaration after commands that begins a block.
     pub fn note_block(&mut self, block: LateBlock) {
         if self.blocks.push(block).is_err() {
             self.refuse();
         }
     }
 
-    /// Whether the GOTO with its destination at an index stands before a declaration after commands, and its label after it
-    /// in the same list.
+    /// Whether the token at `destination` is the destination of a GOTO that comes before such a block, with its label
+    /// inside the block.
     pub fn is_parted(&self, source: TokenizedText<'_>, destination: usize) -> bool {
         self.destinations.contains(&destination)
             && self.blocks.iter().any(|block| {
@@ -268,7 +279,7 @@ impl Notes {
             })
     }
 
-    /// Whether the label of a destination stands in a block, and in no bracket within it.
+    /// Whether the label of a destination is in a block and in no bracket inside it.
     fn has_label(&self, source: TokenizedText<'_>, block: LateBlock, destination: usize) -> bool {
         self.labels.iter().any(|label| {
             block.at <= *label
@@ -278,17 +289,17 @@ impl Notes {
         })
     }
 
-    /// Where the labels stand.
+    /// The indices of the labels.
     pub fn labels(&self) -> &[usize] {
         self.labels.as_slice()
     }
 
-    /// Whether a label or a GOTO's destination stands at an index.
+    /// Whether a label or the destination of a GOTO is at an index.
     pub fn is_label_or_destination(&self, index: usize) -> bool {
         self.labels.contains(&index) || self.destinations.contains(&index)
     }
 
-    /// A name that the source doesn't have; an empty one where an allocation is refused.
+    /// A name that the source doesn't have; empty if an allocation failed.
     pub fn fresh_name(&mut self, source: TokenizedText<'_>) -> Vec<u8> {
         match self.next_name(source) {
             Ok(name) => name,
@@ -299,7 +310,7 @@ impl Notes {
         }
     }
 
-    /// The name with the next number that makes it one that the source doesn't have.
+    /// The next numbered name that the source doesn't have.
     fn next_name(&mut self, source: TokenizedText<'_>) -> Result<Vec<u8>, Memory> {
         for _ in 0..source.tokens.len() {
             self.fresh = self.fresh.saturating_add(1);
@@ -311,7 +322,7 @@ impl Notes {
         self.numbered()
     }
 
-    /// The name with the number that is next.
+    /// The name with the current number.
     fn numbered(&self) -> Result<Vec<u8>, Memory> {
         let digits = decimal(self.alloc, i64::from(self.fresh))?;
         let mut name = Vec::from_slice(self.alloc, b"TEMP.")?;
@@ -319,9 +330,11 @@ impl Notes {
         Ok(name)
     }
 
-    /// The replacements, one for each token that something becomes of, and what can't be converted.
+    /// The replacements, one for each token that changes, and the complaints.
     ///
-    /// `Memory` comes where an allocation was refused, at once or before.
+    /// # Errors
+    ///
+    /// `Memory` if an allocation failed, now or earlier.
     pub fn finished(
         self,
         source: TokenizedText<'_>,
@@ -334,7 +347,7 @@ impl Notes {
     }
 }
 
-/// A replacement for each token that something becomes of.
+/// A replacement for each token that changes.
 fn replacements(
     alloc: Global,
     source: TokenizedText<'_>,
@@ -349,7 +362,7 @@ fn replacements(
     Ok(replacements)
 }
 
-/// What becomes of a token, as a replacement.
+/// The replacement for a token.
 fn replacement(
     alloc: Global,
     source: TokenizedText<'_>,
@@ -371,7 +384,7 @@ fn replacement(
     })
 }
 
-/// A token with what stands around it, and a blank where it would run into what comes next.
+/// Appends the new text of a token, and a space if the text would run into what follows.
 fn put_apart(
     text: &mut Vec<u8>,
     source: TokenizedText<'_>,
@@ -398,7 +411,7 @@ fn needs_blank(text: &[u8], source: TokenizedText<'_>, index: usize) -> bool {
     }
 }
 
-/// A token with what stands around it.
+/// Appends the new text of a token.
 fn put_token(whole: &mut Vec<u8>, slot: &Slot, bytes: &[u8]) -> Result<(), Memory> {
     whole.extend_from_slice(slot.before.as_slice())?;
     match &slot.instead {
@@ -409,17 +422,17 @@ fn put_token(whole: &mut Vec<u8>, slot: &Slot, bytes: &[u8]) -> Result<(), Memor
     Ok(())
 }
 
-/// Whether there are blanks alone between two tokens.
+/// Whether there are only blanks between two tokens, and at least one.
 fn is_plain_gap(gap: &[u8]) -> bool {
     !gap.is_empty() && gap.iter().all(|byte| *byte == b' ' || *byte == b'\t')
 }
 
-/// Whether a bracket that opens after an index and before another one closes after that.
+/// Whether a bracket that opens between two indices closes after the second one.
 fn is_enclosed(source: TokenizedText<'_>, from: usize, index: usize) -> bool {
     (from..index).any(|at| source.kind(at) == Kind::OpenSection && source.partner(at) > index)
 }
 
-/// The index after the outermost bracket that a token stands in, or after the token where it stands in none.
+/// The index after the outermost bracket around a token, or after the token if there is none.
 fn nest_end(source: TokenizedText<'_>, index: usize) -> usize {
     let outermost = (0..index).find(|at| source.partner(*at) >= index && opens(source, *at));
     outermost
@@ -427,7 +440,7 @@ fn nest_end(source: TokenizedText<'_>, index: usize) -> usize {
         .saturating_add(1)
 }
 
-/// Whether a bracket opens at an index.
+/// Whether the token at an index is an opening bracket.
 fn opens(source: TokenizedText<'_>, index: usize) -> bool {
     matches!(source.kind(index), Kind::OpenRound | Kind::OpenSection)
 }

@@ -1,20 +1,22 @@
+//! Numbers: their values, and how this dialect writes them.
+
 use crate::complaint::Fault;
 use bc_convert_tokens::{TokenizedText, following};
 use bc_word::Memory;
 use std::alloc::Global;
 
-/// What becomes of a number.
+/// The change to a number.
 #[derive(Drop)]
 pub enum NumberChange {
-    /// It stays as it is.
+    /// None.
     Kept,
-    /// It is written otherwise.
+    /// The number is written in another way.
     Written(String),
-    /// It can't be written.
+    /// This dialect can't express the number.
     Fault(Fault),
 }
 
-/// The base of a number, and how many bytes stand before its digits.
+/// The base of a number, and the number of bytes before its digits.
 fn base_of(bytes: &[u8]) -> (u32, usize) {
     match bytes {
         [b'#', b'X' | b'x', ..] => (16, 2),
@@ -25,7 +27,8 @@ fn base_of(bytes: &[u8]) -> (u32, usize) {
     }
 }
 
-/// The value of a number's digits, underlines aside: `None` where it is over 65,535, or one is no digit of the base.
+/// The value of digits, ignoring underlines. Fails if the value is over 65,535, or if the base lacks one of the
+/// digits.
 fn value_of_digits(base: u32, digits: &[u8]) -> Result<u32, Fault> {
     let mut value: u32 = 0;
     for byte in digits {
@@ -46,7 +49,7 @@ fn value_of_digits(base: u32, digits: &[u8]) -> Result<u32, Fault> {
     Ok(value)
 }
 
-/// The value of the number at an index, or what is wrong with it.
+/// The value of the number at an index, or its fault.
 pub fn value_of_number(source: TokenizedText<'_>, index: usize) -> Result<u32, Fault> {
     let bytes = source.bytes(index);
     let (base, front) = base_of(bytes);
@@ -56,18 +59,18 @@ pub fn value_of_number(source: TokenizedText<'_>, index: usize) -> Result<u32, F
     value_of_digits(base, following(bytes, front))
 }
 
-/// Whether this dialect reads the number as it stands.
+/// Whether this dialect has the number's spelling.
 fn is_plain(bytes: &[u8]) -> bool {
     let has_old_base = matches!(bytes, [b'#', b'x' | b'B' | b'b' | b'O' | b'o', ..]);
     !has_old_base && !bytes.contains(&b'_')
 }
 
-/// A number in decimal digits, with a sign where it is negative.
+/// A number in decimal digits, with a sign if it is negative.
 pub fn decimal(alloc: Global, number: i64) -> Result<String, Memory> {
     Ok(format!(in alloc; "{number}")?)
 }
 
-/// A number as this dialect writes one of this base: in hexadecimal, octal or decimal digits.
+/// A number as this dialect writes it in hexadecimal, octal or decimal.
 fn written(alloc: Global, base: u32, value: u32) -> Result<String, Memory> {
     match base {
         16 => Ok(format!(in alloc; "#X{value:X}")?),
@@ -76,7 +79,7 @@ fn written(alloc: Global, base: u32, value: u32) -> Result<String, Memory> {
     }
 }
 
-/// What becomes of the number at an index: binary ones are written in decimal digits, the others in their base.
+/// The change to the number at an index. A binary number becomes a decimal one, others keep their base.
 pub fn number_change(
     alloc: Global,
     source: TokenizedText<'_>,

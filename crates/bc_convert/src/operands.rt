@@ -1,8 +1,10 @@
+//! Operands and operators, as the walk reads them.
+
 use crate::notes::Notes;
 use bc_convert_tokens::{Kind, TokenizedText};
 
-/// How an operand was read: the index after it, and where it is a byte of a string as a whole the index of its `%`, whose
-/// change is not written down yet.
+/// An operand that was read: the index after it, and the index of its `%` if it is a byte of a string. That byte
+/// isn't rewritten yet.
 #[derive(Clone, Copy)]
 pub struct Operand {
     pub end: usize,
@@ -10,13 +12,13 @@ pub struct Operand {
 }
 
 impl Operand {
-    /// An operand that is no byte.
+    /// An operand that isn't a byte.
     pub fn plain(end: usize) -> Operand {
         Operand { end, byte: None }
     }
 }
 
-/// Writes down that an operand is the value of a byte, where it is one.
+/// Rewrites an operand that is the value of a byte.
 pub fn finish(notes: &mut Notes, at: usize, operand: Operand) {
     if let Some(percent) = operand.byte {
         notes.put_before(at, b"GETBYTE(");
@@ -25,13 +27,13 @@ pub fn finish(notes: &mut Notes, at: usize, operand: Operand) {
     }
 }
 
-/// Whether a token and the one after it stand side by side.
+/// Whether no blank separates a token from the next one.
 pub fn is_adjacent(source: TokenizedText<'_>, index: usize) -> bool {
     let next = index.saturating_add(1);
     source.kind(next) != Kind::End && source.end(index) == source.start(next)
 }
 
-/// Whether an operator stands at an index that is assigned with: `+:=` and its kin.
+/// Whether an assigning operator such as `+:=` is at an index.
 pub fn is_compound(source: TokenizedText<'_>, index: usize) -> bool {
     let kind = source.kind(index);
     let is_operator = kind.level() > 1 || kind == Kind::Bang;
@@ -40,7 +42,7 @@ pub fn is_compound(source: TokenizedText<'_>, index: usize) -> bool {
         && is_adjacent(source, index)
 }
 
-/// The level of the dyadic operator at an index, 0 where none goes on there.
+/// The level of the dyadic operator at an index, 0 if there is none.
 pub fn level_at(source: TokenizedText<'_>, index: usize) -> u8 {
     if source.is_separated(index) || is_compound(source, index) {
         0
@@ -49,7 +51,7 @@ pub fn level_at(source: TokenizedText<'_>, index: usize) -> u8 {
     }
 }
 
-/// Whether a round bracket at an index encloses the arguments of a call.
+/// Whether the token at an index is the opening parenthesis of a call.
 fn is_call(source: TokenizedText<'_>, index: usize) -> bool {
     let before = if index == 0 {
         Kind::End
@@ -60,7 +62,7 @@ fn is_call(source: TokenizedText<'_>, index: usize) -> bool {
         && matches!(before, Kind::Name | Kind::CloseRound | Kind::CloseSection)
 }
 
-/// Whether the tokens between two indices hold no call and no VALOF, so that they may be computed twice.
+/// Whether a range of tokens has no call and no VALOF, so that it may be evaluated twice.
 pub fn is_plain(source: TokenizedText<'_>, from: usize, to: usize) -> bool {
     (from..to).all(|index| !is_call(source, index) && source.kind(index) != Kind::Valof)
 }
@@ -70,7 +72,7 @@ pub fn is_too_long(text: &[u8]) -> bool {
     text.len() > 200
 }
 
-/// Takes out the tokens between two indices.
+/// Removes a range of tokens.
 pub fn take_out(source: TokenizedText<'_>, notes: &mut Notes, from: usize, to: usize) {
     for index in from..to {
         notes.take_out(source, index);

@@ -1,17 +1,19 @@
+//! The inputs of a conversion besides the source, and lists of names of an old library.
+
 use crate::complaint::{Complaint, Fault};
 use crate::library::is_library_name;
 use crate::program::Program;
 use bc_word::Memory;
 use std::alloc::Global;
 
-/// A name of an old library, and what it is called here.
+/// A name of an old library, and its name in this one.
 #[derive(Clone, Copy)]
 pub struct Renaming<'o> {
     pub old: &'o [u8],
     pub new: &'o [u8],
 }
 
-/// The header of the library that a source gets.
+/// The library's header that a source gets.
 #[derive(Clone, Copy)]
 pub enum Header {
     /// LIBHDR.
@@ -20,31 +22,31 @@ pub enum Header {
     Further,
 }
 
-/// What a conversion is told beside the source.
+/// The inputs of a conversion besides the source.
 #[derive(Clone, Copy)]
 pub struct Options<'o> {
-    /// Names of the library that the source was written for, where they are called otherwise here.
+    /// The old names that have other names here.
     pub library: &'o [Renaming<'o>],
-    /// The header that sources get in place of the library's; what they need decides where there is none.
+    /// The header that sources get; `None` if it depends on what they need.
     pub header: Option<Header>,
-    /// What all sources of the program show together; what this one does, where there is no other.
+    /// The facts about the whole program; `None` if this source is the whole program.
     pub program: Option<Program>,
 }
 
-/// The renamings that a text lists, and what is wrong with its lines.
+/// The renamings of a list of names, and the faults in its lines.
 #[derive(Drop)]
 pub struct NameList<'o> {
     pub list: Vec<Renaming<'o>>,
     pub complaints: Vec<Complaint>,
 }
 
-/// The renamings that the lines of a text list: on each line the old name, and after blanks the new one. What else stands
-/// in a line is passed over, and so are empty lines and those that begin with `//` or `||`. A line with one name, with an old name
-/// that an earlier line has, or with a new name that no library here has, is complained of and says nothing.
+/// Reads a list of names. Each line has an old name and, after blanks, the new one; the rest of the line is ignored.
+/// Empty lines and lines that begin with `//` or `||` are ignored. A line is reported and ignored if it has only one
+/// name, if an earlier line has its old name, or if no library has its new name.
 ///
 /// # Errors
 ///
-/// `Memory` where an allocation was refused.
+/// `Memory` if an allocation failed.
 pub fn renamings<'o>(alloc: Global, text: &'o [u8]) -> Result<NameList<'o>, Memory> {
     let mut names = NameList {
         list: Vec::new(alloc),
@@ -58,7 +60,7 @@ pub fn renamings<'o>(alloc: Global, text: &'o [u8]) -> Result<NameList<'o>, Memo
     Ok(names)
 }
 
-/// Adds what the line says that begins at this byte of the text.
+/// Adds a line, which begins at byte `start` of the text.
 fn add_line<'o>(names: &mut NameList<'o>, start: usize, line: &'o [u8]) -> Result<(), Memory> {
     let (old, rest) = first_word(line);
     let (new, _) = first_word(rest);
@@ -81,7 +83,7 @@ fn add_line<'o>(names: &mut NameList<'o>, start: usize, line: &'o [u8]) -> Resul
     Ok(())
 }
 
-/// What is wrong with a renaming after these.
+/// The fault of a renaming that follows these.
 fn fault_of(earlier: &[Renaming<'_>], renaming: Renaming<'_>) -> Option<Fault> {
     if renaming.new.is_empty() {
         Some(Fault::NameAlone)
@@ -97,7 +99,7 @@ fn fault_of(earlier: &[Renaming<'_>], renaming: Renaming<'_>) -> Option<Fault> {
     }
 }
 
-/// The first word of a line, and what stands after it.
+/// The first word of a line, and the rest of the line.
 fn first_word(line: &[u8]) -> (&[u8], &[u8]) {
     let trimmed = line.trim_ascii_start();
     let count = trimmed

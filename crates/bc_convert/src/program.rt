@@ -1,3 +1,5 @@
+//! What the sources of a program show together: the dialect, and the library's header that they need.
+
 use crate::formats::{
     Format, bit_at, format_at, gets_header, gets_header_alone, is_further_string,
 };
@@ -8,31 +10,32 @@ use bc_convert_tokens::{Dialect, Kind, TokenizedText};
 use bc_word::Memory;
 use std::alloc::Global;
 
-/// What the sources of a program show together of the dialect and the library that they are written for.
+/// What the sources of a program show together about their dialect and library.
 #[derive(Clone, Copy)]
 pub struct Program {
-    /// What is so in all of its sources; which letters reserved words have isn't.
+    /// The dialect. Only the case of reserved words may differ between the sources.
     pub dialect: Dialect,
-    /// EXTHDR is got, or a call is there that EXTHDR's WRITEF alone serves.
+    /// A source gets EXTHDR, or has a call that only EXTHDR's WRITEF supports.
     needs_further: bool,
-    /// WRITEF is handed a format that is no string.
+    /// WRITEF is called with a format that isn't a string.
     hides_format: bool,
-    /// A string is there which as a format would want EXTHDR.
+    /// There is a string that would need EXTHDR if it is a format.
     has_further_string: bool,
     /// A source gets the library's header.
     pub gets_library: bool,
-    /// Each source gets the library's header alone, or none.
+    /// No source gets a header other than the library's.
     gets_library_alone: bool,
-    /// It has more than one source.
+    /// The program has more than one source.
     has_several: bool,
-    /// INITVEC stands in a source, or GETVEC is a routine of one.
+    /// A source mentions INITVEC, or declares GETVEC as a routine.
     pub makes_pool: bool,
-    /// The names that EXTHDR alone has, as bits: those that a source uses and doesn't declare, and those that one declares for others.
+    /// The names that only EXTHDR has, as bits: those that a source uses without declaring them, and those that a
+    /// source declares by GLOBAL, MANIFEST or STATIC.
     used: u32,
     declared: u32,
 }
 
-/// Whether the name at an index is INITVEC, or GETVEC where the source declares it as a routine.
+/// Whether the name at an index is INITVEC, or GETVEC declared by the source as a routine.
 fn makes_pool(source: TokenizedText<'_>, index: usize, library: &[Renaming<'_>]) -> bool {
     let word = source.bytes(index);
     is_for(word, library, b"INITVEC")
@@ -40,17 +43,17 @@ fn makes_pool(source: TokenizedText<'_>, index: usize, library: &[Renaming<'_>])
 }
 
 impl Program {
-    /// What a source with this text shows, where names of an old library have these new ones.
+    /// What a source with this text shows. `library` renames names of an old library.
     ///
     /// # Errors
     ///
-    /// `Memory` where an allocation was refused.
+    /// `Memory` if an allocation failed.
     pub fn of(alloc: Global, text: &[u8], library: &[Renaming<'_>]) -> Result<Program, Memory> {
         let reading = Reading::new(alloc, text)?;
         Ok(Program::shown(reading.source(text), reading.dialect, library))
     }
 
-    /// What a source whose tokens are told apart shows.
+    /// What a classified source shows.
     pub fn shown(source: TokenizedText<'_>, dialect: Dialect, library: &[Renaming<'_>]) -> Program {
         let mut program = Program {
             dialect,
@@ -74,7 +77,7 @@ impl Program {
         program
     }
 
-    /// Takes in the name at an index.
+    /// Takes the name at an index into account.
     fn note_name(&mut self, source: TokenizedText<'_>, index: usize, library: &[Renaming<'_>]) {
         match format_at(source, index, library) {
             Some(Format::Further) => self.needs_further = true,
@@ -95,7 +98,7 @@ impl Program {
         }
     }
 
-    /// Takes in the string at an index.
+    /// Takes the string at an index into account.
     fn note_string(&mut self, source: TokenizedText<'_>, index: usize) {
         if source.bytes(index) == b"\"EXTHDR\"".as_slice() {
             self.needs_further = true;
@@ -108,7 +111,7 @@ impl Program {
         }
     }
 
-    /// What these sources and others show together.
+    /// What two sets of sources show together.
     pub fn with(self, other: Program) -> Program {
         Program {
             dialect: self.dialect.among(other.dialect),
@@ -124,7 +127,7 @@ impl Program {
         }
     }
 
-    /// What these sources show to one of them that shows this dialect by itself.
+    /// What the program shows to one of its sources, whose own dialect is `dialect`.
     pub fn seen_from(self, dialect: Dialect) -> Program {
         Program {
             dialect: dialect.among(self.dialect),
@@ -132,13 +135,14 @@ impl Program {
         }
     }
 
-    /// Whether a name is used that EXTHDR alone has. A single source may have it from a header of its own; of several the headers
-    /// are among them.
+    /// Whether a name is used that only EXTHDR has. A single source may have it from its own header; the headers of
+    /// several sources are among them.
     fn needs_name(self) -> bool {
         (self.gets_library_alone || self.has_several) && self.used & !self.declared != 0
     }
 
-    /// The header that its sources get: EXTHDR where something wants it, and where a format that is no string may be a string that does.
+    /// The header that the sources get. It is EXTHDR if something needs it, or if a format that isn't a string may be
+    /// a string that needs it.
     pub fn header(self) -> Header {
         if self.needs_further || self.needs_name() || self.hides_format && self.has_further_string {
             Header::Further

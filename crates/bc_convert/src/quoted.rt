@@ -1,24 +1,26 @@
+//! Strings and character constants, as this dialect writes them.
+
 use crate::complaint::Fault;
 use bc_convert_tokens::{following, span};
 use bc_word::Memory;
 use std::alloc::Global;
 
-/// What stands in front in an old string or character constant.
+/// The next piece of an old string or character constant.
 #[derive(Clone, Copy)]
 enum Piece {
     /// Nothing: the end.
     End,
-    /// Bytes that stay as they are and mean one character.
+    /// This number of bytes, which mean one character and stay.
     Kept(usize),
-    /// An escape of so many bytes for this byte, which this dialect writes otherwise.
+    /// An escape of this number of bytes for this byte. This dialect writes it otherwise.
     Byte(u8, usize),
-    /// So many bytes that mean nothing: a line break within a string.
+    /// This number of bytes, which mean nothing: a line break within a string.
     Nothing(usize),
-    /// What is no escape.
+    /// An unknown escape.
     Bad,
 }
 
-/// The value of digits of a base, or `None` where one is no digit of it, or where the value is no byte.
+/// The value of digits, or `None` if the base lacks one of them or the value isn't a byte.
 fn byte_of_digits(base: u32, digits: &[u8]) -> Option<u8> {
     let mut value: u32 = 0;
     for byte in digits {
@@ -31,7 +33,7 @@ fn byte_of_digits(base: u32, digits: &[u8]) -> Option<u8> {
     u8::try_from(value).ok()
 }
 
-/// The escape by number in front, whose digits begin after so many bytes.
+/// An escape by number, whose digits begin after `front` bytes.
 fn numbered(bytes: &[u8], front: usize, count: usize, base: u32) -> Piece {
     let end = front.saturating_add(count);
     let digits = span(bytes, front, end);
@@ -44,7 +46,7 @@ fn numbered(bytes: &[u8], front: usize, count: usize, base: u32) -> Piece {
     }
 }
 
-/// How many bytes the blanks and line breaks in front have, with the `*` after them.
+/// The number of blanks and line breaks at the start, with the `*` after them.
 fn break_bytes(bytes: &[u8]) -> usize {
     let blanks = bytes
         .iter()
@@ -56,7 +58,7 @@ fn break_bytes(bytes: &[u8]) -> usize {
     }
 }
 
-/// What stands in front.
+/// The piece at the start of these bytes.
 fn next_piece(bytes: &[u8]) -> Piece {
     match bytes {
         [] => Piece::End,
@@ -93,7 +95,7 @@ fn next_piece(bytes: &[u8]) -> Piece {
     }
 }
 
-/// A byte as a string spells it.
+/// Appends a byte as a string spells it.
 fn put_byte(text: &mut Vec<u8>, byte: u8) -> Result<(), Memory> {
     let letter = match byte {
         b'\n' => b'N',
@@ -112,18 +114,18 @@ fn put_byte(text: &mut Vec<u8>, byte: u8) -> Result<(), Memory> {
     Ok(())
 }
 
-/// What becomes of a string or a character constant.
+/// A string or a character constant in this dialect.
 #[derive(Drop)]
 pub struct Respelled {
-    /// The bytes between its signs.
+    /// The bytes between its quotes.
     pub inside: Vec<u8>,
-    /// How many characters these are.
+    /// The number of characters.
     pub count: usize,
-    /// The last one's byte, where it was written by its number.
+    /// The last character, if it was written by its number.
     pub numbered: Option<u8>,
 }
 
-/// What stands between the signs of a string or a constant, as this dialect writes it, or what is wrong with it.
+/// Rewrites what is between the quotes of a string or constant, or returns its fault.
 pub fn inside_respelled(alloc: Global, inside: &[u8]) -> Result<Result<Respelled, Fault>, Memory> {
     let mut text = Vec::new(alloc);
     let mut count: usize = 0;
@@ -156,7 +158,7 @@ pub fn inside_respelled(alloc: Global, inside: &[u8]) -> Result<Result<Respelled
     }))
 }
 
-/// The byte that a character constant's inside means, where it is one character.
+/// The byte that a character constant means, if it has one character.
 pub fn character_of(inside: &[u8]) -> Option<u8> {
     match inside {
         [byte] => Some(*byte),

@@ -1,3 +1,5 @@
+//! Ranges of cases, which are written out.
+
 use crate::notes::Notes;
 use crate::numbers::{decimal, value_of_number};
 use crate::quoted::character_of;
@@ -6,14 +8,14 @@ use bc_convert_tokens::{Kind, TokenizedText};
 use bc_word::Memory;
 use std::alloc::Global;
 
-/// A constant that a case has, and whether it is written as a character.
+/// A constant of a case, and whether it is written as a character.
 #[derive(Clone, Copy)]
 pub struct CaseConstant {
     value: i64,
     is_character: bool,
 }
 
-/// The constant that stands between two indices, where it is a number, a number with a sign or a character.
+/// The constant in a range of tokens, if it is a number, a number with a sign or a character.
 pub fn case_constant(source: TokenizedText<'_>, from: usize, to: usize) -> Option<CaseConstant> {
     let count = to.saturating_sub(from);
     match (count, source.kind(from)) {
@@ -38,7 +40,7 @@ pub fn case_constant(source: TokenizedText<'_>, from: usize, to: usize) -> Optio
     }
 }
 
-/// A constant as text.
+/// Appends a constant.
 fn put_constant(
     alloc: Global,
     text: &mut Vec<u8>,
@@ -54,8 +56,8 @@ fn put_constant(
     Ok(())
 }
 
-/// The cases between two constants, each with CASE and a colon around it, and CASE before the last one; `None` where they
-/// are no constants, or no range of at most 256.
+/// The cases between two constants, each preceded by CASE and followed by a colon, and the CASE of the last one.
+/// `None` if they aren't constants, or not a range of at most 256.
 pub fn cases_between(
     alloc: Global,
     first: Option<CaseConstant>,
@@ -88,7 +90,7 @@ fn cases(alloc: Global, first: CaseConstant, last: CaseConstant) -> Result<Vec<u
     Ok(text)
 }
 
-/// Puts bytes instead of a token, and a blank after them where none stands there.
+/// Replaces a token, and puts a space after it if none follows.
 pub fn replace_apart(source: TokenizedText<'_>, notes: &mut Notes, index: usize, bytes: &[u8]) {
     notes.replace(index, bytes);
     let next = index.saturating_add(1);

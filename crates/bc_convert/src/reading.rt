@@ -1,11 +1,14 @@
+//! Reads a text into classified tokens.
+
 use bc_convert_tokens::{Dialect, Token, TokenizedText, classified, lex, partners};
 use bc_word::Memory;
 use std::alloc::Global;
 
-/// What was read of a text: its tokens, told apart, with their brackets' partners, and the dialect that it shows.
+/// The classified tokens of a text, with the partners of its brackets, and its dialect.
 #[derive(Drop)]
 pub struct Reading {
     paired: Paired,
+    /// The dialect that the text shows by itself.
     pub dialect: Dialect,
 }
 
@@ -16,7 +19,7 @@ impl Reading {
         Reading::told(alloc, raw.source(text))
     }
 
-    /// Tells the tokens of a text apart.
+    /// Classifies the tokens of a text.
     fn told(alloc: Global, raw: TokenizedText<'_>) -> Result<Reading, Memory> {
         let dialect = Dialect::of(raw);
         let tokens = classified(alloc, raw, dialect)?;
@@ -26,13 +29,13 @@ impl Reading {
         })
     }
 
-    /// The text that was read, as a source.
+    /// The text and its tokens.
     pub fn source<'s>(&'s self, text: &'s [u8]) -> TokenizedText<'s> {
         self.paired.source(text)
     }
 }
 
-/// The tokens of a text, with their brackets' partners.
+/// Tokens with the partners of their brackets.
 #[derive(Drop)]
 struct Paired {
     tokens: Vec<Token>,
@@ -51,7 +54,7 @@ impl Paired {
         Ok(Paired { tokens, partners })
     }
 
-    /// These tokens with their text, as a source.
+    /// The text and these tokens.
     fn source<'s>(&'s self, text: &'s [u8]) -> TokenizedText<'s> {
         TokenizedText {
             text,

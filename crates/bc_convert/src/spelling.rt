@@ -1,3 +1,5 @@
+//! The tokens that change by themselves: words, signs, names, numbers and strings.
+
 use crate::complaint::Fault;
 use crate::formats::gets_header;
 use crate::names::{dotted, is_declared, is_first, name_change};
@@ -7,8 +9,8 @@ use crate::options::{Header, Options};
 use crate::quoted::{Respelled, inside_respelled};
 use bc_convert_tokens::{Dialect, Kind, TokenizedText, reserved, span};
 
-/// What becomes of each token by itself: words and signs in this dialect's spelling, names without underlines, numbers and
-/// strings as they are written here, and complaints of what has no counterpart.
+/// Rewrites each token by itself: words and signs, names with underlines, numbers and strings. Reports what has no
+/// counterpart.
 pub fn respell(
     source: TokenizedText<'_>,
     notes: &mut Notes,
@@ -25,7 +27,7 @@ pub fn respell(
     }
 }
 
-/// What becomes of a token that is neither a name nor a string.
+/// Rewrites a token that is neither a name nor a string.
 fn respell_further(
     source: TokenizedText<'_>,
     notes: &mut Notes,
@@ -44,16 +46,16 @@ fn respell_further(
     }
 }
 
-/// The byte with which files of some systems are filled up.
+/// The byte with which some systems fill up files.
 const FILLER: &[u8] = b"\x1a";
 
-/// Whether from the token at an index on the text has nothing but fillers.
+/// Whether only fillers follow from the token at an index on.
 fn is_filled_up(source: TokenizedText<'_>, index: usize) -> bool {
     (index..source.tokens.len()).all(|at| source.bytes(at) == FILLER)
 }
 
-/// What becomes of a byte that begins no token. Fillers after the text are taken out, and so is the full stop after its last section; one
-/// at the end of a line ends another section.
+/// Rewrites a byte that begins no token. Fillers at the end of the text are removed, and so is the full stop after
+/// its last section. A full stop at the end of a line ends a section before another one.
 fn respell_unknown(source: TokenizedText<'_>, notes: &mut Notes, index: usize) {
     let next = index.saturating_add(1);
     let is_stop = source.bytes(index) == b".".as_slice();
@@ -101,7 +103,7 @@ fn is_reserved_here(source: TokenizedText<'_>, index: usize) -> bool {
     reserved(source.bytes(index), false).is_some_and(|word| !word.is_name_now)
 }
 
-/// What becomes of a name.
+/// Rewrites a name.
 fn respell_name(
     source: TokenizedText<'_>,
     notes: &mut Notes,
@@ -124,7 +126,7 @@ fn respell_name(
     }
 }
 
-/// What becomes of a number.
+/// Rewrites a number.
 fn respell_number(source: TokenizedText<'_>, notes: &mut Notes, index: usize) {
     let change = number_change(notes.alloc(), source, index);
     match notes.made(change) {
@@ -134,12 +136,12 @@ fn respell_number(source: TokenizedText<'_>, notes: &mut Notes, index: usize) {
     }
 }
 
-/// The bytes between the signs of a string or constant.
+/// The bytes between the quotes of a string or constant.
 pub fn inside(bytes: &[u8]) -> &[u8] {
     span(bytes, 1, bytes.len().saturating_sub(1))
 }
 
-/// What becomes of a string: the library's header has its name here where it stands after GET.
+/// Rewrites a string. After GET the library's header gets its name in this dialect.
 fn respell_string(source: TokenizedText<'_>, notes: &mut Notes, index: usize, header: Header) {
     if gets_header(source, index) {
         let name: &[u8] = match header {
@@ -159,7 +161,7 @@ fn respell_string(source: TokenizedText<'_>, notes: &mut Notes, index: usize, he
     }
 }
 
-/// What becomes of a character constant: one that can't be seen is written as a number.
+/// Rewrites a character constant. One without a visible character becomes a number.
 fn respell_character(source: TokenizedText<'_>, notes: &mut Notes, index: usize) {
     match respelled(source, notes, index) {
         Some(respelled) if respelled.count != 1 => notes.complain(
@@ -180,7 +182,7 @@ fn respell_character(source: TokenizedText<'_>, notes: &mut Notes, index: usize)
     }
 }
 
-/// What stands between the signs at an index, as this dialect writes it. What is wrong with it is written down.
+/// What is between the quotes at an index, as this dialect writes it. Reports its fault.
 fn respelled(source: TokenizedText<'_>, notes: &mut Notes, index: usize) -> Option<Respelled> {
     let inside = inside_respelled(notes.alloc(), inside(source.bytes(index)));
     match notes.made(inside)? {
@@ -192,7 +194,7 @@ fn respelled(source: TokenizedText<'_>, notes: &mut Notes, index: usize) -> Opti
     }
 }
 
-/// Puts bytes between the two signs at an index, where others stand there.
+/// Replaces what is between the quotes at an index, if it differs.
 fn put_quoted(source: TokenizedText<'_>, notes: &mut Notes, index: usize, sign: &[u8], new: &[u8]) {
     if inside(source.bytes(index)) != new {
         notes.replace(index, new);
@@ -201,14 +203,14 @@ fn put_quoted(source: TokenizedText<'_>, notes: &mut Notes, index: usize, sign: 
     }
 }
 
-/// Puts bytes instead of a token that is spelled otherwise.
+/// Replaces a token that is spelled otherwise.
 fn replace_if_other(source: TokenizedText<'_>, notes: &mut Notes, index: usize, bytes: &[u8]) {
     if source.bytes(index) != bytes {
         notes.replace(index, bytes);
     }
 }
 
-/// What becomes of a reserved word or a sign.
+/// Rewrites a reserved word or a sign.
 fn respell_sign(
     source: TokenizedText<'_>,
     notes: &mut Notes,
@@ -235,7 +237,7 @@ fn respell_sign(
     }
 }
 
-/// What becomes of the sign of a relation.
+/// Rewrites the sign of a relation.
 fn respell_relation(source: TokenizedText<'_>, notes: &mut Notes, index: usize) {
     let sign: &[u8] = match source.bytes(index) {
         [b'\\' | 0xc2, ..] | [0xe2, 0x89, 0xa0] => b"~=",
@@ -246,7 +248,7 @@ fn respell_relation(source: TokenizedText<'_>, notes: &mut Notes, index: usize) 
     replace_if_other(source, notes, index, sign)
 }
 
-/// What becomes of a section bracket, whose tag has dots in place of underlines.
+/// Rewrites a section bracket, with dots for the underlines of its tag.
 fn respell_section(source: TokenizedText<'_>, notes: &mut Notes, index: usize, sign: &[u8]) {
     let bytes = source.bytes(index);
     if bytes.starts_with(sign) && !bytes.contains(&b'_') {

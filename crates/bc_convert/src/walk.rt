@@ -1,3 +1,7 @@
+//! Walks over the constructs of a source and rewrites those that take more than one token. The functions call one
+//! another in a cycle. Each takes a `Walk` by value, stops at depth 0 and passes on `walk.deeper()`, so the depth is
+//! the measure of the cycle and no function must prove that the rest of the source shrinks.
+
 ghost use Rattle.std.specs.Prelude.{◌≡◌, ◌+◌, ◌<◌, ◌≤◌};
 
 use crate::chain::{Chain, ChainState, close_chain};
@@ -11,10 +15,10 @@ use crate::operands::{Operand, finish, is_adjacent, is_compound, is_plain, level
 use crate::ranges::{case_constant, cases_between, replace_apart};
 use bc_convert_tokens::{Dialect, Kind, TokenizedText, is_name_byte};
 
-/// How deep the parts of a source may nest: each part counts for some of its own.
+/// The limit on nesting. Each construct takes several of these levels.
 pub const MOST_DEPTH: usize = 3000;
 
-/// What is walked through: the source, what is known of its dialect, and how much deeper the walk may go.
+/// The source, its dialect, and how much deeper the walk may go.
 #[derive(Clone, Copy)]
 pub struct Walk<'s> {
     pub source: TokenizedText<'s>,
@@ -23,7 +27,7 @@ pub struct Walk<'s> {
 }
 
 impl<'s> Walk<'s> {
-    /// The walk one step deeper.
+    /// The walk one level deeper.
     fn deeper(self) -> Walk<'s>
         requires { 0 < self.depth }
         ensures { result.depth + 1 ≡ self.entry.depth }
@@ -35,22 +39,22 @@ impl<'s> Walk<'s> {
     }
 }
 
-/// Where the bracket at an index ends, within a limit: the index of what closes it, or the limit.
+/// The index of the token that closes the bracket at an index, at most `to`.
 fn inside_end(source: TokenizedText<'_>, index: usize, to: usize) -> usize
     ensures { result ≤ to }
 {
     source.partner(index).min(to)
 }
 
-/// The index after another one, within a limit.
+/// The next index, at most `to`.
 fn following(index: usize, to: usize) -> usize
     ensures { result ≤ to }
 {
     if index < to { index + 1 } else { to }
 }
 
-/// Whether a list that begins at an index may have declarations: it is that of a section bracket, and of no SWITCHON. Gives
-/// `None` outside of section brackets.
+/// Whether the list that begins at an index may have declarations: it is in section brackets and not the body of a
+/// SWITCHON. `None` if it isn't in section brackets.
 fn is_block(source: TokenizedText<'_>, from: usize) -> Option<bool> {
     if from == 0 || source.kind(from - 1) != Kind::OpenSection {
         return None;
@@ -67,19 +71,19 @@ fn begins_declaration(kind: Kind) -> bool {
     )
 }
 
-/// Whether such a token at the beginning of an item is no command.
+/// Whether an item that begins with such a token isn't a command.
 fn is_no_command(kind: Kind) -> bool {
     begins_declaration(kind)
         || matches!(kind, Kind::And | Kind::Semicolon | Kind::Get | Kind::Header)
 }
 
-/// Whether an item of a list begins at an index: in front, after a separator, or after the colon of a case or a label.
+/// Whether an item of a list begins at an index: the first one, or after a separator, or after the colon of a case or
+/// a label.
 fn begins_item(source: TokenizedText<'_>, from: usize, at: usize) -> bool {
     at == from || source.is_separated(at) || at > 0 && source.kind(at - 1) == Kind::Colon
 }
 
-/// The items of a list, from one index up to another one. A declaration after commands gets a block of its own, which goes
-/// to the end of the list.
+/// The items of a list. A declaration after commands begins a block of its own, which ends with the list.
 #[cycle(walk)]
 pub fn items(walk: Walk<'_>, notes: &mut Notes, from: usize, to: usize) {
     if walk.depth == 0 {
@@ -104,7 +108,7 @@ pub fn items(walk: Walk<'_>, notes: &mut Notes, from: usize, to: usize) {
     }
 }
 
-/// Puts the items of a list from an index on between brackets of their own, where the list is one of commands.
+/// Puts the items from `at` on into a block, if this is a list of commands.
 fn put_block(source: TokenizedText<'_>, notes: &mut Notes, from: usize, at: usize, to: usize) {
     match is_block(source, from) {
         None => {}
@@ -117,7 +121,7 @@ fn put_block(source: TokenizedText<'_>, notes: &mut Notes, from: usize, at: usiz
     }
 }
 
-/// The part of an item that begins at an index. Gives the index after it.
+/// The part of an item that begins at an index. Returns the index after it.
 #[cycle(walk)]
 fn item(walk: Walk<'_>, notes: &mut Notes, at: usize, to: usize) -> usize {
     if walk.depth == 0 {
@@ -143,7 +147,7 @@ fn item(walk: Walk<'_>, notes: &mut Notes, at: usize, to: usize) -> usize {
     }
 }
 
-/// What stands between brackets. Gives the index after the closing one.
+/// A bracket with its content. Returns the index after the closing bracket.
 #[cycle(walk)]
 fn bracket(walk: Walk<'_>, notes: &mut Notes, at: usize, to: usize) -> usize {
     if walk.depth == 0 {
@@ -176,7 +180,7 @@ fn header(source: TokenizedText<'_>, notes: &mut Notes, at: usize, to: usize) ->
     end
 }
 
-/// A GOTO's destination, which is to be a name alone.
+/// The destination of a GOTO, which must be a name.
 fn destination(source: TokenizedText<'_>, notes: &mut Notes, at: usize, to: usize) -> usize {
     let next = following(at, to);
     let goes_on = !source.is_separated(next)
@@ -215,7 +219,7 @@ fn definition(walk: Walk<'_>, notes: &mut Notes, at: usize, to: usize) -> usize 
     definitions(walk.deeper(), notes, values, to)
 }
 
-/// The values of a definition of several names. Where one is a vector, each name gets a definition of its own.
+/// The values of a definition of several names. If one is a vector, each name gets a definition of its own.
 #[cycle(walk)]
 fn definitions(walk: Walk<'_>, notes: &mut Notes, values: Values, to: usize) -> usize {
     if walk.depth == 0 {
@@ -254,7 +258,7 @@ fn ends_entry(source: TokenizedText<'_>, index: usize, closing: usize) -> bool {
         || source.is_separated(index)
 }
 
-/// GLOBAL, MANIFEST or STATIC with its entries. Gives the index after the closing bracket.
+/// GLOBAL, MANIFEST or STATIC with its entries. Returns the index after the closing bracket.
 #[cycle(walk)]
 fn entries(walk: Walk<'_>, notes: &mut Notes, at: usize, to: usize) -> usize {
     if walk.depth == 0 {
@@ -295,7 +299,7 @@ fn entries(walk: Walk<'_>, notes: &mut Notes, at: usize, to: usize) -> usize {
     following(closing, to)
 }
 
-/// The constants of a CASE. Gives the index after them.
+/// The constants of a CASE. Returns the index after them.
 #[cycle(walk)]
 fn cases(walk: Walk<'_>, notes: &mut Notes, at: usize, to: usize) -> usize {
     if walk.depth == 0 {
@@ -322,7 +326,7 @@ fn cases(walk: Walk<'_>, notes: &mut Notes, at: usize, to: usize) -> usize {
     start
 }
 
-/// Writes out the cases of a range, whose constants stand between these indices.
+/// Writes out a range of cases. The constants are in these two ranges of tokens.
 fn put_range(
     source: TokenizedText<'_>,
     notes: &mut Notes,
@@ -341,7 +345,8 @@ fn put_range(
     }
 }
 
-/// What begins with an operand: an assignment, a call, or expressions with commas between them. Gives the index after it.
+/// A construct that begins with an operand: an assignment, a call, or expressions separated by commas. Returns the
+/// index after it.
 #[cycle(walk)]
 fn command(walk: Walk<'_>, notes: &mut Notes, at: usize, to: usize) -> usize {
     if walk.depth == 0 {
@@ -378,7 +383,7 @@ fn command(walk: Walk<'_>, notes: &mut Notes, at: usize, to: usize) -> usize {
     end.max(following(at, to))
 }
 
-/// An assignment to what was read, whose sign stands after it.
+/// An assignment to `left`, whose `:=` follows it.
 #[cycle(walk)]
 fn assignment(walk: Walk<'_>, notes: &mut Notes, at: usize, left: Operand, to: usize) -> usize {
     if walk.depth == 0 {
@@ -396,7 +401,7 @@ fn assignment(walk: Walk<'_>, notes: &mut Notes, at: usize, left: Operand, to: u
     start
 }
 
-/// An assignment with an operator to what was read, whose operator stands after it.
+/// An assignment with an operator to `left`. The operator follows it.
 #[cycle(walk)]
 fn compound(walk: Walk<'_>, notes: &mut Notes, at: usize, left: Operand, to: usize) -> usize {
     if walk.depth == 0 {
@@ -420,7 +425,8 @@ fn compound(walk: Walk<'_>, notes: &mut Notes, at: usize, left: Operand, to: usi
     end
 }
 
-/// The expression that begins at an index, without operators that bind more loosely than a level. Gives the index after it.
+/// The expression that begins at an index, with operators that bind at least as tightly as `level`. Returns the index
+/// after it.
 #[cycle(walk)]
 fn expression(walk: Walk<'_>, notes: &mut Notes, level: u8, at: usize, to: usize) -> usize {
     if walk.depth == 0 {
@@ -435,8 +441,8 @@ fn expression(walk: Walk<'_>, notes: &mut Notes, level: u8, at: usize, to: usize
     operators(walk.deeper(), notes, level, at, left.end, to)
 }
 
-/// The operators after what was read from an index up to another one, that bind no more loosely than a level, with their
-/// operands.
+/// The operators after an operand, with their right operands, that bind at least as tightly as `level`. The operand
+/// begins at `at` and ends before `from`.
 #[cycle(walk)]
 fn operators(
     walk: Walk<'_>,
@@ -485,7 +491,7 @@ fn operators(
     end
 }
 
-/// Closes what was read of a chain of relations.
+/// Closes a chain of relations.
 fn close(notes: &mut Notes, end: usize, chain: Option<Chain>) {
     match chain {
         None => {}
@@ -507,7 +513,7 @@ fn choice(walk: Walk<'_>, notes: &mut Notes, at: usize, to: usize) -> usize {
     expression(walk.deeper(), notes, 1, following(end, to), to)
 }
 
-/// The operand that begins at an index; with calls alone after it, where `calls_only` says so, and else with `!` and `%` too.
+/// The operand that begins at an index. Calls may follow it, and `!` and `%` unless `calls_only`.
 #[cycle(walk)]
 fn operand(walk: Walk<'_>, notes: &mut Notes, at: usize, to: usize, calls_only: bool) -> Operand {
     if walk.depth == 0 || at >= to {
@@ -540,12 +546,12 @@ fn operand(walk: Walk<'_>, notes: &mut Notes, at: usize, to: usize, calls_only: 
     }
 }
 
-/// Whether a token's last byte may stand in a name.
+/// Whether a token ends with a byte of a name.
 fn ends_a_word(bytes: &[u8]) -> bool {
     bytes.last().is_some_and(|byte| is_name_byte(*byte))
 }
 
-/// Takes out a sign that is `+`, where it is no operator between two operands.
+/// Removes a `+` that isn't a dyadic operator.
 fn drop_plus(source: TokenizedText<'_>, notes: &mut Notes, at: usize) {
     if source.bytes(at) != b"+".as_slice() {
         return;
@@ -564,7 +570,7 @@ fn is_star_subscript(walk: Walk<'_>, index: usize) -> bool {
         && is_adjacent(source, index)
 }
 
-/// Whether what was read from an index up to another one is a constant that is no string.
+/// Whether a range of tokens is a single constant other than a string.
 fn is_constant_alone(source: TokenizedText<'_>, at: usize, end: usize) -> bool {
     end == at.saturating_add(1)
         && matches!(
@@ -573,13 +579,13 @@ fn is_constant_alone(source: TokenizedText<'_>, at: usize, end: usize) -> bool {
         )
 }
 
-/// Whether what was read from an index up to another one is a number: a constant, or a name that is used as no vector's.
+/// Whether a range of tokens is a number: a constant, or a name that is used as a number.
 fn is_number_alone(source: TokenizedText<'_>, at: usize, end: usize) -> bool {
     let is_name = end == at.saturating_add(1) && source.kind(at) == Kind::Name;
     is_constant_alone(source, at, end) || is_name && is_number(source, at)
 }
 
-/// Whether brackets enclose what is read from an index up to another one, with a relation in them and no choice: a truth value.
+/// Whether a range of tokens is in parentheses and has a relation but no choice, and so is a truth value.
 fn is_truth(source: TokenizedText<'_>, from: usize, to: usize) -> bool {
     source.kind(from) == Kind::OpenRound
         && source.partner(from).saturating_add(1) == to
@@ -587,7 +593,7 @@ fn is_truth(source: TokenizedText<'_>, from: usize, to: usize) -> bool {
         && (from..to).all(|index| source.kind(index) != Kind::Arrow)
 }
 
-/// Why the sign at an index, after what was read from another one, goes on with no subscript, though it is that of one.
+/// Why the sign at `sign` isn't taken for a subscript of the operand that begins at `at`, although it looks like one.
 fn subscript_fault(walk: Walk<'_>, at: usize, sign: usize) -> Option<Fault> {
     let source = walk.source;
     if is_star_subscript(walk, sign) && is_number_alone(source, at, sign) {
@@ -605,7 +611,7 @@ fn subscript_fault(walk: Walk<'_>, at: usize, sign: usize) -> Option<Fault> {
     if is_or { Some(Fault::PercentOr) } else { None }
 }
 
-/// The calls and subscripts after what was read from an index up to another one.
+/// The calls and subscripts after an operand, which begins at `at` and ends before `from`.
 #[cycle(walk)]
 fn selected(
     walk: Walk<'_>,

@@ -1,9 +1,10 @@
--- Replacements that rise, with one more after them.
+-- Replacements that rise still rise after one more is appended.
 use Rattle.std.proofs.Common.{◌≡◌, ℕ, ◌≤◌, List, [], ◌∷◌, ◌++◌, arith}
 use Rattle.bc_convert_edits.specs.declared.replacement.Replacement.{Replacement}
 use Rattle.bc_convert_edits.specs.Converted.{RiseWithin}
 
--- they rise up to this place: where the last one ends, or where they began
+-- the spans begin at `at` or after it, rise, and the last one ends at `last`; without any span, `at` isn't after
+-- `last`
 abbrev pub RiseTo : ℕ → ℕ → List Replacement → Type 0
 RiseTo at last [] = at ≤ last
 RiseTo at last (r ∷ rs) = (at ≤ r.start) × (r.start ≤ r.end) × RiseTo r.end last rs

@@ -1,10 +1,10 @@
--- Worked examples of texts of which spans are replaced.
+-- Worked examples of texts with replaced spans.
 use Rattle.std.specs.Prelude.{◌≡◌, List, [], ◌∷◌, codes, ℕ}
 use Rattle.std.proofs.Common.{refl, arith}
 use Rattle.bc_convert_edits.specs.declared.replacement.Replacement.{Replacement}
 use Rattle.bc_convert_edits.specs.Converted.{converted, RiseWithin, Changes}
 
--- without replacements a text comes back
+-- without replacements the text is unchanged
 unchanged : (text : List ℕ) → converted text [] ≡ text
 unchanged text = refl
 
@@ -12,22 +12,22 @@ unchanged text = refl
 replaced : (r : Replacement) → r.start ≡ 1 → r.end ≡ 2 → r.text.items ≡ codes "XY" → converted (codes "abc") (r ∷ []) ≡ codes "aXYc"
 replaced r start end text = rw (start, end, text) refl
 
--- bytes are put in between two others
+-- bytes are inserted between two others
 put_in : (r : Replacement) → r.start ≡ 1 → r.end ≡ 1 → r.text.items ≡ codes "X" → converted (codes "abc") (r ∷ []) ≡ codes "aXbc"
 put_in r start end text = rw (start, end, text) refl
 
--- two spans side by side rise
+-- two adjacent spans rise
 side_by_side : (r s : Replacement) → r.start ≡ 0 → r.end ≡ 2 → s.start ≡ 2 → s.end ≡ 3 → RiseWithin 0 3 (r ∷ s ∷ [])
 side_by_side r s a b c d = (omega arith, omega arith, omega arith, (omega arith, omega arith, omega arith, omega arith))
 
--- two that overlap don't
+-- two that overlap don't rise
 overlap : (r s : Replacement) → r.end ≡ 2 → s.start ≡ 1 → RiseWithin 0 3 (r ∷ s ∷ []) → ⊥
 overlap r s b c rise = omega (arith, rise.3.0)
 
--- nor does one that goes past the text
+-- nor does one that goes past the end of the text
 past_the_end : (r : Replacement) → r.end ≡ 4 → RiseWithin 0 3 (r ∷ []) → ⊥
 past_the_end r b rise = omega (arith, rise.2)
 
--- what has the bytes of its span changes nothing
+-- a replacement with the bytes of its span changes nothing
 no_change : (r : Replacement) → r.start ≡ 0 → r.end ≡ 1 → r.text.items ≡ codes "a" → Changes (codes "abc") r → ⊥
 no_change r start end text changes = changes (rw (start, end, text) refl)

@@ -1,3 +1,5 @@
+//! The public call `apply`.
+
 ghost use Rattle.std.specs.Prelude.{◌≡◌, ◌++◌, length, IfOk, OnOk};
 ghost use Rattle.bc_convert_edits.specs.Converted.{converted, RiseWithin};
 
@@ -5,12 +7,11 @@ use crate::replacement::Replacement;
 use bc_word::Memory;
 use std::alloc::Global;
 
-/// The text in which each of the spans has its replacement in its place, and all else stays as it is. The spans rise,
-/// don't overlap and lie within the text.
+/// The text with each span replaced. The spans must rise, not overlap, and lie within the text.
 ///
 /// # Errors
 ///
-/// `Memory` where an allocation was refused.
+/// `Memory` if an allocation failed.
 pub fn apply(alloc: Global, text: &[u8], replacements: &[Replacement]) -> Result<Vec<u8>, Memory>
     requires { RiseWithin 0 (length text.now) replacements.now }
     ensures { IfOk result (λ whole. whole.items ≡ converted text.now replacements.now) }

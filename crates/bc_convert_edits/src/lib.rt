@@ -1,4 +1,5 @@
-//! Replacements of spans of a text: what a conversion lists, and how it is carried out.
+//! Replacements of spans of a text: `settle` chooses which of a list of candidates can be carried out together, and
+//! `apply` carries them out.
 #![tactic(auto)]
 
 mod applied;

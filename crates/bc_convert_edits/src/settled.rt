@@ -1,3 +1,5 @@
+//! The public call `settle`.
+
 ghost use Rattle.std.specs.Prelude.{◌≤◌, length, IfOk, IsTrue};
 ghost use Rattle.bc_convert_edits.specs.Converted.{RiseWithin, Changes, ChangesText};
 
@@ -5,7 +7,7 @@ use crate::replacement::Replacement;
 use bc_word::Memory;
 use std::alloc::Global;
 
-/// Whether a replacement has other bytes than its span.
+/// Whether a replacement changes its span.
 fn changes(text: &[u8], replacement: &Replacement) -> bool
     requires rises { replacement.now.start ≤ replacement.now.end }
     requires within { replacement.now.end ≤ length text.now }
@@ -15,12 +17,12 @@ fn changes(text: &[u8], replacement: &Replacement) -> bool
     span != replacement.text.as_slice()
 }
 
-/// Of these replacements, in their order, those that begin at or after the end of the one that was taken last, lie
-/// within the text and change it.
+/// Those candidates, in order, that begin at or after the end of the last one taken, lie within the text and change
+/// it.
 ///
 /// # Errors
 ///
-/// `Memory` where an allocation was refused.
+/// `Memory` if an allocation failed.
 pub fn settle(
     alloc: Global,
     text: &[u8],

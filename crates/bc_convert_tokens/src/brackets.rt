@@ -1,16 +1,18 @@
+//! Which token closes each bracket.
+
 use crate::bytes::span;
 use crate::kind::Kind;
 use crate::source::{Token, TokenizedText};
 use bc_word::Memory;
 use std::alloc::Global;
 
-/// The tag of a section bracket, without underlines' spelling changed; empty where it has none.
+/// The tag of a section bracket as it is spelled; empty if it has none.
 fn tag<'s>(text: &'s [u8], token: &Token) -> &'s [u8] {
     let whole = span(text, token.start, token.end);
     span(whole, 2, whole.len())
 }
 
-/// Whether a bracket that is open is closed by this token alone or at the latest.
+/// Whether `closing` closes the bracket `opening`, alone or together with brackets inside.
 fn is_closed_by(text: &[u8], opening: &Token, closing: &Token) -> bool {
     match closing.kind {
         Kind::CloseRound => opening.kind == Kind::OpenRound,
@@ -20,7 +22,7 @@ fn is_closed_by(text: &[u8], opening: &Token, closing: &Token) -> bool {
     }
 }
 
-/// Whether some bracket of a stack is closed by this token.
+/// Whether `closing` closes one of the open brackets.
 fn closes_any(source: TokenizedText<'_>, open: &[usize], closing: &Token) -> bool {
     open.iter().any(|index| match source.tokens.get(*index) {
         Some(opening) => is_closed_by(source.text, opening, closing),
@@ -28,7 +30,7 @@ fn closes_any(source: TokenizedText<'_>, open: &[usize], closing: &Token) -> boo
     })
 }
 
-/// Takes brackets from a stack up to the one that this token closes, and writes down that it closes them.
+/// Pops brackets up to the one that this token closes, and records the token as their partner.
 fn close(
     source: TokenizedText<'_>,
     open: &mut Vec<usize>,
@@ -53,12 +55,12 @@ fn close(
     }
 }
 
-/// For each token that opens a bracket the index of the token that closes it; for the others, and where none does, the
-/// number of the tokens. A section bracket with a tag closes all up to the one with its tag.
+/// For each token that opens a bracket, the index of the token that closes it. It is the number of tokens for an
+/// unclosed bracket and for any other token. A section bracket with a tag also closes all brackets inside.
 ///
 /// # Errors
 ///
-/// `Memory` where an allocation was refused.
+/// `Memory` if an allocation failed.
 pub fn partners(alloc: Global, source: TokenizedText<'_>) -> Result<Vec<usize>, Memory> {
     let count = source.tokens.len();
     let mut partners = vec![in alloc; count; count]?;

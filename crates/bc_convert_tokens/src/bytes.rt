@@ -1,6 +1,8 @@
+//! Bytes of a text: slices, and counts of the leading bytes of a kind.
+
 ghost use Rattle.std.specs.Prelude.{◌≡◌, ◌+◌, ◌≤◌, length};
 
-/// The bytes from a place on.
+/// The bytes from `at` on.
 pub fn following(bytes: &[u8], at: usize) -> &[u8]
     requires { at ≤ length bytes.now }
     ensures { length result.now + at ≡ length bytes.now }
@@ -8,7 +10,7 @@ pub fn following(bytes: &[u8], at: usize) -> &[u8]
     bytes.split_at(at).1
 }
 
-/// The bytes from one place up to another one, or none where these are no places of the bytes.
+/// The bytes from `start` up to `end`; empty if there are no such bytes.
 pub fn span(bytes: &[u8], start: usize, end: usize) -> &[u8] {
     if start <= end && end <= bytes.len() {
         &bytes[start..end]
@@ -17,24 +19,24 @@ pub fn span(bytes: &[u8], start: usize, end: usize) -> &[u8] {
     }
 }
 
-/// Whether the byte may stand in a name or a tag, in any of the dialects.
+/// Whether a byte may be part of a name or a tag, in any dialect.
 pub fn is_name_byte(byte: u8) -> bool {
     byte.is_ascii_alphanumeric() || byte == b'.' || byte == b'_'
 }
 
-/// Whether the byte is a blank or a line break.
+/// Whether a byte is a blank or a line break.
 pub fn is_space(byte: u8) -> bool {
     matches!(byte, b' ' | b'\t' | b'\r' | b'\x0c' | b'\n')
 }
 
-/// How many bytes in front may stand in a name.
+/// The number of leading bytes that may be part of a name.
 pub fn name_bytes(bytes: &[u8]) -> usize
     ensures { result ≤ length bytes.now }
 {
     bytes.iter().take_while(|byte| is_name_byte(**byte)).count()
 }
 
-/// How many bytes in front are digits, or underlines among them.
+/// The number of leading digits and underlines.
 pub fn digit_bytes(bytes: &[u8]) -> usize
     ensures { result ≤ length bytes.now }
 {
@@ -44,7 +46,7 @@ pub fn digit_bytes(bytes: &[u8]) -> usize
         .count()
 }
 
-/// How many bytes in front are hexadecimal digits, or underlines among them.
+/// The number of leading hexadecimal digits and underlines.
 pub fn hexadecimal_bytes(bytes: &[u8]) -> usize
     ensures { result ≤ length bytes.now }
 {
@@ -54,7 +56,7 @@ pub fn hexadecimal_bytes(bytes: &[u8]) -> usize
         .count()
 }
 
-/// How many bytes stand before a line break, or of the end.
+/// The number of bytes before the first line break, or all.
 pub fn line_bytes(bytes: &[u8]) -> usize
     ensures { result ≤ length bytes.now }
 {

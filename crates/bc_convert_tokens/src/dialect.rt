@@ -1,27 +1,29 @@
+//! The dialect of a source, and the kinds of words and square brackets in it.
+
 use crate::kind::Kind;
 use crate::source::{Token, TokenizedText};
 use crate::words::{ReservedWord, is_same_word, is_small, reserved};
 use bc_word::Memory;
 use std::alloc::Global;
 
-/// What a source tells of the dialect that it is written in.
+/// What a source shows about its dialect.
 #[derive(Clone, Copy)]
 pub struct Dialect {
-    /// Reserved words stand in small letters.
+    /// Reserved words are in lower case.
     pub has_small_words: bool,
-    /// Names of the library stand in small letters.
+    /// Names of the library are in lower case.
     pub has_small_library: bool,
-    /// `*` and a round or square bracket right after it are a subscript.
+    /// `*` directly followed by a parenthesis or square bracket is a subscript.
     pub has_star_subscripts: bool,
 }
 
 impl Dialect {
-    /// The dialect of a source whose words are not told apart yet.
+    /// The dialect of a source whose tokens aren't classified yet.
     ///
-    /// Reserved words stand in small letters where the source begins with one, or where `let` and a word stand side by side,
-    /// which is no part of a source in this dialect. The library's names stand in small letters where these do, where the
-    /// library's header does after GET, or where `start` is declared and START isn't. `*(` and `*[` are subscripts where something
-    /// is assigned to one.
+    /// Reserved words are in lower case if the source begins with one, or if a word follows `let` on the same line,
+    /// which this dialect can't have. The library's names are in lower case if reserved words are, if `GET "libhdr"`
+    /// is, or if `start` is declared and START isn't. `*(` and `*[` are subscripts if something is assigned to one of
+    /// them.
     pub fn of(source: TokenizedText<'_>) -> Dialect {
         let has_small_words = begins_small(source) || has_small_let(source);
         Dialect {
@@ -31,8 +33,8 @@ impl Dialect {
         }
     }
 
-    /// This dialect of a source of a program in which another source has the other one. How the library's names are written, and
-    /// what `*(` is, is so in all sources of a program; which letters its reserved words have each source says for itself.
+    /// This dialect, in a program in which another source has the dialect `other`. The case of reserved words is each
+    /// source's own; the rest holds for all sources of a program.
     pub fn among(self, other: Dialect) -> Dialect {
         Dialect {
             has_small_words: self.has_small_words,
@@ -42,13 +44,13 @@ impl Dialect {
     }
 }
 
-/// Whether the first word is a reserved one in small letters.
+/// Whether the first word is a reserved word in lower case.
 fn begins_small(source: TokenizedText<'_>) -> bool {
     let first = source.bytes(0);
     source.kind(0) == Kind::Word && is_small(first) && reserved(first, true).is_some()
 }
 
-/// Whether `let` stands before a word in the same line.
+/// Whether a word follows `let` on the same line.
 fn has_small_let(source: TokenizedText<'_>) -> bool {
     for index in 1..source.tokens.len() {
         let is_in_line = !source.gap(index).contains(&b'\n');
@@ -62,7 +64,7 @@ fn has_small_let(source: TokenizedText<'_>) -> bool {
     false
 }
 
-/// Whether a string is the name of the library's header in small letters, with any ending.
+/// Whether a string is the name of the library's header in lower case, with any extension.
 fn is_small_header(string: &[u8]) -> bool {
     string == b"\"libhdr\"".as_slice() || string.starts_with(b"\"libhdr.".as_slice())
 }
@@ -80,14 +82,14 @@ fn declares_routine(source: TokenizedText<'_>, name: &[u8]) -> bool {
         && source.kind(index.saturating_add(1)) == Kind::OpenRound)
 }
 
-/// Whether names of the library stand in small letters in a source whose reserved words are capitals.
+/// Whether the library's names are in lower case in a source whose reserved words are in upper case.
 fn has_small_library(source: TokenizedText<'_>) -> bool {
     let gets_header = (1..source.tokens.len()).any(|index| is_small_header(source.bytes(index))
         && is_same_word(source.bytes(index - 1), b"GET"));
     gets_header || declares_routine(source, b"start") && !declares_routine(source, b"START")
 }
 
-/// Whether a `*` and a round or square bracket stand side by side, without a blank between them.
+/// Whether `*` is directly followed by a parenthesis or square bracket.
 fn is_star_subscript(source: TokenizedText<'_>, star: usize) -> bool {
     let bracket = star.saturating_add(1);
     source.kind(star) == Kind::Star
@@ -95,7 +97,7 @@ fn is_star_subscript(source: TokenizedText<'_>, star: usize) -> bool {
         && source.end(star) == source.start(bracket)
 }
 
-/// Whether a command assigns to what `*(` or `*[` begins the subscript of.
+/// Whether a command assigns to a subscript with a star.
 fn assigns_to_star(source: TokenizedText<'_>) -> bool {
     for star in 1..source.tokens.len() {
         let closing = source.partner(star.saturating_add(1));
@@ -123,7 +125,7 @@ fn opens_entries(source: TokenizedText<'_>, index: usize) -> bool {
         || is_same_word(word, b"STATIC")
 }
 
-/// Whether an index stands in a list of GLOBAL, MANIFEST or STATIC.
+/// Whether an index is in a list of GLOBAL, MANIFEST or STATIC.
 fn is_in_entries(source: TokenizedText<'_>, index: usize) -> bool {
     for back in 1..=index {
         let at = index - back;
@@ -136,8 +138,8 @@ fn is_in_entries(source: TokenizedText<'_>, index: usize) -> bool {
     false
 }
 
-/// Whether an entry of such a list can begin at an index: after the bracket, a semicolon or a line break, or after a comma
-/// where a value follows.
+/// Whether an entry of such a list can begin at an index: after the bracket, a semicolon or a line break, or after a
+/// comma if a value follows.
 fn begins_entry(source: TokenizedText<'_>, index: usize) -> bool {
     if index == 0 {
         return false;
@@ -152,7 +154,8 @@ fn begins_entry(source: TokenizedText<'_>, index: usize) -> bool {
     }
 }
 
-/// Whether the tokens before an index, back to LET or AND, are words, commas and opening brackets, the last one no word.
+/// Whether only words, commas and opening parentheses are between LET or AND and an index, and no word directly
+/// before it.
 fn is_in_heading(source: TokenizedText<'_>, index: usize) -> bool {
     if index == 0 || source.kind(index - 1) == Kind::Word {
         return false;
@@ -168,7 +171,7 @@ fn is_in_heading(source: TokenizedText<'_>, index: usize) -> bool {
     false
 }
 
-/// Whether the word at an index is declared there, if it is a name.
+/// Whether the word at an index is declared there, provided that it is a name.
 fn is_declared_at(source: TokenizedText<'_>, index: usize) -> bool {
     if index == 0 {
         return false;
@@ -179,8 +182,8 @@ fn is_declared_at(source: TokenizedText<'_>, index: usize) -> bool {
         || begins_entry(source, index) && is_in_entries(source, index)
 }
 
-/// Whether the word at an index, which is of a kind in old dialects, is a name there all the same: it is declared or assigned
-/// to, or what an operator needs does not follow it.
+/// Whether the word at an index, a reserved one of old dialects, is used there as a name: it is declared or assigned
+/// to, or no operand follows although an operator would need one.
 fn is_used_as_name(source: TokenizedText<'_>, index: usize, kind: Kind) -> bool {
     let is_operator = !matches!(kind, Kind::Constant | Kind::Joint);
     match source.kind(index.saturating_add(1)) {
@@ -191,7 +194,7 @@ fn is_used_as_name(source: TokenizedText<'_>, index: usize, kind: Kind) -> bool 
     }
 }
 
-/// Whether the word at an index is a name somewhere.
+/// Whether the word at an index is used as a name somewhere.
 fn is_name_somewhere(source: TokenizedText<'_>, index: usize, kind: Kind) -> bool {
     for other in 0..source.tokens.len() {
         if source.kind(other) == Kind::Word
@@ -204,7 +207,7 @@ fn is_name_somewhere(source: TokenizedText<'_>, index: usize, kind: Kind) -> boo
     false
 }
 
-/// Whether the word at an index, a reserved one, is declared there as a name all the same, or assigned to.
+/// Whether the reserved word at an index is declared there or assigned to.
 fn is_set_as_name(source: TokenizedText<'_>, index: usize, kind: Kind) -> bool {
     match source.kind(index.saturating_add(1)) {
         Kind::Assign => kind.level() == 0,
@@ -216,13 +219,13 @@ fn is_set_as_name(source: TokenizedText<'_>, index: usize, kind: Kind) -> bool {
     }
 }
 
-/// Whether the word at an index, a reserved one, is a name where it stands in capitals: it is set as one somewhere.
+/// Whether the upper-case reserved word at an index is a name: it is declared or assigned to somewhere.
 fn is_capital_name(source: TokenizedText<'_>, index: usize, kind: Kind) -> bool {
     let mut indices = 0..source.tokens.len();
     indices.any(|other| source.is_same(index, other) && is_set_as_name(source, other, kind))
 }
 
-/// Whether the word at an index, which is a reserved one, is a name in this source.
+/// Whether the reserved word at an index is a name in this source.
 fn is_name_here(
     source: TokenizedText<'_>,
     index: usize,
@@ -237,7 +240,7 @@ fn is_name_here(
         && is_capital_name(source, index, word.kind)
 }
 
-/// What the word at an index is.
+/// The kind of the word at an index.
 fn kind_of_word(source: TokenizedText<'_>, index: usize, dialect: Dialect) -> Kind {
     match reserved(source.bytes(index), dialect.has_small_words) {
         None => Kind::Name,
@@ -253,8 +256,8 @@ fn kind_of_word(source: TokenizedText<'_>, index: usize, dialect: Dialect) -> Ki
     }
 }
 
-/// What an opening square bracket after such a token is: round after an operand in the same line or where an operand is
-/// wanted, else that of a section.
+/// The kind of an opening square bracket: a parenthesis after an operand on the same line or where an operand is
+/// required, else a section bracket.
 fn kind_of_square(before: Kind, is_separated: bool) -> Kind {
     let opens_section = matches!(
         before,
@@ -278,11 +281,11 @@ fn kind_of_square(before: Kind, is_separated: bool) -> Kind {
     }
 }
 
-/// The tokens, with each word told apart and each square bracket taken for a round one or for that of a section.
+/// The tokens with each word classified, and each square bracket taken for a parenthesis or a section bracket.
 ///
 /// # Errors
 ///
-/// `Memory` where an allocation was refused.
+/// `Memory` if an allocation failed.
 pub fn classified(
     alloc: Global,
     source: TokenizedText<'_>,

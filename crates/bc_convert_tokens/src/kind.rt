@@ -1,7 +1,9 @@
-/// What a token of an old source is, as far as a conversion has to know it.
+//! The kinds of tokens of old sources.
+
+/// What a token of an old source is, as far as a conversion needs to know.
 #[derive(Clone, Copy)]
 pub enum Kind {
-    /// A word of which it is not decided yet whether it is a name.
+    /// A word that isn't classified yet.
     Word,
     /// A name.
     Name,
@@ -15,20 +17,29 @@ pub enum Kind {
     Text,
     /// TRUE, FALSE or NIL.
     Constant,
-    /// `?`, a value that is left open.
+    /// `?`, an undefined value.
     Query,
+    /// `(`
     OpenRound,
+    /// `)`
     CloseRound,
+    /// `[`, not classified yet.
     OpenSquare,
+    /// `]`, not classified yet.
     CloseSquare,
+    /// `$(` with its tag, or `{`.
     OpenSection,
+    /// `$)` with its tag, or `}`.
     CloseSection,
+    /// `,`
     Comma,
+    /// `;`
     Semicolon,
+    /// `:`
     Colon,
     /// `:=`
     Assign,
-    /// `_` alone, which assigns in some dialects.
+    /// `_` alone, which means `:=` in some dialects.
     Underline,
     /// `->`
     Arrow,
@@ -42,10 +53,13 @@ pub enum Kind {
     Star,
     /// `/`, REM or MOD.
     Divide,
+    /// `<<`, `>>`, LSHIFT or RSHIFT.
     Shift,
     /// NOT, `~` or `\`.
     Not,
+    /// `&`, `/\` or LOGAND.
     Conjunction,
+    /// `|`, `\/` or LOGOR.
     Disjunction,
     /// EQV, NEQV or XOR.
     Equivalence,
@@ -57,46 +71,62 @@ pub enum Kind {
     Address,
     /// RV
     Content,
+    /// ABS
     Abs,
+    /// LET
     Let,
+    /// AND
     And,
+    /// BE
     Be,
+    /// VEC
     Vec,
+    /// VALOF
     Valof,
+    /// TABLE
     Table,
-    /// MANIFEST or STATIC.
+    /// STATIC
     Static,
+    /// MANIFEST
     Manifest,
+    /// GLOBAL
     Global,
+    /// FOR
     For,
+    /// CASE
     Case,
+    /// DEFAULT
     Default,
+    /// TO
     To,
+    /// GOTO
     Goto,
+    /// GET
     Get,
     /// SECTION or NEEDS.
     Header,
-    /// A word that a command begins with, and that has none of the kinds above.
+    /// Another word with which a command begins.
     Command,
-    /// A word that is a command: BREAK, LOOP, ENDCASE, RETURN, FINISH.
+    /// A whole command: BREAK, LOOP, ENDCASE, RETURN, FINISH.
     Jump,
+    /// REPEAT
     Repeat,
     /// REPEATWHILE or REPEATUNTIL.
     RepeatTest,
-    /// A word between the parts of a command: DO, THEN, ELSE, INTO, BY and the like.
+    /// A word between the parts of a command: DO, THEN, ELSE, INTO, BY and others.
     Joint,
-    /// OF, SLCT and other words that have no counterpart.
+    /// OF, SLCT and other words and signs that have no counterpart.
     Foreign,
-    /// A comment, a string or a character constant that is not closed.
+    /// A comment, a string or a character constant that isn't closed.
     Unclosed,
-    /// A byte that begins no token.
+    /// A byte with which no token begins.
     Unknown,
     /// The end of the source.
     End,
 }
 
 impl Kind {
-    /// Whether a command can end with such a token, so that a line break after it can separate two.
+    /// Whether a command can end with such a token. Then a line break after it can separate two commands.
     pub fn can_end(self) -> bool {
         matches!(
             self,
@@ -114,7 +144,7 @@ impl Kind {
         )
     }
 
-    /// Whether a command can begin with such a token, so that a line break before it can separate two.
+    /// Whether a command can begin with such a token. Then a line break before it can separate two commands.
     pub fn can_begin(self) -> bool {
         matches!(
             self,
@@ -165,7 +195,7 @@ impl Kind {
         )
     }
 
-    /// How tightly a dyadic operator binds, from 2 (EQV) to 9 (`*`), or 0 where the token is none of them.
+    /// How tightly a dyadic operator binds, from 1 (`->`) and 2 (EQV) to 9 (`*`); 0 for any other token.
     pub fn level(self) -> u8 {
         match self {
             Kind::Arrow => 1,

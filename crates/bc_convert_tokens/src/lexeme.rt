@@ -1,14 +1,16 @@
+//! One token or one gap at the start of a text, with the number of its bytes.
+
 ghost use Rattle.std.specs.Prelude.{◌≡◌, ◌+◌, ◌<◌, ◌≤◌, length, IfSome};
 
 use crate::bytes::{digit_bytes, following, hexadecimal_bytes, is_space, line_bytes, name_bytes};
 use crate::kind::Kind;
 
-/// Whether a block comment ends in front.
+/// Whether the text begins with the end of a block comment.
 fn closes(bytes: &[u8]) -> bool {
     matches!(bytes, [b'*', b'/', ..])
 }
 
-/// How many bytes the block comment in front has, or `None` where it is not closed.
+/// The length of the block comment at the start, or `None` if it isn't closed.
 fn block_comment(bytes: &[u8]) -> Option<usize>
     requires { 2 ≤ length bytes.now }
     ensures { IfSome result (λ n. n ≤ length bytes.now) }
@@ -21,8 +23,8 @@ fn block_comment(bytes: &[u8]) -> Option<usize>
     None
 }
 
-/// How many bytes the blank, the line break or the comment in front has, 0 where none stands there, or where a comment is
-/// not closed.
+/// The length of the blank, line break or comment at the start. It is 0 if there is none, or if the comment isn't
+/// closed.
 fn blank(bytes: &[u8]) -> usize
     ensures { result ≤ length bytes.now }
 {
@@ -34,7 +36,7 @@ fn blank(bytes: &[u8]) -> usize
     }
 }
 
-/// How many bytes of blanks, line breaks and comments stand in front.
+/// The length of the blanks, line breaks and comments at the start.
 pub fn gap(bytes: &[u8]) -> usize
     ensures { result ≤ length bytes.now }
 {
@@ -49,8 +51,8 @@ pub fn gap(bytes: &[u8]) -> usize
     at
 }
 
-/// How many bytes the string or the constant in front has, with the signs around it, or `None` where it is not closed. It
-/// goes over a line break only after a `*`.
+/// The length of the string or character constant at the start, with its quotes, or `None` if it isn't closed. It
+/// continues over a line break only after a `*`.
 fn quoted(bytes: &[u8], close: u8) -> Option<usize>
     ensures { IfSome result (λ n. n ≤ length bytes.now) }
 {
@@ -80,7 +82,7 @@ fn quoted(bytes: &[u8], close: u8) -> Option<usize>
     None
 }
 
-/// The number in front, with the number of its bytes.
+/// The number at the start.
 fn number(bytes: &[u8]) -> (Kind, usize)
     ensures { result.1 ≤ length bytes.now }
 {
@@ -94,7 +96,7 @@ fn number(bytes: &[u8]) -> (Kind, usize)
     }
 }
 
-/// The number with a base in front, with the number of its bytes.
+/// The number with a base at the start.
 fn based(bytes: &[u8]) -> (Kind, usize)
     requires { 0 < length bytes.now }
     ensures { result.1 ≤ length bytes.now }
@@ -118,7 +120,7 @@ fn based(bytes: &[u8]) -> (Kind, usize)
     }
 }
 
-/// The sign of two bytes in front.
+/// The sign of two bytes at the start.
 fn long_sign(bytes: &[u8]) -> Option<Kind>
     ensures { IfSome result (λ _. 2 ≤ length bytes.now) }
 {
@@ -135,7 +137,7 @@ fn long_sign(bytes: &[u8]) -> Option<Kind>
     }
 }
 
-/// The sign of one byte.
+/// The kind of a sign of one byte.
 fn short_sign(byte: u8) -> Kind {
     match byte {
         b'(' => Kind::OpenRound,
@@ -164,7 +166,7 @@ fn short_sign(byte: u8) -> Kind {
     }
 }
 
-/// How many bytes the character in front has: several where it begins with one of UTF-8 that has no seven bits, and these follow.
+/// The length of the character at the start, which is over 1 for a character of UTF-8 outside ASCII.
 fn character_bytes(bytes: &[u8]) -> usize
     requires { 0 < length bytes.now }
     ensures { result ≤ length bytes.now }
@@ -177,7 +179,7 @@ fn character_bytes(bytes: &[u8]) -> usize
     }
 }
 
-/// The sign in front, a section bracket with its whole tag, with the number of its bytes.
+/// The sign at the start. A section bracket includes its whole tag.
 fn sign(bytes: &[u8]) -> (Kind, usize)
     requires { 0 < length bytes.now }
     ensures { result.1 ≤ length bytes.now }
@@ -196,8 +198,7 @@ fn sign(bytes: &[u8]) -> (Kind, usize)
     }
 }
 
-/// The string or the character constant in front, with the number of its bytes; one that is not closed goes to the end of
-/// its line.
+/// The string or character constant at the start. An unclosed one ends with its line.
 fn quoted_token(bytes: &[u8], close: u8, kind: Kind) -> (Kind, usize)
     ensures { result.1 ≤ length bytes.now }
 {
@@ -207,7 +208,7 @@ fn quoted_token(bytes: &[u8], close: u8, kind: Kind) -> (Kind, usize)
     }
 }
 
-/// The token in front, where no blank and no comment stands, with the number of its bytes.
+/// The token at the start of a text that begins with neither a blank nor a comment.
 pub fn lexeme(bytes: &[u8]) -> (Kind, usize)
     requires { 0 < length bytes.now }
     ensures { result.1 ≤ length bytes.now }

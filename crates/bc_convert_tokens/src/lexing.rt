@@ -1,3 +1,5 @@
+//! The tokens of a text.
+
 ghost use Rattle.std.specs.Prelude.{◌≤◌, length};
 
 use crate::bytes::{following, span};
@@ -6,11 +8,11 @@ use crate::source::Token;
 use bc_word::Memory;
 use std::alloc::Global;
 
-/// The tokens of a text, with words that are not told apart yet.
+/// The tokens of a text. Words and square brackets aren't classified yet.
 ///
 /// # Errors
 ///
-/// `Memory` where an allocation was refused.
+/// `Memory` if an allocation failed.
 pub fn lex(alloc: Global, text: &[u8]) -> Result<Vec<Token>, Memory> {
     let mut tokens = Vec::new(alloc);
     let mut at = 0;

@@ -1,4 +1,7 @@
-//! The tokens of sources in old dialects of the language, with what each is and where it stands.
+//! The tokens of sources in old dialects of BCPL, classified by context.
+//!
+//! This crate defines blanks, names, lines and comments itself, although `bc_lex` does too: so a change of the
+//! language changes nothing in how old sources are read.
 #![tactic(auto)]
 
 mod brackets;

@@ -1,7 +1,9 @@
+//! A text with its tokens.
+
 use crate::bytes::span;
 use crate::kind::Kind;
 
-/// A token: what it is, its first byte and the byte after it, and whether a line break stands before it.
+/// A token: its kind, the index of its first byte and of the byte after it, and whether a line break precedes it.
 #[derive(Clone, Copy)]
 pub struct Token {
     pub kind: Kind,
@@ -10,7 +12,8 @@ pub struct Token {
     pub line_before: bool,
 }
 
-/// A text, its tokens, and for each token that opens a bracket the index of the one that closes it.
+/// A text, its tokens, and for each token that opens a bracket the index of the token that closes it. Any index is
+/// allowed in the methods below: one that is past the last token has the kind `End` and no bytes.
 #[derive(Clone, Copy)]
 pub struct TokenizedText<'s> {
     pub text: &'s [u8],
@@ -19,12 +22,12 @@ pub struct TokenizedText<'s> {
 }
 
 impl<'s> TokenizedText<'s> {
-    /// What the token at an index is; `End` after the last one.
+    /// The kind of the token at an index.
     pub fn kind(self, index: usize) -> Kind {
         self.tokens.get(index).map_or(Kind::End, |token| token.kind)
     }
 
-    /// The bytes of the token at an index, or none.
+    /// The bytes of the token at an index.
     pub fn bytes(self, index: usize) -> &'s [u8] {
         match self.tokens.get(index) {
             Some(token) => span(self.text, token.start, token.end),
@@ -38,21 +41,21 @@ impl<'s> TokenizedText<'s> {
         span(self.text, start, self.start(index))
     }
 
-    /// Where a token begins; after the last one, where the text ends.
+    /// The start of a token; after the last token, the end of the text.
     pub fn start(self, index: usize) -> usize {
         self.tokens
             .get(index)
             .map_or(self.text.len(), |token| token.start)
     }
 
-    /// Where a token ends; after the last one, where the text ends.
+    /// The end of a token; after the last token, the end of the text.
     pub fn end(self, index: usize) -> usize {
         self.tokens
             .get(index)
             .map_or(self.text.len(), |token| token.end)
     }
 
-    /// The index of the token that closes the bracket at an index, or the number of the tokens.
+    /// The index of the token that closes the bracket at an index, or the number of tokens.
     pub fn partner(self, index: usize) -> usize {
         self.partners
             .get(index)
@@ -60,7 +63,7 @@ impl<'s> TokenizedText<'s> {
             .unwrap_or(self.tokens.len())
     }
 
-    /// Whether a line break or a semicolon separates the token at an index from what stands before it.
+    /// Whether a line break or a semicolon separates the token at an index from the one before.
     pub fn is_separated(self, index: usize) -> bool {
         if index == 0 {
             return true;
@@ -74,7 +77,7 @@ impl<'s> TokenizedText<'s> {
             || is_on_a_new_line && before.can_end() && self.kind(index).can_begin()
     }
 
-    /// Whether two tokens are spelled with the same bytes.
+    /// Whether two tokens have the same spelling.
     pub fn is_same(self, one: usize, other: usize) -> bool {
         self.bytes(one) == self.bytes(other)
     }

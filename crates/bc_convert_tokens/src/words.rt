@@ -1,11 +1,17 @@
+//! The reserved words of old dialects.
+
 use crate::kind::Kind;
 
-/// A word that is no name in an old dialect: what it is, how this dialect spells it, and whether it may be a name here.
+/// A word that is reserved in some old dialect.
 #[derive(Clone, Copy)]
 pub struct ReservedWord {
+    /// The word in upper case.
     pub text: &'static [u8],
+    /// Its kind.
     pub kind: Kind,
+    /// How this dialect spells it.
     pub spelling: &'static [u8],
+    /// Whether it may be a name in this dialect.
     pub is_name_now: bool,
 }
 
@@ -408,17 +414,17 @@ static RESERVED: [ReservedWord; 66] = [
     },
 ];
 
-/// Whether a word is spelled in small letters alone, digits and the like aside.
+/// Whether a word has no upper-case letter.
 pub fn is_small(word: &[u8]) -> bool {
     word.iter().all(|byte| !byte.is_ascii_uppercase())
 }
 
-/// Whether a word is this one of capital letters, or, where small letters may be meant, is it in small letters.
+/// Whether a word is spelled in upper case, or, if `small`, in lower case.
 fn is_spelled(word: &[u8], capitals: &[u8], small: bool) -> bool {
     word == capitals || small && is_small(word) && is_same_word(word, capitals)
 }
 
-/// Whether two words are the same but for the case of their letters.
+/// Whether two words are the same, ignoring case.
 pub fn is_same_word(one: &[u8], other: &[u8]) -> bool {
     one.len() == other.len()
         && one
@@ -427,7 +433,7 @@ pub fn is_same_word(one: &[u8], other: &[u8]) -> bool {
             .all(|(a, b)| a.to_ascii_uppercase() == b.to_ascii_uppercase())
 }
 
-/// The reserved word that a word is, or `None`. `small` says whether small letters are meant as well.
+/// The reserved word that a word spells, if any. `small` says whether lower case counts.
 pub fn reserved(word: &[u8], small: bool) -> Option<&'static ReservedWord> {
     for candidate in &RESERVED {
         if is_spelled(word, candidate.text, small) {

@@ -1,4 +1,4 @@
-//! The command.
+//! The command `convert`: reads the sources, converts them, writes them and reports what must be done by hand.
 
 use crate::job::{Job, Target, write_job};
 use crate::protected_files::spare;
@@ -9,7 +9,7 @@ use std::alloc::Global;
 use std::io::Write;
 use std::rt::Files;
 
-/// The failure of a command in which so many things are to be done by hand, of which these lines tell.
+/// The failure of a command after which `count` things must be done by hand. `told` has the lines about them.
 fn by_hand(order: &ConvertOrder<'_>, count: usize, told: String) -> Failure {
     let failure = Failure::new(Cause::ByHand(count));
     match order.places {
@@ -18,7 +18,7 @@ fn by_hand(order: &ConvertOrder<'_>, count: usize, told: String) -> Failure {
     }
 }
 
-/// The text of the list of names, or none where no list is given.
+/// The text of the list of names; empty if no list is given.
 fn list_text<F: Files>(
     rt: &F,
     alloc: Global,
@@ -30,7 +30,7 @@ fn list_text<F: Files>(
     }
 }
 
-/// Refuses a list of names in which something is wrong.
+/// Fails if the list of names has a faulty line.
 fn refuse_list(
     alloc: Global,
     order: &ConvertOrder<'_>,
@@ -60,7 +60,7 @@ fn texts_of<F: Files>(
     Ok(texts)
 }
 
-/// What the sources show together; nothing, where there is none.
+/// What the sources show together; `None` if there is no source.
 fn program_of(
     alloc: Global,
     texts: &[Vec<u8>],
@@ -77,7 +77,7 @@ fn program_of(
     Ok(whole)
 }
 
-/// What becomes of each source, and where that goes.
+/// The conversion of each source, and where it goes.
 fn jobs_of<'a>(
     alloc: Global,
     order: &ConvertOrder<'a>,
@@ -98,7 +98,7 @@ fn jobs_of<'a>(
     Ok(jobs)
 }
 
-/// The failure that tells of all that is to be done by hand, if there is anything.
+/// Fails with everything that must be done by hand, if there is anything.
 fn tell_jobs(alloc: Global, order: &ConvertOrder<'_>, jobs: &[Job<'_>]) -> Result<(), Failure> {
     let mut count: usize = 0;
     let mut told = String::new(alloc);
@@ -120,12 +120,12 @@ fn tell_jobs(alloc: Global, order: &ConvertOrder<'_>, jobs: &[Job<'_>]) -> Resul
     }
 }
 
-/// Converts old sources, writes what becomes of them, and tells of what is to be done by hand: then they are written all the same.
+/// Converts old sources, writes the results and reports what must be done by hand. Even then everything is written.
 ///
 /// # Errors
 ///
-/// A failure where a file can't be read or written, where one that is to be written would be lost, where an allocation was refused,
-/// and where something is to be done by hand. Where the list of names has a mistake, nothing is written.
+/// Fails if a file can't be read or written, if a file to be written would be lost, if an allocation fails, or if
+/// something must be done by hand. If the list of names has a faulty line, nothing is written.
 pub fn convert_file<F: Files, O: Write + Drop>(
     rt: &F,
     alloc: Global,

@@ -1,4 +1,4 @@
-//! A source of the command: what becomes of it, and where that goes.
+//! One source of the command: its conversion, and where that goes.
 
 use bc_convert::Conversion;
 use bcpl_cli::{ConvertTo, Failure, Written};
@@ -6,24 +6,24 @@ use std::alloc::{AllocError, Global};
 use std::io::Write;
 use std::rt::Files;
 
-/// What stands after the name of the file that keeps what a source was before it was converted in its place.
+/// The extension of the file that keeps the old text of a source converted in place.
 const KEPT: &str = ".old";
 
-/// Where what a source becomes is to go.
+/// Where the conversion of a source goes.
 #[derive(Drop)]
 pub enum Target {
     /// To standard output.
     Standard,
     /// To the file of this path.
     File(String),
-    /// To its own place, while the file of this path keeps what it was.
+    /// To the source's own file, while the file with this path keeps the old text.
     Place(String),
-    /// Nowhere: it stays in its place as it is.
+    /// Nowhere: the source stays as it is.
     Nowhere,
 }
 
 impl Target {
-    /// Where what the source of a file becomes is to go.
+    /// Where the conversion of a file goes.
     pub fn of(
         alloc: Global,
         to: ConvertTo<'_>,
@@ -48,10 +48,12 @@ fn name_of(path: &str) -> &str {
     path.rsplit('/').next().unwrap_or(path)
 }
 
-/// A source, what becomes of it, and where that goes.
+/// A source, its conversion, and where that goes.
 #[derive(Drop)]
 pub struct Job<'a> {
+    /// The path of the source.
     pub file: &'a str,
+    /// The old text.
     pub old: Vec<u8>,
     pub conversion: Conversion,
     pub to: Target,
@@ -67,7 +69,7 @@ impl Job<'_> {
     }
 }
 
-/// Writes these bytes to the file of this path, which has them all or stays as it was.
+/// Writes a file. If that fails, the file keeps its content.
 fn write_file<F: Files>(rt: &F, alloc: Global, path: &str, bytes: &[u8]) -> Result<(), Failure> {
     let mut written = Written::begin(rt, alloc, path)?;
     match written.out().write_all(bytes) {
@@ -79,7 +81,7 @@ fn write_file<F: Files>(rt: &F, alloc: Global, path: &str, bytes: &[u8]) -> Resu
     }
 }
 
-/// Writes these bytes to standard output.
+/// Writes to standard output.
 fn print<O: Write + Drop>(alloc: Global, bytes: &[u8], out: &mut O) -> Result<(), Failure> {
     if out.write_all(bytes).is_ok() && out.flush().is_ok() {
         Ok(())
@@ -88,11 +90,11 @@ fn print<O: Write + Drop>(alloc: Global, bytes: &[u8], out: &mut O) -> Result<()
     }
 }
 
-/// Writes what a source becomes to where it goes.
+/// Writes the conversion of a source to its target.
 ///
 /// # Errors
 ///
-/// A failure where a file can't be written, or where an allocation was refused.
+/// Fails if a file can't be written or if an allocation fails.
 pub fn write_job<F: Files, O: Write + Drop>(
     rt: &F,
     alloc: Global,

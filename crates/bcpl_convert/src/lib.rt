@@ -1,4 +1,4 @@
-//! The command `convert`: old sources are read, converted and written, and what is to be done by hand is told.
+//! The command `convert`: reads old sources, converts and writes them, and reports what must be done by hand.
 #![tactic(auto)]
 
 mod command;

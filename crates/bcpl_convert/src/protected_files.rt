@@ -1,4 +1,4 @@
-//! Files that would be lost, and aren't written.
+//! Refuses to write over files that would be lost.
 
 use crate::job::{Job, Target};
 use bcpl_cli::{ConvertOrder, ConvertTo, Failure, is_one_file};
@@ -6,8 +6,7 @@ use std::alloc::Global;
 use std::fs;
 use std::rt::Files;
 
-/// Refuses a file that what a source becomes is to go to where that has something which would be lost: a source, the list of names, or
-/// what another source becomes.
+/// Refuses to write over a source, the list of names, or the conversion of an earlier source.
 fn spare_file<F: Files>(
     rt: &F,
     alloc: Global,
@@ -17,7 +16,8 @@ fn spare_file<F: Files>(
 ) -> Result<(), Failure> {
     for file in &order.files {
         if is_one_file(rt, path, file) {
-            let reason = "this is the source, and would be lost; --in-place keeps it beside";
+            let reason =
+                "this is a source, which would be lost; use --in-place, which keeps a copy";
             return Err(Failure::file_since(alloc, path, reason));
         }
     }
@@ -27,20 +27,24 @@ fn spare_file<F: Files>(
         return Err(Failure::file_since(
             alloc,
             path,
-            "this is the list of names, and would be lost",
+            "this is the list of names, which would be lost; choose another file",
         ));
     }
     for job in earlier {
         if let Target::File(other) = &job.to
             && is_one_file(rt, path, other.as_str())
         {
-            return Err(Failure::file_since(alloc, path, "two sources would go to this file"));
+            return Err(Failure::file_since(
+                alloc,
+                path,
+                "two sources would be written to this file; convert them to different folders",
+            ));
         }
     }
     Ok(())
 }
 
-/// Refuses a source that can't be converted in its place: what is no plain file, and what is named twice.
+/// Refuses to convert a source in place if it isn't a plain file or is named twice.
 fn spare_place<F: Files>(
     rt: &F,
     alloc: Global,
@@ -50,18 +54,18 @@ fn spare_place<F: Files>(
     if let Ok(found) = fs::metadata(rt, file)
         && !found.is_file()
     {
-        let reason = "this is no plain file, and is not converted in its place";
+        let reason = "this isn't a plain file and can't be converted in place; use --out";
         return Err(Failure::file_since(alloc, file, reason));
     }
     for job in earlier {
         if is_one_file(rt, file, job.file) {
-            return Err(Failure::file_since(alloc, file, "this file is named twice"));
+            return Err(Failure::file_since(alloc, file, "this file is named twice; name it once"));
         }
     }
     Ok(())
 }
 
-/// Refuses to write a file that would be lost, before any is written.
+/// Refuses to write a file that would be lost. Called before any file is written.
 ///
 /// # Errors
 ///
@@ -80,7 +84,7 @@ pub fn spare<F: Files>(
         match &job.to {
             Target::File(path) => spare_file(rt, alloc, order, earlier, path.as_str())?,
             Target::Place(kept) if fs::metadata(rt, kept.as_str()).is_ok() => {
-                let reason = "this file is there already, and would be lost; give it another name";
+                let reason = "this file exists and would be lost; rename it first";
                 return Err(Failure::file_since(alloc, kept.as_str(), reason));
             }
             Target::Place(_) | Target::Standard | Target::Nowhere => {}

@@ -1,11 +1,11 @@
-//! What is told of what can't be converted.
+//! The lines about what can't be converted.
 
 use bc_convert::Complaint;
 use bc_word::Memory;
 use bcpl_places::{Excerpt, column_at, line_at};
 use std::alloc::Global;
 
-/// Adds the lines on one complaint.
+/// Appends the lines about one complaint.
 fn add_complaint(
     alloc: Global,
     lines: &mut String,
@@ -28,8 +28,12 @@ fn add_complaint(
     Ok(())
 }
 
-/// Adds the lines on what can't be converted in the text of the file of this path: for each the place and what is wrong, the line of the
-/// text with a mark, and what to do by hand. Memory is answered where a growth was refused.
+/// Appends the lines about the complaints in a file: for each the place and what is wrong, the source line with a
+/// mark, and what to do by hand.
+///
+/// # Errors
+///
+/// `Memory` if an allocation failed.
 pub fn add_told(
     alloc: Global,
     lines: &mut String,
@@ -43,7 +47,11 @@ pub fn add_told(
     Ok(())
 }
 
-/// These lines alone.
+/// These lines as a new string.
+///
+/// # Errors
+///
+/// `Memory` if an allocation failed.
 pub fn told_of(
     alloc: Global,
     path: &str,

@@ -1,6 +1,5 @@
+-- The measure of each function is the depth of its walk: each call goes one level deeper.
 use Rattle.bc_convert.proofs.walk.+walk.Given as goal
-
--- each call goes one step deeper
 
 abbrev pub decreases-items : goal.decreases-items
 decreases-items l = l.walk.depth

@@ -1,3 +1,4 @@
+-- The position stays within the text.
 use Rattle.std.proofs.Common.{◌≤◌, length}
 use Rattle.bc_convert_tokens.proofs.lexing.lex.Given as goal
 
