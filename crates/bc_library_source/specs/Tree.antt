@@ -3,6 +3,7 @@ use Rattle.std.specs.Prelude.{◌≡◌, List, ◌∷◌, Option, Some, None, Re
 use Rattle.bc_lex_tokens.specs.Token.{Lexeme}
 use Rattle.bc_lex_tokens.specs.Spelling.{symbol_of}
 use Rattle.bc_lex.specs.declared.error.LexError.{LexError}
+use Rattle.bc_lex.specs.Files.{File}
 use Rattle.bc_lex.specs.Blank.{gap_of}
 use Rattle.bc_lex.specs.Lexeme.{lexeme_in_front}
 use Rattle.bc_lex.specs.Reading.{string_of}
