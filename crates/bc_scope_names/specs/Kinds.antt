@@ -5,7 +5,7 @@ use Rattle.bc_scope_names.specs.declared.sides.Kinds.{Kinds}
 use Rattle.bc_scope_defs.specs.Sides as sides
 
 -- a kind of the code, as the definitions have it
-abbrev pub kind_view : OperandKind → sides.OperandKind
+abbrev pub kind_view : OperandKind → sides.Kind
 kind_view code.Number = sides.ANumber
 kind_view code.Cell = sides.ACell
 kind_view code.Place = sides.APlace
