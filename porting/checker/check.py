@@ -12,9 +12,8 @@ import pathlib
 import re
 import sys
 
-MOST = 2 ** 64 - 1              # of any number
-LEVEL, SMALL = 32768, 65535     # the greatest level and the greatest small number
-DEPTH, BYTES = 400, 2 ** 30     # the most nodes one within another, and the most bytes of a certificate
+# The greatest number, level and small number; the most nodes one within another; the most bytes of a certificate.
+MOST, LEVEL, SMALL, DEPTH, BYTES = 2 ** 64 - 1, 32768, 65535, 400, 2 ** 30
 
 
 class Refusal(Exception):
@@ -247,7 +246,6 @@ class Writer:
 # ---- The certificate, line by line
 
 Entry = collections.namedtuple('Entry', 'segment item target first words code')
-
 N = '(0|[1-9][0-9]{0,19})'
 NAMES = '(-|[VJA]%s(?:[.][VJA]%s)*)' % (N, N)
 NODE = re.compile('%s (?:([NPGLVK])%s|(X)([5-9]|1[0-9]|2[01])|([!M~?])) %s (?:%s|-) %s %s ' % (N, N, N, N, N, N) + NAMES)
