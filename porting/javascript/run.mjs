@@ -130,7 +130,9 @@ function assemble(texts) {
 }
 
 /** The budget: any number of 64 bits, of which those over 2^53 - 1 count as that one. */
-function budget(word) {
+function budget(words) {
+  if (words.length > 1) throw new BadWords("bcpl: --steps is given twice");
+  const word = words[0];
   if (!/^\+?[0-9]+$/.test(word ?? "")) throw new BadWords("bcpl: --steps N is wanted, a number of instructions");
   if (BigInt(word.replace("+", "")) >= 2n ** 64n) throw new BadWords(`bcpl: --steps ${word} is too large`);
   return Math.min(Number(word), Number.MAX_SAFE_INTEGER);
@@ -153,7 +155,7 @@ function command([name, ...words]) {
   }
   if (name !== "run" && name !== "asm") throw new BadWords("bcpl: the words begin with run or asm; --help tells more");
   const many = { type: "string", multiple: true, default: [] };
-  const options = name === "run" ? { steps: { type: "string" }, in: many, to: many } : {};
+  const options = name === "run" ? { steps: many, in: many, to: many } : {};
   const { values, positionals: texts } = parsed(words, options);
   if (texts.length === 0) throw new BadWords("bcpl: a text is wanted");
   if (name === "asm") {
