@@ -37,3 +37,4 @@ mod Frame
 pub mod Whole
 mod Answers
 mod Least
+pub mod worked

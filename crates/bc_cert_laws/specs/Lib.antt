@@ -6,4 +6,3 @@ pub mod Laws
 pub mod Standing
 pub mod Examples
 pub mod Sample
-pub mod worked

@@ -9,7 +9,7 @@ use Rattle.bc_gen.specs.declared.marked_items.MarkedItem.{MarkedItem}
 use Rattle.bc_gen.specs.declared.marked_items.MarkedItem.TheVariants as variants
 
 -- the view of a mark
-abbrev pub mark : RootMark → entries.RootMark
+abbrev pub mark : RootMark → entries.Mark
 mark m = record { target = m.target; first = m.first; root = root m.root; derivation = derivation m.derivation; bodies = m.bodies.items }
 
 abbrev pub part : MarkedItem → Marked

@@ -25,7 +25,7 @@ use Rattle.bc_interpret_steps.specs.Came.{state_of, Came, sight}
 use Rattle.bc_interpret_steps.specs.Arrived.{Lands, AreWorth, IsWorkedOut, WorkedOut}
 use Rattle.bc_interpret_steps.specs.Passing.{Passes, Ran, evaluating}
 use Rattle.bc_interpret_steps.proofs.Argues.{given_one, last_valued}
-use Rattle.bc_interpret_steps.proofs.Conditions.{came_exactly}
+use Rattle.bc_interpret_steps.proofs.Deciding.{came_exactly}
 use Rattle.bc_interpret_steps.proofs.Handing.{landed}
 use Rattle.bc_interpret_steps.proofs.Passing.{giving}
 use Rattle.bc_interpret_steps.proofs.Quiet.{told_worth}

@@ -2,7 +2,7 @@ pub mod Argues
 pub mod Arrivals
 pub mod Assigns
 pub mod After
-pub mod Conditions
+pub mod Deciding
 pub mod Counts
 pub mod Direct
 pub mod Entered

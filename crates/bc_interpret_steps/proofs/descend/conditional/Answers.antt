@@ -5,7 +5,7 @@ use Rattle.bc_interpret_pure.specs.declared.value.Truth.{Truth}
 use Rattle.bc_interpret_steps.specs.Code.{spot_of, stack, given}
 use Rattle.bc_interpret_steps.specs.Came.{sight}
 use Rattle.bc_interpret_pure.specs.Views.{IsTruth}
-use Rattle.bc_interpret_steps.proofs.Conditions.{selects_into}
+use Rattle.bc_interpret_steps.proofs.Deciding.{selects_into}
 use Rattle.bc_interpret_steps.proofs.Quiet.{told_truth}
 use Rattle.bc_interpret_steps.proofs.descend.conditional.Goals as goal
 

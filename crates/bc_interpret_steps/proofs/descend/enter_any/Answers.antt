@@ -5,7 +5,7 @@ use Rattle.bc_interpret_pure.specs.declared.value.Worth.{Worth}
 use Rattle.bc_interpret_pure.specs.Views.{IsWorth}
 use Rattle.bc_interpret_steps.specs.Code.{spot_of, stack, given}
 use Rattle.bc_interpret_steps.specs.Came.{sight}
-use Rattle.bc_interpret_steps.proofs.Conditions.{came_into}
+use Rattle.bc_interpret_steps.proofs.Deciding.{came_into}
 use Rattle.bc_interpret_steps.proofs.Quiet.{told_worth, value_parts}
 use Rattle.bc_interpret_steps.proofs.descend.enter_any.Goals as goal
 

@@ -3,7 +3,7 @@ use Rattle.std.proofs.lemmas.Result.{on_ok_weaker}
 use Rattle.bc_core.specs.View.{exp}
 use Rattle.bc_interpret_steps.specs.Code.{spot_of, stack, given}
 use Rattle.bc_interpret_steps.specs.Passing.{Ran, evaluating}
-use Rattle.bc_interpret_steps.proofs.Conditions.{is_first_call}
+use Rattle.bc_interpret_steps.proofs.Deciding.{is_first_call}
 use Rattle.bc_interpret_steps.proofs.descend.go_on.Goals as goal
 
 pub returns-in-Some : goal.returns-in-Some

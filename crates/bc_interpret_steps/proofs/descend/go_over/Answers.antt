@@ -5,7 +5,7 @@ use Rattle.bc_core.specs.View.{exp, args}
 use Rattle.bc_core.proofs.Rows.{call_view}
 use Rattle.bc_interpret_steps.specs.Code.{spot_of, stack, given}
 use Rattle.bc_interpret_steps.specs.Passing.{Ran, evaluating}
-use Rattle.bc_interpret_steps.proofs.Conditions.{came_into}
+use Rattle.bc_interpret_steps.proofs.Deciding.{came_into}
 use Rattle.bc_interpret_steps.proofs.descend.go_over.Goals as goal
 
 pub returns-in-Call : goal.returns-in-Call

@@ -1,7 +1,7 @@
 use Rattle.std.proofs.lemmas.Result.{on_ok_weaker}
 use Rattle.bc_core.specs.View.{exp, args}
 use Rattle.bc_interpret_steps.specs.Code.{spot_of, stack, given}
-use Rattle.bc_interpret_steps.proofs.Conditions.{operand_into}
+use Rattle.bc_interpret_steps.proofs.Deciding.{operand_into}
 use Rattle.bc_interpret_steps.proofs.descend.operand.Goals as goal
 
 pub returns : goal.returns

@@ -6,7 +6,7 @@ use Rattle.bc_interpret_steps.specs.Code.{spot_of, stack, given}
 use Rattle.bc_interpret_steps.specs.Came.{sight}
 use Rattle.bc_interpret_defs.specs.Quiet.{worth}
 use Rattle.bc_interpret_pure.specs.Views.{seen_truth}
-use Rattle.bc_interpret_steps.proofs.Conditions.{taken_into, divides_into, fails_into}
+use Rattle.bc_interpret_steps.proofs.Deciding.{taken_into, divides_into, fails_into}
 use Rattle.bc_interpret_steps.proofs.descend.past.Goals as goal
 
 pub returns-in-Is : goal.returns-in-Is

@@ -6,7 +6,7 @@ use Rattle.bc_select_defs.specs.Options.{plus, more, sum, given, operand_cost, b
 use Rattle.bc_select_defs.specs.Choices.{number_cost}
 use Rattle.bc_cert_laws.specs.Faults.{Lacks}
 use Rattle.bc_cert_laws.proofs.Whole.{judged_lacks}
-use Rattle.bc_cert_laws.specs.worked.Written.{text, lack, header_1, header_2, call_with, call_entry, call_code, sum_nodes, zero_nodes}
+use Rattle.bc_cert_laws.proofs.worked.Written.{text, lack, header_1, header_2, call_with, call_entry, call_code, sum_nodes, zero_nodes}
 
 -- ---- Worked examples
 

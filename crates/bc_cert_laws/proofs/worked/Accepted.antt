@@ -12,7 +12,7 @@ use Rattle.bc_core.specs.Tree.{Exp, Num, Frame, Glob, Load, Bin, Cond, Call, Val
 use Rattle.bc_select_defs.specs.Options.{plus, more, sum, given, operand_cost, better, least_from}
 use Rattle.bc_select_defs.specs.Choices.{number_cost}
 use Rattle.bc_cert_laws.proofs.Whole.{judged_says}
-use Rattle.bc_cert_laws.specs.worked.Written.{text, say, entry, header_1, header_2, call_nodes, call_entry, call_code, sum_nodes, zero_nodes}
+use Rattle.bc_cert_laws.proofs.worked.Written.{text, say, entry, header_1, header_2, call_nodes, call_entry, call_code, sum_nodes, zero_nodes}
 
 -- ---- Worked examples
 

@@ -4,7 +4,7 @@ use Rattle.bc_cert_defs.specs.declared.check_fault.CheckFault.TheVariants.{Trunc
 use Rattle.bc_select_defs.specs.Options.{plus, more, sum, given, operand_cost, better, least_from}
 use Rattle.bc_select_defs.specs.Choices.{number_cost}
 use Rattle.bc_cert_laws.proofs.Whole.{judged_lacks}
-use Rattle.bc_cert_laws.specs.worked.Written.{text, lack, header_2, call_entry}
+use Rattle.bc_cert_laws.proofs.worked.Written.{text, lack, header_2, call_entry}
 
 -- ---- Worked examples
 
