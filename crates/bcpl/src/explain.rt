@@ -119,12 +119,12 @@ fn program_of<'p, 's>(
     files: Files<'p, 's>,
     front: &'p Front<'s>,
     built: &'p Built,
-) -> bcpl_show::Program<'p, 's> {
+) -> bcpl_show::CodeListing<'p, 's> {
     let items = match built.segments.as_slice().get(front.segment) {
         Some(segment) => segment.items(),
         None => &[],
     };
-    bcpl_show::Program {
+    bcpl_show::CodeListing {
         files,
         main: front.main,
         tokens: front.tokens.as_slice(),
@@ -142,7 +142,7 @@ fn programs_of<'p, 's>(
     files: Files<'p, 's>,
     fronts: &'p [Front<'s>],
     built: &'p Built,
-) -> Result<Vec<bcpl_show::Program<'p, 's>>, Memory> {
+) -> Result<Vec<bcpl_show::CodeListing<'p, 's>>, Memory> {
     let mut programs = Vec::new(alloc);
     for front in fronts {
         programs.push(program_of(files, front, built))?;

@@ -2,14 +2,14 @@
 
 use crate::compiling::{refused, warnings_on};
 use crate::devices::Source;
-use crate::diagnostics::BuiltProgram;
+use crate::diagnostics::Program;
 use crate::output::{tell_lines, unfinished};
 use crate::protected_files::spare_files;
 use crate::running::{Streams, streams_of};
 use crate::source_files::{Gathered, sources_of};
 use bc_build::{Built, build};
 use bc_interpret_sources::{
-    Cause as Access, Ending, Interpreted, Outcome, BuiltProgram as Sections, interpret,
+    BuiltProgram as Sections, Cause as Access, Ending, Interpreted, Outcome, interpret,
 };
 use bc_machine_defs::End;
 use bc_text_items::Segment;
@@ -153,7 +153,7 @@ fn unclosed(alloc: Global) -> Failure {
 }
 
 /// The result of a run as the result of the command.
-fn came_to(alloc: Global, program: &BuiltProgram<'_, '_>, run: &Interpretation) -> Result<(), Failure> {
+fn came_to(alloc: Global, program: &Program<'_, '_>, run: &Interpretation) -> Result<(), Failure> {
     match run.interpreted.outcome {
         Outcome::Ended(Ending::Finished) if run.is_closed => Ok(()),
         Outcome::Ended(Ending::Finished) => Err(unclosed(alloc)),
@@ -167,7 +167,7 @@ fn came_to(alloc: Global, program: &BuiltProgram<'_, '_>, run: &Interpretation) 
 /// The lines of this message, if there was memory for it.
 fn lines_of(
     alloc: Global,
-    program: &BuiltProgram<'_, '_>,
+    program: &Program<'_, '_>,
     message: Result<Message, Memory>,
 ) -> Result<String, Memory> {
     let message = message?;
@@ -177,7 +177,7 @@ fn lines_of(
 /// A failure with this explanation, or one of `Memory` if there was no memory for it.
 fn told(
     alloc: Global,
-    program: &BuiltProgram<'_, '_>,
+    program: &Program<'_, '_>,
     cause: Cause,
     message: Result<Message, Memory>,
 ) -> Failure {
@@ -188,13 +188,13 @@ fn told(
 }
 
 /// The failure of a run whose stream failed.
-fn failed(alloc: Global, program: &BuiltProgram<'_, '_>, run: &Interpretation) -> Failure {
+fn failed(alloc: Global, program: &Program<'_, '_>, run: &Interpretation) -> Failure {
     let message = ended(alloc, program, run, "a stream failed here");
     told(alloc, program, Cause::Ended(End::Device), message)
 }
 
 /// The failure of a run that divided by zero.
-fn divided(alloc: Global, program: &BuiltProgram<'_, '_>, run: &Interpretation) -> Failure {
+fn divided(alloc: Global, program: &Program<'_, '_>, run: &Interpretation) -> Failure {
     let message = ended(alloc, program, run, "this divides by 0");
     told(alloc, program, Cause::Ended(End::ZeroDivide), message)
 }
@@ -202,7 +202,7 @@ fn divided(alloc: Global, program: &BuiltProgram<'_, '_>, run: &Interpretation) 
 /// The explanation of a run that used up its turns.
 fn ended_going(
     alloc: Global,
-    program: &BuiltProgram<'_, '_>,
+    program: &Program<'_, '_>,
     run: &Interpretation,
 ) -> Result<Message, Memory> {
     let message = ended(
@@ -218,7 +218,7 @@ fn ended_going(
 }
 
 /// The failure of a run that used up its turns.
-fn spent(alloc: Global, program: &BuiltProgram<'_, '_>, run: &Interpretation) -> Failure {
+fn spent(alloc: Global, program: &Program<'_, '_>, run: &Interpretation) -> Failure {
     told(
         alloc,
         program,
@@ -230,7 +230,7 @@ fn spent(alloc: Global, program: &BuiltProgram<'_, '_>, run: &Interpretation) ->
 /// The failure of a run that met a wild cell.
 fn gone_wild(
     alloc: Global,
-    program: &BuiltProgram<'_, '_>,
+    program: &Program<'_, '_>,
     run: &Interpretation,
     access: Access,
 ) -> Failure {
@@ -252,10 +252,10 @@ fn wild_of(access: Access) -> Wild {
 
 /// A program as `bcpl_wild` takes it.
 fn program_of<'p, 's>(
-    program: &BuiltProgram<'p, 's>,
+    program: &Program<'p, 's>,
     run: &'p Interpretation,
-) -> bcpl_wild::BuiltProgram<'p, 's> {
-    bcpl_wild::BuiltProgram {
+) -> bcpl_wild::WildProgram<'p, 's> {
+    bcpl_wild::WildProgram {
         sources: program.named.sources,
         mains: program.mains,
         image: &run.built.image,
@@ -265,7 +265,7 @@ fn program_of<'p, 's>(
 /// The explanation of a wild access: where it happened, whose cell it met, and the calls that led there.
 fn wild(
     alloc: Global,
-    program: &BuiltProgram<'_, '_>,
+    program: &Program<'_, '_>,
     run: &Interpretation,
     access: Access,
 ) -> Result<Message, Memory> {
@@ -280,7 +280,7 @@ fn wild(
 /// The explanation of another end of a run: this sentence, where the run was, and the calls that led there.
 fn ended(
     alloc: Global,
-    program: &BuiltProgram<'_, '_>,
+    program: &Program<'_, '_>,
     run: &Interpretation,
     sentence: &str,
 ) -> Result<Message, Memory> {

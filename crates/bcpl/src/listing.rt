@@ -9,7 +9,7 @@ use bc_core::Root;
 use bc_text_items::Segment;
 use bc_word::Memory;
 use bcpl_cli::{Cause, Failure, ListOrder};
-use bcpl_list::{Note, LinkedProgram, image_listing};
+use bcpl_list::{ListedProgram, Note, image_listing};
 use bcpl_reports::Text;
 use std::alloc::Global;
 use std::io::Write;
@@ -125,7 +125,7 @@ fn listing_of<'p>(
     remarks: &'p [Remark],
 ) -> Result<String, Memory> {
     let notes = notes_of(alloc, remarks)?;
-    let program = LinkedProgram {
+    let program = ListedProgram {
         segments: program.segments.as_slice(),
         names,
         image: &program.image,

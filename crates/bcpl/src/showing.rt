@@ -203,7 +203,7 @@ impl<'a, 's> Shown<'a, 's> {
         let Some(segment) = built.segments.last() else {
             return Ok(Vec::new(alloc));
         };
-        let program = bcpl_show::Program {
+        let program = bcpl_show::CodeListing {
             files: self.files,
             main: self.main,
             tokens: resolved.tokens,

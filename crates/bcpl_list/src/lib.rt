@@ -6,4 +6,4 @@ mod page;
 mod references;
 mod strings;
 
-pub use listing::{LinkedProgram, Note, image_listing};
+pub use listing::{ListedProgram, Note, image_listing};

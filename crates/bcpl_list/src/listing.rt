@@ -22,7 +22,7 @@ pub struct Note<'p> {
 
 /// A linked program.
 #[derive(Clone, Copy)]
-pub struct LinkedProgram<'p> {
+pub struct ListedProgram<'p> {
     /// The segments, beginning with the primitives.
     pub segments: &'p [Segment],
     /// The names of the segments, in order.
@@ -71,7 +71,7 @@ struct Listed<'p> {
 struct Listing<'p> {
     alloc: Global,
     page: Page,
-    program: LinkedProgram<'p>,
+    program: ListedProgram<'p>,
     /// The number of notes written so far.
     told: usize,
 }
@@ -489,7 +489,7 @@ impl<'p> Listing<'p> {
 /// The listing of a linked program: the boot code, the cells of the globals that are set, and the segments. Each word
 /// has a line with its address, its value, its item and a description. A label has a separate line, with what it
 /// labels and the references to it. Two bytes share a word. `Memory` if an allocation fails.
-pub fn image_listing(alloc: Global, program: LinkedProgram<'_>) -> Result<String, Memory> {
+pub fn image_listing(alloc: Global, program: ListedProgram<'_>) -> Result<String, Memory> {
     let mut listing = Listing {
         alloc,
         page: Page::new(alloc),
