@@ -189,9 +189,9 @@ impl Stack {
         joint: Joint<'_>,
         e: CoreExp,
     ) -> Result<(), CheckFault>
-        requires facts { joint.entry.from ≤ length self.old.facts.items }
-        requires marks { joint.entry.from ≤ length self.old.marks.items }
-        requires derivations { joint.entry.from ≤ length self.old.derivations.items }
+        requires facts { joint.from ≤ length self.old.facts.items }
+        requires marks { joint.from ≤ length self.old.marks.items }
+        requires derivations { joint.from ≤ length self.old.derivations.items }
         ensures exact { Steps (stack self.new) result
             (node_judged_over table joint.entry.line.now joint.entry.place (stack self.old) joint.entry.from joint.entry.depth (exp e)) }
         ensures parallel { length self.old.expressions.items ≡ joint.entry.from → OnOk result (AreParallel (stack self.new)) }
@@ -207,8 +207,8 @@ impl Stack {
 
     /// The aims for which a node line shows rules.
     fn shown(&self, table: Table, joint: Joint<'_>, e: &CoreExp) -> Result<Shown, CheckFault>
-        requires facts { joint.entry.from ≤ length self.now.facts.items }
-        requires marks { joint.entry.from ≤ length self.now.marks.items }
+        requires facts { joint.from ≤ length self.now.facts.items }
+        requires marks { joint.from ≤ length self.now.marks.items }
         ensures { result ≡ judged_of (line_node table joint.entry.line.now (exp e.now) (drop joint.entry.from self.now.facts.items))
             (drop joint.entry.from self.now.marks.items) joint.entry.line.now joint.entry.place }
     {
@@ -236,9 +236,9 @@ impl Stack {
         e: CoreExp,
         shown: Shown,
     ) -> Result<(), Memory>
-        requires facts { joint.entry.from ≤ length self.old.facts.items }
-        requires marks { joint.entry.from ≤ length self.old.marks.items }
-        requires derivations { joint.entry.from ≤ length self.old.derivations.items }
+        requires facts { joint.from ≤ length self.old.facts.items }
+        requires marks { joint.from ≤ length self.old.marks.items }
+        requires derivations { joint.from ≤ length self.old.derivations.items }
         ensures exact { OnOk result (stack self.new ≡ put_over joint.entry.line.now (stack self.old) joint.entry.from joint.entry.depth (exp e) shown) }
         ensures parallel { length self.old.expressions.items ≡ joint.entry.from → OnOk result (AreParallel (stack self.new)) }
     {
@@ -264,8 +264,8 @@ impl Stack {
 
     /// Replaces the marks and facts of a node's parts by its own.
     fn seen(&mut self, joint: Joint<'_>, e: &CoreExp, shown: Shown) -> Result<(), Memory>
-        requires facts { joint.entry.from ≤ length self.old.facts.items }
-        requires marks { joint.entry.from ≤ length self.old.marks.items }
+        requires facts { joint.from ≤ length self.old.facts.items }
+        requires marks { joint.from ≤ length self.old.marks.items }
         ensures { OnOk result (stack self.new
             ≡ seen_over joint.entry.line.now (exp e.now) joint.entry.from joint.entry.depth shown (stack self.old)) }
     {

@@ -47,7 +47,7 @@ fn triple(
     own: Option<&Derivation>,
     marks: &mut Vec<NodeMark>,
 ) -> Result<(), Memory>
-    requires { level + 2 * (1 + nodes_in (exp condition.now) + nodes_in (exp values.entry.0.now) + nodes_in (exp values.entry.1.now)) ≤ 2 ^ 62 }
+    requires { level + 2 * (1 + nodes_in (exp condition.now) + nodes_in (exp values.0.now) + nodes_in (exp values.1.now)) ≤ 2 ^ 62 }
     ensures { OnOk result (marks.new.items ≡ marks.old.items
         ++ ((whole_with mark (exp condition.now) level (placed (first_place false) (tree_of own.entry))
         ++ whole_with mark (exp values.entry.0.now) level (placed (second_place false) (tree_of own.entry)))

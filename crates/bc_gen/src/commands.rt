@@ -243,7 +243,7 @@ impl Writer {
         branches: Branches<'_>,
     ) -> Result<(), GenError>
         requires { CommandHasRoom (room_in around.now)
-            (forms.Test (exp test.now) (block_of branches.entry.this.now) (block_of branches.entry.that.now)) level }
+            (forms.Test (exp test.now) (block_of branches.this.now) (block_of branches.that.now)) level }
         ensures { Writes result self.old self.new
             (emit Plain (roots_in around.now) (forms.Test (exp test.now) (block_of branches.entry.this.now) (block_of branches.entry.that.now)) level
             (exits_of around.now) self.old.next) }
@@ -342,7 +342,7 @@ impl Writer {
         body: &Block,
     ) -> Result<(), GenError>
         requires { CommandHasRoom (room_in around.now)
-            (forms.For (exp range.entry.start.now) (exp range.entry.limit.now) range.entry.by (block_of body.now)) offset }
+            (forms.For (exp range.start.now) (exp range.limit.now) range.by (block_of body.now)) offset }
         ensures { Writes result self.old self.new
             (emit Plain (roots_in around.now)
             (forms.For (exp range.entry.start.now) (exp range.entry.limit.now) range.entry.by (block_of body.now)) offset
