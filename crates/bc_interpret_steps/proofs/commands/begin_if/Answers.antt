@@ -30,7 +30,7 @@ returns-in-Some-Divides c =
     let before = c.args.stacks.now.rests.items in
     let st = c.args.state.now in
     let f = c.put_after in
-    on_ok_weaker f.result (following (perform_step E (commands.If c.args.condition.now.sense e b) c.args.site.level) (rests.Truth (truth_rests.Ifs c.args.site c.args.condition.now.sense c.args.body c.args.site.level)) (progress.Ended endings.ZeroDivide) before f.new.stacks.next f.new.stacks.rests.items st st
+    on_ok_weaker f.result (following (perform_step E (commands.If c.args.condition.now.sense e b) c.args.site.level) (rests.Truth (truth_rests.Ifs c.args.site c.args.condition.now.sense c.args.body)) (progress.Ended endings.ZeroDivide) before f.new.stacks.next f.new.stacks.rests.items st st
     (if_divides E c.args.condition.now.sense e b c.args.site.level (stack before) st c.in_ok-t.field-0 [] [] c.in_ok-t.ensures cc)) f.ensures
 
 pub returns-in-Some-Fails : goal.returns-in-Some-Fails
@@ -41,7 +41,7 @@ returns-in-Some-Fails c =
     let before = c.args.stacks.now.rests.items in
     let st = c.args.state.now in
     let f = c.put_after-in-Some-Fails in
-    on_ok_weaker f.result (following (perform_step E (commands.If c.args.condition.now.sense e b) c.args.site.level) (rests.Truth (truth_rests.Ifs c.args.site c.args.condition.now.sense c.args.body c.args.site.level)) (progress.Wild c.in-Some-Fails.cause) before f.new.stacks.next f.new.stacks.rests.items st st
+    on_ok_weaker f.result (following (perform_step E (commands.If c.args.condition.now.sense e b) c.args.site.level) (rests.Truth (truth_rests.Ifs c.args.site c.args.condition.now.sense c.args.body)) (progress.Wild c.in-Some-Fails.cause) before f.new.stacks.next f.new.stacks.rests.items st st
     (if_fails E c.args.condition.now.sense e b c.args.site.level (stack before) st c.in_ok-t.field-0 c.in-Some-Fails.cause [] [] c.in_ok-t.ensures cc)) f.ensures
 
 pub returns-in-None : goal.returns-in-None
