@@ -123,12 +123,7 @@ fn compared(
 ///
 /// `code_of` and `next_label` require a derivation, so that is checked first. The check always succeeds, as `bc_cert_laws` shows: the
 /// rules that judged node lines show make a derivation. So `WrongRule` is never returned here.
-fn fits(
-    alloc: Global,
-    heading: Heading,
-    rooted: &Rooted,
-    code: &[Piece],
-) -> Result<(), CheckFault>
+fn fits(alloc: Global, heading: Heading, rooted: &Rooted, code: &[Piece]) -> Result<(), CheckFault>
     ensures { Gives (λ _. tt) result (code_fits heading.table heading.head (rooted_of rooted.now) heading.place code.now) }
 {
     let Heading { table, head, place } = heading;
