@@ -171,12 +171,7 @@ pub fn call_from<'s, 't>(
 {
     let found = found?;
     let exp = Exp::Call(routine, found.tree);
-    Ok(operand(
-        exp,
-        PRIMARY,
-        height.max(found.height) + 1,
-        found.rest,
-    ))
+    Ok(operand(exp, PRIMARY, height.max(found.height) + 1, found.rest))
 }
 
 /// A choice. `height` is how deep the test and the first value nest.
@@ -196,12 +191,7 @@ pub fn condition_of<'s, 't>(
     let found = that?;
     let that = found.tree;
     let exp = Exp::Condition { test, this, that };
-    Ok(operand(
-        exp,
-        CHOICE,
-        height.max(found.height) + 1,
-        found.rest,
-    ))
+    Ok(operand(exp, CHOICE, height.max(found.height) + 1, found.rest))
 }
 
 /// A longer operand, which may be continued.
