@@ -7,7 +7,7 @@ ghost use Rattle.bc_cert_read.specs.TreeView.{rooted as rooted_of, stack as stac
 ghost use Rattle.bc_cert_laws.specs.Judging.{start, place_of, line_step, begin_step, between_step, within_step, code_step, feed_from, finished};
 ghost use Rattle.bc_cert.specs.View.{own, state, fed, verdict_so_far, table_alone, whole_line, summed, Kept};
 
-use crate::code::judge_code;
+use crate::code::{Heading, judge_code};
 use crate::ends::first_line;
 use crate::stage::Stage;
 use crate::sums::Sums;
@@ -308,7 +308,12 @@ impl Checker {
         ensures exact { Steps (state self.new) result (code_step head (rooted_of rooted.value) line.now place (state self.old)) }
         ensures kept { OnOk result (Kept self.old self.new) }
     {
-        let judged = judge_code(self.alloc, self.table, head, rooted, line, place)?;
+        let heading = Heading {
+            table: self.table,
+            head,
+            place,
+        };
+        let judged = judge_code(self.alloc, heading, rooted, line)?;
         self.entries.push(judged)?;
         self.stage = Stage::Between;
         Ok(())

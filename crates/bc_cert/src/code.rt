@@ -21,6 +21,17 @@ use bc_text_items::Item;
 use bc_word::Memory;
 use std::alloc::Global;
 
+/// What comes before the code line of an entry.
+#[derive(Clone, Copy)]
+pub struct Heading {
+    /// The rule table that the header names.
+    pub table: Table,
+    /// The `E` line of the entry.
+    pub head: Head,
+    /// The place of the code line.
+    pub place: Position,
+}
+
 /// Whether two items are equal.
 fn is_same(item: Item, other: Item) -> bool
     ensures { result ≡ same_item item other }
@@ -112,16 +123,10 @@ fn compared(
 ///
 /// `code_of` and `next_label` require a derivation, so that is checked first. The check always succeeds, as `bc_cert_laws` shows: the
 /// rules that judged node lines show make a derivation. So `WrongRule` is never returned here.
-fn fits(
-    alloc: Global,
-    table: Table,
-    head: Head,
-    rooted: &Rooted,
-    code: &[Piece],
-    place: Position,
-) -> Result<(), CheckFault>
-    ensures { Gives (λ _. tt) result (code_fits table head (rooted_of rooted.now) place code.now) }
+fn fits(alloc: Global, heading: Heading, rooted: &Rooted, code: &[Piece]) -> Result<(), CheckFault>
+    ensures { Gives (λ _. tt) result (code_fits heading.table heading.head (rooted_of rooted.now) heading.place code.now) }
 {
+    let Heading { table, head, place } = heading;
     if derives(table, &rooted.root, &rooted.derivation) {
         match right_code(alloc, head, rooted)? {
             Some(right) => compared(head, rooted.words, code, right.as_slice(), place),
@@ -145,16 +150,14 @@ fn read_code(alloc: Global, line: &[u8], place: Position) -> Result<Vec<Piece>, 
 /// The pieces of a code line, if they are the code of the root's rules.
 fn judged_line(
     alloc: Global,
-    table: Table,
-    head: Head,
+    heading: Heading,
     rooted: &Rooted,
     line: &[u8],
-    place: Position,
 ) -> Result<Vec<Piece>, CheckFault>
-    ensures { Gives (λ v. v.items) result (pieces_judged table head (rooted_of rooted.now) line.now place) }
+    ensures { Gives (λ v. v.items) result (pieces_judged heading.table heading.head (rooted_of rooted.now) line.now heading.place) }
 {
-    let code = read_code(alloc, line, place)?;
-    fits(alloc, table, head, rooted, code.as_slice(), place)?;
+    let code = read_code(alloc, line, heading.place)?;
+    fits(alloc, heading, rooted, code.as_slice())?;
     Ok(code)
 }
 
@@ -180,14 +183,12 @@ fn accepted(head: Head, rooted: Box<Rooted>, code: Vec<Piece>) -> Judged
 /// `WrongWords` if the stated words aren't those of the code, and `Memory` if an allocation fails.
 pub fn judge_code(
     alloc: Global,
-    table: Table,
-    head: Head,
+    heading: Heading,
     rooted: Box<Rooted>,
     line: &[u8],
-    place: Position,
 ) -> Result<Judged, CheckFault>
-    ensures { Gives judged_of result (code_judged table head (rooted_of rooted.value) line.now place) }
+    ensures { Gives judged_of result (code_judged heading.table heading.head (rooted_of rooted.value) line.now heading.place) }
 {
-    let code = judged_line(alloc, table, head, &rooted, line, place)?;
-    Ok(accepted(head, rooted, code))
+    let code = judged_line(alloc, heading, &rooted, line)?;
+    Ok(accepted(heading.head, rooted, code))
 }

@@ -125,7 +125,7 @@ impl<'p> Node<'p> {
         ensures exact { result ≡ value_words self.now pair.entry rule mode }
         ensures few { IfSome result (λ n. n < 2 ^ 127 + 2 ^ 70) }
     {
-        let recipe = value_of_two(rule, mode, pair.op, self.level, pair.left, pair.right);
+        let recipe = value_of_two(rule, mode, self.level, pair);
         self.words_over_both(recipe, pair)
     }
 
@@ -135,7 +135,7 @@ impl<'p> Node<'p> {
         ensures exact { result ≡ test_words self.now pair.entry rule sense }
         ensures few { IfSome result (λ n. n < 2 ^ 127 + 2 ^ 70) }
     {
-        let recipe = test_of_two(rule, self.table, sense, pair.op, pair.left, pair.right);
+        let recipe = test_of_two(rule, self.table, sense, pair);
         self.words_over_both(recipe, pair)
     }
 

@@ -11,6 +11,7 @@ ghost use Rattle.bc_cert_read.specs.Node.{node, recipe_by, words_of as words_of_
 use crate::costs::words_for;
 use crate::facts::{Facts, are_free};
 use crate::form::Form;
+use crate::least_words::Pair;
 use crate::recipe::{Recipe, makes, only, with_operand};
 use bc_rules_defs::{Aim, Mode, Rule, Table, Takes, jumps, number_words};
 use bc_word::{Op, Word, mirror};
@@ -73,9 +74,13 @@ impl<'p> Node<'p> {
                 _ => None,
             },
             Form::Bin(op) => match self.parts {
-                [a, b] => match aim {
-                    Aim::Gets(mode) => value_of_two(rule, mode, op, self.level, a, b),
-                    Aim::Jumps(sense) => test_of_two(rule, self.table, sense, op, a, b),
+                [left, right] => match aim {
+                    Aim::Gets(mode) => {
+                        value_of_two(rule, mode, self.level, Pair { op, left, right })
+                    }
+                    Aim::Jumps(sense) => {
+                        test_of_two(rule, self.table, sense, Pair { op, left, right })
+                    }
                 },
                 _ => None,
             },
@@ -338,18 +343,16 @@ fn less_number(number: Option<u16>, aim: Aim) -> Option<Recipe>
     }
 }
 
-/// What a rule of values takes and adds at a dyadic operator with operands `a` and `b`. None if it doesn't apply.
+/// What a rule of values takes and adds at a dyadic operator. None if it doesn't apply.
 #[inline(always)]
-pub fn value_of_two(
-    rule: Rule,
-    mode: Mode,
-    op: Op,
-    level: u16,
-    a: &Facts,
-    b: &Facts,
-) -> Option<Recipe>
-    ensures { result ≡ value_by rule mode op level a.now b.now }
+pub fn value_of_two(rule: Rule, mode: Mode, level: u16, pair: Pair<'_>) -> Option<Recipe>
+    ensures { result ≡ value_by rule mode pair.entry.op level pair.entry.left.now pair.entry.right.now }
 {
+    let Pair {
+        op,
+        left: a,
+        right: b,
+    } = pair;
     let aim = Aim::Gets(mode);
     let free = are_free(a, b);
     match rule {
@@ -401,18 +404,16 @@ fn both_parts(rule: Rule, op: Op, level: u16, free: bool) -> Option<Recipe>
     }
 }
 
-/// What a rule of tests other than `J6` takes and adds at a dyadic operator with operands `a` and `b`. None if it doesn't apply.
+/// What a rule of tests other than `J6` takes and adds at a dyadic operator. None if it doesn't apply.
 #[inline(always)]
-pub fn test_of_two(
-    rule: Rule,
-    table: Table,
-    sense: bool,
-    op: Op,
-    a: &Facts,
-    b: &Facts,
-) -> Option<Recipe>
-    ensures { result ≡ test_by rule table sense op a.now b.now }
+pub fn test_of_two(rule: Rule, table: Table, sense: bool, pair: Pair<'_>) -> Option<Recipe>
+    ensures { result ≡ test_by rule table sense pair.entry.op pair.entry.left.now pair.entry.right.now }
 {
+    let Pair {
+        op,
+        left: a,
+        right: b,
+    } = pair;
     let takes = rule.takes(Aim::Jumps(sense), false);
     match rule {
         Rule::J2 => only(Op::And, op, given(!sense, makes(takes, 0))),

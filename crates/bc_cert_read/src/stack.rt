@@ -38,6 +38,19 @@ pub struct Stack {
     derivations: Vec<Derivation>,
 }
 
+/// A node line whose parts are on the stack.
+#[derive(Clone, Copy)]
+struct Joint<'l> {
+    /// The line.
+    line: &'l NodeLine,
+    /// The index of the first part.
+    from: usize,
+    /// The depth of the node.
+    depth: u16,
+    /// The place of the line.
+    place: Position,
+}
+
 /// The marks from this index on.
 fn marks_from(items: &[TreeFacts], at: usize) -> &[TreeFacts]
     requires { at ≤ length items.now }
@@ -138,7 +151,13 @@ impl Stack {
         let from = self.facts.len() - count;
         let depth = fitting(line, marks_from(&self.marks, from), place)?;
         let expression = self.expression(alloc, line, from, place)?;
-        self.judge(alloc, table, line, expression, from, depth, place)
+        let joint = Joint {
+            line,
+            from,
+            depth,
+            place,
+        };
+        self.judge(alloc, table, joint, expression)
     }
 
     /// Builds the expression of a node, and removes those of its parts, which begin at this index.
@@ -167,21 +186,19 @@ impl Stack {
         &mut self,
         alloc: Global,
         table: Table,
-        line: &NodeLine,
+        joint: Joint<'_>,
         e: CoreExp,
-        from: usize,
-        depth: u16,
-        place: Position,
     ) -> Result<(), CheckFault>
-        requires facts { from ≤ length self.old.facts.items }
-        requires marks { from ≤ length self.old.marks.items }
-        requires derivations { from ≤ length self.old.derivations.items }
-        ensures exact { Steps (stack self.new) result (node_judged_over table line.now place (stack self.old) from depth (exp e)) }
-        ensures parallel { length self.old.expressions.items ≡ from → OnOk result (AreParallel (stack self.new)) }
+        requires facts { joint.entry.from ≤ length self.old.facts.items }
+        requires marks { joint.entry.from ≤ length self.old.marks.items }
+        requires derivations { joint.entry.from ≤ length self.old.derivations.items }
+        ensures exact { Steps (stack self.new) result
+            (node_judged_over table joint.entry.line.now joint.entry.place (stack self.old) joint.entry.from joint.entry.depth (exp e)) }
+        ensures parallel { length self.old.expressions.items ≡ joint.entry.from → OnOk result (AreParallel (stack self.new)) }
     {
-        match self.shown(table, line, &e, from, place) {
+        match self.shown(table, joint, &e) {
             Ok(shown) => {
-                self.put(alloc, line, e, from, depth, shown)?;
+                self.put(alloc, joint, e, shown)?;
                 Ok(())
             }
             Err(fault) => Err(fault),
@@ -189,18 +206,18 @@ impl Stack {
     }
 
     /// The aims for which a node line shows rules.
-    fn shown(
-        &self,
-        table: Table,
-        line: &NodeLine,
-        e: &CoreExp,
-        from: usize,
-        place: Position,
-    ) -> Result<Shown, CheckFault>
-        requires facts { from ≤ length self.now.facts.items }
-        requires marks { from ≤ length self.now.marks.items }
-        ensures { result ≡ judged_of (line_node table line.now (exp e.now) (drop from self.now.facts.items)) (drop from self.now.marks.items) line.now place }
+    fn shown(&self, table: Table, joint: Joint<'_>, e: &CoreExp) -> Result<Shown, CheckFault>
+        requires facts { joint.entry.from ≤ length self.now.facts.items }
+        requires marks { joint.entry.from ≤ length self.now.marks.items }
+        ensures { result ≡ judged_of (line_node table joint.entry.line.now (exp e.now) (drop joint.entry.from self.now.facts.items))
+            (drop joint.entry.from self.now.marks.items) joint.entry.line.now joint.entry.place }
     {
+        let Joint {
+            line,
+            from,
+            place,
+            ..
+        } = joint;
         let node = Node {
             table,
             level: line.level,
@@ -215,20 +232,18 @@ impl Stack {
     fn put(
         &mut self,
         alloc: Global,
-        line: &NodeLine,
+        joint: Joint<'_>,
         e: CoreExp,
-        from: usize,
-        depth: u16,
         shown: Shown,
     ) -> Result<(), Memory>
-        requires facts { from ≤ length self.old.facts.items }
-        requires marks { from ≤ length self.old.marks.items }
-        requires derivations { from ≤ length self.old.derivations.items }
-        ensures exact { OnOk result (stack self.new ≡ put_over line.now (stack self.old) from depth (exp e) shown) }
-        ensures parallel { length self.old.expressions.items ≡ from → OnOk result (AreParallel (stack self.new)) }
+        requires facts { joint.entry.from ≤ length self.old.facts.items }
+        requires marks { joint.entry.from ≤ length self.old.marks.items }
+        requires derivations { joint.entry.from ≤ length self.old.derivations.items }
+        ensures exact { OnOk result (stack self.new ≡ put_over joint.entry.line.now (stack self.old) joint.entry.from joint.entry.depth (exp e) shown) }
+        ensures parallel { length self.old.expressions.items ≡ joint.entry.from → OnOk result (AreParallel (stack self.new)) }
     {
-        self.derive(alloc, line, from)?;
-        self.seen(line, &e, from, depth, shown)?;
+        self.derive(alloc, joint.line, joint.from)?;
+        self.seen(joint, &e, shown)?;
         self.expressions.push(e)?;
         Ok(())
     }
@@ -248,18 +263,18 @@ impl Stack {
     }
 
     /// Replaces the marks and facts of a node's parts by its own.
-    fn seen(
-        &mut self,
-        line: &NodeLine,
-        e: &CoreExp,
-        from: usize,
-        depth: u16,
-        shown: Shown,
-    ) -> Result<(), Memory>
-        requires facts { from ≤ length self.old.facts.items }
-        requires marks { from ≤ length self.old.marks.items }
-        ensures { OnOk result (stack self.new ≡ seen_over line.now (exp e.now) from depth shown (stack self.old)) }
+    fn seen(&mut self, joint: Joint<'_>, e: &CoreExp, shown: Shown) -> Result<(), Memory>
+        requires facts { joint.entry.from ≤ length self.old.facts.items }
+        requires marks { joint.entry.from ≤ length self.old.marks.items }
+        ensures { OnOk result (stack self.new
+            ≡ seen_over joint.entry.line.now (exp e.now) joint.entry.from joint.entry.depth shown (stack self.old)) }
     {
+        let Joint {
+            line,
+            from,
+            depth,
+            ..
+        } = joint;
         let calls = line.form.calls() || calls(facts_from(&self.facts, from));
         let taken = match line.rules {
             Rules::Taken => true,
@@ -357,7 +372,7 @@ impl Stack {
                 None => Err(CheckFault::Line(place.line)),
             },
             RootLine::Assign(rule, level) => match self.both() {
-                Some((value, address)) => assignment(alloc, rule, level, value, address, place),
+                Some(both) => assignment(alloc, rule, level, both, place),
                 None => Err(CheckFault::Line(place.line)),
             },
         }
@@ -452,17 +467,17 @@ fn assigned(
     Ok(by_rule(rule, parts))
 }
 
-/// A root that is an assignment.
+/// A root that is an assignment with these sides: the value and the address.
 fn assignment(
     alloc: Global,
     rule: Rule,
     level: u16,
-    value: One,
-    address: One,
+    both: (One, One),
     place: Position,
 ) -> Result<Rooted, CheckFault>
-    ensures { Gives rooted_of result (assign_root rule level place (one_of value, one_of address)) }
+    ensures { Gives rooted_of result (assign_root rule level place (one_of both.0, one_of both.1)) }
 {
+    let (value, address) = both;
     let side = side(address.facts.operand, level);
     if u32::from(value.mark.level) != side || u32::from(address.mark.level) != side {
         return Err(CheckFault::Line(place.line));

@@ -41,22 +41,22 @@ fn pair(
 /// Appends the nodes of `->`: the condition, then its two values.
 #[cycle(walking)]
 fn triple(
-    c: &CoreExp,
-    x: &CoreExp,
-    y: &CoreExp,
+    condition: &CoreExp,
+    values: (&CoreExp, &CoreExp),
     level: u64,
     own: Option<&Derivation>,
     marks: &mut Vec<NodeMark>,
 ) -> Result<(), Memory>
-    requires { level + 2 * (1 + nodes_in (exp c.now) + nodes_in (exp x.now) + nodes_in (exp y.now)) ≤ 2 ^ 62 }
+    requires { level + 2 * (1 + nodes_in (exp condition.now) + nodes_in (exp values.entry.0.now) + nodes_in (exp values.entry.1.now)) ≤ 2 ^ 62 }
     ensures { OnOk result (marks.new.items ≡ marks.old.items
-        ++ ((whole_with mark (exp c.now) level (placed (first_place false) (tree_of own.entry))
-        ++ whole_with mark (exp x.now) level (placed (second_place false) (tree_of own.entry)))
-        ++ whole_with mark (exp y.now) level (placed third_place (tree_of own.entry)))) }
+        ++ ((whole_with mark (exp condition.now) level (placed (first_place false) (tree_of own.entry))
+        ++ whole_with mark (exp values.entry.0.now) level (placed (second_place false) (tree_of own.entry)))
+        ++ whole_with mark (exp values.entry.1.now) level (placed third_place (tree_of own.entry)))) }
 {
+    let (x, y) = values;
     let second = own;
     let third = own;
-    lay(c, level, first_part(own, false), marks)?;
+    lay(condition, level, first_part(own, false), marks)?;
     lay(x, level, second_part(second, false), marks)?;
     lay(y, level, third_part(third), marks)
 }
@@ -120,7 +120,7 @@ fn below(
         CoreExp::Neg(part) => lay(part, level, first_part(own, false), marks),
         CoreExp::Not(part) => lay(part, level, first_part(own, false), marks),
         CoreExp::Bin(_, a, b) => pair(a, b, level, own, marks),
-        CoreExp::Cond(c, x, y) => triple(c, x, y, level, own, marks),
+        CoreExp::Cond(c, x, y) => triple(c, (x, y), level, own, marks),
         CoreExp::Call(arguments, routine) => call(arguments, routine, level, parts(own), marks),
     }
 }

@@ -14,7 +14,7 @@ use crate::start::start_store;
 use crate::table::table_of;
 use bc_core::Core;
 use bc_interpret_pure::Room;
-use bc_interpret_steps::{Called, NumberRest, Progress, Rest, Section, Stacks, State, Work, put};
+use bc_interpret_steps::{Called, NumberRest, Progress, Rest, Section, Stacks, State, Work, push};
 use bc_interpret_store::Store;
 use bc_interpret_trace::Trace;
 use bc_machine::{Image, Streams};
@@ -72,11 +72,11 @@ fn run_sections<S: Streams>(
     let store = start_store(alloc, sections)?;
     let mut run = run_over(alloc, store, turns);
     // reads the cell of global 1 (START), and calls the value found there
-    put(
+    push(
         Rest::Calls(true, first_frame(stack_base)),
         &mut run.stacks.rests,
     )?;
-    put(Rest::Number(NumberRest::Loads), &mut run.stacks.rests)?;
+    push(Rest::Number(NumberRest::Loads), &mut run.stacks.rests)?;
     let outcome = to_end(table.as_slice(), &mut run, streams)?;
     let trail = run.trail(alloc)?;
     Ok(Interpreted { outcome, trail })

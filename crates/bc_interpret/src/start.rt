@@ -15,7 +15,7 @@ ghost use Rattle.bc_interpret.specs.Starting.{HasData, HasSetting, Sets, IsStart
 
 use crate::table::{address_of, label_after};
 use bc_core::Place;
-use bc_interpret_steps::Section;
+use bc_interpret_steps::{Section, addresses};
 use bc_interpret_store::{Cell, Store};
 use bc_word::Memory;
 use std::alloc::Global;
@@ -209,19 +209,19 @@ fn setting_in(section: &Section<'_>, global: u16) -> Result<Option<u16>, Memory>
     Ok(None)
 }
 
-/// The address of the primitive to which this global is set, if there is one. The segment of the primitives begins at address 520.
+/// The address of the primitive to which this global is set, if there is one.
 fn primitive_of(global: u16) -> Option<u16>
     ensures { result ≡ address_among primitives global }
 {
     match global {
-        11 => Some(520),
-        12 => Some(524),
-        13 => Some(528),
-        14 => Some(530),
-        15 => Some(534),
-        16 => Some(537),
-        17 => Some(540),
-        18 => Some(543),
+        11 => Some(addresses::SELECT_INPUT),
+        12 => Some(addresses::SELECT_OUTPUT),
+        13 => Some(addresses::READ_BYTE),
+        14 => Some(addresses::WRITE_BYTE),
+        15 => Some(addresses::FIND_INPUT),
+        16 => Some(addresses::FIND_OUTPUT),
+        17 => Some(addresses::END_INPUT),
+        18 => Some(addresses::END_OUTPUT),
         _ => None,
     }
 }

@@ -81,9 +81,9 @@ pub argued_over : (a now : Arguments) (first : CoreExp) (following : List CoreEx
     → ((streams : Content) → Argued a before (stack before) (state_of st streams) ≡ Argued now cur (stack cur) (state_of st streams)) → Goes (Argued a before) before st p after st
 argued_over a now first following before cur after st g p h is split kept =
     let P : Given → Type 0 = λ x. IsGivenOne now first following cur st x p after in
-    let E = spot_of now.spot in
+    let E = spot_of now.site in
     let vs = given_for now.fresh (given cur) in
-    let rest : Args → machine.Step = λ es. argue E vs es now.level (exp now.routine.now) now.count now.s (stack cur) in
+    let rest : Args → machine.Step = λ es. argue E vs es now.level (exp now.routine.now) now.count now.site.level (stack cur) in
     same_came (Argued a before (stack before)) (rest (argument (exp first) (args following))) st p (stack after) (given after) st (λ streams. kept streams ∙ ap (λ xs. rest (args xs) (state_of st streams)) split) (subst P is h)
 
 no_more : (es : List CoreExp) → length es ≡ 0 → es ≡ []
@@ -93,9 +93,9 @@ no_more (x ∷ es) e = absurd (omega arith)
 pub argued_last : (a now : Arguments) (before cur after : List Rest) (st : State) (p : Progress) → Goes (ArguedLast now cur) cur st p after st → length now.left.now ≡ 0
     → ((streams : Content) → Argued a before (stack before) (state_of st streams) ≡ Argued now cur (stack cur) (state_of st streams)) → Goes (Argued a before) before st p after st
 argued_last a now before cur after st p h none kept =
-    let E = spot_of now.spot in
+    let E = spot_of now.site in
     let vs = given_for now.fresh (given cur) in
-    let rest : Args → machine.Step = λ es. argue E vs es now.level (exp now.routine.now) now.count now.s (stack cur) in
+    let rest : Args → machine.Step = λ es. argue E vs es now.level (exp now.routine.now) now.count now.site.level (stack cur) in
     same_came (Argued a before (stack before)) (rest no_argument) st p (stack after) (given after) st (λ streams. kept streams ∙ ap (λ xs. rest (args xs) (state_of st streams)) (no_more now.left.now none)) h
 
 -- beginning the arguments of a call

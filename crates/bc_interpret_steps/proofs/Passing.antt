@@ -164,19 +164,19 @@ second_next program st E op b s v level old new rs e k l =
 
 pub second_ran : (program : List Placed) (o : Operator) (v level : ℕ) (all below middle : List Rest) (gone : Option Rest) (n m : ℕ) (old : State) (p : Progress) (rs1 : List machine.Rest) (vs1 : List ℕ) (new : State)
     → IsOperator (Some o) all → all ≡ below ++ option_to_list gone → MatchOption gone ((n ≡ 0) × (m ≡ 0)) (λ r. m + 1 ≡ n) → length all ≡ n
-    → stack middle ≡ stacked (stack below) (given below) (rests.Number (number_rests.Operated o.op v)) → level ≡ o.s + 1
-    → Ran program (evaluating (spot_of o.spot) (exp o.second.now) level (stack middle)) old p rs1 vs1 new
+    → stack middle ≡ stacked (stack below) (given below) (rests.Number (number_rests.Operated o.op v)) → level ≡ o.site.level + 1
+    → Ran program (evaluating (spot_of o.site) (exp o.second.now) level (stack middle)) old p rs1 vs1 new
     → Ran program (giving v (stack all)) old p rs1 vs1 new
-second_ran program o v level all below middle None n m old p rs1 vs1 new is e k l put lv h = let some = some_there all (rests.Number (number_rests.Operates o.spot o.op o.second o.s)) is in let none = k.0 in absurd (omega (arith, some, none, l))
+second_ran program o v level all below middle None n m old p rs1 vs1 new is e k l put lv h = let some = some_there all (rests.Number (number_rests.Operates o.site o.op o.second)) is in let none = k.0 in absurd (omega (arith, some, none, l))
 second_ran program o v level all below middle (Some r) n m old p rs1 vs1 new is e k l put lv h =
-    let first = rests.Number (number_rests.Operates o.spot o.op o.second o.s) in
+    let first = rests.Number (number_rests.Operates o.site o.op o.second) in
     let top : r ≡ first = last_is all below r first e is in
     let front : stack all ≡ stacked (stack below) (given below) first = ap stack e ∙ (stack_more below r ∙ ap (λ q. stacked (stack below) (given below) q) top) in
     record {
       middle = h.middle;
       along = h.along ++ (giving v (stack all) ∷ []);
-      passes = append program old (giving v (stack all)) (evaluating (spot_of o.spot) (exp o.second.now) level (stack middle)) h.middle (giving v (stack all) ∷ []) h.along
-          (second_next program old (spot_of o.spot) o.op (exp o.second.now) o.s v level (stack all) (stack middle) (stack below) front put lv) h.passes;
+      passes = append program old (giving v (stack all)) (evaluating (spot_of o.site) (exp o.second.now) level (stack middle)) h.middle (giving v (stack all) ∷ []) h.along
+          (second_next program old (spot_of o.site) o.op (exp o.second.now) o.site.level v level (stack all) (stack middle) (stack below) front put lv) h.passes;
       comes = h.comes;
     }
 

@@ -32,23 +32,23 @@ use Rattle.bc_interpret_steps.specs.Sections.{IsTable}
 
 -- the machine's step into the remaining arguments, after those that are given
 abbrev pub Argued : Arguments → (before : List Rest) → List machine.Rest → machine.Step
-Argued a before rs = machine.argue (spot_of a.spot) (given_for a.fresh (given before)) (args a.left.now) a.level (exp a.routine.now) a.count a.s rs
+Argued a before rs = machine.argue (spot_of a.site) (given_for a.fresh (given before)) (args a.left.now) a.level (exp a.routine.now) a.count a.site.level rs
 
 -- the machine's step into the routine's value, once all arguments are given
 abbrev pub ArguedLast : Arguments → (before : List Rest) → List machine.Rest → machine.Step
-ArguedLast a before rs = machine.argue (spot_of a.spot) (given_for a.fresh (given before)) no_argument a.level (exp a.routine.now) a.count a.s rs
+ArguedLast a before rs = machine.argue (spot_of a.site) (given_for a.fresh (given before)) no_argument a.level (exp a.routine.now) a.count a.site.level rs
 
 -- the first argument is given and these remain; or the step is over with this outcome
 abbrev pub IsGivenOne : Arguments → CoreExp → List CoreExp → (before : List Rest) → State → Given → Progress → (after : List Rest) → Type 0
 IsGivenOne a first following before st (forms.One next) p after =
     (next.left.now ≡ following)
     × ((streams : Content)
-    → machine.argue (spot_of a.spot) (given_for a.fresh (given before)) (argument (exp first) (args following)) a.level (exp a.routine.now) a.count a.s (stack
-    before) (state_of st streams)
+    → machine.argue (spot_of a.site) (given_for a.fresh (given before)) (argument (exp first) (args following)) a.level (exp a.routine.now) a.count
+    a.site.level (stack before) (state_of st streams)
     ≡ Argued next after (stack after) (state_of st streams))
 IsGivenOne a first following before st forms.Over p after =
-    Goes (machine.argue (spot_of a.spot) (given_for a.fresh (given before)) (argument (exp first) (args following)) a.level (exp a.routine.now) a.count a.s)
-    before st p after st
+    Goes (machine.argue (spot_of a.site) (given_for a.fresh (given before)) (argument (exp first) (args following)) a.level (exp a.routine.now) a.count
+    a.site.level) before st p after st
 
 -- A primitive is called: its turn has been taken and its argument passed. The machine goes on with its work, then frees the cell of its
 -- argument, then goes on with the continuations.

@@ -6,7 +6,7 @@ use Rattle.bc_core.specs.Commands as commands
 use Rattle.bc_core.specs.Exit as exits
 use Rattle.bc_core.specs.Lists as lists
 use Rattle.bc_interpret_defs.specs.Machine as machine
-use Rattle.bc_interpret_steps.specs.declared.forms.Spot.{Spot}
+use Rattle.bc_interpret_steps.specs.declared.forms.Site.{Site}
 use Rattle.bc_interpret_steps.specs.declared.forms.Exit.{Exit}
 use Rattle.bc_interpret_steps.specs.declared.forms.Exit.TheVariants as exit_forms
 use Rattle.bc_interpret_steps.specs.declared.forms.Entry.{Entry}
@@ -27,7 +27,7 @@ use Rattle.bc_interpret_steps.specs.declared.continuations.Rest.{Rest}
 use Rattle.bc_interpret_steps.specs.declared.continuations.Rest.TheVariants as rests
 
 -- where a part is evaluated, as the definitions have it
-abbrev pub spot_of : Spot → machine.Spot
+abbrev pub spot_of : Site → machine.Spot
 spot_of E =
     record {
       address = λ l. slice_index_or E.section.now.addresses.now l 0;
@@ -61,19 +61,19 @@ given_for false vs = vs
 
 -- the work as the machine's, with the arguments already given
 abbrev pub work_of : List ℕ → Work → machine.Work
-work_of vs (works.Evaluate E e s) = machine.Evaluate (spot_of E) (exp e.now) s
-work_of vs (works.Decide E e s) = machine.Decide (spot_of E) (exp e.now) s
-work_of vs (works.Argue a) = machine.Argue (spot_of a.spot) (given_for a.fresh vs) (args a.left.now) a.level (exp a.routine.now) a.count a.s
-work_of vs (works.Store E v a s) = machine.Store (spot_of E) (exp v.now) (exp a.now) s
-work_of vs (works.Perform E c s) = machine.Perform (spot_of E) (command c.now) s
-work_of vs (works.While E c b s) = machine.Perform (spot_of E) (commands.While c.now.sense (exp c.now.test) (block_of b.now)) s
-work_of vs (works.Repeat E b s) = machine.Perform (spot_of E) (commands.Repeat (block_of b.now)) s
-work_of vs (works.RepeatWhile E b c s) = machine.Perform (spot_of E) (commands.RepeatWhile (block_of b.now) c.now.sense (exp c.now.test)) s
-work_of vs (works.Enter E b s) = machine.Enter (spot_of E) (block_of b.now) s
-work_of vs (works.Declare E ds is s level) = machine.Declare (spot_of E) (declarations ds.now) (items is.now) s level
-work_of vs (works.Initialise E xs k s) = machine.Initialise (spot_of E) (map variable xs.now) k s
-work_of vs (works.Listing E is s at) = machine.Listing (spot_of E) (items is.now) s (entry_of at)
-work_of vs (works.Round E limit by b s) = machine.Round (spot_of E) limit by (block_of b.now) s
+work_of vs (works.Evaluate E e) = machine.Evaluate (spot_of E) (exp e.now) E.level
+work_of vs (works.Decide E e) = machine.Decide (spot_of E) (exp e.now) E.level
+work_of vs (works.Argue a) = machine.Argue (spot_of a.site) (given_for a.fresh vs) (args a.left.now) a.level (exp a.routine.now) a.count a.site.level
+work_of vs (works.Store E v a) = machine.Store (spot_of E) (exp v.now) (exp a.now) E.level
+work_of vs (works.Perform E c) = machine.Perform (spot_of E) (command c.now) E.level
+work_of vs (works.While E c b) = machine.Perform (spot_of E) (commands.While c.now.sense (exp c.now.test) (block_of b.now)) E.level
+work_of vs (works.Repeat E b) = machine.Perform (spot_of E) (commands.Repeat (block_of b.now)) E.level
+work_of vs (works.RepeatWhile E b c) = machine.Perform (spot_of E) (commands.RepeatWhile (block_of b.now) c.now.sense (exp c.now.test)) E.level
+work_of vs (works.Enter E b) = machine.Enter (spot_of E) (block_of b.now) E.level
+work_of vs (works.Declare E ds is level) = machine.Declare (spot_of E) (declarations ds.now) (items is.now) E.level level
+work_of vs (works.Initialise E xs k) = machine.Initialise (spot_of E) (map variable xs.now) k E.level
+work_of vs (works.Listing E is at) = machine.Listing (spot_of E) (items is.now) E.level (entry_of at)
+work_of vs (works.Round E r) = machine.Round (spot_of E) r.limit r.by (block_of r.body.now) E.level
 work_of vs (works.Number v) = machine.Give (machine.Number v)
 work_of vs (works.Verdict t) = machine.Give (machine.Verdict t)
 work_of vs works.Nothing = machine.Give machine.Nothing
@@ -85,45 +85,46 @@ number_rest vs number_rests.Loads = machine.Loads
 number_rest vs number_rests.Negates = machine.Negates
 number_rest vs number_rests.Complements = machine.Complements
 number_rest vs number_rests.Tests = machine.Tests
-number_rest vs (number_rests.Operates E op e s) = machine.Operates (spot_of E) op (exp e.now) s
+number_rest vs (number_rests.Operates E op e) = machine.Operates (spot_of E) op (exp e.now) E.level
 number_rest vs (number_rests.Operated op x) = machine.Operated op x
-number_rest vs (number_rests.Argues a) = machine.Argues (spot_of a.spot) (given_for a.fresh vs) (args a.left.now) a.level (exp a.routine.now) a.count a.s
+number_rest vs (number_rests.Argues a) =
+    machine.Argues (spot_of a.site) (given_for a.fresh vs) (args a.left.now) a.level (exp a.routine.now) a.count a.site.level
 
 abbrev pub value_rest : ValueRest → machine.Rest
-value_rest (value_rests.Stores E a s) = machine.Stores (spot_of E) (exp a.now) s
+value_rest (value_rests.Stores E a) = machine.Stores (spot_of E) (exp a.now) E.level
 value_rest (value_rests.Stored w) = machine.Stored w
 value_rest (value_rests.StoresAt a) = machine.StoresAt a
 value_rest value_rests.Drops = machine.Drops
-value_rest (value_rests.Fors E by b s) = machine.Fors (spot_of E) by (block_of b.now) s
-value_rest (value_rests.Switches E is s) = machine.Switches (spot_of E) (items is.now) s
+value_rest (value_rests.Fors E by b) = machine.Fors (spot_of E) by (block_of b.now) E.level
+value_rest (value_rests.Switches E is) = machine.Switches (spot_of E) (items is.now) E.level
 value_rest value_rests.Leaves = machine.Leaves
 
 abbrev pub truth_rest : TruthRest → machine.Rest
 truth_rest truth_rests.Opposes = machine.Opposes
-truth_rest (truth_rests.Conjoins E e s) = machine.Conjoins (spot_of E) (exp e.now) s
-truth_rest (truth_rests.Disjoins E e s) = machine.Disjoins (spot_of E) (exp e.now) s
-truth_rest (truth_rests.Selects E x y s) = machine.Selects (spot_of E) (exp x.now) (exp y.now) s
-truth_rest (truth_rests.Ifs E sense b s) = machine.Ifs (spot_of E) sense (block_of b.now) s
-truth_rest (truth_rests.Chooses E b c s) = machine.Chooses (spot_of E) (block_of b.now) (block_of c.now) s
-truth_rest (truth_rests.Whiles E c b s) = machine.Whiles (spot_of E) c.now.sense (exp c.now.test) (block_of b.now) s
-truth_rest (truth_rests.RepeatWhiles E b c s) = machine.RepeatWhiles (spot_of E) (block_of b.now) c.now.sense (exp c.now.test) s
+truth_rest (truth_rests.Conjoins E e) = machine.Conjoins (spot_of E) (exp e.now) E.level
+truth_rest (truth_rests.Disjoins E e) = machine.Disjoins (spot_of E) (exp e.now) E.level
+truth_rest (truth_rests.Selects E x y) = machine.Selects (spot_of E) (exp x.now) (exp y.now) E.level
+truth_rest (truth_rests.Ifs E sense b) = machine.Ifs (spot_of E) sense (block_of b.now) E.level
+truth_rest (truth_rests.Chooses E b c) = machine.Chooses (spot_of E) (block_of b.now) (block_of c.now) E.level
+truth_rest (truth_rests.Whiles E c b) = machine.Whiles (spot_of E) c.now.sense (exp c.now.test) (block_of b.now) E.level
+truth_rest (truth_rests.RepeatWhiles E b c) = machine.RepeatWhiles (spot_of E) (block_of b.now) c.now.sense (exp c.now.test) E.level
 
 abbrev pub nothing_rest : NothingRest → machine.Rest
 nothing_rest nothing_rests.Passes = machine.Passes
-nothing_rest (nothing_rests.Limits E limit by b s) = machine.Limits (spot_of E) (exp limit.now) by (block_of b.now) s
-nothing_rest (nothing_rests.Declares E ds is s level) = machine.Declares (spot_of E) (declarations ds.now) (items is.now) s level
-nothing_rest (nothing_rests.Initialises E xs k s) = machine.Initialises (spot_of E) (map variable xs.now) k s
+nothing_rest (nothing_rests.Limits E limit by b) = machine.Limits (spot_of E) (exp limit.now) by (block_of b.now) E.level
+nothing_rest (nothing_rests.Declares E ds is level) = machine.Declares (spot_of E) (declarations ds.now) (items is.now) E.level level
+nothing_rest (nothing_rests.Initialises E xs k) = machine.Initialises (spot_of E) (map variable xs.now) k E.level
 
 abbrev pub exit_rest : ExitRest → machine.Rest
 exit_rest exit_rests.Returns = machine.Returns
 exit_rest exit_rests.Results = machine.Results
-exit_rest (exit_rests.WhileBody E c b s) = machine.WhileBody (spot_of E) c.now.sense (exp c.now.test) (block_of b.now) s
-exit_rest (exit_rests.RepeatBody E b s) = machine.RepeatBody (spot_of E) (block_of b.now) s
-exit_rest (exit_rests.RepeatWhileBody E b c s) = machine.RepeatWhileBody (spot_of E) (block_of b.now) c.now.sense (exp c.now.test) s
-exit_rest (exit_rests.ForBody E limit by b s) = machine.ForBody (spot_of E) limit by (block_of b.now) s
+exit_rest (exit_rests.WhileBody E c b) = machine.WhileBody (spot_of E) c.now.sense (exp c.now.test) (block_of b.now) E.level
+exit_rest (exit_rests.RepeatBody E b) = machine.RepeatBody (spot_of E) (block_of b.now) E.level
+exit_rest (exit_rests.RepeatWhileBody E b c) = machine.RepeatWhileBody (spot_of E) (block_of b.now) c.now.sense (exp c.now.test) E.level
+exit_rest (exit_rests.ForBody E r) = machine.ForBody (spot_of E) r.limit r.by (block_of r.body.now) E.level
 exit_rest exit_rests.Cases = machine.Cases
-exit_rest (exit_rests.Follows E is s) = machine.Follows (spot_of E) (items is.now) s
-exit_rest (exit_rests.Listed E is s) = machine.Listed (spot_of E) (items is.now) s
+exit_rest (exit_rests.Follows E is) = machine.Follows (spot_of E) (items is.now) E.level
+exit_rest (exit_rests.Listed E is) = machine.Listed (spot_of E) (items is.now) E.level
 
 -- the continuations with one more pushed, after these given arguments
 abbrev pub stacked : List machine.Rest → List ℕ → Rest → List machine.Rest

@@ -97,7 +97,7 @@ IsFirstCall e (Some o) = first_called o ≡ e
 -- the innermost continuation is this operator, which waits for its first operand
 abbrev pub IsOperator : Option Operator → List Rest → Type 0
 IsOperator None all = Unit {0}
-IsOperator (Some o) all = slice_get all (length all - 1) ≡ Some (rests.Number (number_rests.Operates o.spot o.op o.second o.s))
+IsOperator (Some o) all = slice_get all (length all - 1) ≡ Some (rests.Number (number_rests.Operates o.site o.op o.second))
 
 -- the machine is about to give this exit to the innermost continuation
 abbrev pub leaving : exits.Exit → List machine.Rest → machine.At

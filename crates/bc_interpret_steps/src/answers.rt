@@ -6,7 +6,7 @@ ghost use Rattle.bc_interpret_steps.specs.Code.{exit_of};
 ghost use Rattle.bc_interpret_steps.specs.Stepped.{StepsOver};
 ghost use Rattle.bc_interpret_steps.specs.Passing.{RunsOver};
 
-use crate::calls::arrive;
+use crate::calls::call_given;
 use crate::conditions::truth_taken;
 use crate::continuations::Rest;
 use crate::exits::{exit_taken, nothing_taken};
@@ -26,14 +26,14 @@ pub(crate) fn give_number<'c>(
 ) -> Result<(), Memory>
     ensures { StepsOver table.now (machine.Give (machine.Number v)) stacks.old.rests state.old result stacks.new.next stacks.new.rests state.new }
 {
-    match stacks.take() {
+    match stacks.pop() {
         None => {
             stacks.next = Progress::Answered;
             Ok(())
         }
         Some(Rest::Number(rest)) => number_taken(&rest, v, stacks, state),
         Some(Rest::Value(rest)) => value_taken(&rest, v, stacks, state),
-        Some(Rest::Calls(fresh, frame)) => arrive(table, v, fresh, frame, stacks, state),
+        Some(Rest::Calls(fresh, frame)) => call_given(table, v, fresh, frame, stacks, state),
         Some(Rest::Closes(count, from)) => {
             state.store.close(count as usize, from as usize);
             stacks.next = Progress::On(Work::Number(v));
@@ -55,7 +55,7 @@ pub(crate) fn give_verdict<'c>(
 ) -> Result<(), Memory>
     ensures { StepsOver table.now (machine.Give (machine.Verdict t)) stacks.old.rests state.old result stacks.new.next stacks.new.rests state.new }
 {
-    match stacks.take() {
+    match stacks.pop() {
         None => {
             stacks.next = Progress::Answered;
             Ok(())
@@ -88,7 +88,7 @@ pub(crate) fn give_nothing<'c>(
 ) -> Result<(), Memory>
     ensures { StepsOver table.now (machine.Give machine.Nothing) stacks.old.rests state.old result stacks.new.next stacks.new.rests state.new }
 {
-    match stacks.take() {
+    match stacks.pop() {
         None => {
             stacks.next = Progress::Answered;
             Ok(())
@@ -124,12 +124,12 @@ pub(crate) fn give_exit<'c>(
     ensures { RunsOver table.now (machine.Give (machine.Left (exit_of exit))) stacks.old.rests state.old result stacks.new.next stacks.new.rests state.new }
 {
     let out = stacks.pass(exit);
-    hand_exit(table, out, stacks, state)
+    resume_with_exit(table, out, stacks, state)
 }
 
 /// Gives an exit to the innermost continuation.
 #[inline(always)]
-fn hand_exit<'c>(
+fn resume_with_exit<'c>(
     table: &[Callable<'c>],
     exit: Exit,
     stacks: &mut Stacks<'c>,
@@ -137,7 +137,7 @@ fn hand_exit<'c>(
 ) -> Result<(), Memory>
     ensures { StepsOver table.now (machine.Give (machine.Left (exit_of exit))) stacks.old.rests state.old result stacks.new.next stacks.new.rests state.new }
 {
-    match stacks.take() {
+    match stacks.pop() {
         None => {
             stacks.next = Progress::Answered;
             Ok(())

@@ -8,9 +8,9 @@ ghost use Rattle.bc_interpret_steps.specs.Arrived.{Argued, ArguedLast, IsGivenOn
 ghost use Rattle.bc_interpret_steps.specs.Came.{sight};
 ghost use Rattle.bc_interpret_steps.specs.Stepped.{Proceeds};
 
-use crate::continuations::{NumberRest, Rest, above, put, take};
-use crate::evaluate::{settled, worth_at};
-use crate::forms::{Arguments, Ending, Progress, Spot, Work};
+use crate::continuations::{NumberRest, Rest, level_above, pop, push};
+use crate::evaluate::{outcome_of_worth, worth_at};
+use crate::forms::{Arguments, Ending, Progress, Site, Work};
 use crate::state::{Stacks, State};
 use bc_core::CoreExp;
 use bc_interpret_pure::{Room, Worth};
@@ -19,7 +19,7 @@ use bc_word::Memory;
 /// One step into the remaining arguments, and then into the routine's value. Pure ones are evaluated within this step.
 ///
 /// `Memory` if an allocation fails.
-pub(crate) fn argue<'c>(
+pub(crate) fn evaluate_arguments<'c>(
     arguments: Arguments<'c>,
     stacks: &mut Stacks<'c>,
     state: &State,
@@ -59,12 +59,12 @@ fn give_argument<'c>(
     ensures { IfOk result (λ given.
         IsGivenOne arguments.entry first.now following.now stacks.old.rests.items state.now given stacks.new.next stacks.new.rests.items) }
 {
-    match worth_at(&arguments.spot, first, &mut stacks.room, state)? {
+    match worth_at(&arguments.site, first, &mut stacks.room, state)? {
         Some(Worth::Is(v)) => {
-            put(Rest::Given(v, arguments.fresh), &mut stacks.rests)?;
+            push(Rest::Given(v, arguments.fresh), &mut stacks.rests)?;
             Ok(Given::One(Arguments {
                 left: following,
-                level: above(arguments.level, 1)?,
+                level: level_above(arguments.level, 1)?,
                 fresh: false,
                 ..arguments
             }))
@@ -81,7 +81,11 @@ fn give_argument<'c>(
         }
         None => {
             put_argues(arguments, following, &mut stacks.rests)?;
-            stacks.next = Progress::On(Work::Evaluate(arguments.spot, first, arguments.level));
+            let site = Site {
+                level: arguments.level,
+                ..arguments.site
+            };
+            stacks.next = Progress::On(Work::Evaluate(site, first));
             Ok(Given::Over)
         }
     }
@@ -94,11 +98,11 @@ fn put_argues<'c>(
     following: &'c [CoreExp],
     rests: &mut Vec<Rest<'c>>,
 ) -> Result<(), Memory>
-    ensures { OnOk result (stack rests.new.items
-        ≡ machine.Argues (spot_of arguments.entry.spot) (given_for arguments.entry.fresh (given rests.old.items)) (args following.now) arguments.entry.level
-        (exp arguments.entry.routine.now) arguments.entry.count arguments.entry.s ∷ stack rests.old.items) }
+    ensures { OnOk result (stack rests.new.items ≡ machine.Argues (spot_of arguments.entry.site) (given_for arguments.entry.fresh (given rests.old.items))
+        (args following.now) arguments.entry.level (exp arguments.entry.routine.now) arguments.entry.count arguments.entry.site.level ∷ stack
+        rests.old.items) }
 {
-    put(
+    push(
         Rest::Number(NumberRest::Argues(Arguments {
             left: following,
             ..arguments
@@ -118,16 +122,20 @@ fn argue_routine<'c>(
 ) -> Result<(), Memory>
     ensures { Proceeds (ArguedLast arguments.entry stacks.old.rests.items) stacks.old.rests state.now result stacks.new.next stacks.new.rests state.now }
 {
-    let frame = above(arguments.spot.frame, arguments.s)?;
-    let level = above(above(arguments.s, 2)?, arguments.count)?;
-    put(Rest::Calls(arguments.fresh, frame), &mut stacks.rests)?;
-    match worth_at(&arguments.spot, arguments.routine, &mut stacks.room, state)? {
+    let frame = level_above(arguments.site.frame, arguments.site.level)?;
+    let level = level_above(level_above(arguments.site.level, 2)?, arguments.count)?;
+    push(Rest::Calls(arguments.fresh, frame), &mut stacks.rests)?;
+    match worth_at(&arguments.site, arguments.routine, &mut stacks.room, state)? {
         Some(worth) => {
-            stacks.next = settled(worth);
+            stacks.next = outcome_of_worth(worth);
             Ok(())
         }
         None => {
-            stacks.next = Progress::On(Work::Evaluate(arguments.spot, arguments.routine, level));
+            let site = Site {
+                level,
+                ..arguments.site
+            };
+            stacks.next = Progress::On(Work::Evaluate(site, arguments.routine));
             Ok(())
         }
     }
@@ -191,18 +199,18 @@ fn gather<'c>(
 #[inline(always)]
 #[tactic(auto, using(crate::proofs::Direct::none_done, crate::proofs::Direct::one_done, crate::proofs::Direct::all_done))]
 fn values_of<'c>(
-    spot: &Spot<'c>,
+    site: &Site<'c>,
     arguments: &'c [CoreExp],
     values: &mut Vec<u16>,
     room: &mut Room<'c>,
     state: &State,
 ) -> Result<bool, Memory>
-    ensures { IfOk result (λ all. IsTrue all → AreWorth (sight state.now (spot_of spot.now)) (args arguments.now) (reverse values.new.items)) }
+    ensures { IfOk result (λ all. IsTrue all → AreWorth (sight state.now (spot_of site.now)) (args arguments.now) (reverse values.new.items)) }
 {
     values.clear();
     let mut left = arguments;
     while let Some((last, before)) = left.split_last() {
-        let found = worth_at(spot, last, room, state)?;
+        let found = worth_at(site, last, room, state)?;
         match found {
             Some(Worth::Is(v)) => values.push(v)?,
             _ => return Ok(false),
@@ -218,22 +226,22 @@ impl<'c> Stacks<'c> {
     ///
     /// `Memory` if an allocation fails.
     #[inline(always)]
-    pub(crate) fn worked_out(
+    pub(crate) fn evaluate_pure_call(
         &mut self,
-        spot: &Spot<'c>,
+        site: &Site<'c>,
         arguments: &'c [CoreExp],
         routine: &'c CoreExp,
         state: &State,
     ) -> Result<Option<u16>, Memory>
-        ensures worked { IfOk result (λ found.
-            IsWorkedOut (sight state.now (spot_of spot.now)) (args arguments.now) (exp routine.now) found (reverse self.new.arguments.items)) }
+        ensures worked { IfOk result (λ found. IsWorkedOut (sight state.now (spot_of site.now)) (args arguments.now) (exp routine.now) found (reverse
+            self.new.arguments.items)) }
         ensures rests { self.new.rests ≡ self.old.rests }
     {
-        let all = values_of(spot, arguments, &mut self.arguments, &mut self.room, state)?;
+        let all = values_of(site, arguments, &mut self.arguments, &mut self.room, state)?;
         if !all {
             return Ok(None);
         }
-        let found = worth_at(spot, routine, &mut self.room, state)?;
+        let found = worth_at(site, routine, &mut self.room, state)?;
         match found {
             Some(Worth::Is(value)) => Ok(Some(value)),
             _ => Ok(None),
@@ -251,9 +259,9 @@ impl<'c> Stacks<'c> {
     }
 
     /// Pops the innermost continuation; `None` if there is none. Arguments that no call has taken are dropped.
-    pub(crate) fn take(&mut self) -> Option<Rest<'c>>
+    pub(crate) fn pop(&mut self) -> Option<Rest<'c>>
         ensures { Taken result self.old.rests.items self.new.rests.items }
     {
-        take(&mut self.rests)
+        pop(&mut self.rests)
     }
 }

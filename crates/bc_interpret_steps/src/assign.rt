@@ -7,7 +7,7 @@ ghost use Rattle.bc_interpret_pure.specs.Views.{seen};
 ghost use Rattle.bc_interpret_steps.specs.Assigns.{BothWorth, IsAssigned, IsDone};
 
 use crate::evaluate::worth_at;
-use crate::forms::Spot;
+use crate::forms::Site;
 use crate::state::{State, put_word};
 use bc_core::{Command, CoreExp};
 use bc_interpret_pure::{Cause, Room, Worth};
@@ -53,17 +53,17 @@ fn both_assigned(word: Worth, place: Worth, state: &mut State) -> Assigned
 #[inline(always)]
 #[tactic(auto, using(crate::proofs::Assigns::at_once))]
 pub(crate) fn assign_at_once<'c>(
-    spot: &Spot<'c>,
+    site: &Site<'c>,
     value: &'c CoreExp,
     address: &'c CoreExp,
     room: &mut Room<'c>,
     state: &mut State,
 ) -> Result<Option<Assigned>, Memory>
-    ensures { IfOk result (λ done. IsAssigned (spot_of spot.now) (exp value.now) (exp address.now) state.old done state.new) }
+    ensures { IfOk result (λ done. IsAssigned (spot_of site.now) (exp value.now) (exp address.now) state.old done state.new) }
 {
-    match worth_at(spot, value, room, state)? {
+    match worth_at(site, value, room, state)? {
         None => Ok(None),
-        Some(word) => match worth_at(spot, address, room, state)? {
+        Some(word) => match worth_at(site, address, room, state)? {
             None => Ok(None),
             Some(place) => Ok(Some(both_assigned(word, place, state))),
         },
@@ -76,16 +76,16 @@ pub(crate) fn assign_at_once<'c>(
 #[inline(always)]
 #[tactic(auto, using(crate::proofs::Assigns::first_done, crate::proofs::Assigns::first_left))]
 pub(crate) fn command_at_once<'c>(
-    spot: &Spot<'c>,
+    site: &Site<'c>,
     command: &'c Command,
     room: &mut Room<'c>,
     state: &mut State,
 ) -> Result<Option<Assigned>, Memory>
-    ensures { IfOk result (λ done. IsDone (spot_of spot.now) (command_view command.now) state.old done state.new) }
+    ensures { IfOk result (λ done. IsDone (spot_of site.now) (command_view command.now) state.old done state.new) }
 {
     match command {
         Command::Assign { value, address } => {
-            Ok(assign_at_once(spot, value, address, room, state)?)
+            Ok(assign_at_once(site, value, address, room, state)?)
         }
         Command::Call(_)
         | Command::If(_, _)

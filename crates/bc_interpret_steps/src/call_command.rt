@@ -7,9 +7,9 @@ ghost use Rattle.bc_interpret_steps.specs.Code.{spot_of};
 ghost use Rattle.bc_interpret_steps.specs.Passing.{RunsOver};
 
 use crate::commands::perform;
-use crate::continuations::{Rest, ValueRest, put};
-use crate::descend::go_over;
-use crate::forms::Spot;
+use crate::continuations::{Rest, ValueRest, push};
+use crate::descend::begin_other;
+use crate::forms::Site;
 use crate::sections::Callable;
 use crate::state::{Stacks, State};
 use bc_core::{Command, CoreExp};
@@ -19,35 +19,33 @@ use bc_word::Memory;
 #[inline(never)]
 fn perform_call<'c>(
     table: &[Callable<'c>],
-    spot: Spot<'c>,
+    site: Site<'c>,
     call: &'c CoreExp,
-    s: u32,
     stacks: &mut Stacks<'c>,
     state: &mut State,
 ) -> Result<(), Memory>
-    ensures { RunsOver table.now (machine.Perform (spot_of spot.entry) (commands.Call (exp call.now)) s) stacks.old.rests state.old result
+    ensures { RunsOver table.now (machine.Perform (spot_of site.entry) (commands.Call (exp call.now)) site.entry.level) stacks.old.rests state.old result
         stacks.new.next stacks.new.rests state.new }
 {
-    put(Rest::Value(ValueRest::Drops), &mut stacks.rests)?;
-    go_over(table, spot, call, s, stacks, state)
+    push(Rest::Value(ValueRest::Drops), &mut stacks.rests)?;
+    begin_other(table, site, call, stacks, state)
 }
 
 /// Performs a command, and enters the routine that it calls.
 ///
 /// `Memory` if an allocation fails.
-pub(crate) fn carry_out<'c>(
+pub(crate) fn begin_command<'c>(
     table: &[Callable<'c>],
-    spot: Spot<'c>,
+    site: Site<'c>,
     command: &'c Command,
-    s: u32,
     stacks: &mut Stacks<'c>,
     state: &mut State,
 ) -> Result<(), Memory>
-    ensures { RunsOver table.now (machine.Perform (spot_of spot.entry) (command_view command.now) s) stacks.old.rests state.old result
+    ensures { RunsOver table.now (machine.Perform (spot_of site.entry) (command_view command.now) site.entry.level) stacks.old.rests state.old result
         stacks.new.next stacks.new.rests state.new }
 {
     match command {
-        Command::Call(call) => perform_call(table, spot, call, s, stacks, state),
+        Command::Call(call) => perform_call(table, site, call, stacks, state),
         Command::Assign { .. }
         | Command::If(_, _)
         | Command::Test(_, _, _)
@@ -63,6 +61,6 @@ pub(crate) fn carry_out<'c>(
         | Command::ResultIs(_)
         | Command::Finish
         | Command::Goto(_)
-        | Command::Nested(_) => perform(spot, command, s, stacks, state),
+        | Command::Nested(_) => perform(site, command, stacks, state),
     }
 }

@@ -10,9 +10,10 @@ ghost use Rattle.bc_interpret_steps.specs.Code.{spot_of};
 ghost use Rattle.bc_interpret_steps.specs.Passing.{RunsInto};
 ghost use Rattle.bc_interpret_steps.specs.Sections.{IsSized, callee_of};
 
-use crate::continuations::{ExitRest, Rest, above, put};
+use crate::addresses;
+use crate::continuations::{ExitRest, Rest, level_above, push};
 use crate::evaluate::call;
-use crate::forms::{Primitive, Progress, Spot, Work};
+use crate::forms::{Primitive, Progress, Site, Work};
 use crate::sections::{Callable, routine_at};
 use crate::state::{Called, Stacks, State, turn};
 use bc_core::{Body, CoreExp};
@@ -33,7 +34,7 @@ pub(crate) enum Fit {
 
 /// Takes the turn of a call whose frame is at this address and has this size in cells, if the frame fits.
 #[tactic(auto, using(crate::proofs::Frames::too_large, crate::proofs::Frames::no_turn, crate::proofs::Frames::fits))]
-fn take_room(frame: u32, size: usize, state: &mut State) -> Result<Fit, Memory>
+fn reserve_frame(frame: u32, size: usize, state: &mut State) -> Result<Fit, Memory>
     ensures { IfOk result (λ found. Framed found frame size state.old state.new) }
 {
     if (frame as usize).checked_add(size).ok_or(Memory)? > 65536 {
@@ -45,19 +46,19 @@ fn take_room(frame: u32, size: usize, state: &mut State) -> Result<Fit, Memory>
     Ok(Fit::Fits)
 }
 
-/// The primitive whose code is at this address. The primitives are the first segment of every image, which begins at address 520.
+/// The primitive whose code is at this address.
 fn primitive_at(address: u16) -> Option<Primitive>
     ensures { IsPrimitive result address }
 {
     match address {
-        520 => Some(Primitive::Select(Side::Input)),
-        524 => Some(Primitive::Select(Side::Output)),
-        528 => Some(Primitive::ReadByte),
-        530 => Some(Primitive::WriteByte),
-        534 => Some(Primitive::Find(Side::Input)),
-        537 => Some(Primitive::Find(Side::Output)),
-        540 => Some(Primitive::EndStream(Side::Input)),
-        543 => Some(Primitive::EndStream(Side::Output)),
+        addresses::SELECT_INPUT => Some(Primitive::Select(Side::Input)),
+        addresses::SELECT_OUTPUT => Some(Primitive::Select(Side::Output)),
+        addresses::READ_BYTE => Some(Primitive::ReadByte),
+        addresses::WRITE_BYTE => Some(Primitive::WriteByte),
+        addresses::FIND_INPUT => Some(Primitive::Find(Side::Input)),
+        addresses::FIND_OUTPUT => Some(Primitive::Find(Side::Output)),
+        addresses::END_INPUT => Some(Primitive::EndStream(Side::Input)),
+        addresses::END_OUTPUT => Some(Primitive::EndStream(Side::Output)),
         _ => None,
     }
 }
@@ -72,7 +73,7 @@ fn enter_primitive<'c>(
 ) -> Result<(), Memory>
     ensures { (value : ℕ) → Enters (Some (OfLibrary (primitive_of primitive))) value frame stacks.old state.old result stacks.new state.new }
 {
-    match take_room(frame, 3, state)? {
+    match reserve_frame(frame, 3, state)? {
         Fit::TooLarge => {
             stacks.next = Progress::Wild(Cause::FrameTooLarge(frame as usize));
             Ok(())
@@ -84,7 +85,7 @@ fn enter_primitive<'c>(
         Fit::Fits => {
             state
                 .store
-                .pass(1, above(frame, 2)? as usize, &mut stacks.arguments);
+                .pass(1, level_above(frame, 2)? as usize, &mut stacks.arguments);
             stacks.next = Progress::Serve(primitive, frame);
             Ok(())
         }
@@ -100,7 +101,7 @@ fn enter_routine<'c>(
 ) -> Result<(), Memory>
     ensures { IsSized entry.entry → (value : ℕ) → Enters (Some (callee_of entry.entry)) value frame stacks.old state.old result stacks.new state.new }
 {
-    match take_room(frame, entry.frame, state)? {
+    match reserve_frame(frame, entry.frame, state)? {
         Fit::TooLarge => {
             stacks.next = Progress::Wild(Cause::FrameTooLarge(frame as usize));
             Ok(())
@@ -111,25 +112,26 @@ fn enter_routine<'c>(
         }
         Fit::Fits => {
             let parameters = u32::from(entry.routine.parameters);
-            let from = above(frame, 2)?;
-            let level = above(2, parameters)?;
+            let from = level_above(frame, 2)?;
+            let level = level_above(2, parameters)?;
             state
                 .store
                 .pass(parameters as usize, from as usize, &mut stacks.arguments);
-            put(Rest::Closes(parameters, from), &mut stacks.rests)?;
-            let spot = Spot {
+            push(Rest::Closes(parameters, from), &mut stacks.rests)?;
+            let site = Site {
                 section: entry.section,
                 first: 0,
                 frame,
+                level,
             };
             match &entry.routine.body {
                 Body::Value(e) => {
-                    stacks.next = Progress::On(Work::Evaluate(spot, e, level));
+                    stacks.next = Progress::On(Work::Evaluate(site, e));
                     Ok(())
                 }
                 Body::Commands(block) => {
-                    put(Rest::Exit(ExitRest::Returns), &mut stacks.rests)?;
-                    stacks.next = Progress::On(Work::Enter(spot, block, level));
+                    push(Rest::Exit(ExitRest::Returns), &mut stacks.rests)?;
+                    stacks.next = Progress::On(Work::Enter(site, block));
                     Ok(())
                 }
             }
@@ -140,7 +142,7 @@ fn enter_routine<'c>(
 /// Calls a value, in the frame at this address, with the arguments that were pushed; with none if the call is `fresh`.
 ///
 /// `Memory` if an allocation fails.
-pub(crate) fn arrive<'c>(
+pub(crate) fn call_given<'c>(
     table: &[Callable<'c>],
     routine: u16,
     fresh: bool,
@@ -151,12 +153,12 @@ pub(crate) fn arrive<'c>(
     ensures { Arrives table.now routine fresh frame stacks.old state.old result stacks.new state.new }
 {
     stacks.gather(fresh)?;
-    land(table, routine, frame, stacks, state)
+    call_value(table, routine, frame, stacks, state)
 }
 
 /// Calls a value, in the frame at this address, with the arguments in `stacks.arguments`, which are in reverse order.
 #[inline(always)]
-fn land<'c>(
+fn call_value<'c>(
     table: &[Callable<'c>],
     routine: u16,
     frame: u32,
@@ -185,24 +187,23 @@ fn land<'c>(
 /// Begins a call. Enters the routine within this step if the arguments and the routine's value are pure and have values.
 ///
 /// `Memory` if an allocation fails.
-pub(crate) fn call_now<'c>(
+pub(crate) fn begin_call<'c>(
     table: &[Callable<'c>],
-    spot: Spot<'c>,
+    site: Site<'c>,
     arguments: &'c [CoreExp],
     routine: &'c CoreExp,
-    s: u32,
     stacks: &mut Stacks<'c>,
     state: &mut State,
 ) -> Result<(), Memory>
-    ensures { RunsInto table.now (spot_of spot.entry) (tree.Call (args arguments.now) (exp routine.now)) s stacks.old.rests state.old result
+    ensures { RunsInto table.now (spot_of site.entry) (tree.Call (args arguments.now) (exp routine.now)) site.entry.level stacks.old.rests state.old result
         stacks.new.next stacks.new.rests state.new }
 {
-    let found = stacks.worked_out(&spot, arguments, routine, state)?;
+    let found = stacks.evaluate_pure_call(&site, arguments, routine, state)?;
     match found {
         Some(value) => {
-            let frame = above(spot.frame, s)?;
-            land(table, value, frame, stacks, state)
+            let frame = level_above(site.frame, site.level)?;
+            call_value(table, value, frame, stacks, state)
         }
-        None => call(spot, arguments, routine, s, stacks, state),
+        None => call(site, arguments, routine, stacks, state),
     }
 }

@@ -17,9 +17,9 @@ ghost use Rattle.bc_interpret_steps.specs.Stepped.{Proceeds, ProceedsOrMalformed
 
 use crate::assign::{Assigned, assign_at_once};
 use crate::conditions::agrees;
-use crate::continuations::{ExitRest, NothingRest, Rest, TruthRest, ValueRest, above, put};
+use crate::continuations::{ExitRest, NothingRest, Rest, TruthRest, ValueRest, level_above, push};
 use crate::evaluate::{decide, decide_part, evaluate, truth_at};
-use crate::forms::{Ending, Entry, Exit, Progress, Spot, Work};
+use crate::forms::{Ending, Entry, Exit, Progress, Rounds, Site, Work};
 use crate::lists::listing;
 use crate::numbers::side_level;
 use crate::state::{Stacks, State, put_after, put_word, turn};
@@ -31,17 +31,16 @@ use bc_word::Memory;
 /// Begins an assignment, and pushes the continuation that leaves it.
 #[inline(always)]
 fn assign<'c>(
-    spot: Spot<'c>,
+    site: Site<'c>,
     value: &'c CoreExp,
     address: &'c CoreExp,
-    s: u32,
     stacks: &mut Stacks<'c>,
 ) -> Result<(), Memory>
-    ensures { (st : StateValue) → Proceeds (machine.perform_step (spot_of spot.entry) (commands.Assign (exp value.now) (exp address.now)) s)
+    ensures { (st : StateValue) → Proceeds (machine.perform_step (spot_of site.entry) (commands.Assign (exp value.now) (exp address.now)) site.entry.level)
         stacks.old.rests st result stacks.new.next stacks.new.rests st }
 {
-    put(Rest::Nothing(NothingRest::Passes), &mut stacks.rests)?;
-    stacks.next = Progress::On(Work::Store(spot, value, address, s));
+    push(Rest::Nothing(NothingRest::Passes), &mut stacks.rests)?;
+    stacks.next = Progress::On(Work::Store(site, value, address));
     Ok(())
 }
 
@@ -60,34 +59,32 @@ fn jump<'c>(label: u16, state: &mut State) -> Progress<'c>
 /// Begins a command.
 #[tactic(auto, using(bc_core::proofs::Rows::nested_view))]
 pub(crate) fn perform<'c>(
-    spot: Spot<'c>,
+    site: Site<'c>,
     command: &'c Command,
-    s: u32,
     stacks: &mut Stacks<'c>,
     state: &mut State,
 ) -> Result<(), Memory>
-    ensures { ProceedsOrMalformed (machine.perform_step (spot_of spot.entry)
-        (command_view command.now) s) stacks.old.rests state.old result stacks.new.next stacks.new.rests state.new }
+    ensures { ProceedsOrMalformed (machine.perform_step (spot_of site.entry) (command_view command.now) site.entry.level) stacks.old.rests state.old result
+        stacks.new.next stacks.new.rests state.new }
 {
     match command {
-        Command::Call(call) => after_value(ValueRest::Drops, spot, call, s, stacks, state),
-        Command::Assign { value, address } => assign(spot, value, address, s, stacks),
-        Command::If(condition, body) => if_so(spot, condition, body, s, stacks, state),
-        Command::Test(test, this, that) => test_which(spot, test, (this, that), s, stacks, state),
-        Command::While(condition, body) => while_loop(spot, condition, body, s, stacks, state),
-        Command::Repeat(body) => repeat(spot, body, s, stacks),
-        Command::RepeatWhile(body, condition) => repeat_while(spot, body, condition, s, stacks),
+        Command::Call(call) => after_value(ValueRest::Drops, site, call, stacks, state),
+        Command::Assign { value, address } => assign(site, value, address, stacks),
+        Command::If(condition, body) => begin_if(site, condition, body, stacks, state),
+        Command::Test(test, this, that) => begin_test(site, test, (this, that), stacks, state),
+        Command::While(condition, body) => while_loop(site, condition, body, stacks, state),
+        Command::Repeat(body) => repeat(site, body, stacks),
+        Command::RepeatWhile(body, condition) => repeat_while(site, body, condition, stacks),
         Command::For {
             start,
             limit,
             by,
             body,
-        } => for_loop(spot, (start, limit), by.get(), body, s, stacks, state),
+        } => for_loop(site, (start, limit), (by.get(), body), stacks, state),
         Command::SwitchOn(value, items) => after_value(
-            ValueRest::Switches(spot, items, s),
-            spot,
+            ValueRest::Switches(site, items),
+            site,
             value,
-            s,
             stacks,
             state,
         ),
@@ -107,7 +104,7 @@ pub(crate) fn perform<'c>(
             stacks.next = Progress::On(Work::Left(Exit::Returned));
             Ok(())
         }
-        Command::ResultIs(value) => after_value(ValueRest::Leaves, spot, value, s, stacks, state),
+        Command::ResultIs(value) => after_value(ValueRest::Leaves, site, value, stacks, state),
         Command::Finish => {
             stacks.next = Progress::Ended(Ending::Finished);
             Ok(())
@@ -116,75 +113,72 @@ pub(crate) fn perform<'c>(
             stacks.next = jump(*label, state);
             Ok(())
         }
-        Command::Nested(body) => enter(spot, body, s, stacks, state),
+        Command::Nested(body) => enter(site, body, stacks, state),
     }
 }
 
-/// Begins a FOR: makes the cell of its variable live, and evaluates its start next. `bounds` has the start and the limit; `by` is the step.
+/// Begins a FOR: makes the cell of its variable live, and evaluates its start next. `bounds` has the start and the limit, `turns` the step
+/// and the body.
 fn for_loop<'c>(
-    spot: Spot<'c>,
+    site: Site<'c>,
     bounds: (&'c CoreExp, &'c CoreExp),
-    by: u16,
-    body: &'c Block,
-    s: u32,
+    turns: (u16, &'c Block),
     stacks: &mut Stacks<'c>,
     state: &mut State,
 ) -> Result<(), Memory>
-    ensures { Proceeds (machine.perform_step (spot_of spot.entry) (commands.For (exp bounds.entry.0.now) (exp bounds.entry.1.now) by (block_of body.now)) s)
-        stacks.old.rests state.old result stacks.new.next stacks.new.rests state.new }
+    ensures { Proceeds (machine.perform_step (spot_of site.entry) (commands.For (exp bounds.entry.0.now) (exp bounds.entry.1.now) turns.entry.0 (block_of
+        turns.entry.1.now)) site.entry.level) stacks.old.rests state.old result stacks.new.next stacks.new.rests state.new }
 {
     let (start, limit) = bounds;
-    let cell = above(spot.frame, s)?;
+    let (by, body) = turns;
+    let cell = level_above(site.frame, site.level)?;
     state.store.open(1, cell as usize);
-    put(Rest::Closes(1, cell), &mut stacks.rests)?;
-    put(
-        Rest::Nothing(NothingRest::Limits(spot, limit, by, body, s)),
+    push(Rest::Closes(1, cell), &mut stacks.rests)?;
+    push(
+        Rest::Nothing(NothingRest::Limits(site, limit, by, body)),
         &mut stacks.rests,
     )?;
-    put(
-        Rest::Value(ValueRest::StoresAt(cell_of(spot.frame as usize, s as usize)?)),
+    push(
+        Rest::Value(ValueRest::StoresAt(cell_of(site.frame as usize, site.level as usize)?)),
         &mut stacks.rests,
     )?;
-    stacks.next = Progress::On(Work::Evaluate(spot, start, above(s, 2)?));
+    let level = level_above(site.level, 2)?;
+    stacks.next = Progress::On(Work::Evaluate(Site { level, ..site }, start));
     Ok(())
 }
 
 /// Pushes a continuation, and begins the expression whose value it takes.
 fn after_value<'c>(
     rest: ValueRest<'c>,
-    spot: Spot<'c>,
+    site: Site<'c>,
     e: &'c CoreExp,
-    s: u32,
     stacks: &mut Stacks<'c>,
     state: &State,
 ) -> Result<(), Memory>
-    ensures { ProceedsOrMalformed (λ rs. machine.evaluate (spot_of spot.entry) (exp e.now) s
-        (value_rest rest.entry ∷ rs)) stacks.old.rests state.now result stacks.new.next
-        stacks.new.rests state.now }
+    ensures { ProceedsOrMalformed (λ rs. machine.evaluate (spot_of site.entry) (exp e.now) site.entry.level (value_rest rest.entry ∷ rs)) stacks.old.rests
+        state.now result stacks.new.next stacks.new.rests state.now }
 {
-    put(Rest::Value(rest), &mut stacks.rests)?;
-    evaluate(spot, e, s, stacks, state)
+    push(Rest::Value(rest), &mut stacks.rests)?;
+    evaluate(site, e, stacks, state)
 }
 
 /// Begins a TEST with its condition.
-fn test_which<'c>(
-    spot: Spot<'c>,
+fn begin_test<'c>(
+    site: Site<'c>,
     test: &'c CoreExp,
     branches: (&'c Block, &'c Block),
-    s: u32,
     stacks: &mut Stacks<'c>,
     state: &State,
 ) -> Result<(), Memory>
-    ensures { Proceeds (λ rs. machine.decide (spot_of spot.entry) (exp test.now) s
-        (truth_rest (truth_rests.Chooses spot.entry branches.entry.0 branches.entry.1 s)
-        ∷ rs)) stacks.old.rests state.now result stacks.new.next stacks.new.rests state.now }
+    ensures { Proceeds (λ rs. machine.decide (spot_of site.entry) (exp test.now) site.entry.level (truth_rest (truth_rests.Chooses site.entry
+        branches.entry.0 branches.entry.1) ∷ rs)) stacks.old.rests state.now result stacks.new.next stacks.new.rests state.now }
 {
     let (this, that) = branches;
-    put(
-        Rest::Truth(TruthRest::Chooses(spot, this, that, s)),
+    push(
+        Rest::Truth(TruthRest::Chooses(site, this, that)),
         &mut stacks.rests,
     )?;
-    decide(spot, test, s, stacks, state)
+    decide(site, test, stacks, state)
 }
 
 /// Enters the body of an IF or UNLESS if its condition holds, else leaves it.
@@ -192,17 +186,16 @@ fn test_which<'c>(
 #[tactic(auto, using(crate::proofs::Quiet::came_this, crate::proofs::Quiet::came_that))]
 pub(crate) fn enter_if<'c>(
     holds: bool,
-    spot: Spot<'c>,
+    site: Site<'c>,
     body: &'c Block,
-    s: u32,
     stacks: &mut Stacks<'c>,
     state: &mut State,
 ) -> Result<(), Memory>
-    ensures { Proceeds (λ rs. choose holds (machine.enter (spot_of spot.entry) (block_of body.now) s rs) (machine.give (machine.Left Past) rs))
-        stacks.old.rests state.old result stacks.new.next stacks.new.rests state.new }
+    ensures { Proceeds (λ rs. choose holds (machine.enter (spot_of site.entry) (block_of body.now) site.entry.level rs) (machine.give (machine.Left Past)
+        rs)) stacks.old.rests state.old result stacks.new.next stacks.new.rests state.new }
 {
     if holds {
-        return Ok(enter(spot, body, s, stacks, state)?);
+        return Ok(enter(site, body, stacks, state)?);
     }
     stacks.next = Progress::On(Work::Left(Exit::Past));
     Ok(())
@@ -213,41 +206,39 @@ pub(crate) fn enter_if<'c>(
 #[tactic(auto, using(crate::proofs::Quiet::came_this, crate::proofs::Quiet::came_that))]
 pub(crate) fn enter_either<'c>(
     t: bool,
-    spot: Spot<'c>,
+    site: Site<'c>,
     branches: (&'c Block, &'c Block),
-    s: u32,
     stacks: &mut Stacks<'c>,
     state: &mut State,
 ) -> Result<(), Memory>
-    ensures { Proceeds (λ rs. choose t (machine.enter (spot_of spot.entry) (block_of branches.entry.0.now) s rs)
-        (machine.enter (spot_of spot.entry)
-        (block_of branches.entry.1.now) s rs)) stacks.old.rests state.old result stacks.new.next stacks.new.rests state.new }
+    ensures { Proceeds (λ rs. choose t (machine.enter (spot_of site.entry) (block_of branches.entry.0.now) site.entry.level rs) (machine.enter (spot_of
+        site.entry) (block_of branches.entry.1.now) site.entry.level rs)) stacks.old.rests state.old result stacks.new.next stacks.new.rests state.new }
 {
     let (this, that) = branches;
     if t {
-        return Ok(enter(spot, this, s, stacks, state)?);
+        return Ok(enter(site, this, stacks, state)?);
     }
-    Ok(enter(spot, that, s, stacks, state)?)
+    Ok(enter(site, that, stacks, state)?)
 }
 
 /// Enters the body of a WHILE or UNTIL, and pushes the continuation that goes on with the loop.
 #[inline(always)]
 fn while_body<'c>(
-    spot: Spot<'c>,
+    site: Site<'c>,
     condition: &'c Condition,
     body: &'c Block,
-    s: u32,
     stacks: &mut Stacks<'c>,
     state: &mut State,
 ) -> Result<(), Memory>
-    ensures { Proceeds (λ rs. machine.enter (spot_of spot.entry) (block_of body.now) s (machine.WhileBody (spot_of spot.entry) condition.now.sense
-        (exp condition.now.test) (block_of body.now) s ∷ rs)) stacks.old.rests state.old result stacks.new.next stacks.new.rests state.new }
+    ensures { Proceeds (λ rs. machine.enter (spot_of site.entry) (block_of body.now) site.entry.level (machine.WhileBody (spot_of site.entry)
+        condition.now.sense (exp condition.now.test) (block_of body.now) site.entry.level ∷ rs)) stacks.old.rests state.old result stacks.new.next
+        stacks.new.rests state.new }
 {
-    put(
-        Rest::Exit(ExitRest::WhileBody(spot, condition, body, s)),
+    push(
+        Rest::Exit(ExitRest::WhileBody(site, condition, body)),
         &mut stacks.rests,
     )?;
-    enter(spot, body, s, stacks, state)
+    enter(site, body, stacks, state)
 }
 
 /// Enters the body of a WHILE or UNTIL if its condition holds, else leaves the loop.
@@ -255,19 +246,17 @@ fn while_body<'c>(
 #[tactic(auto, using(crate::proofs::Quiet::came_this, crate::proofs::Quiet::came_that))]
 pub(crate) fn enter_while<'c>(
     holds: bool,
-    spot: Spot<'c>,
-    condition: &'c Condition,
-    body: &'c Block,
-    s: u32,
+    site: Site<'c>,
+    parts: (&'c Condition, &'c Block),
     stacks: &mut Stacks<'c>,
     state: &mut State,
 ) -> Result<(), Memory>
-    ensures { Proceeds (λ rs. choose holds (machine.enter (spot_of spot.entry) (block_of body.now) s (machine.WhileBody (spot_of spot.entry)
-        condition.now.sense (exp condition.now.test) (block_of body.now) s ∷ rs)) (machine.give (machine.Left Past) rs))
-        stacks.old.rests state.old result stacks.new.next stacks.new.rests state.new }
+    ensures { Proceeds (λ rs. choose holds (machine.enter (spot_of site.entry) (block_of parts.entry.1.now) site.entry.level (machine.WhileBody (spot_of
+        site.entry) parts.entry.0.now.sense (exp parts.entry.0.now.test) (block_of parts.entry.1.now) site.entry.level ∷ rs)) (machine.give (machine.Left
+        Past) rs)) stacks.old.rests state.old result stacks.new.next stacks.new.rests state.new }
 {
     if holds {
-        return Ok(while_body(spot, condition, body, s, stacks, state)?);
+        return Ok(while_body(site, parts.0, parts.1, stacks, state)?);
     }
     stacks.next = Progress::On(Work::Left(Exit::Past));
     Ok(())
@@ -277,37 +266,35 @@ pub(crate) fn enter_while<'c>(
 /// same: `bc_interpret_trace` finds the place by it.
 #[inline(always)]
 #[tactic(auto, using(crate::proofs::Tests::if_calls))]
-fn if_so<'c>(
-    spot: Spot<'c>,
+fn begin_if<'c>(
+    site: Site<'c>,
     condition: &'c Condition,
     body: &'c Block,
-    s: u32,
     stacks: &mut Stacks<'c>,
     state: &mut State,
 ) -> Result<(), Memory>
-    ensures { Proceeds (machine.perform_step (spot_of spot.entry) (commands.If condition.now.sense (exp condition.now.test) (block_of body.now)) s)
-        stacks.old.rests state.old result stacks.new.next stacks.new.rests state.new }
+    ensures { Proceeds (machine.perform_step (spot_of site.entry) (commands.If condition.now.sense (exp condition.now.test) (block_of body.now))
+        site.entry.level) stacks.old.rests state.old result stacks.new.next stacks.new.rests state.new }
 {
-    match truth_at(&spot, &condition.test, &mut stacks.room, state)? {
+    match truth_at(&site, &condition.test, &mut stacks.room, state)? {
         Some(Truth::Is(t)) => {
             let holds = agrees(condition.sense, t);
-            enter_if(holds, spot, body, s, stacks, state)
+            enter_if(holds, site, body, stacks, state)
         }
         Some(Truth::Divides) => put_after(
-            Rest::Truth(TruthRest::Ifs(spot, condition.sense, body, s)),
+            Rest::Truth(TruthRest::Ifs(site, condition.sense, body)),
             Progress::Ended(Ending::ZeroDivide),
             stacks,
         ),
         Some(Truth::Fails(cause)) => put_after(
-            Rest::Truth(TruthRest::Ifs(spot, condition.sense, body, s)),
+            Rest::Truth(TruthRest::Ifs(site, condition.sense, body)),
             Progress::Wild(cause),
             stacks,
         ),
         None => decide_part(
-            TruthRest::Ifs(spot, condition.sense, body, s),
-            spot,
+            TruthRest::Ifs(site, condition.sense, body),
+            site,
             &condition.test,
-            s,
             stacks,
         ),
     }
@@ -318,36 +305,34 @@ fn if_so<'c>(
 #[inline(always)]
 #[tactic(auto, using(crate::proofs::Tests::while_calls))]
 pub(crate) fn while_loop<'c>(
-    spot: Spot<'c>,
+    site: Site<'c>,
     condition: &'c Condition,
     body: &'c Block,
-    s: u32,
     stacks: &mut Stacks<'c>,
     state: &mut State,
 ) -> Result<(), Memory>
-    ensures { Proceeds (machine.perform_step (spot_of spot.entry) (commands.While condition.now.sense (exp condition.now.test) (block_of body.now)) s)
-        stacks.old.rests state.old result stacks.new.next stacks.new.rests state.new }
+    ensures { Proceeds (machine.perform_step (spot_of site.entry) (commands.While condition.now.sense (exp condition.now.test) (block_of body.now))
+        site.entry.level) stacks.old.rests state.old result stacks.new.next stacks.new.rests state.new }
 {
-    match truth_at(&spot, &condition.test, &mut stacks.room, state)? {
+    match truth_at(&site, &condition.test, &mut stacks.room, state)? {
         Some(Truth::Is(t)) => {
             let holds = agrees(condition.sense, t);
-            enter_while(holds, spot, condition, body, s, stacks, state)
+            enter_while(holds, site, (condition, body), stacks, state)
         }
         Some(Truth::Divides) => put_after(
-            Rest::Truth(TruthRest::Whiles(spot, condition, body, s)),
+            Rest::Truth(TruthRest::Whiles(site, condition, body)),
             Progress::Ended(Ending::ZeroDivide),
             stacks,
         ),
         Some(Truth::Fails(cause)) => put_after(
-            Rest::Truth(TruthRest::Whiles(spot, condition, body, s)),
+            Rest::Truth(TruthRest::Whiles(site, condition, body)),
             Progress::Wild(cause),
             stacks,
         ),
         None => decide_part(
-            TruthRest::Whiles(spot, condition, body, s),
-            spot,
+            TruthRest::Whiles(site, condition, body),
+            site,
             &condition.test,
-            s,
             stacks,
         ),
     }
@@ -355,55 +340,51 @@ pub(crate) fn while_loop<'c>(
 
 /// Begins a round of a REPEAT.
 pub(crate) fn repeat<'c>(
-    spot: Spot<'c>,
+    site: Site<'c>,
     body: &'c Block,
-    s: u32,
     stacks: &mut Stacks<'c>,
 ) -> Result<(), Memory>
-    ensures { (st : StateValue) → Proceeds
-        (machine.perform_step (spot_of spot.entry) (commands.Repeat (block_of body.now)) s) stacks.old.rests st result stacks.new.next
-        stacks.new.rests st }
+    ensures { (st : StateValue) → Proceeds (machine.perform_step (spot_of site.entry) (commands.Repeat (block_of body.now)) site.entry.level)
+        stacks.old.rests st result stacks.new.next stacks.new.rests st }
 {
-    put(
-        Rest::Exit(ExitRest::RepeatBody(spot, body, s)),
+    push(
+        Rest::Exit(ExitRest::RepeatBody(site, body)),
         &mut stacks.rests,
     )?;
-    stacks.next = Progress::On(Work::Enter(spot, body, s));
+    stacks.next = Progress::On(Work::Enter(site, body));
     Ok(())
 }
 
 /// Begins a round of a REPEATWHILE or REPEATUNTIL.
 pub(crate) fn repeat_while<'c>(
-    spot: Spot<'c>,
+    site: Site<'c>,
     body: &'c Block,
     condition: &'c Condition,
-    s: u32,
     stacks: &mut Stacks<'c>,
 ) -> Result<(), Memory>
-    ensures { (st : StateValue) → Proceeds (machine.perform_step (spot_of spot.entry) (commands.RepeatWhile (block_of body.now) condition.now.sense (exp
-        condition.now.test)) s) stacks.old.rests st result stacks.new.next stacks.new.rests st }
+    ensures { (st : StateValue) → Proceeds (machine.perform_step (spot_of site.entry) (commands.RepeatWhile (block_of body.now) condition.now.sense (exp
+        condition.now.test)) site.entry.level) stacks.old.rests st result stacks.new.next stacks.new.rests st }
 {
-    put(
-        Rest::Exit(ExitRest::RepeatWhileBody(spot, body, condition, s)),
+    push(
+        Rest::Exit(ExitRest::RepeatWhileBody(site, body, condition)),
         &mut stacks.rests,
     )?;
-    stacks.next = Progress::On(Work::Enter(spot, body, s));
+    stacks.next = Progress::On(Work::Enter(site, body));
     Ok(())
 }
 
 /// Performs an assignment within this step if it is pure, else evaluates its value next.
 pub(crate) fn store<'c>(
-    spot: Spot<'c>,
+    site: Site<'c>,
     value: &'c CoreExp,
     address: &'c CoreExp,
-    s: u32,
     stacks: &mut Stacks<'c>,
     state: &mut State,
 ) -> Result<(), Memory>
-    ensures { Proceeds (machine.store (spot_of spot.entry) (exp value.now)
-        (exp address.now) s) stacks.old.rests state.old result stacks.new.next stacks.new.rests state.new }
+    ensures { Proceeds (machine.store (spot_of site.entry) (exp value.now) (exp address.now) site.entry.level) stacks.old.rests state.old result
+        stacks.new.next stacks.new.rests state.new }
 {
-    match assign_at_once(&spot, value, address, &mut stacks.room, state)? {
+    match assign_at_once(&site, value, address, &mut stacks.room, state)? {
         Some(Assigned::Done) => {
             stacks.next = Progress::On(Work::Nothing);
             Ok(())
@@ -417,12 +398,12 @@ pub(crate) fn store<'c>(
             Ok(())
         }
         None => {
-            put(
-                Rest::Value(ValueRest::Stores(spot, address, s)),
+            push(
+                Rest::Value(ValueRest::Stores(site, address)),
                 &mut stacks.rests,
             )?;
-            let level = side_level(address, s)?;
-            stacks.next = Progress::On(Work::Evaluate(spot, value, level));
+            let level = side_level(address, site.level)?;
+            stacks.next = Progress::On(Work::Evaluate(Site { level, ..site }, value));
             Ok(())
         }
     }
@@ -445,7 +426,7 @@ pub(crate) fn cells_of_all(variables: &[Variable]) -> Result<u32, Memory>
     let mut cells = 0u32;
     let mut left = variables;
     while let [first, rest @ ..] = left {
-        cells = above(cells, cells_of_one(first))?;
+        cells = level_above(cells, cells_of_one(first))?;
         left = rest;
     }
     Ok(cells)
@@ -458,7 +439,7 @@ fn cells_declared(declarations: &[Declaration]) -> Result<u32, Memory>
     let mut cells = 0u32;
     let mut left = declarations;
     while let [first, rest @ ..] = left {
-        cells = above(cells, cells_of_all(&first.variables)?)?;
+        cells = level_above(cells, cells_of_all(&first.variables)?)?;
         left = rest;
     }
     Ok(cells)
@@ -467,74 +448,74 @@ fn cells_declared(declarations: &[Declaration]) -> Result<u32, Memory>
 /// Begins a block.
 #[inline(always)]
 pub(crate) fn enter<'c>(
-    spot: Spot<'c>,
+    site: Site<'c>,
     block: &'c Block,
-    s: u32,
     stacks: &mut Stacks<'c>,
     state: &mut State,
 ) -> Result<(), Memory>
-    ensures { Proceeds (machine.enter (spot_of spot.entry)
-        (block_of block.now) s) stacks.old.rests state.old result stacks.new.next stacks.new.rests state.new }
+    ensures { Proceeds (machine.enter (spot_of site.entry) (block_of block.now) site.entry.level) stacks.old.rests state.old result stacks.new.next
+        stacks.new.rests state.new }
 {
-    let level = above(s, cells_declared(&block.declarations)?)?;
+    let level = level_above(site.level, cells_declared(&block.declarations)?)?;
     Ok(declare(
-        spot,
-        &block.declarations,
-        &block.list,
-        (s, level),
+        site,
+        (&block.declarations, &block.list),
+        level,
         stacks,
         state,
     )?)
 }
 
-/// Begins the remaining declarations of a block, at the first level, or its list, at the second level, if no declaration remains.
+/// Begins the remaining declarations of a block, or its list, at `level`, if no declaration remains. `remaining` has both.
 pub(crate) fn declare<'c>(
-    spot: Spot<'c>,
-    declarations: &'c [Declaration],
-    items: &'c [ListItem],
-    levels: (u32, u32),
+    site: Site<'c>,
+    remaining: (&'c [Declaration], &'c [ListItem]),
+    level: u32,
     stacks: &mut Stacks<'c>,
     state: &mut State,
 ) -> Result<(), Memory>
-    ensures { Proceeds (machine.declare_step (spot_of spot.entry) (declarations_view declarations.now) (items_view items.now) levels.0 levels.1)
-        stacks.old.rests state.old result stacks.new.next stacks.new.rests state.new }
+    ensures { Proceeds (machine.declare_step (spot_of site.entry) (declarations_view remaining.entry.0.now) (items_view remaining.entry.1.now)
+        site.entry.level level) stacks.old.rests state.old result stacks.new.next stacks.new.rests state.new }
 {
-    let (s, level) = levels;
+    let (declarations, items) = remaining;
     match declarations {
         [] => {
-            put(
-                Rest::Exit(ExitRest::Listed(spot, items, level)),
+            let within = Site { level, ..site };
+            push(
+                Rest::Exit(ExitRest::Listed(within, items)),
                 &mut stacks.rests,
             )?;
-            Ok(listing(spot, items, level, Entry::Beginning, stacks, state)?)
+            Ok(listing(within, items, Entry::Beginning, stacks, state)?)
         }
         [first, left @ ..] => {
             let cells = cells_of_all(&first.variables)?;
-            let from = above(spot.frame, s)?;
-            let following = above(s, cells)?;
+            let from = level_above(site.frame, site.level)?;
+            let within = Site {
+                level: level_above(site.level, cells)?,
+                ..site
+            };
             state.store.open(cells as usize, from as usize);
-            put(Rest::Closes(cells, from), &mut stacks.rests)?;
-            put(
-                Rest::Nothing(NothingRest::Declares(spot, left, items, following, level)),
+            push(Rest::Closes(cells, from), &mut stacks.rests)?;
+            push(
+                Rest::Nothing(NothingRest::Declares(within, left, items, level)),
                 &mut stacks.rests,
             )?;
-            stacks.next = Progress::On(Work::Initialise(spot, &first.variables, s, following));
+            stacks.next = Progress::On(Work::Initialise(within, &first.variables, site.level));
             Ok(())
         }
     }
 }
 
-/// Initialises the remaining variables. The first of them is at offset `k` of the frame; `s` is the level after all of them.
+/// Initialises the remaining variables. The first of them is at offset `k` of the frame; the level is after all of them.
 pub(crate) fn initialise<'c>(
-    spot: Spot<'c>,
+    site: Site<'c>,
     variables: &'c [Variable],
     k: u32,
-    s: u32,
     stacks: &mut Stacks<'c>,
     state: &mut State,
 ) -> Result<(), Memory>
-    ensures { Proceeds (machine.initialise_step (spot_of spot.entry)
-        (map variable variables.now) k s) stacks.old.rests state.old result stacks.new.next stacks.new.rests state.new }
+    ensures { Proceeds (machine.initialise_step (spot_of site.entry) (map variable variables.now) k site.entry.level) stacks.old.rests state.old result
+        stacks.new.next stacks.new.rests state.new }
 {
     match variables {
         [] => {
@@ -542,23 +523,23 @@ pub(crate) fn initialise<'c>(
             Ok(())
         }
         [Variable::Value(e), left @ ..] => {
-            put(
-                Rest::Nothing(NothingRest::Initialises(spot, left, above(k, 1)?, s)),
+            push(
+                Rest::Nothing(NothingRest::Initialises(site, left, level_above(k, 1)?)),
                 &mut stacks.rests,
             )?;
-            put(
-                Rest::Value(ValueRest::StoresAt(cell_of(spot.frame as usize, k as usize)?)),
+            push(
+                Rest::Value(ValueRest::StoresAt(cell_of(site.frame as usize, k as usize)?)),
                 &mut stacks.rests,
             )?;
-            stacks.next = Progress::On(Work::Evaluate(spot, e, s));
+            stacks.next = Progress::On(Work::Evaluate(site, e));
             Ok(())
         }
         [Variable::Vector(greatest), left @ ..] => {
-            let following = above(k, u32::from(greatest.get()) + 2)?;
-            let first = cell_of(spot.frame as usize, above(k, 1)? as usize)?;
-            match put_word(state, cell_of(spot.frame as usize, k as usize)?, first) {
+            let following = level_above(k, u32::from(greatest.get()) + 2)?;
+            let first = cell_of(site.frame as usize, level_above(k, 1)? as usize)?;
+            match put_word(state, cell_of(site.frame as usize, k as usize)?, first) {
                 None => {
-                    stacks.next = Progress::On(Work::Initialise(spot, left, following, s));
+                    stacks.next = Progress::On(Work::Initialise(site, left, following));
                     Ok(())
                 }
                 Some(cause) => {
@@ -585,18 +566,15 @@ fn is_past(by: u16, value: u16, limit: u16) -> bool
 /// Begins a round of a FOR whose limit is known: tests its variable, and enters its body or leaves it.
 #[tactic(auto, using(crate::proofs::Loops::round_dead, crate::proofs::Loops::round_unset, crate::proofs::Loops::round_past, crate::proofs::Loops::round_goes))]
 pub(crate) fn round<'c>(
-    spot: Spot<'c>,
-    limit: u16,
-    by: u16,
-    body: &'c Block,
-    s: u32,
+    site: Site<'c>,
+    rounds: Rounds<'c>,
     stacks: &mut Stacks<'c>,
     state: &mut State,
 ) -> Result<(), Memory>
-    ensures { Proceeds (machine.round_step (spot_of spot.entry) limit by
-        (block_of body.now) s) stacks.old.rests state.old result stacks.new.next stacks.new.rests state.new }
+    ensures { Proceeds (machine.round_step (spot_of site.entry) rounds.entry.limit rounds.entry.by (block_of rounds.entry.body.now) site.entry.level)
+        stacks.old.rests state.old result stacks.new.next stacks.new.rests state.new }
 {
-    let address = cell_of(spot.frame as usize, s as usize)?;
+    let address = cell_of(site.frame as usize, site.level as usize)?;
     match state.store.at(address) {
         Cell::Dead => {
             stacks.next = Progress::Wild(Cause::Dead(address));
@@ -607,33 +585,31 @@ pub(crate) fn round<'c>(
             Ok(())
         }
         Cell::Set(value) => {
-            if is_past(by, value, limit) {
+            if is_past(rounds.by, value, rounds.limit) {
                 stacks.next = Progress::On(Work::Left(Exit::Past));
                 return Ok(());
             }
-            Ok(for_body(spot, (limit, by), body, s, stacks, state)?)
+            Ok(for_body(site, rounds, stacks, state)?)
         }
     }
 }
 
-/// Enters the body of a FOR, and pushes the continuation that goes on with the loop. `bounds` has the limit and the step.
+/// Enters the body of a FOR, and pushes the continuation that goes on with the loop.
 #[inline(always)]
 fn for_body<'c>(
-    spot: Spot<'c>,
-    bounds: (u16, u16),
-    body: &'c Block,
-    s: u32,
+    site: Site<'c>,
+    rounds: Rounds<'c>,
     stacks: &mut Stacks<'c>,
     state: &mut State,
 ) -> Result<(), Memory>
-    ensures { Proceeds (λ rs. machine.enter (spot_of spot.entry) (block_of body.now) (level_in_for s) (machine.ForBody (spot_of spot.entry) bounds.0
-        bounds.1 (block_of body.now) s ∷ rs)) stacks.old.rests state.old result stacks.new.next stacks.new.rests state.new }
+    ensures { Proceeds (λ rs. machine.enter (spot_of site.entry) (block_of rounds.entry.body.now) (level_in_for site.entry.level) (machine.ForBody (spot_of
+        site.entry) rounds.entry.limit rounds.entry.by (block_of rounds.entry.body.now) site.entry.level ∷ rs)) stacks.old.rests state.old result
+        stacks.new.next stacks.new.rests state.new }
 {
-    let (limit, by) = bounds;
-    let level = above(s, 2)?;
-    put(
-        Rest::Exit(ExitRest::ForBody(spot, limit, by, body, s)),
+    let level = level_above(site.level, 2)?;
+    push(
+        Rest::Exit(ExitRest::ForBody(site, rounds)),
         &mut stacks.rests,
     )?;
-    enter(spot, body, level, stacks, state)
+    enter(Site { level, ..site }, rounds.body, stacks, state)
 }

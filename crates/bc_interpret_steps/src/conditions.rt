@@ -9,8 +9,8 @@ ghost use Rattle.bc_interpret_steps.specs.Code.{truth_rest, spot_of};
 ghost use Rattle.bc_interpret_steps.specs.Stepped.{Takes, Gives};
 
 use crate::commands::{enter_either, enter_if, enter_while};
-use crate::continuations::{TruthRest, above};
-use crate::forms::{Exit, Progress, Spot, Work};
+use crate::continuations::{TruthRest, level_above};
+use crate::forms::{Exit, Progress, Site, Work};
 use crate::state::{Stacks, State, turn};
 use bc_core::{Block, Condition, CoreExp};
 use bc_word::Memory;
@@ -27,17 +27,16 @@ pub(crate) fn agrees(sense: bool, truth: bool) -> bool
 #[inline(always)]
 fn conjoins<'c>(
     t: bool,
-    spot: Spot<'c>,
+    site: Site<'c>,
     e: &'c CoreExp,
-    s: u32,
     stacks: &mut Stacks<'c>,
 ) -> Result<(), Memory>
-    ensures { (st : StateValue) → Takes (machine.Conjoins (spot_of spot.entry) (exp e.now) s) (machine.Verdict t) stacks.old.rests st result
+    ensures { (st : StateValue) → Takes (machine.Conjoins (spot_of site.entry) (exp e.now) site.entry.level) (machine.Verdict t) stacks.old.rests st result
         stacks.new.next stacks.new.rests st }
 {
     if t {
-        let level = above(s, 1)?;
-        stacks.next = Progress::On(Work::Decide(spot, e, level));
+        let level = level_above(site.level, 1)?;
+        stacks.next = Progress::On(Work::Decide(Site { level, ..site }, e));
         return Ok(());
     }
     stacks.next = Progress::On(Work::Verdict(false));
@@ -48,20 +47,19 @@ fn conjoins<'c>(
 #[inline(always)]
 fn disjoins<'c>(
     t: bool,
-    spot: Spot<'c>,
+    site: Site<'c>,
     e: &'c CoreExp,
-    s: u32,
     stacks: &mut Stacks<'c>,
 ) -> Result<(), Memory>
-    ensures { (st : StateValue) → Takes (machine.Disjoins (spot_of spot.entry) (exp e.now) s) (machine.Verdict t) stacks.old.rests st result
+    ensures { (st : StateValue) → Takes (machine.Disjoins (spot_of site.entry) (exp e.now) site.entry.level) (machine.Verdict t) stacks.old.rests st result
         stacks.new.next stacks.new.rests st }
 {
     if t {
         stacks.next = Progress::On(Work::Verdict(true));
         return Ok(());
     }
-    let level = above(s, 1)?;
-    stacks.next = Progress::On(Work::Decide(spot, e, level));
+    let level = level_above(site.level, 1)?;
+    stacks.next = Progress::On(Work::Decide(Site { level, ..site }, e));
     Ok(())
 }
 
@@ -69,18 +67,17 @@ fn disjoins<'c>(
 #[inline(always)]
 pub(crate) fn branch_next<'c>(
     t: bool,
-    spot: Spot<'c>,
+    site: Site<'c>,
     branches: (&'c CoreExp, &'c CoreExp),
-    s: u32,
 ) -> Progress<'c>
-    ensures { (st : StateValue) → Gives (machine.Selects (spot_of spot.entry) (exp branches.entry.0.now) (exp branches.entry.1.now) s) (machine.Verdict t)
-        st result st }
+    ensures { (st : StateValue) → Gives (machine.Selects (spot_of site.entry) (exp branches.entry.0.now) (exp branches.entry.1.now) site.entry.level)
+        (machine.Verdict t) st result st }
 {
     let (this, that) = branches;
     if t {
-        Progress::On(Work::Evaluate(spot, this, s))
+        Progress::On(Work::Evaluate(site, this))
     } else {
-        Progress::On(Work::Evaluate(spot, that, s))
+        Progress::On(Work::Evaluate(site, that))
     }
 }
 
@@ -88,13 +85,12 @@ pub(crate) fn branch_next<'c>(
 #[inline(always)]
 fn repeats<'c>(
     t: bool,
-    spot: Spot<'c>,
+    site: Site<'c>,
     parts: (&'c Block, &'c Condition),
-    s: u32,
     state: &mut State,
 ) -> Progress<'c>
-    ensures { Gives (machine.RepeatWhiles (spot_of spot.entry) (block_of parts.entry.0.now) parts.entry.1.now.sense (exp parts.entry.1.now.test) s)
-        (machine.Verdict t) state.old result state.new }
+    ensures { Gives (machine.RepeatWhiles (spot_of site.entry) (block_of parts.entry.0.now) parts.entry.1.now.sense (exp parts.entry.1.now.test)
+        site.entry.level) (machine.Verdict t) state.old result state.new }
 {
     let (body, condition) = parts;
     if !agrees(condition.sense, t) {
@@ -103,7 +99,7 @@ fn repeats<'c>(
     if !turn(state) {
         return Progress::Going;
     }
-    Progress::On(Work::RepeatWhile(spot, body, condition, s))
+    Progress::On(Work::RepeatWhile(site, body, condition))
 }
 
 /// Gives a truth to this continuation, which was popped.
@@ -122,25 +118,25 @@ pub(crate) fn truth_taken<'c>(
             stacks.next = Progress::On(Work::Verdict(!t));
             Ok(())
         }
-        TruthRest::Conjoins(spot, e, s) => conjoins(t, *spot, e, *s, stacks),
-        TruthRest::Disjoins(spot, e, s) => disjoins(t, *spot, e, *s, stacks),
-        TruthRest::Selects(spot, this, that, s) => {
-            stacks.next = branch_next(t, *spot, (this, that), *s);
+        TruthRest::Conjoins(site, e) => conjoins(t, *site, e, stacks),
+        TruthRest::Disjoins(site, e) => disjoins(t, *site, e, stacks),
+        TruthRest::Selects(site, this, that) => {
+            stacks.next = branch_next(t, *site, (this, that));
             Ok(())
         }
-        TruthRest::Ifs(spot, sense, body, s) => {
+        TruthRest::Ifs(site, sense, body) => {
             let holds = agrees(*sense, t);
-            enter_if(holds, *spot, body, *s, stacks, state)
+            enter_if(holds, *site, body, stacks, state)
         }
-        TruthRest::Chooses(spot, this, that, s) => {
-            enter_either(t, *spot, (this, that), *s, stacks, state)
+        TruthRest::Chooses(site, this, that) => {
+            enter_either(t, *site, (this, that), stacks, state)
         }
-        TruthRest::Whiles(spot, condition, body, s) => {
+        TruthRest::Whiles(site, condition, body) => {
             let holds = agrees(condition.sense, t);
-            enter_while(holds, *spot, condition, body, *s, stacks, state)
+            enter_while(holds, *site, (condition, body), stacks, state)
         }
-        TruthRest::RepeatWhiles(spot, body, condition, s) => {
-            stacks.next = repeats(t, *spot, (body, condition), *s, state);
+        TruthRest::RepeatWhiles(site, body, condition) => {
+            stacks.next = repeats(t, *site, (body, condition), state);
             Ok(())
         }
     }

@@ -1,12 +1,12 @@
 //! The rests. A rest is what is usually called a continuation frame: what is left to do with an answer. Comments call it a continuation,
 //! since a frame here is that of a routine. The continuations are in a vector, with the innermost last.
 //!
-//! Each kind of answer has its own enum. A field of type `u32` that isn't explained is the level: the first free offset of the frame.
+//! Each kind of answer has its own enum.
 
 ghost use Rattle.std.specs.Prelude.{◌≡◌, ◌+◌, OnOk, IfOk};
 ghost use Rattle.bc_interpret_steps.specs.Code.{stack, given, stacked, then_given, Taken};
 
-use crate::forms::{Arguments, Spot};
+use crate::forms::{Arguments, Rounds, Site};
 use bc_core::{Block, Condition, CoreExp, Declaration, ListItem, Variable};
 use bc_word::{Memory, Op};
 
@@ -22,7 +22,7 @@ pub enum NumberRest<'c> {
     /// Turns the number into a truth.
     Tests,
     /// The number is an operator's first operand; evaluates the second one, this expression, next.
-    Operates(Spot<'c>, Op, &'c CoreExp, u32),
+    Operates(Site<'c>, Op, &'c CoreExp),
     /// The number is an operator's second operand; the first one is stored here. Applies the operator.
     Operated(Op, u16),
     /// The number is an argument of a call; goes on with the remaining arguments.
@@ -33,7 +33,7 @@ pub enum NumberRest<'c> {
 #[derive(Clone, Copy)]
 pub enum ValueRest<'c> {
     /// The number is to be assigned; evaluates the address, this expression, next.
-    Stores(Spot<'c>, &'c CoreExp, u32),
+    Stores(Site<'c>, &'c CoreExp),
     /// The number is the address of an assignment; writes this word there.
     Stored(u16),
     /// Writes the number to the cell at this address.
@@ -41,9 +41,9 @@ pub enum ValueRest<'c> {
     /// Drops the number: the command was a call.
     Drops,
     /// The number is the limit of a FOR with this step and body; begins its first round.
-    Fors(Spot<'c>, u16, &'c Block, u32),
+    Fors(Site<'c>, u16, &'c Block),
     /// Enters the list of a SWITCHON at the case with this number.
-    Switches(Spot<'c>, &'c [ListItem], u32),
+    Switches(Site<'c>, &'c [ListItem]),
     /// Leaves a VALOF with the number as its value.
     Leaves,
 }
@@ -54,19 +54,19 @@ pub enum TruthRest<'c> {
     /// Negates the truth.
     Opposes,
     /// The truth is the first operand of `&`; decides the second one if it is true.
-    Conjoins(Spot<'c>, &'c CoreExp, u32),
+    Conjoins(Site<'c>, &'c CoreExp),
     /// The truth is the first operand of `|`; decides the second one if it is false.
-    Disjoins(Spot<'c>, &'c CoreExp, u32),
+    Disjoins(Site<'c>, &'c CoreExp),
     /// Evaluates the first expression if the truth is true, else the second.
-    Selects(Spot<'c>, &'c CoreExp, &'c CoreExp, u32),
+    Selects(Site<'c>, &'c CoreExp, &'c CoreExp),
     /// Enters the body of an IF or UNLESS if the truth is this one.
-    Ifs(Spot<'c>, bool, &'c Block, u32),
+    Ifs(Site<'c>, bool, &'c Block),
     /// Enters the first block of a TEST if the truth is true, else the second.
-    Chooses(Spot<'c>, &'c Block, &'c Block, u32),
+    Chooses(Site<'c>, &'c Block, &'c Block),
     /// Enters the body of a WHILE or UNTIL if its condition holds.
-    Whiles(Spot<'c>, &'c Condition, &'c Block, u32),
+    Whiles(Site<'c>, &'c Condition, &'c Block),
     /// Repeats the body of a REPEATWHILE or REPEATUNTIL if its condition holds.
-    RepeatWhiles(Spot<'c>, &'c Block, &'c Condition, u32),
+    RepeatWhiles(Site<'c>, &'c Block, &'c Condition),
 }
 
 /// A continuation that follows an assignment or an initialiser.
@@ -75,11 +75,11 @@ pub enum NothingRest<'c> {
     /// Leaves the assignment.
     Passes,
     /// The variable of a FOR is set; evaluates its limit, this expression, next. The number is the step.
-    Limits(Spot<'c>, &'c CoreExp, u16, &'c Block, u32),
-    /// Goes on with the remaining declarations, at the first level, and then with the list, at the second level.
-    Declares(Spot<'c>, &'c [Declaration], &'c [ListItem], u32, u32),
+    Limits(Site<'c>, &'c CoreExp, u16, &'c Block),
+    /// Goes on with the remaining declarations, and then with the list, at this level.
+    Declares(Site<'c>, &'c [Declaration], &'c [ListItem], u32),
     /// Goes on with the remaining variables; the first is at this offset of the frame.
-    Initialises(Spot<'c>, &'c [Variable], u32, u32),
+    Initialises(Site<'c>, &'c [Variable], u32),
 }
 
 /// A continuation that takes an exit: how control leaves a command.
@@ -90,19 +90,19 @@ pub enum ExitRest<'c> {
     /// Returns the value of a VALOF.
     Results,
     /// Goes on with a WHILE or UNTIL after its body.
-    WhileBody(Spot<'c>, &'c Condition, &'c Block, u32),
+    WhileBody(Site<'c>, &'c Condition, &'c Block),
     /// Goes on with a REPEAT after its body.
-    RepeatBody(Spot<'c>, &'c Block, u32),
+    RepeatBody(Site<'c>, &'c Block),
     /// Decides the condition of a REPEATWHILE or REPEATUNTIL after its body.
-    RepeatWhileBody(Spot<'c>, &'c Block, &'c Condition, u32),
-    /// Steps the variable of a FOR after its body: the limit, the step and the body.
-    ForBody(Spot<'c>, u16, u16, &'c Block, u32),
+    RepeatWhileBody(Site<'c>, &'c Block, &'c Condition),
+    /// Steps the variable of a FOR after its body.
+    ForBody(Site<'c>, Rounds<'c>),
     /// Leaves a SWITCHON.
     Cases,
     /// Goes on with the items after a command.
-    Follows(Spot<'c>, &'c [ListItem], u32),
+    Follows(Site<'c>, &'c [ListItem]),
     /// A whole list, which a jump to one of its labels enters again.
-    Listed(Spot<'c>, &'c [ListItem], u32),
+    Listed(Site<'c>, &'c [ListItem]),
 }
 
 /// A continuation: what is left to do with an answer.
@@ -131,7 +131,7 @@ pub enum Rest<'c> {
 /// `Memory` if an allocation fails.
 #[inline(always)]
 #[tactic(auto, using(crate::proofs::Piles::stack_more, crate::proofs::Piles::given_more))]
-pub fn put<'c>(rest: Rest<'c>, rests: &mut Vec<Rest<'c>>) -> Result<(), Memory>
+pub fn push<'c>(rest: Rest<'c>, rests: &mut Vec<Rest<'c>>) -> Result<(), Memory>
     ensures stack { OnOk result (stack rests.new.items ≡ stacked (stack rests.old.items) (given rests.old.items) rest.entry) }
     ensures given { OnOk result (given rests.new.items ≡ then_given (given rests.old.items) rest.entry) }
 {
@@ -141,7 +141,7 @@ pub fn put<'c>(rest: Rest<'c>, rests: &mut Vec<Rest<'c>>) -> Result<(), Memory>
 
 /// Pops the innermost continuation; `None` if there is none. Arguments that no call has taken are dropped.
 #[tactic(auto, using(crate::proofs::Piles::stack_more, crate::proofs::Piles::given_more))]
-pub(crate) fn take<'c>(rests: &mut Vec<Rest<'c>>) -> Option<Rest<'c>>
+pub(crate) fn pop<'c>(rests: &mut Vec<Rest<'c>>) -> Option<Rest<'c>>
     ensures { Taken result rests.old.items rests.new.items }
 {
     while let Some(rest) = rests.pop() {
@@ -163,7 +163,7 @@ pub(crate) fn take<'c>(rests: &mut Vec<Rest<'c>>) -> Option<Rest<'c>>
 ///
 /// `Memory` if the sum overflows, which no level of a frame does.
 #[inline(always)]
-pub(crate) fn above(s: u32, n: u32) -> Result<u32, Memory>
+pub(crate) fn level_above(s: u32, n: u32) -> Result<u32, Memory>
     ensures { IfOk result (λ r. r ≡ s + n) }
 {
     s.checked_add(n).ok_or(Memory)

@@ -13,10 +13,10 @@ ghost use Rattle.bc_interpret_steps.specs.declared.state.State.{State as StateVa
 ghost use Rattle.bc_interpret_steps.specs.Stepped.{Proceeds};
 ghost use Rattle.bc_interpret_steps.specs.Passing.{RunsInto, Enters, IsFirstCall, first_called};
 
-use crate::calls::call_now;
-use crate::continuations::{NumberRest, Rest, TruthRest, above, put};
-use crate::evaluate::{evaluate, evaluate_parts, settled, truth_at, worth_at};
-use crate::forms::{Ending, Progress, Spot, Work};
+use crate::calls::begin_call;
+use crate::continuations::{NumberRest, Rest, TruthRest, level_above, push};
+use crate::evaluate::{evaluate, evaluate_parts, outcome_of_worth, truth_at, worth_at};
+use crate::forms::{Ending, Progress, Site, Work};
 use crate::sections::Callable;
 use crate::state::{Stacks, State};
 use bc_core::CoreExp;
@@ -28,24 +28,22 @@ use bc_word::{Memory, Op};
 ///
 /// `Memory` if an allocation fails.
 #[inline(never)]
-pub(crate) fn go_into<'c>(
+pub(crate) fn begin_expression<'c>(
     table: &[Callable<'c>],
-    spot: Spot<'c>,
+    site: Site<'c>,
     e: &'c CoreExp,
-    s: u32,
     stacks: &mut Stacks<'c>,
     state: &mut State,
 ) -> Result<(), Memory>
-    ensures { RunsInto table.now (spot_of spot.entry) (exp e.now) s stacks.old.rests state.old result stacks.new.next stacks.new.rests
+    ensures { RunsInto table.now (spot_of site.entry) (exp e.now) site.entry.level stacks.old.rests state.old result stacks.new.next stacks.new.rests
         state.new }
 {
     match e {
         CoreExp::Cond(condition, this, that) => conditional(
             table,
-            spot,
+            site,
             condition,
             (this, that),
-            s,
             stacks,
             state,
         ),
@@ -58,46 +56,44 @@ pub(crate) fn go_into<'c>(
         | CoreExp::Not(_)
         | CoreExp::Bin(_, _, _)
         | CoreExp::Call(_, _)
-        | CoreExp::Valof(_) => go_on(table, spot, e, s, stacks, state),
+        | CoreExp::Valof(_) => begin_unconditional(table, site, e, stacks, state),
     }
 }
 
-/// `go_into` for any expression but a conditional one.
+/// `begin_expression` for any expression but a conditional one.
 #[inline(always)]
-fn go_on<'c>(
+fn begin_unconditional<'c>(
     table: &[Callable<'c>],
-    spot: Spot<'c>,
+    site: Site<'c>,
     e: &'c CoreExp,
-    s: u32,
     stacks: &mut Stacks<'c>,
     state: &mut State,
 ) -> Result<(), Memory>
-    ensures { RunsInto table.now (spot_of spot.entry) (exp e.now) s stacks.old.rests state.old result stacks.new.next stacks.new.rests
+    ensures { RunsInto table.now (spot_of site.entry) (exp e.now) site.entry.level stacks.old.rests state.old result stacks.new.next stacks.new.rests
         state.new }
 {
     match first_call(e) {
-        Some(first) => operand(table, spot, first, s, stacks, state),
-        None => go_over(table, spot, e, s, stacks, state),
+        Some(first) => operand(table, site, first, stacks, state),
+        None => begin_other(table, site, e, stacks, state),
     }
 }
 
-/// `go_into` for an expression that is neither conditional nor an operator on a call. Enters the routine of a call if its arguments are
-/// pure.
+/// `begin_expression` for an expression that is neither conditional nor an operator on a call. Enters the routine of a call if its
+/// arguments are pure.
 #[inline(always)]
-pub(crate) fn go_over<'c>(
+pub(crate) fn begin_other<'c>(
     table: &[Callable<'c>],
-    spot: Spot<'c>,
+    site: Site<'c>,
     e: &'c CoreExp,
-    s: u32,
     stacks: &mut Stacks<'c>,
     state: &mut State,
 ) -> Result<(), Memory>
-    ensures { RunsInto table.now (spot_of spot.entry) (exp e.now) s stacks.old.rests state.old result stacks.new.next stacks.new.rests
+    ensures { RunsInto table.now (spot_of site.entry) (exp e.now) site.entry.level stacks.old.rests state.old result stacks.new.next stacks.new.rests
         state.new }
 {
     match e {
-        CoreExp::Call(arguments, routine) => call_now(
-            table, spot, arguments, routine, s, stacks, state,
+        CoreExp::Call(arguments, routine) => begin_call(
+            table, site, arguments, routine, stacks, state,
         ),
         CoreExp::Num(_)
         | CoreExp::Frame(_)
@@ -108,7 +104,7 @@ pub(crate) fn go_over<'c>(
         | CoreExp::Not(_)
         | CoreExp::Bin(_, _, _)
         | CoreExp::Cond(_, _, _)
-        | CoreExp::Valof(_) => evaluate(spot, e, s, stacks, state),
+        | CoreExp::Valof(_) => evaluate(site, e, stacks, state),
     }
 }
 
@@ -173,26 +169,24 @@ fn called<'c>(op: Op, left: &'c CoreExp, second: &'c CoreExp) -> Option<FirstCal
 /// Begins an operator together with the call that is its first operand.
 fn operand<'c>(
     table: &[Callable<'c>],
-    spot: Spot<'c>,
+    site: Site<'c>,
     first: FirstCall<'c>,
-    s: u32,
     stacks: &mut Stacks<'c>,
     state: &mut State,
 ) -> Result<(), Memory>
-    ensures { RunsInto table.now (spot_of spot.entry) (first_called first.entry) s stacks.old.rests state.old result stacks.new.next stacks.new.rests
-        state.new }
+    ensures { RunsInto table.now (spot_of site.entry) (first_called first.entry) site.entry.level stacks.old.rests state.old result stacks.new.next
+        stacks.new.rests state.new }
 {
-    put(
-        Rest::Number(NumberRest::Operates(spot, first.op, first.second, s)),
+    push(
+        Rest::Number(NumberRest::Operates(site, first.op, first.second)),
         &mut stacks.rests,
     )?;
-    let level = above(s, 1)?;
-    call_now(
+    let level = level_above(site.level, 1)?;
+    begin_call(
         table,
-        spot,
+        Site { level, ..site },
         first.arguments,
         first.routine,
-        level,
         stacks,
         state,
     )
@@ -210,20 +204,19 @@ fn taken<'c>(t: bool, this: &'c CoreExp, that: &'c CoreExp) -> &'c CoreExp
 #[inline(always)]
 fn conditional<'c>(
     table: &[Callable<'c>],
-    spot: Spot<'c>,
+    site: Site<'c>,
     condition: &'c CoreExp,
     branches: (&'c CoreExp, &'c CoreExp),
-    s: u32,
     stacks: &mut Stacks<'c>,
     state: &mut State,
 ) -> Result<(), Memory>
-    ensures { RunsInto table.now (spot_of spot.entry) (tree.Cond (exp condition.now) (exp branches.entry.0.now) (exp branches.entry.1.now)) s
+    ensures { RunsInto table.now (spot_of site.entry) (tree.Cond (exp condition.now) (exp branches.entry.0.now) (exp branches.entry.1.now)) site.entry.level
         stacks.old.rests state.old result stacks.new.next stacks.new.rests state.new }
 {
-    let found = truth_at(&spot, condition, &mut stacks.room, state)?;
+    let found = truth_at(&site, condition, &mut stacks.room, state)?;
     match found {
-        Some(truth) => past(table, spot, condition, branches, truth, s, stacks, state),
-        None => selects(spot, condition, branches, s, stacks),
+        Some(truth) => past(table, site, condition, branches, truth, stacks, state),
+        None => selects(site, condition, branches, stacks),
     }
 }
 
@@ -231,27 +224,19 @@ fn conditional<'c>(
 #[inline(always)]
 fn past<'c>(
     table: &[Callable<'c>],
-    spot: Spot<'c>,
+    site: Site<'c>,
     condition: &'c CoreExp,
     branches: (&'c CoreExp, &'c CoreExp),
     truth: Truth,
-    s: u32,
     stacks: &mut Stacks<'c>,
     state: &mut State,
 ) -> Result<(), Memory>
-    ensures { has_call (exp condition.now) ≡ false → seen_truth truth ≡ (worth (sight state.old (spot_of spot.entry)) (exp condition.now)).truth
-        → RunsInto table.now (spot_of spot.entry) (tree.Cond (exp condition.now) (exp branches.entry.0.now) (exp branches.entry.1.now)) s
+    ensures { has_call (exp condition.now) ≡ false → seen_truth truth ≡ (worth (sight state.old (spot_of site.entry)) (exp condition.now)).truth → RunsInto
+        table.now (spot_of site.entry) (tree.Cond (exp condition.now) (exp branches.entry.0.now) (exp branches.entry.1.now)) site.entry.level
         stacks.old.rests state.old result stacks.new.next stacks.new.rests state.new }
 {
     match truth {
-        Truth::Is(t) => enter_branch(
-            table,
-            spot,
-            taken(t, branches.0, branches.1),
-            s,
-            stacks,
-            state,
-        ),
+        Truth::Is(t) => enter_branch(table, site, taken(t, branches.0, branches.1), stacks, state),
         Truth::Divides => {
             stacks.next = Progress::Ended(Ending::ZeroDivide);
             Ok(())
@@ -263,22 +248,21 @@ fn past<'c>(
     }
 }
 
-/// Begins a branch: gives its worth if it is pure, else goes as far into it as `go_into`.
+/// Begins a branch: gives its worth if it is pure, else goes as far into it as `begin_expression`.
 #[inline(always)]
 fn enter_branch<'c>(
     table: &[Callable<'c>],
-    spot: Spot<'c>,
+    site: Site<'c>,
     e: &'c CoreExp,
-    s: u32,
     stacks: &mut Stacks<'c>,
     state: &mut State,
 ) -> Result<(), Memory>
-    ensures { Enters table.now (spot_of spot.entry) (exp e.now) s stacks.old.rests state.old result stacks.new.next stacks.new.rests
+    ensures { Enters table.now (spot_of site.entry) (exp e.now) site.entry.level stacks.old.rests state.old result stacks.new.next stacks.new.rests
         state.new }
 {
     match first_call(e) {
-        Some(first) => operand(table, spot, first, s, stacks, state),
-        None => enter_any(table, spot, e, s, stacks, state),
+        Some(first) => operand(table, site, first, stacks, state),
+        None => enter_any(table, site, e, stacks, state),
     }
 }
 
@@ -286,42 +270,40 @@ fn enter_branch<'c>(
 #[inline(always)]
 fn enter_any<'c>(
     table: &[Callable<'c>],
-    spot: Spot<'c>,
+    site: Site<'c>,
     e: &'c CoreExp,
-    s: u32,
     stacks: &mut Stacks<'c>,
     state: &mut State,
 ) -> Result<(), Memory>
-    ensures { Enters table.now (spot_of spot.entry) (exp e.now) s stacks.old.rests state.old result stacks.new.next stacks.new.rests
+    ensures { Enters table.now (spot_of site.entry) (exp e.now) site.entry.level stacks.old.rests state.old result stacks.new.next stacks.new.rests
         state.new }
 {
-    let found = worth_at(&spot, e, &mut stacks.room, state)?;
+    let found = worth_at(&site, e, &mut stacks.room, state)?;
     match found {
         Some(worth) => {
-            stacks.next = settled(worth);
+            stacks.next = outcome_of_worth(worth);
             Ok(())
         }
-        None => evaluate_parts(spot, e, s, stacks, state),
+        None => evaluate_parts(site, e, stacks, state),
     }
 }
 
 /// Begins a conditional expression whose condition isn't pure: decides the condition next, and pushes the continuation that selects a
 /// branch.
 pub(crate) fn selects<'c>(
-    spot: Spot<'c>,
+    site: Site<'c>,
     condition: &'c CoreExp,
     branches: (&'c CoreExp, &'c CoreExp),
-    s: u32,
     stacks: &mut Stacks<'c>,
 ) -> Result<(), Memory>
-    ensures { (st : StateValue) → Proceeds (λ rs. machine.go (machine.Decide (spot_of spot.entry) (exp condition.now) s)
-        (machine.Selects (spot_of spot.entry) (exp branches.entry.0.now) (exp branches.entry.1.now) s ∷ rs)) stacks.old.rests st result stacks.new.next
+    ensures { (st : StateValue) → Proceeds (λ rs. machine.go (machine.Decide (spot_of site.entry) (exp condition.now) site.entry.level) (machine.Selects
+        (spot_of site.entry) (exp branches.entry.0.now) (exp branches.entry.1.now) site.entry.level ∷ rs)) stacks.old.rests st result stacks.new.next
         stacks.new.rests st }
 {
-    put(
-        Rest::Truth(TruthRest::Selects(spot, branches.0, branches.1, s)),
+    push(
+        Rest::Truth(TruthRest::Selects(site, branches.0, branches.1)),
         &mut stacks.rests,
     )?;
-    stacks.next = Progress::On(Work::Decide(spot, condition, s));
+    stacks.next = Progress::On(Work::Decide(site, condition));
     Ok(())
 }

@@ -11,11 +11,11 @@ ghost use Rattle.bc_interpret_steps.specs.declared.state.State.{State as StateVa
 ghost use Rattle.bc_interpret_steps.specs.Came.{progress_of, progress_of_truth, sight};
 ghost use Rattle.bc_interpret_steps.specs.Stepped.{Proceeds, ProceedsOrMalformed};
 
-use crate::arguments::argue;
+use crate::arguments::evaluate_arguments;
 use crate::conditions::branch_next;
-use crate::continuations::{ExitRest, NumberRest, Rest, TruthRest, above, put};
+use crate::continuations::{ExitRest, NumberRest, Rest, TruthRest, level_above, push};
 use crate::descend::selects;
-use crate::forms::{Arguments, Ending, Progress, Spot, Work};
+use crate::forms::{Arguments, Ending, Progress, Site, Work};
 use crate::state::{Stacks, State};
 use bc_core::CoreExp;
 use bc_interpret_pure::{Cause, Room, Sight, Truth, Worth, truth_of, worth_of};
@@ -24,17 +24,17 @@ use bc_word::{Memory, Op};
 /// The worth of an expression, or `None` if it contains a call.
 #[inline(always)]
 pub(crate) fn worth_at<'c>(
-    spot: &Spot<'c>,
+    site: &Site<'c>,
     e: &'c CoreExp,
     room: &mut Room<'c>,
     state: &State,
 ) -> Result<Option<Worth>, Memory>
-    ensures { IfOk result (λ found. IsWorth (sight state.now (spot_of spot.now)) (exp e.now) found) }
+    ensures { IfOk result (λ found. IsWorth (sight state.now (spot_of site.now)) (exp e.now) found) }
 {
     let sight = Sight {
         store: &state.store,
-        addresses: spot.section.addresses,
-        frame: spot.frame as usize,
+        addresses: site.section.addresses,
+        frame: site.frame as usize,
     };
     let found = worth_of(&sight, e, room)?;
     Ok(found)
@@ -43,17 +43,17 @@ pub(crate) fn worth_at<'c>(
 /// The truth of an expression, or `None` if it contains a call.
 #[inline(always)]
 pub(crate) fn truth_at<'c>(
-    spot: &Spot<'c>,
+    site: &Site<'c>,
     e: &'c CoreExp,
     room: &mut Room<'c>,
     state: &State,
 ) -> Result<Option<Truth>, Memory>
-    ensures { IfOk result (λ found. IsTruth (sight state.now (spot_of spot.now)) (exp e.now) found) }
+    ensures { IfOk result (λ found. IsTruth (sight state.now (spot_of site.now)) (exp e.now) found) }
 {
     let sight = Sight {
         store: &state.store,
-        addresses: spot.section.addresses,
-        frame: spot.frame as usize,
+        addresses: site.section.addresses,
+        frame: site.frame as usize,
     };
     let found = truth_of(&sight, e, room)?;
     Ok(found)
@@ -61,7 +61,7 @@ pub(crate) fn truth_at<'c>(
 
 /// The outcome of a step that evaluates an expression with this worth.
 #[inline(always)]
-pub(crate) fn settled<'c>(worth: Worth) -> Progress<'c>
+pub(crate) fn outcome_of_worth<'c>(worth: Worth) -> Progress<'c>
     ensures { result ≡ progress_of worth }
 {
     match worth {
@@ -87,21 +87,20 @@ pub(crate) fn verdict<'c>(truth: Truth) -> Progress<'c>
 #[inline(always)]
 #[tactic(auto, using(crate::proofs::Quiet::valued, crate::proofs::Quiet::value_parts))]
 pub(crate) fn evaluate<'c>(
-    spot: Spot<'c>,
+    site: Site<'c>,
     e: &'c CoreExp,
-    s: u32,
     stacks: &mut Stacks<'c>,
     state: &State,
 ) -> Result<(), Memory>
-    ensures { ProceedsOrMalformed (machine.evaluate (spot_of spot.entry)
-        (exp e.now) s) stacks.old.rests state.now result stacks.new.next stacks.new.rests state.now }
+    ensures { ProceedsOrMalformed (machine.evaluate (spot_of site.entry) (exp e.now) site.entry.level) stacks.old.rests state.now result stacks.new.next
+        stacks.new.rests state.now }
 {
-    match worth_at(&spot, e, &mut stacks.room, state)? {
+    match worth_at(&site, e, &mut stacks.room, state)? {
         Some(worth) => {
-            stacks.next = settled(worth);
+            stacks.next = outcome_of_worth(worth);
             Ok(())
         }
-        None => evaluate_parts(spot, e, s, stacks, state),
+        None => evaluate_parts(site, e, stacks, state),
     }
 }
 
@@ -109,118 +108,108 @@ pub(crate) fn evaluate<'c>(
 #[inline(always)]
 fn part_of<'c>(
     rest: NumberRest<'c>,
-    spot: Spot<'c>,
+    site: Site<'c>,
     part: &'c CoreExp,
-    s: u32,
     stacks: &mut Stacks<'c>,
 ) -> Result<(), Memory>
-    ensures { (st : StateValue) → Proceeds (λ rs. machine.go (machine.Evaluate (spot_of spot.entry) (exp part.now) s)
-        (number_rest (given stacks.old.rests.items) rest.entry ∷ rs)) stacks.old.rests st result stacks.new.next stacks.new.rests st }
+    ensures { (st : StateValue) → Proceeds (λ rs. machine.go (machine.Evaluate (spot_of site.entry) (exp part.now) site.entry.level) (number_rest (given
+        stacks.old.rests.items) rest.entry ∷ rs)) stacks.old.rests st result stacks.new.next stacks.new.rests st }
 {
-    put(Rest::Number(rest), &mut stacks.rests)?;
-    stacks.next = Progress::On(Work::Evaluate(spot, part, s));
+    push(Rest::Number(rest), &mut stacks.rests)?;
+    stacks.next = Progress::On(Work::Evaluate(site, part));
     Ok(())
 }
 
 /// Begins an operator with its first operand, which is one level higher.
 #[inline(always)]
 fn operator<'c>(
-    spot: Spot<'c>,
+    site: Site<'c>,
     op: Op,
     operands: (&'c CoreExp, &'c CoreExp),
-    s: u32,
     stacks: &mut Stacks<'c>,
 ) -> Result<(), Memory>
-    ensures { (st : StateValue) → Proceeds
-        (machine.evaluate_parts (spot_of spot.entry) (tree.Bin op (exp operands.entry.0.now) (exp operands.entry.1.now)) s) stacks.old.rests st result
-        stacks.new.next stacks.new.rests st }
+    ensures { (st : StateValue) → Proceeds (machine.evaluate_parts (spot_of site.entry) (tree.Bin op (exp operands.entry.0.now) (exp operands.entry.1.now))
+        site.entry.level) stacks.old.rests st result stacks.new.next stacks.new.rests st }
 {
     let (left, right) = operands;
-    let level = above(s, 1)?;
+    let level = level_above(site.level, 1)?;
     part_of(
-        NumberRest::Operates(spot, op, right, s),
-        spot,
+        NumberRest::Operates(site, op, right),
+        Site { level, ..site },
         left,
-        level,
         stacks,
     )
 }
 
 /// Begins to evaluate an expression that contains a call.
 pub(crate) fn evaluate_parts<'c>(
-    spot: Spot<'c>,
+    site: Site<'c>,
     e: &'c CoreExp,
-    s: u32,
     stacks: &mut Stacks<'c>,
     state: &State,
 ) -> Result<(), Memory>
-    ensures { ProceedsOrMalformed (machine.evaluate_parts (spot_of spot.entry)
-        (exp e.now) s) stacks.old.rests state.now result stacks.new.next stacks.new.rests state.now }
+    ensures { ProceedsOrMalformed (machine.evaluate_parts (spot_of site.entry) (exp e.now) site.entry.level) stacks.old.rests state.now result
+        stacks.new.next stacks.new.rests state.now }
 {
     match e {
         CoreExp::Num(_) | CoreExp::Frame(_) | CoreExp::Glob(_) | CoreExp::Place(_) => {
             stacks.next = Progress::Wild(Cause::Malformed);
             Ok(())
         }
-        CoreExp::Load(part) => part_of(NumberRest::Loads, spot, part, s, stacks),
-        CoreExp::Neg(part) => part_of(NumberRest::Negates, spot, part, s, stacks),
-        CoreExp::Not(part) => part_of(NumberRest::Complements, spot, part, s, stacks),
-        CoreExp::Bin(op, left, right) => operator(spot, *op, (left, right), s, stacks),
+        CoreExp::Load(part) => part_of(NumberRest::Loads, site, part, stacks),
+        CoreExp::Neg(part) => part_of(NumberRest::Negates, site, part, stacks),
+        CoreExp::Not(part) => part_of(NumberRest::Complements, site, part, stacks),
+        CoreExp::Bin(op, left, right) => operator(site, *op, (left, right), stacks),
         CoreExp::Cond(condition, this, that) => choice(
-            spot,
+            site,
             condition,
             (this, that),
-            s,
             stacks,
             state,
         ),
-        CoreExp::Call(arguments, routine) => call(spot, arguments, routine, s, stacks, state),
-        CoreExp::Valof(number) => valof(spot, *number as u32, s, stacks),
+        CoreExp::Call(arguments, routine) => call(site, arguments, routine, stacks, state),
+        CoreExp::Valof(number) => valof(site, *number as u32, stacks),
     }
 }
 
 /// Begins a call with its arguments.
 pub(crate) fn call<'c>(
-    spot: Spot<'c>,
+    site: Site<'c>,
     arguments: &'c [CoreExp],
     routine: &'c CoreExp,
-    s: u32,
     stacks: &mut Stacks<'c>,
     state: &State,
 ) -> Result<(), Memory>
-    ensures { Proceeds (machine.evaluate_parts (spot_of spot.entry)
-        (tree.Call (args arguments.now) (exp routine.now)) s) stacks.old.rests state.now result stacks.new.next
-        stacks.new.rests state.now }
+    ensures { Proceeds (machine.evaluate_parts (spot_of site.entry) (tree.Call (args arguments.now) (exp routine.now)) site.entry.level) stacks.old.rests
+        state.now result stacks.new.next stacks.new.rests state.now }
 {
-    let level = above(s, 2)?;
+    let level = level_above(site.level, 2)?;
     let begun = Arguments {
-        spot,
+        site,
         left: arguments,
         level,
         routine,
         count: u32::try_from(arguments.len()).map_err(|_| Memory)?,
-        s,
         fresh: true,
     };
-    Ok(argue(begun, stacks, state)?)
+    Ok(evaluate_arguments(begun, stacks, state)?)
 }
 
 /// Begins to evaluate a conditional expression that contains a call.
 #[tactic(auto, using(crate::proofs::Quiet::of_a_choice))]
 fn choice<'c>(
-    spot: Spot<'c>,
+    site: Site<'c>,
     condition: &'c CoreExp,
     branches: (&'c CoreExp, &'c CoreExp),
-    s: u32,
     stacks: &mut Stacks<'c>,
     state: &State,
 ) -> Result<(), Memory>
-    ensures { Proceeds (machine.evaluate_parts (spot_of spot.entry) (tree.Cond (exp condition.now) (exp branches.entry.0.now) (exp branches.entry.1.now)) s)
-        stacks.old.rests state.now result stacks.new.next stacks.new.rests state.now }
+    ensures { Proceeds (machine.evaluate_parts (spot_of site.entry) (tree.Cond (exp condition.now) (exp branches.entry.0.now) (exp branches.entry.1.now))
+        site.entry.level) stacks.old.rests state.now result stacks.new.next stacks.new.rests state.now }
 {
-    match truth_at(&spot, condition, &mut stacks.room, state)? {
+    match truth_at(&site, condition, &mut stacks.room, state)? {
         Some(Truth::Is(t)) => {
-            stacks.next = branch_next(t, spot, branches, s);
+            stacks.next = branch_next(t, site, branches);
             Ok(())
         }
         Some(Truth::Divides) => {
@@ -231,32 +220,33 @@ fn choice<'c>(
             stacks.next = Progress::Wild(cause);
             Ok(())
         }
-        None => selects(spot, condition, branches, s, stacks),
+        None => selects(site, condition, branches, stacks),
     }
 }
 
 /// Begins the body of the VALOF with this number. It is wild (`Malformed`) if this part has no such VALOF.
-fn valof<'c>(spot: Spot<'c>, number: u32, s: u32, stacks: &mut Stacks<'c>) -> Result<(), Memory>
-    ensures { (st : StateValue) → ProceedsOrMalformed
-        (machine.evaluate_parts (spot_of spot.entry) (tree.Valof number) s) stacks.old.rests st result stacks.new.next stacks.new.rests st }
+fn valof<'c>(site: Site<'c>, number: u32, stacks: &mut Stacks<'c>) -> Result<(), Memory>
+    ensures { (st : StateValue) → ProceedsOrMalformed (machine.evaluate_parts (spot_of site.entry) (tree.Valof number) site.entry.level) stacks.old.rests st
+        result stacks.new.next stacks.new.rests st }
 {
-    if number < spot.first {
+    if number < site.first {
         stacks.next = Progress::Wild(Cause::Malformed);
         return Ok(());
     }
     let index = number as usize;
-    if index >= spot.section.valofs.len() {
+    if index >= site.section.valofs.len() {
         stacks.next = Progress::Wild(Cause::Malformed);
         return Ok(());
     }
-    let body = &spot.section.valofs[index].body;
-    let within = Spot {
-        section: spot.section,
-        first: above(number, 1)?,
-        frame: spot.frame,
+    let body = &site.section.valofs[index].body;
+    let within = Site {
+        section: site.section,
+        first: level_above(number, 1)?,
+        frame: site.frame,
+        level: site.level,
     };
-    put(Rest::Exit(ExitRest::Results), &mut stacks.rests)?;
-    stacks.next = Progress::On(Work::Enter(within, body, s));
+    push(Rest::Exit(ExitRest::Results), &mut stacks.rests)?;
+    stacks.next = Progress::On(Work::Enter(within, body));
     Ok(())
 }
 
@@ -264,20 +254,20 @@ fn valof<'c>(spot: Spot<'c>, number: u32, s: u32, stacks: &mut Stacks<'c>) -> Re
 #[inline(always)]
 #[tactic(auto, using(crate::proofs::Quiet::judged, crate::proofs::Quiet::truth_parts))]
 pub(crate) fn decide<'c>(
-    spot: Spot<'c>,
+    site: Site<'c>,
     e: &'c CoreExp,
-    s: u32,
     stacks: &mut Stacks<'c>,
     state: &State,
 ) -> Result<(), Memory>
-    ensures { Proceeds (machine.decide (spot_of spot.entry) (exp e.now) s) stacks.old.rests state.now result stacks.new.next stacks.new.rests state.now }
+    ensures { Proceeds (machine.decide (spot_of site.entry) (exp e.now) site.entry.level) stacks.old.rests state.now result stacks.new.next stacks.new.rests
+        state.now }
 {
-    match truth_at(&spot, e, &mut stacks.room, state)? {
+    match truth_at(&site, e, &mut stacks.room, state)? {
         Some(truth) => {
             stacks.next = verdict(truth);
             Ok(())
         }
-        None => decide_parts(spot, e, s, stacks),
+        None => decide_parts(site, e, stacks),
     }
 }
 
@@ -285,45 +275,41 @@ pub(crate) fn decide<'c>(
 #[inline(always)]
 pub(crate) fn decide_part<'c>(
     rest: TruthRest<'c>,
-    spot: Spot<'c>,
+    site: Site<'c>,
     part: &'c CoreExp,
-    s: u32,
     stacks: &mut Stacks<'c>,
 ) -> Result<(), Memory>
-    ensures { (st : StateValue) → Proceeds (λ rs. machine.go (machine.Decide (spot_of spot.entry) (exp part.now) s) (truth_rest rest.entry ∷ rs))
-        stacks.old.rests st result stacks.new.next stacks.new.rests st }
+    ensures { (st : StateValue) → Proceeds (λ rs. machine.go (machine.Decide (spot_of site.entry) (exp part.now) site.entry.level) (truth_rest rest.entry ∷
+        rs)) stacks.old.rests st result stacks.new.next stacks.new.rests st }
 {
-    put(Rest::Truth(rest), &mut stacks.rests)?;
-    stacks.next = Progress::On(Work::Decide(spot, part, s));
+    push(Rest::Truth(rest), &mut stacks.rests)?;
+    stacks.next = Progress::On(Work::Decide(site, part));
     Ok(())
 }
 
 /// Begins to decide an expression that contains a call.
-fn decide_parts<'c>(
-    spot: Spot<'c>,
-    e: &'c CoreExp,
-    s: u32,
-    stacks: &mut Stacks<'c>,
-) -> Result<(), Memory>
-    ensures { (st : StateValue) → Proceeds
-        (machine.decide_parts (spot_of spot.entry) (exp e.now) s) stacks.old.rests st result stacks.new.next stacks.new.rests st }
+fn decide_parts<'c>(site: Site<'c>, e: &'c CoreExp, stacks: &mut Stacks<'c>) -> Result<(), Memory>
+    ensures { (st : StateValue) → Proceeds (machine.decide_parts (spot_of site.entry) (exp e.now) site.entry.level) stacks.old.rests st result
+        stacks.new.next stacks.new.rests st }
 {
     match e {
-        CoreExp::Not(part) => decide_part(TruthRest::Opposes, spot, part, s, stacks),
+        CoreExp::Not(part) => decide_part(TruthRest::Opposes, site, part, stacks),
         CoreExp::Bin(Op::And, left, right) => {
-            put(
-                Rest::Truth(TruthRest::Conjoins(spot, right, s)),
+            push(
+                Rest::Truth(TruthRest::Conjoins(site, right)),
                 &mut stacks.rests,
             )?;
-            stacks.next = Progress::On(Work::Decide(spot, left, above(s, 1)?));
+            let level = level_above(site.level, 1)?;
+            stacks.next = Progress::On(Work::Decide(Site { level, ..site }, left));
             Ok(())
         }
         CoreExp::Bin(Op::Or, left, right) => {
-            put(
-                Rest::Truth(TruthRest::Disjoins(spot, right, s)),
+            push(
+                Rest::Truth(TruthRest::Disjoins(site, right)),
                 &mut stacks.rests,
             )?;
-            stacks.next = Progress::On(Work::Decide(spot, left, above(s, 1)?));
+            let level = level_above(site.level, 1)?;
+            stacks.next = Progress::On(Work::Decide(Site { level, ..site }, left));
             Ok(())
         }
         CoreExp::Bin(_, _, _)
@@ -336,8 +322,8 @@ fn decide_parts<'c>(
         | CoreExp::Cond(_, _, _)
         | CoreExp::Call(_, _)
         | CoreExp::Valof(_) => {
-            put(Rest::Number(NumberRest::Tests), &mut stacks.rests)?;
-            stacks.next = Progress::On(Work::Evaluate(spot, e, s));
+            push(Rest::Number(NumberRest::Tests), &mut stacks.rests)?;
+            stacks.next = Progress::On(Work::Evaluate(site, e));
             Ok(())
         }
     }

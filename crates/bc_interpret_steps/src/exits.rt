@@ -12,8 +12,8 @@ ghost use Rattle.bc_interpret_steps.specs.Passing.{IsHandedOn, IsLeft, IsPassed,
 ghost use Rattle.bc_interpret_steps.specs.Came.{IsAfter, IsAfterCases, CameOrMalformed};
 ghost use Rattle.bc_interpret_steps.specs.Stepped.{Takes, TakesOrMalformed, GivesOrMalformed, GivesIfOk};
 
-use crate::continuations::{ExitRest, NothingRest, Rest, TruthRest, ValueRest, above, put};
-use crate::forms::{Entry, Exit, Progress, Spot, Work};
+use crate::continuations::{ExitRest, NothingRest, Rest, TruthRest, ValueRest, level_above, push};
+use crate::forms::{Entry, Exit, Progress, Rounds, Site, Work};
 use crate::lists::{has_label, listing};
 use crate::state::{Stacks, State, put_word, turn};
 use bc_core::{Block, Condition, CoreExp, ListItem};
@@ -41,28 +41,26 @@ fn following(exit: Exit) -> Option<Exit>
 /// `Memory` never comes.
 #[tactic(auto, using(crate::proofs::Loops::stepped_dead, crate::proofs::Loops::stepped_unset))]
 fn step_variable<'c>(
-    spot: Spot<'c>,
-    limit: u16,
-    by: u16,
-    body: &'c Block,
-    s: u32,
+    site: Site<'c>,
+    rounds: Rounds<'c>,
     state: &mut State,
 ) -> Result<Progress<'c>, Memory>
-    ensures { GivesIfOk (machine.ForBody (spot_of spot.entry) limit by (block_of body.now) s) (machine.Left Past) state.old result state.new }
+    ensures { GivesIfOk (machine.ForBody (spot_of site.entry) rounds.entry.limit rounds.entry.by (block_of rounds.entry.body.now) site.entry.level)
+        (machine.Left Past) state.old result state.new }
 {
-    let address = cell_of(spot.frame as usize, s as usize)?;
+    let address = cell_of(site.frame as usize, site.level as usize)?;
     let value = match state.store.at(address) {
         Cell::Dead => return Ok(Progress::Wild(Cause::Dead(address))),
         Cell::Unset => return Ok(Progress::Wild(Cause::Unset(address))),
         Cell::Set(word) => word,
     };
-    if let Some(cause) = put_word(state, address, value.wrapping_add(by)) {
+    if let Some(cause) = put_word(state, address, value.wrapping_add(rounds.by)) {
         return Ok(Progress::Wild(cause));
     }
     if !turn(state) {
         return Ok(Progress::Going);
     }
-    Ok(Progress::On(Work::Round(spot, limit, by, body, s)))
+    Ok(Progress::On(Work::Round(site, rounds)))
 }
 
 /// Whether nothing more is done in a list: control leaves a command with this exit, and these items follow it.
@@ -88,18 +86,18 @@ fn is_left(items: &[ListItem], exit: Exit) -> bool
 /// a command, if no item follows or control doesn't go on there; that of a whole list, unless it is left by a jump; and that of a
 /// SWITCHON.
 #[inline(always)]
-fn handed_on(rest: &ExitRest<'_>, exit: Exit) -> Option<Exit>
+fn exit_passed_on(rest: &ExitRest<'_>, exit: Exit) -> Option<Exit>
     ensures { IsHandedOn (exit_of exit) rest.now result }
 {
     match rest {
-        ExitRest::Follows(_, items, _) => {
+        ExitRest::Follows(_, items) => {
             if is_left(items, exit) {
                 Some(exit)
             } else {
                 None
             }
         }
-        ExitRest::Listed(_, _, _) => match exit {
+        ExitRest::Listed(_, _) => match exit {
             Exit::Jumped(_) => None,
             Exit::Past
             | Exit::Broke
@@ -111,10 +109,10 @@ fn handed_on(rest: &ExitRest<'_>, exit: Exit) -> Option<Exit>
         ExitRest::Cases => Some(after_cases(exit)),
         ExitRest::Returns
         | ExitRest::Results
-        | ExitRest::WhileBody(_, _, _, _)
-        | ExitRest::RepeatBody(_, _, _)
-        | ExitRest::RepeatWhileBody(_, _, _, _)
-        | ExitRest::ForBody(_, _, _, _, _) => None,
+        | ExitRest::WhileBody(_, _, _)
+        | ExitRest::RepeatBody(_, _)
+        | ExitRest::RepeatWhileBody(_, _, _)
+        | ExitRest::ForBody(_, _) => None,
     }
 }
 
@@ -124,7 +122,7 @@ fn passed(exit: Exit, rests: &[Rest<'_>]) -> Option<Exit>
     ensures { IsPassed (exit_of exit) rests.now result }
 {
     match rests.last() {
-        Some(Rest::Exit(rest)) => handed_on(rest, exit),
+        Some(Rest::Exit(rest)) => exit_passed_on(rest, exit),
         _ => None,
     }
 }
@@ -172,29 +170,27 @@ pub(crate) fn exit_taken<'c>(
             stacks.next = resulted(exit);
             Ok(())
         }
-        ExitRest::WhileBody(spot, condition, body, s) => {
-            stacks.next = loop_on(exit, Work::While(*spot, condition, body, *s), state);
+        ExitRest::WhileBody(site, condition, body) => {
+            stacks.next = loop_on(exit, Work::While(*site, condition, body), state);
             Ok(())
         }
-        ExitRest::RepeatBody(spot, body, s) => {
-            stacks.next = loop_on(exit, Work::Repeat(*spot, body, *s), state);
+        ExitRest::RepeatBody(site, body) => {
+            stacks.next = loop_on(exit, Work::Repeat(*site, body), state);
             Ok(())
         }
-        ExitRest::RepeatWhileBody(spot, body, condition, s) => {
-            decide_on(*spot, body, condition, *s, exit, stacks)
+        ExitRest::RepeatWhileBody(site, body, condition) => {
+            decide_on(*site, body, condition, exit, stacks)
         }
-        ExitRest::ForBody(spot, limit, by, body, s) => {
-            step_on(*spot, (*limit, *by), body, *s, exit, stacks, state)
-        }
+        ExitRest::ForBody(site, rounds) => step_on(*site, *rounds, exit, stacks, state),
         ExitRest::Cases => {
             stacks.next = Progress::On(Work::Left(after_cases(exit)));
             Ok(())
         }
-        ExitRest::Follows(spot, items, s) => {
-            stacks.next = follow(*spot, items, *s, exit);
+        ExitRest::Follows(site, items) => {
+            stacks.next = follow(*site, items, exit);
             Ok(())
         }
-        ExitRest::Listed(spot, items, s) => list_left(*spot, items, *s, exit, stacks, state),
+        ExitRest::Listed(site, items) => list_left(*site, items, exit, stacks, state),
     }
 }
 
@@ -218,15 +214,14 @@ fn loop_on<'c>(exit: Exit, again: Work<'c>, state: &mut State) -> Progress<'c>
 /// Continues a REPEATWHILE or REPEATUNTIL after its body with its condition, or leaves the loop.
 #[inline(always)]
 fn decide_on<'c>(
-    spot: Spot<'c>,
+    site: Site<'c>,
     body: &'c Block,
     condition: &'c Condition,
-    s: u32,
     exit: Exit,
     stacks: &mut Stacks<'c>,
 ) -> Result<(), Memory>
-    ensures { (st : StateValue) → TakesOrMalformed (machine.RepeatWhileBody (spot_of spot.entry) (block_of body.now) condition.now.sense (exp
-        condition.now.test) s) (machine.Left (exit_of exit)) stacks.old.rests st result stacks.new.next stacks.new.rests st }
+    ensures { (st : StateValue) → TakesOrMalformed (machine.RepeatWhileBody (spot_of site.entry) (block_of body.now) condition.now.sense (exp
+        condition.now.test) site.entry.level) (machine.Left (exit_of exit)) stacks.old.rests st result stacks.new.next stacks.new.rests st }
 {
     match following(exit) {
         Some(left) => {
@@ -234,38 +229,35 @@ fn decide_on<'c>(
             Ok(())
         }
         None => {
-            put(
-                Rest::Truth(TruthRest::RepeatWhiles(spot, body, condition, s)),
+            push(
+                Rest::Truth(TruthRest::RepeatWhiles(site, body, condition)),
                 &mut stacks.rests,
             )?;
-            stacks.next = Progress::On(Work::Decide(spot, &condition.test, s));
+            stacks.next = Progress::On(Work::Decide(site, &condition.test));
             Ok(())
         }
     }
 }
 
-/// Continues a FOR after its body by stepping its variable, or leaves the loop. `bounds` has the limit and the step.
+/// Continues a FOR after its body by stepping its variable, or leaves the loop.
 #[inline(always)]
 fn step_on<'c>(
-    spot: Spot<'c>,
-    bounds: (u16, u16),
-    body: &'c Block,
-    s: u32,
+    site: Site<'c>,
+    rounds: Rounds<'c>,
     exit: Exit,
     stacks: &mut Stacks<'c>,
     state: &mut State,
 ) -> Result<(), Memory>
-    ensures { TakesOrMalformed (machine.ForBody (spot_of spot.entry) bounds.0 bounds.1 (block_of body.now) s) (machine.Left (exit_of exit)) stacks.old.rests
-        state.old result stacks.new.next stacks.new.rests state.new }
+    ensures { TakesOrMalformed (machine.ForBody (spot_of site.entry) rounds.entry.limit rounds.entry.by (block_of rounds.entry.body.now) site.entry.level)
+        (machine.Left (exit_of exit)) stacks.old.rests state.old result stacks.new.next stacks.new.rests state.new }
 {
-    let (limit, by) = bounds;
     match following(exit) {
         Some(left) => {
             stacks.next = Progress::On(Work::Left(left));
             Ok(())
         }
         None => {
-            stacks.next = step_variable(spot, limit, by, body, s, state)?;
+            stacks.next = step_variable(site, rounds, state)?;
             Ok(())
         }
     }
@@ -273,11 +265,12 @@ fn step_on<'c>(
 
 /// Continues a list after a command if control goes on after it, else passes the exit on.
 #[inline(always)]
-fn follow<'c>(spot: Spot<'c>, items: &'c [ListItem], s: u32, exit: Exit) -> Progress<'c>
-    ensures { (st : StateValue) → GivesOrMalformed (machine.Follows (spot_of spot.entry) (items_view items.now) s) (machine.Left (exit_of exit)) st result st }
+fn follow<'c>(site: Site<'c>, items: &'c [ListItem], exit: Exit) -> Progress<'c>
+    ensures { (st : StateValue) → GivesOrMalformed (machine.Follows (spot_of site.entry) (items_view items.now) site.entry.level) (machine.Left (exit_of
+        exit)) st result st }
 {
     match exit {
-        Exit::Past => Progress::On(Work::Listing(spot, items, s, Entry::Beginning)),
+        Exit::Past => Progress::On(Work::Listing(site, items, Entry::Beginning)),
         Exit::Broke
         | Exit::Looped
         | Exit::LeftCases
@@ -290,24 +283,20 @@ fn follow<'c>(spot: Spot<'c>, items: &'c [ListItem], s: u32, exit: Exit) -> Prog
 /// Leaves a whole list; a jump to one of its labels enters it again.
 #[inline(always)]
 fn list_left<'c>(
-    spot: Spot<'c>,
+    site: Site<'c>,
     items: &'c [ListItem],
-    s: u32,
     exit: Exit,
     stacks: &mut Stacks<'c>,
     state: &mut State,
 ) -> Result<(), Memory>
-    ensures { TakesOrMalformed (machine.Listed (spot_of spot.entry) (items_view items.now) s) (machine.Left (exit_of exit)) stacks.old.rests state.old result
-        stacks.new.next stacks.new.rests state.new }
+    ensures { TakesOrMalformed (machine.Listed (spot_of site.entry) (items_view items.now) site.entry.level) (machine.Left (exit_of exit)) stacks.old.rests
+        state.old result stacks.new.next stacks.new.rests state.new }
 {
     match exit {
         Exit::Jumped(label) => {
             if has_label(items, label) {
-                put(
-                    Rest::Exit(ExitRest::Listed(spot, items, s)),
-                    &mut stacks.rests,
-                )?;
-                return Ok(listing(spot, items, s, Entry::AtLabel(label), stacks, state)?);
+                push(Rest::Exit(ExitRest::Listed(site, items)), &mut stacks.rests)?;
+                return Ok(listing(site, items, Entry::AtLabel(label), stacks, state)?);
             }
             stacks.next = Progress::On(Work::Left(exit));
             Ok(())
@@ -365,22 +354,21 @@ fn after_cases(exit: Exit) -> Exit
 /// Evaluates the limit of a FOR, whose variable has been set. `turns` has the step and the body.
 #[inline(always)]
 fn limits<'c>(
-    spot: Spot<'c>,
+    site: Site<'c>,
     limit: &'c CoreExp,
     turns: (u16, &'c Block),
-    s: u32,
     stacks: &mut Stacks<'c>,
 ) -> Result<(), Memory>
-    ensures { (st : StateValue) → Takes (machine.Limits (spot_of spot.entry) (exp limit.now) turns.entry.0 (block_of turns.entry.1.now) s) machine.Nothing
-        stacks.old.rests st result stacks.new.next stacks.new.rests st }
+    ensures { (st : StateValue) → Takes (machine.Limits (spot_of site.entry) (exp limit.now) turns.entry.0 (block_of turns.entry.1.now) site.entry.level)
+        machine.Nothing stacks.old.rests st result stacks.new.next stacks.new.rests st }
 {
     let (by, body) = turns;
-    let level = above(s, 2)?;
-    put(
-        Rest::Value(ValueRest::Fors(spot, by, body, s)),
+    let level = level_above(site.level, 2)?;
+    push(
+        Rest::Value(ValueRest::Fors(site, by, body)),
         &mut stacks.rests,
     )?;
-    stacks.next = Progress::On(Work::Evaluate(spot, limit, level));
+    stacks.next = Progress::On(Work::Evaluate(Site { level, ..site }, limit));
     Ok(())
 }
 
@@ -398,15 +386,13 @@ pub(crate) fn nothing_taken<'c>(
             stacks.next = Progress::On(Work::Left(Exit::Past));
             Ok(())
         }
-        NothingRest::Limits(spot, limit, by, body, s) => {
-            limits(*spot, limit, (*by, body), *s, stacks)
-        }
-        NothingRest::Declares(spot, declarations, items, s, level) => {
-            stacks.next = Progress::On(Work::Declare(*spot, declarations, items, *s, *level));
+        NothingRest::Limits(site, limit, by, body) => { limits(*site, limit, (*by, body), stacks) }
+        NothingRest::Declares(site, declarations, items, level) => {
+            stacks.next = Progress::On(Work::Declare(*site, declarations, items, *level));
             Ok(())
         }
-        NothingRest::Initialises(spot, variables, k, s) => {
-            stacks.next = Progress::On(Work::Initialise(*spot, variables, *k, *s));
+        NothingRest::Initialises(site, variables, k) => {
+            stacks.next = Progress::On(Work::Initialise(*site, variables, *k));
             Ok(())
         }
     }

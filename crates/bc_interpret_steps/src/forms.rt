@@ -7,13 +7,15 @@ use bc_machine_defs::Side;
 
 /// Where a part of the source is evaluated.
 #[derive(Clone, Copy)]
-pub struct Spot<'c> {
+pub struct Site<'c> {
     /// The section that contains the part.
     pub section: &'c Section<'c>,
     /// The number of the first VALOF inside the part.
     pub first: u32,
     /// The address of the frame.
     pub frame: u32,
+    /// The level: the first free offset of the frame.
+    pub level: u32,
 }
 
 /// How control leaves a command.
@@ -51,8 +53,8 @@ pub enum Entry {
 /// A call whose arguments are being evaluated.
 #[derive(Clone, Copy)]
 pub struct Arguments<'c> {
-    /// Where the call is evaluated.
-    pub spot: Spot<'c>,
+    /// Where the call is evaluated, at the level of the call.
+    pub site: Site<'c>,
     /// The remaining arguments.
     pub left: &'c [CoreExp],
     /// The level of the first remaining argument.
@@ -61,42 +63,50 @@ pub struct Arguments<'c> {
     pub routine: &'c CoreExp,
     /// The number of arguments of the whole call.
     pub count: u32,
-    /// The level of the call.
-    pub s: u32,
     /// Whether no argument has been evaluated yet.
     pub fresh: bool,
 }
 
-/// The current work: what to do next, or the answer to give to the innermost continuation. A field of type `u32` that isn't explained is
-/// the level: the first free offset of the frame.
+/// A FOR whose limit is known.
+#[derive(Clone, Copy)]
+pub struct Rounds<'c> {
+    /// The limit.
+    pub limit: u16,
+    /// The step.
+    pub by: u16,
+    /// The body.
+    pub body: &'c Block,
+}
+
+/// The current work: what to do next, or the answer to give to the innermost continuation.
 #[derive(Clone, Copy)]
 pub enum Work<'c> {
     /// Evaluates an expression for its value.
-    Evaluate(Spot<'c>, &'c CoreExp, u32),
+    Evaluate(Site<'c>, &'c CoreExp),
     /// Evaluates an expression for its truth.
-    Decide(Spot<'c>, &'c CoreExp, u32),
+    Decide(Site<'c>, &'c CoreExp),
     /// Evaluates the remaining arguments of a call, and then calls.
     Argue(Arguments<'c>),
     /// Assigns: the value, and the address.
-    Store(Spot<'c>, &'c CoreExp, &'c CoreExp, u32),
+    Store(Site<'c>, &'c CoreExp, &'c CoreExp),
     /// Performs a command.
-    Perform(Spot<'c>, &'c Command, u32),
+    Perform(Site<'c>, &'c Command),
     /// Performs a WHILE or UNTIL. After a round its continuation has only its parts and not the command, so this isn't `Perform`.
-    While(Spot<'c>, &'c Condition, &'c Block, u32),
+    While(Site<'c>, &'c Condition, &'c Block),
     /// Performs a REPEAT, likewise.
-    Repeat(Spot<'c>, &'c Block, u32),
+    Repeat(Site<'c>, &'c Block),
     /// Performs a REPEATWHILE or REPEATUNTIL, likewise.
-    RepeatWhile(Spot<'c>, &'c Block, &'c Condition, u32),
+    RepeatWhile(Site<'c>, &'c Block, &'c Condition),
     /// Performs a block.
-    Enter(Spot<'c>, &'c Block, u32),
-    /// Makes the remaining declarations, at the first level, and then performs the list, at the second level.
-    Declare(Spot<'c>, &'c [Declaration], &'c [ListItem], u32, u32),
+    Enter(Site<'c>, &'c Block),
+    /// Makes the remaining declarations, and then performs the list, at this level.
+    Declare(Site<'c>, &'c [Declaration], &'c [ListItem], u32),
     /// Initialises the remaining variables; the first is at this offset of the frame, and the level is after all of them.
-    Initialise(Spot<'c>, &'c [Variable], u32, u32),
+    Initialise(Site<'c>, &'c [Variable], u32),
     /// Performs a list, from where it is entered.
-    Listing(Spot<'c>, &'c [ListItem], u32, Entry),
-    /// Performs a round of a FOR, beginning with its test: the limit, the step and the body.
-    Round(Spot<'c>, u16, u16, &'c Block, u32),
+    Listing(Site<'c>, &'c [ListItem], Entry),
+    /// Performs a round of a FOR, beginning with its test.
+    Round(Site<'c>, Rounds<'c>),
     /// Gives a number.
     Number(u16),
     /// Gives a truth.

@@ -9,6 +9,7 @@
 //! that is an operator's first operand, and into the called routine.
 #![tactic(auto)]
 
+pub mod addresses;
 mod answers;
 mod arguments;
 mod assign;
@@ -28,8 +29,8 @@ mod sections;
 mod state;
 mod steps;
 
-pub use continuations::{ExitRest, NothingRest, NumberRest, Rest, TruthRest, ValueRest, put};
-pub use forms::{Arguments, Ending, Exit, Primitive, Progress, Spot, Work};
+pub use continuations::{ExitRest, NothingRest, NumberRest, Rest, TruthRest, ValueRest, push};
+pub use forms::{Arguments, Ending, Exit, Primitive, Progress, Rounds, Site, Work};
 pub use sections::{Callable, Section};
 pub use state::{Called, Stacks, State};
 pub use steps::step;

@@ -11,8 +11,8 @@ ghost use Rattle.bc_interpret_steps.specs.ListItems.{IsAlong, IsEntry, IsAfterEn
 ghost use Rattle.bc_interpret_steps.specs.Stepped.{Proceeds};
 
 use crate::assign::{Assigned, command_at_once};
-use crate::continuations::{ExitRest, NothingRest, Rest, put};
-use crate::forms::{Ending, Entry, Exit, Progress, Spot, Work};
+use crate::continuations::{ExitRest, NothingRest, Rest, push};
+use crate::forms::{Ending, Entry, Exit, Progress, Site, Work};
 use crate::state::{Stacks, State};
 use bc_core::{Command, ListItem};
 use bc_word::Memory;
@@ -142,13 +142,12 @@ fn entered<'c>(items: &'c [ListItem], at: Entry) -> &'c [ListItem]
 /// Pushes the continuations that would follow a failed assignment. The run ends there; `bc_interpret_trace` finds the place of the
 /// assignment by them.
 fn stop<'c>(
-    spot: Spot<'c>,
+    site: Site<'c>,
     following: &'c [ListItem],
-    s: u32,
     rests: &mut Vec<Rest<'c>>,
 ) -> Result<(), Memory> {
-    put(Rest::Exit(ExitRest::Follows(spot, following, s)), rests)?;
-    put(Rest::Nothing(NothingRest::Passes), rests)?;
+    push(Rest::Exit(ExitRest::Follows(site, following)), rests)?;
+    push(Rest::Nothing(NothingRest::Passes), rests)?;
     Ok(())
 }
 
@@ -165,37 +164,36 @@ enum Along {
 #[inline(always)]
 #[tactic(auto, using(crate::proofs::Listings::along_a_list))]
 fn list_item<'c>(
-    spot: Spot<'c>,
+    site: Site<'c>,
     list: (&'c ListItem, &'c [ListItem]),
-    s: u32,
     at: Entry,
     stacks: &mut Stacks<'c>,
     state: &mut State,
 ) -> Result<Along, Memory>
-    ensures { IfOk result (λ along. IsAlong (spot_of spot.entry) list.entry.0.now list.entry.1.now s at stacks.old.rests.items state.old along
-        stacks.new.next stacks.new.rests.items state.new) }
+    ensures { IfOk result (λ along. IsAlong (spot_of site.entry) list.entry.0.now list.entry.1.now site.entry.level at stacks.old.rests.items state.old
+        along stacks.new.next stacks.new.rests.items state.new) }
 {
     let (first, following) = list;
     match next_of(first, at) {
         Next::Passes(next) => Ok(Along::On(next)),
-        Next::Does(command) => match command_at_once(&spot, command, &mut stacks.room, state)? {
+        Next::Does(command) => match command_at_once(&site, command, &mut stacks.room, state)? {
             Some(Assigned::Done) => Ok(Along::On(Entry::Beginning)),
             Some(Assigned::Divides) => {
-                stop(spot, following, s, &mut stacks.rests)?;
+                stop(site, following, &mut stacks.rests)?;
                 stacks.next = Progress::Ended(Ending::ZeroDivide);
                 Ok(Along::Over)
             }
             Some(Assigned::Fails(cause)) => {
-                stop(spot, following, s, &mut stacks.rests)?;
+                stop(site, following, &mut stacks.rests)?;
                 stacks.next = Progress::Wild(cause);
                 Ok(Along::Over)
             }
             None => {
-                put(
-                    Rest::Exit(ExitRest::Follows(spot, following, s)),
+                push(
+                    Rest::Exit(ExitRest::Follows(site, following)),
                     &mut stacks.rests,
                 )?;
-                stacks.next = Progress::On(Work::Perform(spot, command, s));
+                stacks.next = Progress::On(Work::Perform(site, command));
                 Ok(Along::Over)
             }
         },
@@ -204,20 +202,19 @@ fn list_item<'c>(
 
 /// One step along a list that is entered at `entry`: performs its pure assignments, up to the first other command, which comes next.
 pub(crate) fn listing<'c>(
-    spot: Spot<'c>,
+    site: Site<'c>,
     items: &'c [ListItem],
-    s: u32,
     entry: Entry,
     stacks: &mut Stacks<'c>,
     state: &mut State,
 ) -> Result<(), Memory>
-    ensures { Proceeds (machine.list_step (spot_of spot.entry) (items_view items.now) s (entry_of entry)) stacks.old.rests state.old result stacks.new.next
-        stacks.new.rests state.new }
+    ensures { Proceeds (machine.list_step (spot_of site.entry) (items_view items.now) site.entry.level (entry_of entry)) stacks.old.rests state.old result
+        stacks.new.next stacks.new.rests state.new }
 {
     let mut left = entered(items, entry);
     let mut at = Entry::Beginning;
     while let [first, following @ ..] = left {
-        let along = list_item(spot, (first, following), s, at, stacks, state)?;
+        let along = list_item(site, (first, following), at, stacks, state)?;
         match along {
             Along::On(next) => at = next,
             Along::Over => return Ok(()),

@@ -10,8 +10,8 @@ ghost use Rattle.bc_interpret_steps.specs.declared.state.State.{State as StateVa
 ghost use Rattle.bc_interpret_steps.specs.Code.{number_rest, value_rest, given, spot_of, entry_of};
 ghost use Rattle.bc_interpret_steps.specs.Stepped.{Takes, Gives};
 
-use crate::continuations::{ExitRest, NumberRest, Rest, ValueRest, above, put};
-use crate::forms::{Arguments, Ending, Entry, Exit, Progress, Spot, Work};
+use crate::continuations::{ExitRest, NumberRest, Rest, ValueRest, level_above, push};
+use crate::forms::{Arguments, Ending, Entry, Exit, Progress, Rounds, Site, Work};
 use crate::lists::has_case;
 use crate::state::{Stacks, State, put_word};
 use bc_core::{CoreExp, ListItem, operand};
@@ -35,19 +35,18 @@ fn load<'c>(v: u16, state: &State) -> Progress<'c>
 /// Gives an operator its first operand: evaluates the second one next.
 #[inline(always)]
 fn operates<'c>(
-    spot: Spot<'c>,
+    site: Site<'c>,
     operator: (Op, &'c CoreExp),
-    s: u32,
     v: u16,
     stacks: &mut Stacks<'c>,
 ) -> Result<(), Memory>
-    ensures { (st : StateValue) → Takes (machine.Operates (spot_of spot.entry) operator.entry.0 (exp operator.entry.1.now) s) (machine.Number v)
-        stacks.old.rests st result stacks.new.next stacks.new.rests st }
+    ensures { (st : StateValue) → Takes (machine.Operates (spot_of site.entry) operator.entry.0 (exp operator.entry.1.now) site.entry.level) (machine.Number
+        v) stacks.old.rests st result stacks.new.next stacks.new.rests st }
 {
     let (op, second) = operator;
-    let level = above(s, 1)?;
-    put(Rest::Number(NumberRest::Operated(op, v)), &mut stacks.rests)?;
-    stacks.next = Progress::On(Work::Evaluate(spot, second, level));
+    let level = level_above(site.level, 1)?;
+    push(Rest::Number(NumberRest::Operated(op, v)), &mut stacks.rests)?;
+    stacks.next = Progress::On(Work::Evaluate(Site { level, ..site }, second));
     Ok(())
 }
 
@@ -69,8 +68,8 @@ fn argues<'c>(arguments: &Arguments<'c>, v: u16, stacks: &mut Stacks<'c>) -> Res
     ensures { (st : StateValue) → Takes (number_rest (given stacks.old.rests.items) (number_rests.Argues arguments.now)) (machine.Number v)
         stacks.old.rests st result stacks.new.next stacks.new.rests st }
 {
-    let level = above(arguments.level, 1)?;
-    put(Rest::Given(v, arguments.fresh), &mut stacks.rests)?;
+    let level = level_above(arguments.level, 1)?;
+    push(Rest::Given(v, arguments.fresh), &mut stacks.rests)?;
     stacks.next = Progress::On(Work::Argue(Arguments {
         level,
         fresh: false,
@@ -108,7 +107,7 @@ pub(crate) fn number_taken<'c>(
             stacks.next = Progress::On(Work::Verdict(v != 0));
             Ok(())
         }
-        NumberRest::Operates(spot, op, e, s) => operates(*spot, (*op, e), *s, v, stacks),
+        NumberRest::Operates(site, op, e) => operates(*site, (*op, e), v, stacks),
         NumberRest::Operated(op, x) => {
             stacks.next = operated(*op, *x, v);
             Ok(())
@@ -137,25 +136,24 @@ pub(crate) fn side_level(address: &CoreExp, s: u32) -> Result<u32, Memory>
     if operand(address).is_some() {
         Ok(s)
     } else {
-        above(s, 1)
+        level_above(s, 1)
     }
 }
 
 /// Gives an assignment its value: evaluates the address next.
 #[inline(always)]
 fn stores<'c>(
-    spot: Spot<'c>,
+    site: Site<'c>,
     address: &'c CoreExp,
-    s: u32,
     v: u16,
     stacks: &mut Stacks<'c>,
 ) -> Result<(), Memory>
-    ensures { (st : StateValue) → Takes (machine.Stores (spot_of spot.entry) (exp address.now) s) (machine.Number v) stacks.old.rests st result
-        stacks.new.next stacks.new.rests st }
+    ensures { (st : StateValue) → Takes (machine.Stores (spot_of site.entry) (exp address.now) site.entry.level) (machine.Number v) stacks.old.rests st
+        result stacks.new.next stacks.new.rests st }
 {
-    let level = side_level(address, s)?;
-    put(Rest::Value(ValueRest::Stored(v)), &mut stacks.rests)?;
-    stacks.next = Progress::On(Work::Evaluate(spot, address, level));
+    let level = side_level(address, site.level)?;
+    push(Rest::Value(ValueRest::Stored(v)), &mut stacks.rests)?;
+    stacks.next = Progress::On(Work::Evaluate(Site { level, ..site }, address));
     Ok(())
 }
 
@@ -174,21 +172,17 @@ fn case_of(items: &[ListItem], v: u16) -> Entry
 /// Gives a SWITCHON its number: enters its list next.
 #[inline(always)]
 fn switches<'c>(
-    spot: Spot<'c>,
+    site: Site<'c>,
     items: &'c [ListItem],
-    s: u32,
     v: u16,
     stacks: &mut Stacks<'c>,
 ) -> Result<(), Memory>
-    ensures { (st : StateValue) → Takes (machine.Switches (spot_of spot.entry) (items_view items.now) s) (machine.Number v) stacks.old.rests st result
-        stacks.new.next stacks.new.rests st }
+    ensures { (st : StateValue) → Takes (machine.Switches (spot_of site.entry) (items_view items.now) site.entry.level) (machine.Number v) stacks.old.rests
+        st result stacks.new.next stacks.new.rests st }
 {
-    put(Rest::Exit(ExitRest::Cases), &mut stacks.rests)?;
-    put(
-        Rest::Exit(ExitRest::Listed(spot, items, s)),
-        &mut stacks.rests,
-    )?;
-    stacks.next = Progress::On(Work::Listing(spot, items, s, case_of(items, v)));
+    push(Rest::Exit(ExitRest::Cases), &mut stacks.rests)?;
+    push(Rest::Exit(ExitRest::Listed(site, items)), &mut stacks.rests)?;
+    stacks.next = Progress::On(Work::Listing(site, items, case_of(items, v)));
     Ok(())
 }
 
@@ -204,7 +198,7 @@ pub(crate) fn value_taken<'c>(
     ensures { Takes (value_rest rest.now) (machine.Number v) stacks.old.rests state.old result stacks.new.next stacks.new.rests state.new }
 {
     match rest {
-        ValueRest::Stores(spot, address, s) => stores(*spot, address, *s, v, stacks),
+        ValueRest::Stores(site, address) => stores(*site, address, v, stacks),
         ValueRest::Stored(word) => {
             stacks.next = store(v, *word, state);
             Ok(())
@@ -217,11 +211,16 @@ pub(crate) fn value_taken<'c>(
             stacks.next = Progress::On(Work::Left(Exit::Past));
             Ok(())
         }
-        ValueRest::Fors(spot, by, body, s) => {
-            stacks.next = Progress::On(Work::Round(*spot, v, *by, body, *s));
+        ValueRest::Fors(site, by, body) => {
+            let rounds = Rounds {
+                limit: v,
+                by: *by,
+                body,
+            };
+            stacks.next = Progress::On(Work::Round(*site, rounds));
             Ok(())
         }
-        ValueRest::Switches(spot, items, s) => switches(*spot, items, *s, v, stacks),
+        ValueRest::Switches(site, items) => switches(*site, items, v, stacks),
         ValueRest::Leaves => {
             stacks.next = Progress::On(Work::Left(Exit::Resulted(v)));
             Ok(())

@@ -6,9 +6,9 @@ ghost use Rattle.bc_interpret_defs.specs.Machine as machine;
 ghost use Rattle.bc_interpret_steps.specs.Passing.{RunsOver, IsOperator};
 
 use crate::answers::give_number;
-use crate::continuations::{NumberRest, Rest, above, put};
-use crate::descend::go_over;
-use crate::forms::Spot;
+use crate::continuations::{NumberRest, Rest, level_above, push};
+use crate::descend::begin_other;
+use crate::forms::Site;
 use crate::sections::Callable;
 use crate::state::{Stacks, State};
 use bc_core::CoreExp;
@@ -17,14 +17,12 @@ use bc_word::{Memory, Op};
 /// An operator that waits for its first operand.
 #[derive(Clone, Copy)]
 pub(crate) struct Operator<'c> {
-    /// Where it is evaluated.
-    pub(crate) spot: Spot<'c>,
+    /// Where it is evaluated, at its level.
+    pub(crate) site: Site<'c>,
     /// The operator.
     pub(crate) op: Op,
     /// Its second operand.
     pub(crate) second: &'c CoreExp,
-    /// Its level.
-    pub(crate) s: u32,
 }
 
 /// The operator that waits for its first operand, if the innermost continuation is one.
@@ -33,11 +31,10 @@ fn waiting<'c>(rests: &[Rest<'c>]) -> Option<Operator<'c>>
     ensures { IsOperator result rests.now }
 {
     match rests.last() {
-        Some(Rest::Number(NumberRest::Operates(spot, op, second, s))) => Some(Operator {
-            spot: *spot,
+        Some(Rest::Number(NumberRest::Operates(site, op, second))) => Some(Operator {
+            site: *site,
             op: *op,
             second,
-            s: *s,
         }),
         _ => None,
     }
@@ -46,7 +43,7 @@ fn waiting<'c>(rests: &[Rest<'c>]) -> Option<Operator<'c>>
 /// Gives a number to the innermost continuation; if that takes it as an operator's first operand, also begins the second one. Not
 /// inlined, so that `step` stays small enough to be inlined into the loop around it.
 #[inline(never)]
-pub(crate) fn hand_number<'c>(
+pub(crate) fn resume_with_number<'c>(
     table: &[Callable<'c>],
     v: u16,
     stacks: &mut Stacks<'c>,
@@ -72,11 +69,15 @@ fn second<'c>(
     requires { IsOperator (Some operator) stacks.now.rests.items }
     ensures { RunsOver table.now (machine.Give (machine.Number v)) stacks.old.rests state.old result stacks.new.next stacks.new.rests state.new }
 {
-    let level = above(operator.s, 1)?;
+    let level = level_above(operator.site.level, 1)?;
     let _gone = stacks.rests.pop();
-    put(
+    push(
         Rest::Number(NumberRest::Operated(operator.op, v)),
         &mut stacks.rests,
     )?;
-    go_over(table, operator.spot, operator.second, level, stacks, state)
+    let site = Site {
+        level,
+        ..operator.site
+    };
+    begin_other(table, site, operator.second, stacks, state)
 }

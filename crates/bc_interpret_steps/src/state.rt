@@ -3,7 +3,7 @@
 ghost use Rattle.std.specs.Prelude.{◌≡◌, OnOk};
 ghost use Rattle.bc_interpret_steps.specs.Came.{Turned, Wrote, StandsAfter};
 
-use crate::continuations::{Rest, put};
+use crate::continuations::{Rest, push};
 use crate::forms::Progress;
 use bc_interpret_pure::{Cause, Room};
 use bc_interpret_store::Store;
@@ -82,7 +82,7 @@ pub(crate) fn put_after<'c>(
 ) -> Result<(), Memory>
     ensures { OnOk result (StandsAfter rest.entry next.entry stacks.old.rests.items stacks.new.next stacks.new.rests.items) }
 {
-    put(rest, &mut stacks.rests)?;
+    push(rest, &mut stacks.rests)?;
     stacks.next = next;
     Ok(())
 }

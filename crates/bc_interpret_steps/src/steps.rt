@@ -4,14 +4,14 @@ ghost use Rattle.bc_interpret_steps.specs.Code.{work_of, given};
 ghost use Rattle.bc_interpret_steps.specs.Passing.{RunsOver, work_next};
 
 use crate::answers::{give_exit, give_nothing, give_verdict};
-use crate::arguments::argue;
-use crate::call_command::carry_out;
+use crate::arguments::evaluate_arguments;
+use crate::call_command::begin_command;
 use crate::commands::{declare, enter, initialise, repeat, repeat_while, round, store, while_loop};
-use crate::descend::go_into;
+use crate::descend::begin_expression;
 use crate::evaluate::decide;
 use crate::forms::{Progress, Work};
 use crate::lists::listing;
-use crate::operands::hand_number;
+use crate::operands::resume_with_number;
 use crate::sections::Callable;
 use crate::state::{Stacks, State};
 use bc_word::Memory;
@@ -37,36 +37,34 @@ pub fn step<'c>(
 {
     stacks.called.least = 0;
     match stacks.next {
-        Progress::On(Work::Evaluate(spot, e, s)) => go_into(table, spot, e, s, stacks, state),
-        Progress::On(Work::Decide(spot, e, s)) => decide(spot, e, s, stacks, state),
-        Progress::On(Work::Argue(arguments)) => argue(arguments, stacks, state),
-        Progress::On(Work::Store(spot, value, address, s)) => {
-            store(spot, value, address, s, stacks, state)
+        Progress::On(Work::Evaluate(site, e)) => begin_expression(table, site, e, stacks, state),
+        Progress::On(Work::Decide(site, e)) => decide(site, e, stacks, state),
+        Progress::On(Work::Argue(arguments)) => evaluate_arguments(arguments, stacks, state),
+        Progress::On(Work::Store(site, value, address)) => {
+            store(site, value, address, stacks, state)
         }
-        Progress::On(Work::Perform(spot, command, s)) => {
-            carry_out(table, spot, command, s, stacks, state)
+        Progress::On(Work::Perform(site, command)) => {
+            begin_command(table, site, command, stacks, state)
         }
-        Progress::On(Work::While(spot, condition, body, s)) => {
-            while_loop(spot, condition, body, s, stacks, state)
+        Progress::On(Work::While(site, condition, body)) => {
+            while_loop(site, condition, body, stacks, state)
         }
-        Progress::On(Work::Repeat(spot, body, s)) => repeat(spot, body, s, stacks),
-        Progress::On(Work::RepeatWhile(spot, body, condition, s)) => {
-            repeat_while(spot, body, condition, s, stacks)
+        Progress::On(Work::Repeat(site, body)) => repeat(site, body, stacks),
+        Progress::On(Work::RepeatWhile(site, body, condition)) => {
+            repeat_while(site, body, condition, stacks)
         }
-        Progress::On(Work::Enter(spot, block, s)) => enter(spot, block, s, stacks, state),
-        Progress::On(Work::Declare(spot, declarations, items, s, level)) => {
-            declare(spot, declarations, items, (s, level), stacks, state)
+        Progress::On(Work::Enter(site, block)) => enter(site, block, stacks, state),
+        Progress::On(Work::Declare(site, declarations, items, level)) => {
+            declare(site, (declarations, items), level, stacks, state)
         }
-        Progress::On(Work::Initialise(spot, variables, k, s)) => {
-            initialise(spot, variables, k, s, stacks, state)
+        Progress::On(Work::Initialise(site, variables, k)) => {
+            initialise(site, variables, k, stacks, state)
         }
-        Progress::On(Work::Listing(spot, items, s, entry)) => {
-            listing(spot, items, s, entry, stacks, state)
+        Progress::On(Work::Listing(site, items, entry)) => {
+            listing(site, items, entry, stacks, state)
         }
-        Progress::On(Work::Round(spot, limit, by, body, s)) => {
-            round(spot, limit, by, body, s, stacks, state)
-        }
-        Progress::On(Work::Number(v)) => hand_number(table, v, stacks, state),
+        Progress::On(Work::Round(site, rounds)) => round(site, rounds, stacks, state),
+        Progress::On(Work::Number(v)) => resume_with_number(table, v, stacks, state),
         Progress::On(Work::Verdict(t)) => give_verdict(table, t, stacks, state),
         Progress::On(Work::Left(exit)) => give_exit(table, exit, stacks, state),
         Progress::On(Work::Nothing) => give_nothing(table, stacks, state),

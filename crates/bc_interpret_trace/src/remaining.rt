@@ -4,7 +4,7 @@
 //! continuation.
 
 use crate::roots::{roots_of_block, roots_of_declarations, roots_of_items, roots_of_variables};
-use bc_interpret_steps::{ExitRest, NothingRest, NumberRest, Rest, Spot, TruthRest, ValueRest};
+use bc_interpret_steps::{ExitRest, NothingRest, NumberRest, Rest, Site, TruthRest, ValueRest};
 
 /// What a continuation says about the current place, which is inside the part whose answer the continuation takes.
 #[derive(Clone, Copy)]
@@ -27,10 +27,10 @@ fn only(following: u64) -> Clue {
 }
 
 /// A continuation that says how many roots follow, and in which VALOF the place is.
-fn at(spot: &Spot<'_>, following: u64) -> Clue {
+fn at(site: &Site<'_>, following: u64) -> Clue {
     Clue {
         following,
-        first: Some(spot.first as usize),
+        first: Some(site.first as usize),
         is_bottom: false,
     }
 }
@@ -57,8 +57,8 @@ pub(crate) fn clue_of(rest: &Rest<'_>) -> Clue {
 /// The clue of a continuation that takes a number inside an expression.
 fn of_number(rest: &NumberRest<'_>) -> Clue {
     match rest {
-        NumberRest::Operates(spot, _, _, _) => at(spot, 0),
-        NumberRest::Argues(arguments) => at(&arguments.spot, 0),
+        NumberRest::Operates(site, _, _) => at(site, 0),
+        NumberRest::Argues(arguments) => at(&arguments.site, 0),
         NumberRest::Loads
         | NumberRest::Negates
         | NumberRest::Complements
@@ -70,9 +70,9 @@ fn of_number(rest: &NumberRest<'_>) -> Clue {
 /// The clue of a continuation that takes the number of an expression in a command.
 fn of_value(rest: &ValueRest<'_>) -> Clue {
     match rest {
-        ValueRest::Stores(spot, _, _) => at(spot, 0),
-        ValueRest::Fors(spot, _, body, _) => at(spot, roots_of_block(body)),
-        ValueRest::Switches(spot, items, _) => at(spot, roots_of_items(items)),
+        ValueRest::Stores(site, _) => at(site, 0),
+        ValueRest::Fors(site, _, body) => at(site, roots_of_block(body)),
+        ValueRest::Switches(site, items) => at(site, roots_of_items(items)),
         ValueRest::Stored(_) | ValueRest::StoresAt(_) | ValueRest::Drops | ValueRest::Leaves => {
             only(0)
         }
@@ -83,15 +83,15 @@ fn of_value(rest: &ValueRest<'_>) -> Clue {
 fn of_truth(rest: &TruthRest<'_>) -> Clue {
     match rest {
         TruthRest::Opposes => only(0),
-        TruthRest::Conjoins(spot, _, _)
-        | TruthRest::Disjoins(spot, _, _)
-        | TruthRest::Selects(spot, _, _, _)
-        | TruthRest::RepeatWhiles(spot, _, _, _) => at(spot, 0),
-        TruthRest::Ifs(spot, _, body, _) | TruthRest::Whiles(spot, _, body, _) => {
-            at(spot, roots_of_block(body))
+        TruthRest::Conjoins(site, _)
+        | TruthRest::Disjoins(site, _)
+        | TruthRest::Selects(site, _, _)
+        | TruthRest::RepeatWhiles(site, _, _) => at(site, 0),
+        TruthRest::Ifs(site, _, body) | TruthRest::Whiles(site, _, body) => {
+            at(site, roots_of_block(body))
         }
-        TruthRest::Chooses(spot, this, that, _) => at(
-            spot,
+        TruthRest::Chooses(site, this, that) => at(
+            site,
             roots_of_block(this).saturating_add(roots_of_block(that)),
         ),
     }
@@ -101,15 +101,12 @@ fn of_truth(rest: &TruthRest<'_>) -> Clue {
 fn of_nothing(rest: &NothingRest<'_>) -> Clue {
     match rest {
         NothingRest::Passes => only(0),
-        NothingRest::Limits(spot, _, _, body, _) => at(
-            spot,
-            roots_of_block(body).saturating_add(1),
-        ),
-        NothingRest::Declares(spot, declarations, items, _, _) => at(
-            spot,
+        NothingRest::Limits(site, _, _, body) => at(site, roots_of_block(body).saturating_add(1)),
+        NothingRest::Declares(site, declarations, items, _) => at(
+            site,
             roots_of_declarations(declarations).saturating_add(roots_of_items(items)),
         ),
-        NothingRest::Initialises(spot, variables, _, _) => at(spot, roots_of_variables(variables)),
+        NothingRest::Initialises(site, variables, _) => at(site, roots_of_variables(variables)),
     }
 }
 
@@ -117,12 +114,12 @@ fn of_nothing(rest: &NothingRest<'_>) -> Clue {
 fn of_exit(rest: &ExitRest<'_>) -> Clue {
     match rest {
         ExitRest::Returns | ExitRest::Results => BOTTOM,
-        ExitRest::WhileBody(spot, _, _, _)
-        | ExitRest::RepeatBody(spot, _, _)
-        | ExitRest::ForBody(spot, _, _, _, _)
-        | ExitRest::Listed(spot, _, _) => at(spot, 0),
-        ExitRest::RepeatWhileBody(spot, _, _, _) => at(spot, 1),
+        ExitRest::WhileBody(site, _, _)
+        | ExitRest::RepeatBody(site, _)
+        | ExitRest::ForBody(site, _)
+        | ExitRest::Listed(site, _) => at(site, 0),
+        ExitRest::RepeatWhileBody(site, _, _) => at(site, 1),
         ExitRest::Cases => only(0),
-        ExitRest::Follows(spot, items, _) => at(spot, roots_of_items(items)),
+        ExitRest::Follows(site, items) => at(site, roots_of_items(items)),
     }
 }

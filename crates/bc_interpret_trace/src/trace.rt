@@ -113,7 +113,7 @@ impl<'c> Trace<'c> {
 
     /// Notes that a TEST takes its first branch, if the innermost continuation is a TEST. The truth given to it is true.
     fn branch(&mut self, rests: &[Rest<'c>]) -> Result<(), Memory> {
-        let Some(Rest::Truth(TruthRest::Chooses(_, _, that, _))) = rests.last() else {
+        let Some(Rest::Truth(TruthRest::Chooses(_, _, that))) = rests.last() else {
             return Ok(());
         };
         self.mark(rests.len().saturating_sub(1), Within::Branch(that))

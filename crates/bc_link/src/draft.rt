@@ -19,6 +19,15 @@ use bc_text_items::{Base, Item, Segment};
 use bc_word::{Memory, Word};
 use std::alloc::Global;
 
+/// `LIG1`, which loads the address of the routine in global 1: function 0, indirect 4096, base G 1024, address 1.
+const LOAD_START: u16 = 5121;
+
+/// `K2`, which calls it: function 6 times 8192, address 2.
+const CALL_START: u16 = 49_154;
+
+/// `X22`, which ends the run: function 7 times 8192, operation 22.
+const FINISH: u16 = 57_366;
+
 /// The label that the item refers to, if it refers to one.
 fn label_used(item: &Item) -> Option<Word>
     ensures { result ≡ use_of item.now }
@@ -52,12 +61,9 @@ fn boot_words(alloc: Global) -> Result<Vec<Word>, Memory>
     ensures length { IfOk result (λ words. vec_len words ≡ 3) }
 {
     let mut words = Vec::with_capacity(alloc, 65_536)?;
-    // LIG1: function 0, indirect 4096, base G 1024, address 1
-    words.push(Word::new(5121))?;
-    // K2: function 6 times 8192, address 2
-    words.push(Word::new(49_154))?;
-    // X22: function 7 times 8192, operation 22
-    words.push(Word::new(57_366))?;
+    words.push(Word::new(LOAD_START))?;
+    words.push(Word::new(CALL_START))?;
+    words.push(Word::new(FINISH))?;
     Ok(words)
 }
 

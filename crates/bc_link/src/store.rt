@@ -35,17 +35,34 @@ fn instruction(function: Function, indirect: bool, base: Base, low: u16) -> Word
     Word::new(8192 * code + indirection + base_bit + low)
 }
 
+/// An instruction before its address is known.
+#[derive(Clone, Copy)]
+struct Operation {
+    /// Its function.
+    function: Function,
+    /// Whether it is indirect.
+    indirect: bool,
+    /// What its number is added to, or that it is a label.
+    base: Base,
+    /// Its number.
+    number: Word,
+}
+
 /// Appends the words of an operation.
 fn push_operation(
     words: &mut Vec<Word>,
-    function: Function,
-    indirect: bool,
-    base: Base,
-    number: Word,
+    operation: Operation,
     labels: &LabelTable,
 ) -> Result<(), Memory>
-    ensures { OnOk result (words.new.items ≡ words.old.items ++ operation_words (label_address labels.now) function indirect base number) }
+    ensures { OnOk result (words.new.items ≡ words.old.items
+        ++ operation_words (label_address labels.now) operation.function operation.indirect operation.base operation.number) }
 {
+    let Operation {
+        function,
+        indirect,
+        base,
+        number,
+    } = operation;
     if base == Base::Label {
         words.push(instruction(function, indirect, base, 512))?;
         words.push(labels.address_or_zero(number))?;
@@ -72,7 +89,15 @@ fn push_item(words: &mut Vec<Word>, item: &Item, labels: &LabelTable) -> Result<
             indirect,
             base,
             number,
-        } => push_operation(words, *function, *indirect, *base, *number, labels),
+        } => {
+            let operation = Operation {
+                function: *function,
+                indirect: *indirect,
+                base: *base,
+                number: *number,
+            };
+            push_operation(words, operation, labels)
+        }
     }
 }
 

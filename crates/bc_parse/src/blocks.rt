@@ -156,7 +156,11 @@ fn label_step<'s, 't>(
 {
     match cursor::label_at(list.rest) {
         LabelStartAt::No => Ok(Step::Last(list)),
-        LabelStartAt::Case(rest) => construction::case_of(room, boxed_exp(room, CONSTANT, rest), list),
+        LabelStartAt::Case(rest) => construction::case_of(
+            room,
+            boxed_exp(room, CONSTANT, rest),
+            list,
+        ),
         LabelStartAt::Default(rest) => default_label(list, rest),
         LabelStartAt::Name(name, rest) => name_label(list, name, rest),
     }

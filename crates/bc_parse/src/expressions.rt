@@ -104,7 +104,10 @@ fn operand_rest<'s, 't>(
     };
     match word {
         Start::Bracket => bracket(room, place, rest),
-        Start::Table => construction::table_of(room, exps(inner, CONSTANT, rest.parts.len() + 1, rest)),
+        Start::Table => construction::table_of(
+            room,
+            exps(inner, CONSTANT, rest.parts.len() + 1, rest),
+        ),
         Start::Valof => construction::valof_of(room, body(inner, rest)),
         Start::Monadic(op) => {
             construction::monadic_of(room, op, boxed_exp(inner, words::level_after(op), rest))
@@ -293,7 +296,13 @@ fn choice_rest<'s, 't>(
         ..room
     };
     let rest = cursor::expect(Symbol::Comma, this.rest)?;
-    construction::condition_of(room, height, test, this.tree, boxed_exp(inner, CHOICE, rest))
+    construction::condition_of(
+        room,
+        height,
+        test,
+        this.tree,
+        boxed_exp(inner, CHOICE, rest),
+    )
 }
 
 /// The arguments of a call, after `(`. The `)` is read too.

@@ -1,9 +1,10 @@
 //! The first fault of a block or a command list, and the frame size that it needs.
 //!
 //! `blocks.rt`, `commands.rt`, `declarations.rt` and `expressions.rt` hold one cycle of functions, one for each kind of part. Each
-//! takes the level at which the part is executed, moves `progress` past the part, and returns the frame size that the part
-//! needs, in cells; or it fails with the part's first fault, or with `Memory` when an allocation fails or a number exceeds 64
-//! bits. The scope is then the same as before, or has the names that declarations added; after an error it is unspecified.
+//! takes the level at which the part is executed, mostly in a context (`context.rt`), and moves `progress` past the part. It returns
+//! the frame size that the part needs, in cells; or it fails with the part's first fault, or with `Memory` when an allocation fails
+//! or a number exceeds 64 bits. The scope is then the same as before, or has the names that declarations added; after an error it is
+//! unspecified.
 ghost use Rattle.std.specs.Prelude.{◌≡◌};
 ghost use Rattle.bc_parse_tree.specs.View.{block_view, declarations_view, label_view, labels_view, item_view, items_view};
 ghost use Rattle.bc_scope_defs.specs.Faults.{met_label, met_labels};
@@ -18,43 +19,28 @@ ghost use Rattle.bc_scope_faults.specs.Walk.{here};
 ghost use Rattle.bc_scope_faults.specs.Parts.{of_block, of_items, of_body, of_item};
 
 use crate::commands::command;
+use crate::context::{CommandContext, ListContext};
 use crate::declarations::declarations;
-use crate::expressions::constant_fault;
-use crate::judging::{Allowed, Met};
+use crate::expressions::check_constant;
+use crate::judging::Met;
 use crate::progress::Progress;
 use bc_parse_tree::{Block, Declaration, Item, Label};
 use bc_scope_names::{Scope, ScopeError, constant, declare_list, labels_in};
 
-/// The kind of a command list.
-#[derive(Clone, Copy)]
-pub struct List {
-    /// Whether it is the list of a SWITCHON, which may have CASEs and a DEFAULT.
-    pub cases: bool,
-    /// Which commands are allowed in it.
-    pub allowed: Allowed,
-}
-
-/// Walks a block. `allowed` says which commands may be in it.
+/// Walks a block.
 #[cycle(faults)]
 #[tactic(auto, using(crate::proofs::Kept::keeping))]
 pub fn block<'s>(
     scope: &mut Scope<'s>,
     progress: &mut Progress,
-    allowed: Allowed,
+    context: CommandContext,
     tree: &Block<'s>,
-    level: u64,
 ) -> Result<u64, ScopeError<'s>>
-    ensures answer { Walks result progress.old progress.new (of_block (allowed_view allowed) (block_view tree.now) level (here scope.old progress.old)) }
+    ensures answer { Walks result progress.old progress.new
+        (of_block (allowed_view context.allowed) (block_view tree.now) context.level (here scope.old progress.old)) }
     ensures kept { Keeps result scope.old scope.new }
 {
-    declared_then_done(
-        scope,
-        progress,
-        allowed,
-        &tree.declarations,
-        &tree.items,
-        level,
-    )
+    declared_then_done(scope, progress, context, &tree.declarations, &tree.items)
 }
 
 /// The declarations of a block, and the items after them.
@@ -63,24 +49,26 @@ pub fn block<'s>(
 fn declared_then_done<'s>(
     scope: &mut Scope<'s>,
     progress: &mut Progress,
-    allowed: Allowed,
+    context: CommandContext,
     declared: &[Declaration<'s>],
     trees: &[Item<'s>],
-    level: u64,
 ) -> Result<u64, ScopeError<'s>>
     ensures answer { Walks result progress.old progress.new
-        (of_body (allowed_view allowed) (declarations_view declared.now) (items_view trees.now) level (here scope.old progress.old)) }
+        (of_body (allowed_view context.allowed) (declarations_view declared.now) (items_view trees.now) context.level (here scope.old progress.old)) }
     ensures kept { Keeps result scope.old scope.new }
 {
     let mark = scope.mark();
-    let extent = declarations(scope, progress, declared, level)?;
+    let extent = declarations(scope, progress, declared, context.level)?;
     declare_list(scope, progress.at.label, trees)?;
     progress.at = progress.at.after_labels(labels_in(trees)?)?;
-    let list = List {
+    let list = ListContext {
         cases: false,
-        allowed,
+        commands: CommandContext {
+            allowed: context.allowed,
+            level: extent.level,
+        },
     };
-    let width = items(scope, progress, list, trees, extent.level)?;
+    let width = items(scope, progress, list, trees)?;
     scope.leave(mark);
     Ok(extent.width.max(width))
 }
@@ -102,7 +90,7 @@ fn label<'s>(
 {
     match tree {
         Label::Case(value) => {
-            constant_fault(scope, progress, value)?;
+            check_constant(scope, progress, value)?;
             met.case(in_cases, constant(scope, value))
         }
         Label::Default => met.default(in_cases),
@@ -136,18 +124,17 @@ fn labels<'s>(
 pub fn items<'s>(
     scope: &mut Scope<'s>,
     progress: &mut Progress,
-    list: List,
+    list: ListContext,
     trees: &[Item<'s>],
-    level: u64,
 ) -> Result<u64, ScopeError<'s>>
     ensures answer { Walks result progress.old progress.new
-        (of_items list.cases (allowed_view list.allowed) 0 (items_view trees.now) level (here scope.old progress.old)) }
+        (of_items list.cases (allowed_view list.commands.allowed) 0 (items_view trees.now) list.commands.level (here scope.old progress.old)) }
     ensures kept { Keeps result scope.old scope.new }
 {
     let mut met = Met::new(scope.alloc());
     let mut width = 0u64;
     for tree in trees {
-        width = width.max(one_item(scope, progress, list, &mut met, tree, level)?);
+        width = width.max(one_item(scope, progress, list, &mut met, tree)?);
     }
     Ok(width)
 }
@@ -158,20 +145,19 @@ pub fn items<'s>(
 fn one_item<'s>(
     scope: &mut Scope<'s>,
     progress: &mut Progress,
-    list: List,
+    list: ListContext,
     met: &mut Met<'s>,
     tree: &Item<'s>,
-    level: u64,
 ) -> Result<u64, ScopeError<'s>>
     ensures answer { ItemWalks result progress.old progress.new
-        (of_item list.cases (met_view met.old) (allowed_view list.allowed) (item_view tree.now) level (here scope.old progress.old))
+        (of_item list.cases (met_view met.old) (allowed_view list.commands.allowed) (item_view tree.now) list.commands.level (here scope.old progress.old))
         (met_view met.new) (met_labels (scope_view scope.old) (met_view met.old) (labels_of_that (item_view tree.now))) }
     ensures kept { Keeps result scope.old scope.new }
 {
     match &tree.command {
         Some(labelled) => {
             labels(scope, *progress, list.cases, met, &tree.labels)?;
-            command(scope, progress, list.allowed, labelled, level)
+            command(scope, progress, list.commands, labelled)
         }
         None => {
             labels(scope, *progress, list.cases, met, &tree.labels)?;

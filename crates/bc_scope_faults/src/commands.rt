@@ -8,9 +8,10 @@ ghost use Rattle.bc_scope_faults.specs.Walked.{Walks};
 ghost use Rattle.bc_scope_faults.specs.Walk.{here};
 ghost use Rattle.bc_scope_faults.specs.Parts.{of_command, of_guarded, of_repeated, of_assignment, of_test, of_counted, of_for, of_for_by, of_switch};
 
-use crate::blocks::{List, block, items};
-use crate::expressions::{call, constant_fault, expression, sides};
-use crate::judging::{Allowed, all_have_cells, all_held, jump_fault, unless_misplaced, widest};
+use crate::blocks::{block, items};
+use crate::context::{CommandContext, ExpressionContext, ListContext};
+use crate::expressions::{call, check_constant, expression, sides};
+use crate::judging::{all_have_cells, all_held, check_goto, require_allowed, widest};
 use crate::progress::Progress;
 use bc_parse_tree::{Block, Command, Exp, Item};
 use bc_scope_names::{Meant, Scope, ScopeError, declare_list, labels_in, side_levels, sum};
@@ -21,17 +22,20 @@ use bc_scope_names::{Meant, Scope, ScopeError, declare_list, labels_in, side_lev
 fn guarded<'s>(
     scope: &mut Scope<'s>,
     progress: &mut Progress,
-    allowed: Allowed,
+    context: CommandContext,
     test: &Exp<'s>,
     body: &Block<'s>,
-    level: u64,
 ) -> Result<u64, ScopeError<'s>>
     ensures answer { Walks result progress.old progress.new
-        (of_guarded (allowed_view allowed) (exp_view test.now) (block_view body.now) level (here scope.old progress.old)) }
+        (of_guarded (allowed_view context.allowed) (exp_view test.now) (block_view body.now) context.level (here scope.old progress.old)) }
     ensures kept { Keeps result scope.old scope.new }
 {
-    let test = expression(scope, progress, false, test, level)?;
-    let body = block(scope, progress, allowed, body, level)?;
+    let before = ExpressionContext {
+        in_constant: false,
+        level: context.level,
+    };
+    let test = expression(scope, progress, before, test)?;
+    let body = block(scope, progress, context, body)?;
     Ok(test.max(body))
 }
 
@@ -41,17 +45,24 @@ fn guarded<'s>(
 fn repeated<'s>(
     scope: &mut Scope<'s>,
     progress: &mut Progress,
-    allowed: Allowed,
+    context: CommandContext,
     body: &Command<'s>,
     test: &Exp<'s>,
-    level: u64,
 ) -> Result<u64, ScopeError<'s>>
     ensures answer { Walks result progress.old progress.new
-        (of_repeated (allowed_view allowed) (command_view body.now) (exp_view test.now) level (here scope.old progress.old)) }
+        (of_repeated (allowed_view context.allowed) (command_view body.now) (exp_view test.now) context.level (here scope.old progress.old)) }
     ensures kept { Keeps result scope.old scope.new }
 {
-    let body = command(scope, progress, allowed.in_a_loop(), body, level)?;
-    let test = expression(scope, progress, false, test, level)?;
+    let inside = CommandContext {
+        allowed: context.allowed.in_a_loop(),
+        level: context.level,
+    };
+    let body = command(scope, progress, inside, body)?;
+    let after = ExpressionContext {
+        in_constant: false,
+        level: context.level,
+    };
+    let test = expression(scope, progress, after, test)?;
     Ok(body.max(test))
 }
 
@@ -87,45 +98,57 @@ fn assignment<'s>(
 fn tested<'s>(
     scope: &mut Scope<'s>,
     progress: &mut Progress,
-    allowed: Allowed,
+    context: CommandContext,
     test: &Exp<'s>,
     this: &Block<'s>,
     that: &Block<'s>,
-    level: u64,
 ) -> Result<u64, ScopeError<'s>>
     ensures answer { Walks result progress.old progress.new
-        (of_test (allowed_view allowed) (exp_view test.now) (block_view this.now) (block_view that.now) level (here scope.old progress.old)) }
+        (of_test (allowed_view context.allowed) (exp_view test.now) (block_view this.now) (block_view that.now) context.level (here scope.old progress.old)) }
     ensures kept { Keeps result scope.old scope.new }
 {
-    let test = expression(scope, progress, false, test, level)?;
-    let this = block(scope, progress, allowed, this, level)?;
-    let that = block(scope, progress, allowed, that, level)?;
+    let before = ExpressionContext {
+        in_constant: false,
+        level: context.level,
+    };
+    let test = expression(scope, progress, before, test)?;
+    let this = block(scope, progress, context, this)?;
+    let that = block(scope, progress, context, that)?;
     Ok(test.max(this.max(that)))
+}
+
+/// The parts of a FOR except its BY.
+#[derive(Clone, Copy)]
+struct ForParts<'t, 's> {
+    variable: &'s [u8],
+    start: &'t Exp<'s>,
+    limit: &'t Exp<'s>,
+    body: &'t Block<'s>,
 }
 
 /// FOR without BY.
 #[inline(never)]
 #[cycle(faults)]
 #[tactic(auto, using(crate::proofs::Frames::frames_along, crate::proofs::Kept::keeping))]
-fn plain_for<'s>(
+fn plain_for<'t, 's>(
     scope: &mut Scope<'s>,
     progress: &mut Progress,
-    allowed: Allowed,
-    variable: &'s [u8],
-    start: &Exp<'s>,
-    limit: &Exp<'s>,
-    body: &Block<'s>,
-    level: u64,
+    context: CommandContext,
+    parts: ForParts<'t, 's>,
 ) -> Result<u64, ScopeError<'s>>
     ensures answer { Walks result progress.old progress.new
-        (of_for (allowed_view allowed) variable.entry.now (exp_view start.now) (exp_view limit.now) (block_view body.now) level
-        (here scope.old progress.old)) }
+        (of_for (allowed_view context.allowed) parts.entry.variable.now (exp_view parts.entry.start.now) (exp_view parts.entry.limit.now)
+        (block_view parts.entry.body.now) context.level (here scope.old progress.old)) }
     ensures kept { Keeps result scope.old scope.new }
 {
-    let above = sum(level, 2)?;
-    let start = expression(scope, progress, false, start, above)?;
-    let limit = expression(scope, progress, false, limit, above)?;
-    let body = counted(scope, progress, allowed, variable, body, level)?;
+    let above = sum(context.level, 2)?;
+    let ends = ExpressionContext {
+        in_constant: false,
+        level: above,
+    };
+    let start = expression(scope, progress, ends, parts.start)?;
+    let limit = expression(scope, progress, ends, parts.limit)?;
+    let body = counted(scope, progress, context, parts.variable, parts.body)?;
     Ok(sum(above, 2)?.max(start.max(limit.max(body))))
 }
 
@@ -133,49 +156,53 @@ fn plain_for<'s>(
 #[inline(never)]
 #[cycle(faults)]
 #[tactic(auto, using(crate::proofs::Frames::frames_along, crate::proofs::Kept::keeping))]
-fn stepped_for<'s>(
+fn stepped_for<'t, 's>(
     scope: &mut Scope<'s>,
     progress: &mut Progress,
-    allowed: Allowed,
-    variable: &'s [u8],
-    start: &Exp<'s>,
-    limit: &Exp<'s>,
+    context: CommandContext,
+    parts: ForParts<'t, 's>,
     by: &Exp<'s>,
-    body: &Block<'s>,
-    level: u64,
 ) -> Result<u64, ScopeError<'s>>
     ensures answer { Walks result progress.old progress.new
-        (of_for_by (allowed_view allowed) variable.entry.now (exp_view start.now) (exp_view limit.now) (exp_view by.now) (block_view body.now) level
-        (here scope.old progress.old)) }
+        (of_for_by (allowed_view context.allowed) parts.entry.variable.now (exp_view parts.entry.start.now) (exp_view parts.entry.limit.now)
+        (exp_view by.now) (block_view parts.entry.body.now) context.level (here scope.old progress.old)) }
     ensures kept { Keeps result scope.old scope.new }
 {
-    let above = sum(level, 2)?;
-    let start = expression(scope, progress, false, start, above)?;
-    let limit = expression(scope, progress, false, limit, above)?;
-    constant_fault(scope, *progress, by)?;
-    let body = counted(scope, progress, allowed, variable, body, level)?;
+    let above = sum(context.level, 2)?;
+    let ends = ExpressionContext {
+        in_constant: false,
+        level: above,
+    };
+    let start = expression(scope, progress, ends, parts.start)?;
+    let limit = expression(scope, progress, ends, parts.limit)?;
+    check_constant(scope, *progress, by)?;
+    let body = counted(scope, progress, context, parts.variable, parts.body)?;
     Ok(sum(above, 2)?.max(start.max(limit.max(body))))
 }
 
-/// The body of a FOR with this variable, which is at `level`. The limit is in the next cell, so the body is at `level` + 2.
+/// The body of a FOR with this variable. The context is that of the FOR: the variable is at its level, and the limit is in the next
+/// cell, so the body is two levels above.
 #[cycle(faults)]
 #[tactic(auto, using(crate::proofs::Frames::along, bc_scope_names::proofs::Extends::left, crate::proofs::Kept::keeping))]
 fn counted<'s>(
     scope: &mut Scope<'s>,
     progress: &mut Progress,
-    allowed: Allowed,
+    context: CommandContext,
     variable: &'s [u8],
     body: &Block<'s>,
-    level: u64,
 ) -> Result<u64, ScopeError<'s>>
     ensures answer { Walks result progress.old progress.new
-        (of_counted (allowed_view allowed) variable.entry.now (block_view body.now) level (here scope.old progress.old)) }
+        (of_counted (allowed_view context.allowed) variable.entry.now (block_view body.now) context.level (here scope.old progress.old)) }
     ensures kept { Keeps result scope.old scope.new }
 {
     let mark = scope.mark();
-    scope.declare(variable, Meant::Variable(level))?;
-    let above = sum(level, 2)?;
-    let width = block(scope, progress, allowed.in_a_loop(), body, above)?;
+    scope.declare(variable, Meant::Variable(context.level))?;
+    let above = sum(context.level, 2)?;
+    let inside = CommandContext {
+        allowed: context.allowed.in_a_loop(),
+        level: above,
+    };
+    let width = block(scope, progress, inside, body)?;
     scope.leave(mark);
     Ok(width)
 }
@@ -187,94 +214,128 @@ fn counted<'s>(
 fn switch<'s>(
     scope: &mut Scope<'s>,
     progress: &mut Progress,
-    allowed: Allowed,
+    context: CommandContext,
     value: &Exp<'s>,
     list: &[Item<'s>],
-    level: u64,
 ) -> Result<u64, ScopeError<'s>>
     ensures answer { Walks result progress.old progress.new
-        (of_switch (allowed_view allowed) (exp_view value.now) (items_view list.now) level (here scope.old progress.old)) }
+        (of_switch (allowed_view context.allowed) (exp_view value.now) (items_view list.now) context.level (here scope.old progress.old)) }
     ensures kept { Keeps result scope.old scope.new }
 {
-    let value = expression(scope, progress, false, value, level)?;
+    let before = ExpressionContext {
+        in_constant: false,
+        level: context.level,
+    };
+    let value = expression(scope, progress, before, value)?;
     let mark = scope.mark();
     declare_list(scope, progress.at.label, list)?;
     progress.at = progress.at.after_labels(labels_in(list)?)?;
-    let of_switch = List {
+    let of_switch = ListContext {
         cases: true,
-        allowed: allowed.in_a_switch(),
+        commands: CommandContext {
+            allowed: context.allowed.in_a_switch(),
+            level: context.level,
+        },
     };
-    let list = items(scope, progress, of_switch, list, level)?;
+    let list = items(scope, progress, of_switch, list)?;
     scope.leave(mark);
     Ok(value.max(list))
 }
 
-/// Walks a command. `allowed` says which commands may be here.
+/// Walks a command.
 #[cycle(faults)]
 #[tactic(auto, using(crate::proofs::Frames::along, crate::proofs::Kept::keeping))]
 pub fn command<'s>(
     scope: &mut Scope<'s>,
     progress: &mut Progress,
-    allowed: Allowed,
+    context: CommandContext,
     tree: &Command<'s>,
-    level: u64,
 ) -> Result<u64, ScopeError<'s>>
-    ensures answer { Walks result progress.old progress.new (of_command (allowed_view allowed) (command_view tree.now) level (here scope.old progress.old)) }
+    ensures answer { Walks result progress.old progress.new
+        (of_command (allowed_view context.allowed) (command_view tree.now) context.level (here scope.old progress.old)) }
     ensures kept { Keeps result scope.old scope.new }
 {
     match tree {
-        Command::Assign(places, values) => assignment(scope, progress, places, values, level),
-        Command::Call(routine, values) => call(scope, progress, false, routine, values, level),
-        Command::Block(body) => block(scope, progress, allowed, body, level),
+        Command::Assign(places, values) => assignment(
+            scope,
+            progress,
+            places,
+            values,
+            context.level,
+        ),
+        Command::Call(routine, values) => {
+            let value = ExpressionContext {
+                in_constant: false,
+                level: context.level,
+            };
+            call(scope, progress, value, routine, values)
+        }
+        Command::Block(body) => block(scope, progress, context, body),
         Command::Break | Command::Loop => {
-            unless_misplaced(allowed.in_loop)?;
+            require_allowed(context.allowed.in_loop)?;
             Ok(0)
         }
         Command::EndCase => {
-            unless_misplaced(allowed.in_cases)?;
+            require_allowed(context.allowed.in_cases)?;
             Ok(0)
         }
         Command::Return => {
-            unless_misplaced(allowed.may_return)?;
+            require_allowed(context.allowed.may_return)?;
             Ok(0)
         }
         Command::Finish => Ok(0),
         Command::ResultIs(value) => {
-            let width = expression(scope, progress, false, value, level)?;
-            unless_misplaced(allowed.in_valof)?;
+            let before = ExpressionContext {
+                in_constant: false,
+                level: context.level,
+            };
+            let width = expression(scope, progress, before, value)?;
+            require_allowed(context.allowed.in_valof)?;
             Ok(width)
         }
         Command::Goto(name) => {
-            jump_fault(name, scope.meant_by(name))?;
+            check_goto(name, scope.meant_by(name))?;
             Ok(0)
         }
-        Command::Repeat(body) => command(scope, progress, allowed.in_a_loop(), body, level),
+        Command::Repeat(body) => {
+            let inside = CommandContext {
+                allowed: context.allowed.in_a_loop(),
+                level: context.level,
+            };
+            command(scope, progress, inside, body)
+        }
         Command::RepeatWhile(body, test) | Command::RepeatUntil(body, test) => {
-            repeated(scope, progress, allowed, body, test, level)
+            repeated(scope, progress, context, body, test)
         }
         Command::If(test, body) | Command::Unless(test, body) => {
-            guarded(scope, progress, allowed, test, body, level)
+            guarded(scope, progress, context, test, body)
         }
         Command::While(test, body) | Command::Until(test, body) => {
-            guarded(scope, progress, allowed.in_a_loop(), test, body, level)
+            let inside = CommandContext {
+                allowed: context.allowed.in_a_loop(),
+                level: context.level,
+            };
+            guarded(scope, progress, inside, test, body)
         }
-        Command::Test { test, this, that } => {
-            tested(scope, progress, allowed, test, this, that, level)
-        }
+        Command::Test { test, this, that } => { tested(scope, progress, context, test, this, that) }
         Command::For {
             variable,
             start,
             limit,
             step,
             body,
-        } => match step {
-            None => plain_for(
-                scope, progress, allowed, variable, start, limit, body, level,
-            ),
-            Some(by) => stepped_for(
-                scope, progress, allowed, variable, start, limit, by, body, level,
-            ),
-        },
-        Command::SwitchOn(value, list) => switch(scope, progress, allowed, value, list, level),
+        } => {
+            let parts = ForParts {
+                variable,
+                start,
+                limit,
+                body,
+            };
+            match step {
+                None => plain_for(scope, progress, context, parts),
+                Some(by) => stepped_for(scope, progress, context, parts, by),
+            }
+        }
+        Command::SwitchOn(value, list) => switch(scope, progress, context, value, list),
     }
 }

@@ -9,10 +9,11 @@ ghost use Rattle.bc_scope_faults.specs.Walk.{here};
 ghost use Rattle.bc_scope_faults.specs.Parts.{of_entries, of_definition, of_definitions, of_function, of_routine, of_let, of_declaration, of_declarations};
 
 use crate::blocks::block;
-use crate::expressions::{constant_fault, expression, initials};
+use crate::context::{CommandContext, ExpressionContext};
+use crate::expressions::{check_constant, expression, initials};
 use crate::judging::{
-    Allowed, declare_all_once, declare_once, entry_fault, level_of, names_in, parameters_fault,
-    unless_misplaced,
+    Allowed, check_entry, check_parameters, declare_all_once, declare_once, level_of, names_in,
+    require_allowed,
 };
 use crate::progress::{Extent, Progress, also_fits};
 use bc_parse_tree::{Block, Constant, Declaration, Definition, Exp, Storage};
@@ -38,8 +39,8 @@ fn entries<'s>(
     let mut before = IndexSet::new(scope.alloc());
     for entry in list {
         declare_once(&mut before, entry.name)?;
-        constant_fault(scope, *progress, &entry.value)?;
-        entry_fault(scope, storage, entry.name, &entry.value)?;
+        check_constant(scope, *progress, &entry.value)?;
+        check_entry(scope, storage, entry.name, &entry.value)?;
         declare_entry(scope, storage, progress.at, entry)?;
         progress.at = after_entry(storage, progress.at)?;
     }
@@ -66,13 +67,13 @@ fn definition<'s>(
         Definition::Variables(names, values) => {
             declare_all_once(before, names)?;
             let width = initials(scope, progress, values, level)?;
-            unless_misplaced(scope.is_inside())?;
+            require_allowed(scope.is_inside())?;
             Ok(width)
         }
         Definition::Vector(name, greatest) => {
             declare_once(before, name)?;
-            constant_fault(scope, *progress, greatest)?;
-            unless_misplaced(scope.is_inside())?;
+            check_constant(scope, *progress, greatest)?;
+            require_allowed(scope.is_inside())?;
             Ok(0)
         }
         Definition::Function(name, parameters, value) => {
@@ -101,12 +102,16 @@ fn function<'s>(
     ensures answer { WalksOn result progress.old progress.new (of_function (names_view parameters.now) (exp_view value.now) (here scope.old progress.old)) }
     ensures kept { Keeps result scope.old scope.new }
 {
-    parameters_fault(scope.alloc(), parameters)?;
+    check_parameters(scope.alloc(), parameters)?;
     let mark = scope.mark();
     declare_parameters(scope, parameters)?;
     progress.at = progress.at.after_place()?;
     let level = level_of(parameters)?;
-    let width = expression(scope, progress, false, value, level)?;
+    let context = ExpressionContext {
+        in_constant: false,
+        level,
+    };
+    let width = expression(scope, progress, context, value)?;
     scope.leave(mark);
     progress.fits = also_fits(progress.fits, level.max(width));
     Ok(())
@@ -124,12 +129,16 @@ fn routine<'s>(
     ensures answer { WalksOn result progress.old progress.new (of_routine (names_view parameters.now) (block_view body.now) (here scope.old progress.old)) }
     ensures kept { Keeps result scope.old scope.new }
 {
-    parameters_fault(scope.alloc(), parameters)?;
+    check_parameters(scope.alloc(), parameters)?;
     let mark = scope.mark();
     declare_parameters(scope, parameters)?;
     progress.at = progress.at.after_place()?;
     let level = level_of(parameters)?;
-    let width = block(scope, progress, Allowed::routine(), body, level)?;
+    let context = CommandContext {
+        allowed: Allowed::routine(),
+        level,
+    };
+    let width = block(scope, progress, context, body)?;
     scope.leave(mark);
     progress.fits = also_fits(progress.fits, level.max(width));
     Ok(())

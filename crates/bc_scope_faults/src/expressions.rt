@@ -9,27 +9,27 @@ ghost use Rattle.bc_scope_faults.specs.Walk.{here};
 ghost use Rattle.bc_scope_faults.specs.Parts.{of_exp, of_arguments, of_initials, of_operands, of_choice, of_call, constant_fault, of_sides};
 
 use crate::blocks::block;
-use crate::judging::{Allowed, address_fault, level_at, name_fault, push_width};
+use crate::context::{CommandContext, ExpressionContext};
+use crate::judging::{Allowed, check_address, check_name, level_at, push_width};
 use crate::progress::Progress;
 use bc_parse_tree::Exp;
 use bc_scope_names::{Scope, ScopeError, constant_in, count, sum};
 
-/// Walks an expression. `in_constant` says that it is part of a constant: a label's name is then no fault by itself.
+/// Walks an expression.
 #[cycle(faults)]
 #[tactic(auto, using(crate::proofs::Frames::along, bc_scope_names::proofs::Extends::left, crate::proofs::Kept::keeping))]
 pub fn expression<'s>(
     scope: &mut Scope<'s>,
     progress: &mut Progress,
-    in_constant: bool,
+    context: ExpressionContext,
     e: &Exp<'s>,
-    level: u64,
 ) -> Result<u64, ScopeError<'s>>
-    ensures answer { Walks result progress.old progress.new (of_exp in_constant (exp_view e.now) level (here scope.old progress.old)) }
+    ensures answer { Walks result progress.old progress.new (of_exp context.in_constant (exp_view e.now) context.level (here scope.old progress.old)) }
     ensures kept { Keeps result scope.old scope.new }
 {
     match e {
         Exp::Name(name) => {
-            name_fault(in_constant, name, scope.meant_by(name))?;
+            check_name(context.in_constant, name, scope.meant_by(name))?;
             Ok(0)
         }
         Exp::Number(_) | Exp::Character(_) | Exp::True | Exp::False => Ok(0),
@@ -46,22 +46,22 @@ pub fn expression<'s>(
             let mark = scope.mark();
             scope.enter_valof()?;
             progress.at = progress.at.after_valof()?;
-            let width = block(scope, progress, Allowed::valof(), body, level)?;
+            let inside = CommandContext {
+                allowed: Allowed::valof(),
+                level: context.level,
+            };
+            let width = block(scope, progress, inside, body)?;
             scope.leave(mark);
             Ok(width)
         }
         Exp::Monadic(sign, operand) => {
-            let width = expression(scope, progress, in_constant, operand, level)?;
-            address_fault(scope, in_constant, *sign, operand)?;
+            let width = expression(scope, progress, context, operand)?;
+            check_address(scope, context.in_constant, *sign, operand)?;
             Ok(width)
         }
-        Exp::Dyadic(_, left, right) => {
-            operands(scope, progress, in_constant, left, right, level)
-        }
-        Exp::Condition { test, this, that } => {
-            choice(scope, progress, in_constant, test, this, that, level)
-        }
-        Exp::Call(routine, values) => call(scope, progress, in_constant, routine, values, level),
+        Exp::Dyadic(_, left, right) => operands(scope, progress, context, left, right),
+        Exp::Condition { test, this, that } => choice(scope, progress, context, test, this, that),
+        Exp::Call(routine, values) => call(scope, progress, context, routine, values),
     }
 }
 
@@ -71,19 +71,21 @@ pub fn expression<'s>(
 fn operands<'s>(
     scope: &mut Scope<'s>,
     progress: &mut Progress,
-    in_constant: bool,
+    context: ExpressionContext,
     left: &Exp<'s>,
     right: &Exp<'s>,
-    level: u64,
 ) -> Result<u64, ScopeError<'s>>
     ensures answer { Walks result progress.old progress.new
-        (of_operands in_constant (exp_view left.now) (exp_view right.now) level (here scope.old progress.old)) }
+        (of_operands context.in_constant (exp_view left.now) (exp_view right.now) context.level (here scope.old progress.old)) }
     ensures kept { Keeps result scope.old scope.new }
 {
-    let above = sum(level, 1)?;
-    let left = expression(scope, progress, in_constant, left, above)?;
-    let right = expression(scope, progress, in_constant, right, above)?;
-    Ok(sum(level, 2)?.max(left.max(right)))
+    let above = ExpressionContext {
+        in_constant: context.in_constant,
+        level: sum(context.level, 1)?,
+    };
+    let left = expression(scope, progress, above, left)?;
+    let right = expression(scope, progress, above, right)?;
+    Ok(sum(context.level, 2)?.max(left.max(right)))
 }
 
 /// `test -> this, that`, all at the same level.
@@ -92,19 +94,18 @@ fn operands<'s>(
 fn choice<'s>(
     scope: &mut Scope<'s>,
     progress: &mut Progress,
-    in_constant: bool,
+    context: ExpressionContext,
     test: &Exp<'s>,
     this: &Exp<'s>,
     that: &Exp<'s>,
-    level: u64,
 ) -> Result<u64, ScopeError<'s>>
     ensures answer { Walks result progress.old progress.new
-        (of_choice in_constant (exp_view test.now) (exp_view this.now) (exp_view that.now) level (here scope.old progress.old)) }
+        (of_choice context.in_constant (exp_view test.now) (exp_view this.now) (exp_view that.now) context.level (here scope.old progress.old)) }
     ensures kept { Keeps result scope.old scope.new }
 {
-    let test = expression(scope, progress, in_constant, test, level)?;
-    let this = expression(scope, progress, in_constant, this, level)?;
-    let that = expression(scope, progress, in_constant, that, level)?;
+    let test = expression(scope, progress, context, test)?;
+    let this = expression(scope, progress, context, this)?;
+    let that = expression(scope, progress, context, that)?;
     Ok(test.max(this.max(that)))
 }
 
@@ -115,39 +116,58 @@ fn choice<'s>(
 pub fn call<'s>(
     scope: &mut Scope<'s>,
     progress: &mut Progress,
-    in_constant: bool,
+    context: ExpressionContext,
     called: &Exp<'s>,
     values: &[Exp<'s>],
-    level: u64,
 ) -> Result<u64, ScopeError<'s>>
     ensures answer { Walks result progress.old progress.new
-        (of_call in_constant (exp_view called.now) (exps_view values.now) level (here scope.old progress.old)) }
+        (of_call context.in_constant (exp_view called.now) (exps_view values.now) context.level (here scope.old progress.old)) }
     ensures kept { Keeps result scope.old scope.new }
 {
-    let first = sum(level, 2)?;
+    let first = sum(context.level, 2)?;
     let above = sum(first, count(values))?;
-    let called = expression(scope, progress, in_constant, called, above)?;
-    let values = arguments(scope, progress, in_constant, values, first)?;
+    let called = expression(
+        scope,
+        progress,
+        ExpressionContext {
+            in_constant: context.in_constant,
+            level: above,
+        },
+        called,
+    )?;
+    let values = arguments(
+        scope,
+        progress,
+        ExpressionContext {
+            in_constant: context.in_constant,
+            level: first,
+        },
+        values,
+    )?;
     Ok(above.max(values.max(called)))
 }
 
-/// Arguments, each one level above the one before it.
+/// Arguments, each one level above the one before it. The context is that of the first.
 #[cycle(faults)]
 #[tactic(auto, using(crate::proofs::Frames::along, crate::proofs::Kept::keeping))]
 fn arguments<'s>(
     scope: &mut Scope<'s>,
     progress: &mut Progress,
-    in_constant: bool,
+    context: ExpressionContext,
     list: &[Exp<'s>],
-    level: u64,
 ) -> Result<u64, ScopeError<'s>>
-    ensures answer { Walks result progress.old progress.new (of_arguments in_constant (exps_view list.now) level (here scope.old progress.old)) }
+    ensures answer { Walks result progress.old progress.new
+        (of_arguments context.in_constant (exps_view list.now) context.level (here scope.old progress.old)) }
     ensures kept { Keeps result scope.old scope.new }
 {
     let mut width = 0u64;
-    let mut above = level;
+    let mut above = context.level;
     for e in list {
-        width = width.max(expression(scope, progress, in_constant, e, above)?);
+        let at = ExpressionContext {
+            in_constant: context.in_constant,
+            level: above,
+        };
+        width = width.max(expression(scope, progress, at, e)?);
         above = sum(above, 1)?;
     }
     Ok(width)
@@ -157,7 +177,7 @@ fn arguments<'s>(
 /// progress.
 #[cycle(faults)]
 #[tactic(auto, using(crate::proofs::Frames::along, crate::proofs::Kept::keeping))]
-pub fn constant_fault<'s>(
+pub fn check_constant<'s>(
     scope: &mut Scope<'s>,
     progress: Progress,
     e: &Exp<'s>,
@@ -166,7 +186,11 @@ pub fn constant_fault<'s>(
     ensures kept { Keeps result scope.old scope.new }
 {
     let mut apart = progress;
-    expression(scope, &mut apart, true, e, 0)?;
+    let context = ExpressionContext {
+        in_constant: true,
+        level: 0,
+    };
+    expression(scope, &mut apart, context, e)?;
     match constant_in(scope, e) {
         Some(_) => Ok(()),
         None => Err(ScopeError::NotConstant),
@@ -186,7 +210,7 @@ fn constants<'s>(
     ensures kept { Keeps result scope.old scope.new }
 {
     for e in list {
-        constant_fault(scope, progress, e)?;
+        check_constant(scope, progress, e)?;
     }
     Ok(())
 }
@@ -206,7 +230,11 @@ pub fn sides<'s>(
     let mut widths = Vec::new(scope.alloc());
     let mut i = 0u64;
     for e in list {
-        let width = expression(scope, progress, false, e, level_at(levels, i))?;
+        let context = ExpressionContext {
+            in_constant: false,
+            level: level_at(levels, i),
+        };
+        let width = expression(scope, progress, context, e)?;
         push_width(&mut widths, levels, i, width)?;
         i = sum(i, 1)?;
     }
@@ -225,9 +253,13 @@ pub fn initials<'s>(
     ensures answer { Walks result progress.old progress.new (of_initials (exps_view list.now) level (here scope.old progress.old)) }
     ensures kept { Keeps result scope.old scope.new }
 {
+    let context = ExpressionContext {
+        in_constant: false,
+        level,
+    };
     let mut width = 0u64;
     for e in list {
-        width = width.max(expression(scope, progress, false, e, level)?);
+        width = width.max(expression(scope, progress, context, e)?);
     }
     Ok(width)
 }

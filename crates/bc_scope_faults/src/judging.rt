@@ -79,7 +79,7 @@ impl Allowed {
 }
 
 /// Fails with `Misplaced` unless `allowed`.
-pub fn unless_misplaced<'s>(allowed: bool) -> Result<(), ScopeError<'s>>
+pub fn require_allowed<'s>(allowed: bool) -> Result<(), ScopeError<'s>>
     ensures { Passes result (unless allowed AMisplaced) }
 {
     if allowed {
@@ -92,14 +92,14 @@ pub fn unless_misplaced<'s>(allowed: bool) -> Result<(), ScopeError<'s>>
 /// Checks a name in an expression, by its meaning there. Fails with `Undeclared`, with `DynamicFree` for a variable or label of
 /// an enclosing routine, or with `Misplaced` for a label that isn't in a constant. A label in a constant passes here, because
 /// the constant as a whole is then at fault.
-pub fn name_fault<'s>(in_constant: bool, name: &'s [u8], meant: Meant) -> Result<(), ScopeError<'s>>
+pub fn check_name<'s>(in_constant: bool, name: &'s [u8], meant: Meant) -> Result<(), ScopeError<'s>>
     ensures { Passes result (name_fault in_constant name.entry.now (meant_view meant)) }
 {
     match meant {
         Meant::Undeclared => Err(ScopeError::Undeclared(name)),
         Meant::OuterVariable | Meant::OuterLabel => Err(ScopeError::DynamicFree(name)),
         Meant::Label(_) | Meant::StrayLabel | Meant::LabelOutside => {
-            unless_misplaced(in_constant)
+            require_allowed(in_constant)
         }
         Meant::Constant(_)
         | Meant::Pending
@@ -113,7 +113,7 @@ pub fn name_fault<'s>(in_constant: bool, name: &'s [u8], meant: Meant) -> Result
 
 /// Checks the name after a GOTO, by its meaning there. Fails with `Undeclared`, with `DynamicFree` for a label of an enclosing
 /// routine, or with `Misplaced` for a name that isn't a label and for a label outside the VALOF or outside all routines.
-pub fn jump_fault<'s>(name: &'s [u8], meant: Meant) -> Result<(), ScopeError<'s>>
+pub fn check_goto<'s>(name: &'s [u8], meant: Meant) -> Result<(), ScopeError<'s>>
     ensures { Passes result (jump_fault name.entry.now (meant_view meant)) }
 {
     match meant {
@@ -220,7 +220,7 @@ fn has_address(scope: &Scope<'_>, in_constant: bool, e: &Exp<'_>) -> bool
 }
 
 /// Checks the operand of a monadic operator. Fails with `NotAssignable` for `@` of an expression without a cell.
-pub fn address_fault<'s>(
+pub fn check_address<'s>(
     scope: &Scope<'s>,
     in_constant: bool,
     sign: Monadic,
@@ -299,7 +299,7 @@ pub fn names_in(list: &[Definition<'_>]) -> usize {
 
 /// Checks the parameters of a routine. Fails with `DeclaredTwice` at the first repeated one, or with `Memory` when an allocation
 /// fails.
-pub fn parameters_fault<'s>(alloc: Global, names: &[&'s [u8]]) -> Result<(), ScopeError<'s>>
+pub fn check_parameters<'s>(alloc: Global, names: &[&'s [u8]]) -> Result<(), ScopeError<'s>>
     ensures { Passes result (all_twice_fault [] (names_view names.now)) }
 {
     let mut before = IndexSet::with_capacity(alloc, names.len())?;
@@ -336,7 +336,7 @@ impl<'s> Met<'s> {
             (λ _. met_view self.new ≡
             record { names = (met_view self.old).names; values = (met_view self.old).values ++ value ∷ []; default = self.old.default }) }
     {
-        unless_misplaced(in_cases)?;
+        require_allowed(in_cases)?;
         if self.values.insert(value.get())? {
             Ok(())
         } else {
@@ -349,7 +349,7 @@ impl<'s> Met<'s> {
         ensures { Judges result (default_fault in_cases (met_view self.old))
             (λ _. met_view self.new ≡ record { names = (met_view self.old).names; values = (met_view self.old).values; default = true }) }
     {
-        unless_misplaced(in_cases)?;
+        require_allowed(in_cases)?;
         if self.default {
             return Err(ScopeError::CaseTwice);
         }
@@ -368,7 +368,7 @@ impl<'s> Met<'s> {
 }
 
 /// Checks the constant of an entry. Fails with `GlobalNumber` if the number of a global exceeds 511.
-pub fn entry_fault<'s>(
+pub fn check_entry<'s>(
     scope: &Scope<'s>,
     storage: Storage,
     name: &'s [u8],

@@ -4,14 +4,16 @@
 
 mod blocks;
 mod commands;
+mod context;
 mod declarations;
 mod expressions;
 mod judging;
 mod progress;
 mod section;
 
+pub use context::{CommandContext, ExpressionContext};
 pub use judging::{
-    Allowed, address_fault, all_held, entry_fault, has_cell, jump_fault, level_at, name_fault,
+    Allowed, all_held, check_address, check_entry, check_goto, check_name, has_cell, level_at,
     widest,
 };
 pub use progress::{Extent, Progress};

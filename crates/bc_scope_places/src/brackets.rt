@@ -29,7 +29,7 @@ fn closes(tokens: &[Token<'_>], i: usize) -> bool {
 }
 
 /// The first of the `signs` operators before token `first`, with opening brackets allowed between them.
-fn after_signs(tokens: &[Token<'_>], first: usize, signs: u64) -> usize
+fn first_operator_before(tokens: &[Token<'_>], first: usize, signs: u64) -> usize
     ensures { result ≤ first }
 {
     let mut begin = first;
@@ -78,7 +78,7 @@ fn count_unmatched(tokens: &[Token<'_>], first: usize, last: usize) -> Unmatched
 }
 
 /// The first of up to `closed` opening brackets directly before token `first`.
-fn after_open(tokens: &[Token<'_>], first: usize, closed: usize) -> usize
+fn first_open_before(tokens: &[Token<'_>], first: usize, closed: usize) -> usize
     ensures { result ≤ first }
 {
     let mut begin = first;
@@ -122,8 +122,8 @@ pub fn around(tokens: &[Token<'_>], at: Leaves, first: usize, last: usize) -> Sp
     requires within { last < length tokens.now }
     ensures { (result.first ≤ result.last) × (result.last < length tokens.now) }
 {
-    let begin = after_signs(tokens, first, at.signs);
-    let begin = after_open(tokens, begin, count_unmatched(tokens, begin, last).closed);
+    let begin = first_operator_before(tokens, first, at.signs);
+    let begin = first_open_before(tokens, begin, count_unmatched(tokens, begin, last).closed);
     let end = after_calls(
         tokens,
         last,

@@ -3,41 +3,44 @@ use crate::expressions::Side;
 use crate::leaves::Leaves;
 use crate::walk::{Beside, End, PlaceWalk};
 use bc_parse_tree::{Block, Command, Exp, Item};
-use bc_scope_faults::{Allowed, all_held, has_cell, jump_fault, widest};
+use bc_scope_faults::{CommandContext, ExpressionContext, all_held, check_goto, has_cell, widest};
 use bc_scope_names::{Meant, ScopeError, side_levels};
 
+/// The context of a loop's body, where the loop is.
+fn in_a_loop(context: CommandContext) -> CommandContext {
+    CommandContext {
+        allowed: context.allowed.in_a_loop(),
+        ..context
+    }
+}
+
 impl<'s> PlaceWalk<'s> {
-    /// Walks a command at `level`. `allowed` says which commands may be here.
+    /// Walks a command.
     #[cycle(places)]
-    pub fn command(
-        &mut self,
-        allowed: Allowed,
-        tree: &Command<'s>,
-        level: u64,
-    ) -> Result<u64, End> {
+    pub fn command(&mut self, context: CommandContext, tree: &Command<'s>) -> Result<u64, End> {
         match tree {
-            Command::Assign(places, values) => self.assignment(places, values, level),
-            Command::Call(routine, values) => self.called(routine, values, level),
-            Command::Block(body) => self.block(allowed, body, level),
-            Command::Break | Command::Loop => self.word(allowed.in_loop),
-            Command::EndCase => self.word(allowed.in_cases),
-            Command::Return => self.word(allowed.may_return),
+            Command::Assign(places, values) => self.assignment(places, values, context.level),
+            Command::Call(routine, values) => self.called(routine, values, context.level),
+            Command::Block(body) => self.block(context, body),
+            Command::Break | Command::Loop => self.word(context.allowed.in_loop),
+            Command::EndCase => self.word(context.allowed.in_cases),
+            Command::Return => self.word(context.allowed.may_return),
             Command::Finish => self.word(true),
-            Command::ResultIs(value) => self.result_is(allowed.in_valof, value, level),
+            Command::ResultIs(value) => self.result_is(context, value),
             Command::Goto(name) => self.goto(name),
-            Command::Repeat(body) => self.command(allowed.in_a_loop(), body, level),
+            Command::Repeat(body) => self.command(in_a_loop(context), body),
             Command::RepeatWhile(body, test) | Command::RepeatUntil(body, test) => {
-                self.repeated(allowed.in_a_loop(), body, test, level)
+                self.repeated(in_a_loop(context), body, test)
             }
             Command::If(test, body) | Command::Unless(test, body) => {
-                self.guarded(allowed, test, body, level)
+                self.guarded(context, test, body)
             }
             Command::While(test, body) | Command::Until(test, body) => {
-                self.guarded(allowed.in_a_loop(), test, body, level)
+                self.guarded(in_a_loop(context), test, body)
             }
-            Command::Test { test, this, that } => self.chosen(allowed, test, this, that, level),
-            Command::For { .. } => self.turns(allowed, tree, level),
-            Command::SwitchOn(value, list) => self.switch(allowed, value, list, level),
+            Command::Test { test, this, that } => self.chosen(context, test, this, that),
+            Command::For { .. } => self.turns(context, tree),
+            Command::SwitchOn(value, list) => self.switch(context, value, list),
         }
     }
 
@@ -45,39 +48,41 @@ impl<'s> PlaceWalk<'s> {
     #[cycle(places)]
     fn called(&mut self, routine: &Exp<'s>, values: &[Exp<'s>], level: u64) -> Result<u64, End> {
         self.record.root(self.leaves)?;
-        self.call(false, routine, values, level)
+        let context = ExpressionContext {
+            in_constant: false,
+            level,
+        };
+        self.call(context, routine, values)
     }
 
     /// A loop that tests after its command.
     #[cycle(places)]
     fn repeated(
         &mut self,
-        allowed: Allowed,
+        context: CommandContext,
         body: &Command<'s>,
         test: &Exp<'s>,
-        level: u64,
     ) -> Result<u64, End> {
-        let body = self.command(allowed, body, level)?;
-        Ok(body.max(self.rooted(test, level)?))
+        let body = self.command(context, body)?;
+        Ok(body.max(self.rooted(test, context.level)?))
     }
 
     /// A TEST with its two blocks.
     #[cycle(places)]
     fn chosen(
         &mut self,
-        allowed: Allowed,
+        context: CommandContext,
         test: &Exp<'s>,
         this: &Block<'s>,
         that: &Block<'s>,
-        level: u64,
     ) -> Result<u64, End> {
-        let this = self.guarded(allowed, test, this, level)?;
-        Ok(this.max(self.block(allowed, that, level)?))
+        let this = self.guarded(context, test, this)?;
+        Ok(this.max(self.block(context, that)?))
     }
 
     /// A FOR. Takes the whole command, to have few parameters; another command is ignored.
     #[cycle(places)]
-    fn turns(&mut self, allowed: Allowed, tree: &Command<'s>, level: u64) -> Result<u64, End> {
+    fn turns(&mut self, context: CommandContext, tree: &Command<'s>) -> Result<u64, End> {
         let Command::For {
             variable,
             start,
@@ -89,11 +94,11 @@ impl<'s> PlaceWalk<'s> {
             return Ok(0);
         };
         let leaf = self.leaf();
-        let ends = self.ends(start, limit, level)?;
+        let ends = self.ends(start, limit, context.level)?;
         if let Some(by) = step {
             let _at = self.constant(by)?;
         }
-        let body = self.counted(allowed, variable, leaf, body, level)?;
+        let body = self.counted(context, variable, leaf, body)?;
         Ok(ends.max(body))
     }
 
@@ -115,11 +120,15 @@ impl<'s> PlaceWalk<'s> {
 
     /// RESULTIS.
     #[cycle(places)]
-    fn result_is(&mut self, allowed: bool, value: &Exp<'s>, level: u64) -> Result<u64, End> {
+    fn result_is(&mut self, context: CommandContext, value: &Exp<'s>) -> Result<u64, End> {
         let leaf = self.leaf();
         self.record.root(leaf)?;
-        let width = self.expression(false, value, level)?;
-        self.allowed(allowed, leaf)?;
+        let before = ExpressionContext {
+            in_constant: false,
+            level: context.level,
+        };
+        let width = self.expression(before, value)?;
+        self.allowed(context.allowed.in_valof, leaf)?;
         Ok(width)
     }
 
@@ -128,7 +137,7 @@ impl<'s> PlaceWalk<'s> {
         let _word = self.leaf();
         let leaf = self.leaf();
         let meant = self.scope.meant_by(name);
-        self.judged(jump_fault(name, meant), leaf)?;
+        self.judged(check_goto(name, meant), leaf)?;
         Ok(0)
     }
 
@@ -136,13 +145,12 @@ impl<'s> PlaceWalk<'s> {
     #[cycle(places)]
     fn guarded(
         &mut self,
-        allowed: Allowed,
+        context: CommandContext,
         test: &Exp<'s>,
         body: &Block<'s>,
-        level: u64,
     ) -> Result<u64, End> {
-        let test = self.rooted(test, level)?;
-        Ok(test.max(self.block(allowed, body, level)?))
+        let test = self.rooted(test, context.level)?;
+        Ok(test.max(self.block(context, body)?))
     }
 
     /// An assignment: its addresses, then its values, then that each address has a cell.
@@ -219,16 +227,20 @@ impl<'s> PlaceWalk<'s> {
     #[cycle(places)]
     fn counted(
         &mut self,
-        allowed: Allowed,
+        context: CommandContext,
         variable: &'s [u8],
         leaf: u64,
         body: &Block<'s>,
-        level: u64,
     ) -> Result<u64, End> {
         let mark = self.mark();
-        self.scope.declare(variable, Meant::Variable(level))?;
-        self.known_cell(variable, leaf, level)?;
-        let width = self.block(allowed.in_a_loop(), body, level.saturating_add(2))?;
+        self.scope
+            .declare(variable, Meant::Variable(context.level))?;
+        self.known_cell(variable, leaf, context.level)?;
+        let inside = CommandContext {
+            allowed: context.allowed.in_a_loop(),
+            level: context.level.saturating_add(2),
+        };
+        let width = self.block(inside, body)?;
         self.leave(mark);
         Ok(width)
     }
@@ -237,14 +249,17 @@ impl<'s> PlaceWalk<'s> {
     #[cycle(places)]
     fn switch(
         &mut self,
-        allowed: Allowed,
+        context: CommandContext,
         value: &Exp<'s>,
         list: &[Item<'s>],
-        level: u64,
     ) -> Result<u64, End> {
-        let value = self.rooted(value, level)?;
+        let value = self.rooted(value, context.level)?;
         let mark = self.mark();
-        let list = self.list(true, allowed.in_a_switch(), list, level)?;
+        let inside = CommandContext {
+            allowed: context.allowed.in_a_switch(),
+            ..context
+        };
+        let list = self.list(true, inside, list)?;
         self.leave(mark);
         Ok(value.max(list))
     }

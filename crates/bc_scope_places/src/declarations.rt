@@ -4,7 +4,7 @@ use crate::leaves::Leaves;
 use crate::record::GlobalSite;
 use crate::walk::{Beside, End, PlaceWalk};
 use bc_parse_tree::{Block, Constant, Declaration, Definition, Exp, Storage};
-use bc_scope_faults::{Allowed, Extent, entry_fault};
+use bc_scope_faults::{Allowed, CommandContext, Extent, check_entry};
 use bc_scope_names::{
     Meant, Numbers, ScopeError, constant, declare_entry, declare_let, declare_parameters,
     declare_pending, priors_of_let,
@@ -74,7 +74,7 @@ impl<'s> PlaceWalk<'s> {
 
     /// Checks an entry whose value was walked, and adds its name, which is at this leaf.
     fn declared(&mut self, storage: Storage, entry: &Constant<'s>, leaf: u64) -> Result<(), End> {
-        let answer = entry_fault(&self.scope, storage, entry.name, &entry.value);
+        let answer = check_entry(&self.scope, storage, entry.name, &entry.value);
         if let Err(fault) = answer {
             let number = constant(&self.scope, &entry.value).get();
             self.stop(fault, Leaves::one(leaf), Beside::Number(number))?;
@@ -303,7 +303,11 @@ impl<'s> PlaceWalk<'s> {
         let mark = self.mark();
         let outside = self.record.into_routine();
         let level = self.parameters(parameters)?;
-        let width = self.block(Allowed::routine(), body, level)?;
+        let context = CommandContext {
+            allowed: Allowed::routine(),
+            level,
+        };
+        let width = self.block(context, body)?;
         self.leave(mark);
         self.record.back(outside);
         self.frame(leaf, level.max(width));

@@ -3,26 +3,26 @@
 use crate::leaves::Leaves;
 use crate::walk::{Beside, End, PlaceWalk};
 use bc_parse_tree::{Block, Exp, Monadic};
-use bc_scope_faults::{Allowed, address_fault, level_at, name_fault};
+use bc_scope_faults::{
+    Allowed, CommandContext, ExpressionContext, check_address, check_name, level_at,
+};
 use bc_scope_names::{ScopeError, constant_in};
 use bc_word::Memory;
 
 impl<'s> PlaceWalk<'s> {
-    /// Walks an expression at `level`. `in_constant` says that it is part of a constant.
+    /// Walks an expression.
     #[cycle(places)]
-    pub fn expression(&mut self, in_constant: bool, e: &Exp<'s>, level: u64) -> Result<u64, End> {
+    pub fn expression(&mut self, context: ExpressionContext, e: &Exp<'s>) -> Result<u64, End> {
         match e {
-            Exp::Name(name) => self.name(in_constant, name),
+            Exp::Name(name) => self.name(context.in_constant, name),
             Exp::Number(_) | Exp::Character(_) | Exp::True | Exp::False => Ok(self.plain()),
             Exp::String(_) => self.string(),
             Exp::Table(values) => self.table(values),
-            Exp::Valof(body) => self.valof(body, level),
-            Exp::Monadic(sign, operand) => self.monadic(in_constant, *sign, operand, level),
-            Exp::Dyadic(_, left, right) => self.dyadic(in_constant, left, right, level),
-            Exp::Condition { test, this, that } => {
-                self.condition(in_constant, test, this, that, level)
-            }
-            Exp::Call(routine, values) => self.call(in_constant, routine, values, level),
+            Exp::Valof(body) => self.valof(body, context.level),
+            Exp::Monadic(sign, operand) => self.monadic(context, *sign, operand),
+            Exp::Dyadic(_, left, right) => self.dyadic(context, left, right),
+            Exp::Condition { test, this, that } => self.condition(context, test, this, that),
+            Exp::Call(routine, values) => self.call(context, routine, values),
         }
     }
 
@@ -52,30 +52,31 @@ impl<'s> PlaceWalk<'s> {
     #[cycle(places)]
     fn dyadic(
         &mut self,
-        in_constant: bool,
+        context: ExpressionContext,
         left: &Exp<'s>,
         right: &Exp<'s>,
-        level: u64,
     ) -> Result<u64, End> {
-        let above = level.saturating_add(1);
-        let left = self.expression(in_constant, left, above)?;
-        let right = self.expression(in_constant, right, above)?;
-        Ok(level.saturating_add(2).max(left.max(right)))
+        let above = ExpressionContext {
+            level: context.level.saturating_add(1),
+            ..context
+        };
+        let left = self.expression(above, left)?;
+        let right = self.expression(above, right)?;
+        Ok(context.level.saturating_add(2).max(left.max(right)))
     }
 
     /// `test -> this, that`, all at the same level.
     #[cycle(places)]
     fn condition(
         &mut self,
-        in_constant: bool,
+        context: ExpressionContext,
         test: &Exp<'s>,
         this: &Exp<'s>,
         that: &Exp<'s>,
-        level: u64,
     ) -> Result<u64, End> {
-        let test = self.expression(in_constant, test, level)?;
-        let this = self.expression(in_constant, this, level)?;
-        let that = self.expression(in_constant, that, level)?;
+        let test = self.expression(context, test)?;
+        let this = self.expression(context, this)?;
+        let that = self.expression(context, that)?;
         Ok(test.max(this.max(that)))
     }
 
@@ -83,14 +84,18 @@ impl<'s> PlaceWalk<'s> {
     #[cycle(places)]
     pub fn rooted(&mut self, e: &Exp<'s>, level: u64) -> Result<u64, End> {
         self.record.root(self.leaves)?;
-        self.expression(false, e, level)
+        let context = ExpressionContext {
+            in_constant: false,
+            level,
+        };
+        self.expression(context, e)
     }
 
     /// A name in an expression.
     fn name(&mut self, in_constant: bool, name: &'s [u8]) -> Result<u64, End> {
         let leaf = self.leaf();
         let meant = self.scope.meant_by(name);
-        self.judged(name_fault(in_constant, name, meant), leaf)?;
+        self.judged(check_name(in_constant, name, meant), leaf)?;
         Ok(0)
     }
 
@@ -101,7 +106,11 @@ impl<'s> PlaceWalk<'s> {
         let mark = self.mark();
         self.scope.enter_valof()?;
         let outside = self.record.into_valof();
-        let width = self.block(Allowed::valof(), body, level)?;
+        let context = CommandContext {
+            allowed: Allowed::valof(),
+            level,
+        };
+        let width = self.block(context, body)?;
         self.record.back(outside);
         self.leave(mark);
         Ok(width)
@@ -111,14 +120,13 @@ impl<'s> PlaceWalk<'s> {
     #[cycle(places)]
     fn monadic(
         &mut self,
-        in_constant: bool,
+        context: ExpressionContext,
         sign: Monadic,
         operand: &Exp<'s>,
-        level: u64,
     ) -> Result<u64, End> {
         let first = self.leaves;
-        let width = self.expression(in_constant, operand, level)?;
-        match address_fault(&self.scope, in_constant, sign, operand) {
+        let width = self.expression(context, operand)?;
+        match check_address(&self.scope, context.in_constant, sign, operand) {
             Ok(()) => {}
             Err(fault) => {
                 let at = Leaves::expression(first, self.last(first), operand);
@@ -132,26 +140,31 @@ impl<'s> PlaceWalk<'s> {
     #[cycle(places)]
     pub fn call(
         &mut self,
-        in_constant: bool,
+        context: ExpressionContext,
         called: &Exp<'s>,
         values: &[Exp<'s>],
-        level: u64,
     ) -> Result<u64, End> {
-        let first = level.saturating_add(2);
-        let above = first.saturating_add(values.len() as u64);
-        let called = self.expression(in_constant, called, above)?;
-        let values = self.arguments(in_constant, values, first)?;
-        Ok(above.max(called.max(values)))
+        let first = ExpressionContext {
+            level: context.level.saturating_add(2),
+            ..context
+        };
+        let above = ExpressionContext {
+            level: first.level.saturating_add(values.len() as u64),
+            ..context
+        };
+        let called = self.expression(above, called)?;
+        let values = self.arguments(first, values)?;
+        Ok(above.level.max(called.max(values)))
     }
 
-    /// Arguments, each one level above the one before it.
+    /// Arguments, each one level above the one before it. `context` is that of the first.
     #[cycle(places)]
-    fn arguments(&mut self, in_constant: bool, list: &[Exp<'s>], level: u64) -> Result<u64, End> {
+    fn arguments(&mut self, context: ExpressionContext, list: &[Exp<'s>]) -> Result<u64, End> {
         let mut width = 0u64;
-        let mut above = level;
+        let mut above = context;
         for e in list {
-            width = width.max(self.expression(in_constant, e, above)?);
-            above = above.saturating_add(1);
+            width = width.max(self.expression(above, e)?);
+            above.level = above.level.saturating_add(1);
         }
         Ok(width)
     }
@@ -160,7 +173,11 @@ impl<'s> PlaceWalk<'s> {
     #[cycle(places)]
     pub fn constant(&mut self, e: &Exp<'s>) -> Result<Leaves, End> {
         let first = self.leaves;
-        let _width = self.expression(true, e, 0)?;
+        let context = ExpressionContext {
+            in_constant: true,
+            level: 0,
+        };
+        let _width = self.expression(context, e)?;
         let at = Leaves::expression(first, self.last(first), e);
         if constant_in(&self.scope, e).is_none() {
             self.stop(ScopeError::NotConstant, at, Beside::Nothing)?;
@@ -196,8 +213,11 @@ impl<'s> PlaceWalk<'s> {
         };
         for e in list {
             let first = self.leaves;
-            let level = level_at(levels, side.widths.len() as u64);
-            let width = self.expression(false, e, level)?;
+            let context = ExpressionContext {
+                in_constant: false,
+                level: level_at(levels, side.widths.len() as u64),
+            };
+            let width = self.expression(context, e)?;
             side.add(width, Leaves::expression(first, self.last(first), e))?;
         }
         Ok(side)

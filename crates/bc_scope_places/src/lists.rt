@@ -3,7 +3,7 @@
 use crate::leaves::Leaves;
 use crate::walk::{Beside, End, PlaceWalk};
 use bc_parse_tree::{Block, Item, Label};
-use bc_scope_faults::Allowed;
+use bc_scope_faults::CommandContext;
 use bc_scope_names::{ScopeError, constant, declare_list};
 use indexmap::IndexMap;
 use std::alloc::Global;
@@ -33,12 +33,16 @@ impl<'s> OfList<'s> {
 }
 
 impl<'s> PlaceWalk<'s> {
-    /// Walks a block at `level`. `allowed` says which commands may be in it.
+    /// Walks a block.
     #[cycle(places)]
-    pub fn block(&mut self, allowed: Allowed, tree: &Block<'s>, level: u64) -> Result<u64, End> {
+    pub fn block(&mut self, context: CommandContext, tree: &Block<'s>) -> Result<u64, End> {
         let mark = self.mark();
-        let extent = self.declarations(&tree.declarations, level)?;
-        let width = self.list(false, allowed, &tree.items, extent.level)?;
+        let extent = self.declarations(&tree.declarations, context.level)?;
+        let inside = CommandContext {
+            level: extent.level,
+            ..context
+        };
+        let width = self.list(false, inside, &tree.items)?;
         self.leave(mark);
         Ok(extent.width.max(width))
     }
@@ -49,15 +53,14 @@ impl<'s> PlaceWalk<'s> {
     pub fn list(
         &mut self,
         cases: bool,
-        allowed: Allowed,
+        context: CommandContext,
         items: &[Item<'s>],
-        level: u64,
     ) -> Result<u64, End> {
         declare_list(&mut self.scope, 0, items)?;
         let next = self.known();
         self.know_all_labels(items)?;
         let mut of_list = OfList::new(self.alloc, cases, next);
-        self.listed(&mut of_list, allowed, items, level)
+        self.listed(&mut of_list, context, items)
     }
 
     /// The items of a list whose labels are already in scope.
@@ -65,13 +68,12 @@ impl<'s> PlaceWalk<'s> {
     fn listed(
         &mut self,
         of_list: &mut OfList<'s>,
-        allowed: Allowed,
+        context: CommandContext,
         items: &[Item<'s>],
-        level: u64,
     ) -> Result<u64, End> {
         let mut width = 0u64;
         for tree in items {
-            width = width.max(self.item(of_list, allowed, tree, level)?);
+            width = width.max(self.item(of_list, context, tree)?);
         }
         Ok(width)
     }
@@ -89,14 +91,13 @@ impl<'s> PlaceWalk<'s> {
     fn item(
         &mut self,
         of_list: &mut OfList<'s>,
-        allowed: Allowed,
+        context: CommandContext,
         tree: &Item<'s>,
-        level: u64,
     ) -> Result<u64, End> {
         match &tree.command {
             Some(labelled) => {
                 self.labels(of_list, &tree.labels)?;
-                self.command(allowed, labelled, level)
+                self.command(context, labelled)
             }
             None => {
                 self.labels(of_list, &tree.labels)?;

@@ -17,8 +17,8 @@ use Rattle.bc_scope_faults.proofs.+faults.Goals as goal
 pub expressions::arguments-expression-requires : goal.expressions::arguments-expression-requires
 expressions::arguments-expression-requires t c = (omega (arith, exp_held c.args.list.now c.loop-e.e-index c.e-item.result c.loop-e-test.true c.e-item.is, c.decreases), tt)
 
-pub expressions::constants-constant_fault-requires : goal.expressions::constants-constant_fault-requires
-expressions::constants-constant_fault-requires t c = (omega (arith, exp_held c.args.list.now c.loop-e.e-index c.e-item.result c.loop-e-test.true c.e-item.is, c.decreases), tt)
+pub expressions::constants-check_constant-requires : goal.expressions::constants-check_constant-requires
+expressions::constants-check_constant-requires t c = (omega (arith, exp_held c.args.list.now c.loop-e.e-index c.e-item.result c.loop-e-test.true c.e-item.is, c.decreases), tt)
 
 pub expressions::sides-expression-requires : goal.expressions::sides-expression-requires
 expressions::sides-expression-requires t c = (omega (arith, exp_held c.args.list.now c.loop-e.e-index c.e-item.result c.loop-e-test.true c.e-item.is, c.decreases), tt)
@@ -26,8 +26,8 @@ expressions::sides-expression-requires t c = (omega (arith, exp_held c.args.list
 pub expressions::initials-expression-requires : goal.expressions::initials-expression-requires
 expressions::initials-expression-requires t c = (omega (arith, exp_held c.args.list.now c.loop-e.e-index c.e-item.result c.loop-e-test.true c.e-item.is, c.decreases), tt)
 
-pub declarations::entries-constant_fault-requires : goal.declarations::entries-constant_fault-requires
-declarations::entries-constant_fault-requires t c = (omega (arith, entry_held c.args.list.now c.loop-entry.entry-index c.entry-item.result c.loop-entry-test.true c.entry-item.is, c.decreases), tt)
+pub declarations::entries-check_constant-requires : goal.declarations::entries-check_constant-requires
+declarations::entries-check_constant-requires t c = (omega (arith, entry_held c.args.list.now c.loop-entry.entry-index c.entry-item.result c.loop-entry-test.true c.entry-item.is, c.decreases), tt)
 
 pub declarations::definitions-definition-requires : goal.declarations::definitions-definition-requires
 declarations::definitions-definition-requires t c = (omega (arith, definition_held c.args.list.now c.loop-tree.tree-index c.tree-item.result c.loop-tree-test.true c.tree-item.is, c.decreases), tt)
@@ -74,11 +74,11 @@ declarations::entries-loop-entry-preserved t c =
     let n = entries_on c.args.list.now c.loop-entry.entry-index e c.loop-entry-test.true c.entry-item.is in
     let v = rw n at c.loop-entry.invariant in
     let o = c.in_ok-declare_once.ensures in
-    let k = c.in_ok-constant_fault.ensures.kept in
-    let g = rw k at c.in_ok-entry_fault.ensures in
+    let k = c.in_ok-check_constant.ensures.kept in
+    let g = rw k at c.in_ok-check_entry.ensures in
     let d = rw (k, constant_seen e) at c.in_ok-declare_entry.ensures in
     let b = c.in_ok-progress.ensures in (
-      rw (o.1, b, d.0) (rw (o.0, c.in_ok-constant_fault.ensures.answer, g) at v.0),
+      rw (o.1, b, d.0) (rw (o.0, c.in_ok-check_constant.ensures.answer, g) at v.0),
       rw (b, d.0) v.1,
       rw b v.2,
       rw (b, d.0) (rw entry_fits at v.3),
@@ -113,9 +113,9 @@ blocks::items-loop-tree-preserved t c =
     let v = rw n at c.loop-tree.invariant in
     let w = c.in_ok-one_item.ensures.answer in
     let k = c.in_ok-one_item.ensures.kept in
-    let f = item_fault_on c.args.list.cases (met_view c.loop-tree.met) (allowed_view c.args.list.allowed) E at0 i is c.args.level in
-    let g = item_found_on E at0 i is c.args.level in
-    let h = item_width_on E at0 i is c.args.level in (
+    let f = item_fault_on c.args.list.cases (met_view c.loop-tree.met) (allowed_view c.args.list.commands.allowed) E at0 i is c.args.list.commands.level in
+    let g = item_found_on E at0 i is c.args.list.commands.level in
+    let h = item_width_on E at0 i is c.args.list.commands.level in (
       rw (w.2, w.4, k) (rw w.0 at (sym f ∙ v.0)),
       rw (w.2, k, c.max-width.ensures, w.1) (max_along _ _ _ ∙ rw h at v.1),
       rw w.2 v.2,
@@ -166,7 +166,7 @@ blocks::items-returns-in_err-one_item-clause-answer t c =
     let is = items_view (drop (c.loop-tree.tree-index + 1) c.args.trees.now) in
     let n = items_on c.args.trees.now c.loop-tree.tree-index c.tree-item.result c.loop-tree-test.true c.tree-item.is in
     let v = rw n at c.loop-tree.invariant in
-    let f = item_fault_on c.args.list.cases (met_view c.loop-tree.met) (allowed_view c.args.list.allowed) E at0 i is c.args.level in
+    let f = item_fault_on c.args.list.cases (met_view c.loop-tree.met) (allowed_view c.args.list.commands.allowed) E at0 i is c.args.list.commands.level in
     let p = err_from_is_err_and c.from_residual.result c.from_residual.ensures.1 in
     rw (p.1, p.2) (fault_whole _ _ _ _ _ f v.0 c.in_err-one_item.ensures.answer)
 
@@ -229,14 +229,14 @@ commands::stepped_for-returns-in_err-limit-clause-answer t c =
     let p = err_from_is_err_and c.from_residual-in_err-limit.result c.from_residual-in_err-limit.ensures.1 in
     rw (p.1, p.2, w1.0) (stays _ _ _ (rw (w1.2, c.in_ok-start.ensures.kept, a) at c.in_err-limit.ensures.answer))
 
-pub commands::stepped_for-returns-in_err-constant_fault-clause-answer : goal.commands::stepped_for-returns-in_err-constant_fault-clause-answer
-commands::stepped_for-returns-in_err-constant_fault-clause-answer t c =
+pub commands::stepped_for-returns-in_err-check_constant-clause-answer : goal.commands::stepped_for-returns-in_err-check_constant-clause-answer
+commands::stepped_for-returns-in_err-check_constant-clause-answer t c =
     let a = c.in_ok-above.ensures in
     let w1 = rw a at c.in_ok-start.ensures.answer in
     let k1 = c.in_ok-start.ensures.kept in
     let w2 = rw (w1.2, k1, a) at c.in_ok-limit.ensures.answer in
-    let p = err_from_is_err_and c.from_residual-in_err-constant_fault.result c.from_residual-in_err-constant_fault.ensures.1 in
-    rw (p.1, p.2, w1.0, w2.0) (stays _ _ _ (rw (w2.2, c.in_ok-limit.ensures.kept, k1) at c.in_err-constant_fault.ensures.answer))
+    let p = err_from_is_err_and c.from_residual-in_err-check_constant.result c.from_residual-in_err-check_constant.ensures.1 in
+    rw (p.1, p.2, w1.0, w2.0) (stays _ _ _ (rw (w2.2, c.in_ok-limit.ensures.kept, k1) at c.in_err-check_constant.ensures.answer))
 
 pub commands::stepped_for-returns-in_err-body-clause-answer : goal.commands::stepped_for-returns-in_err-body-clause-answer
 commands::stepped_for-returns-in_err-body-clause-answer t c =
@@ -245,9 +245,9 @@ commands::stepped_for-returns-in_err-body-clause-answer t c =
     let k1 = c.in_ok-start.ensures.kept in
     let w2 = rw (w1.2, k1, a) at c.in_ok-limit.ensures.answer in
     let k2 = c.in_ok-limit.ensures.kept in
-    let w3 = rw (w2.2, k2, k1) at c.in_ok-constant_fault.ensures.answer in
+    let w3 = rw (w2.2, k2, k1) at c.in_ok-check_constant.ensures.answer in
     let p = err_from_is_err_and c.from_residual-in_err-body.result c.from_residual-in_err-body.ensures.1 in
-    rw (p.1, p.2, w1.0, w2.0, w3) (rw (w2.2, c.in_ok-constant_fault.ensures.kept, k2, k1) at c.in_err-body.ensures.answer)
+    rw (p.1, p.2, w1.0, w2.0, w3) (rw (w2.2, c.in_ok-check_constant.ensures.kept, k2, k1) at c.in_err-body.ensures.answer)
 
 pub commands::stepped_for-returns-clause-answer : goal.commands::stepped_for-returns-clause-answer
 commands::stepped_for-returns-clause-answer t c =
@@ -256,8 +256,8 @@ commands::stepped_for-returns-clause-answer t c =
     let k1 = c.in_ok-start.ensures.kept in
     let w2 = rw (w1.2, k1, a) at c.in_ok-limit.ensures.answer in
     let k2 = c.in_ok-limit.ensures.kept in
-    let w3 = rw (w2.2, k2, k1) at c.in_ok-constant_fault.ensures.answer in
-    let w4 = rw (w2.2, c.in_ok-constant_fault.ensures.kept, k2, k1) at c.in_ok-body.ensures.answer in (
+    let w3 = rw (w2.2, k2, k1) at c.in_ok-check_constant.ensures.answer in
+    let w4 = rw (w2.2, c.in_ok-check_constant.ensures.kept, k2, k1) at c.in_ok-body.ensures.answer in (
       rw (w1.0, w2.0, w3) w4.0,
       rw (c.max-3.ensures, c.max-2.ensures, c.max.ensures, c.in_ok-sum.ensures, a, w1.1, w2.1, w4.1) refl,
       w4.2,

@@ -28,8 +28,8 @@ decreases-expressions::call l = 16 * (exp_size (exp_view l.called.now) + exps_si
 abbrev pub decreases-expressions::arguments : goal.decreases-expressions::arguments
 decreases-expressions::arguments l = 16 * exps_size (exps_view l.list.now) + 1
 
-abbrev pub decreases-expressions::constant_fault : goal.decreases-expressions::constant_fault
-decreases-expressions::constant_fault l = 16 * exp_size (exp_view l.e.now) + 1
+abbrev pub decreases-expressions::check_constant : goal.decreases-expressions::check_constant
+decreases-expressions::check_constant l = 16 * exp_size (exp_view l.e.now) + 1
 
 abbrev pub decreases-expressions::constants : goal.decreases-expressions::constants
 decreases-expressions::constants l = 16 * exps_size (exps_view l.list.now) + 2
@@ -95,10 +95,10 @@ abbrev pub decreases-commands::tested : goal.decreases-commands::tested
 decreases-commands::tested l = 16 * (exp_size (exp_view l.test.now) + block_size (block_view l.this.now) + block_size (block_view l.that.now)) + 8
 
 abbrev pub decreases-commands::plain_for : goal.decreases-commands::plain_for
-decreases-commands::plain_for l = 16 * (exp_size (exp_view l.start.now) + exp_size (exp_view l.limit.now) + block_size (block_view l.body.now)) + 9
+decreases-commands::plain_for l = 16 * (exp_size (exp_view l.parts.start.now) + exp_size (exp_view l.parts.limit.now) + block_size (block_view l.parts.body.now)) + 9
 
 abbrev pub decreases-commands::stepped_for : goal.decreases-commands::stepped_for
-decreases-commands::stepped_for l = 16 * (exp_size (exp_view l.start.now) + exp_size (exp_view l.limit.now) + exp_size (exp_view l.by.now) + block_size (block_view l.body.now)) + 9
+decreases-commands::stepped_for l = 16 * (exp_size (exp_view l.parts.start.now) + exp_size (exp_view l.parts.limit.now) + exp_size (exp_view l.by.now) + block_size (block_view l.parts.body.now)) + 9
 
 abbrev pub decreases-commands::counted : goal.decreases-commands::counted
 decreases-commands::counted l = 16 * block_size (block_view l.body.now) + 8
@@ -111,10 +111,10 @@ decreases-commands::command l = 16 * command_size (command_view l.tree.now)
 
 abbrev pub invariant-expressions::arguments-loop-e : goal.invariant-expressions::arguments-loop-e
 invariant-expressions::arguments-loop-e l =
-    (arguments_fault l.in_constant (scope_view l.scope) (numbers_view l.progress.at) (exps_view (drop l.e-index l.list)) l.above ≡ arguments_fault l.in_constant (scope_view l.fn.scope) (numbers_view l.fn.progress.at) (exps_view l.list) l.level)
-    × (max l.width (width_of_arguments (scope_view l.scope) (numbers_view l.progress.at) (exps_view (drop l.e-index l.list)) l.above) ≡ width_of_arguments (scope_view l.fn.scope) (numbers_view l.fn.progress.at) (exps_view l.list) l.level)
+    (arguments_fault l.context.in_constant (scope_view l.scope) (numbers_view l.progress.at) (exps_view (drop l.e-index l.list)) l.above ≡ arguments_fault l.context.in_constant (scope_view l.fn.scope) (numbers_view l.fn.progress.at) (exps_view l.list) l.context.level)
+    × (max l.width (width_of_arguments (scope_view l.scope) (numbers_view l.progress.at) (exps_view (drop l.e-index l.list)) l.above) ≡ width_of_arguments (scope_view l.fn.scope) (numbers_view l.fn.progress.at) (exps_view l.list) l.context.level)
     × (after_all (numbers_view l.progress.at) (exps_view (drop l.e-index l.list)) ≡ after_all (numbers_view l.fn.progress.at) (exps_view l.list))
-    × (frames_fit l.progress.fits (found_in_arguments (scope_view l.scope) (numbers_view l.progress.at) (exps_view (drop l.e-index l.list)) l.above) ≡ frames_fit l.fn.progress.fits (found_in_arguments (scope_view l.fn.scope) (numbers_view l.fn.progress.at) (exps_view l.list) l.level))
+    × (frames_fit l.progress.fits (found_in_arguments (scope_view l.scope) (numbers_view l.progress.at) (exps_view (drop l.e-index l.list)) l.above) ≡ frames_fit l.fn.progress.fits (found_in_arguments (scope_view l.fn.scope) (numbers_view l.fn.progress.at) (exps_view l.list) l.context.level))
     × (l.scope ≡ l.fn.scope)
 
 abbrev pub invariant-expressions::constants-loop-e : goal.invariant-expressions::constants-loop-e
@@ -172,8 +172,8 @@ invariant-blocks::labels-loop-tree l =
 
 abbrev pub invariant-blocks::items-loop-tree : goal.invariant-blocks::items-loop-tree
 invariant-blocks::items-loop-tree l =
-    (items_fault l.list.cases (met_view l.met) (allowed_view l.list.allowed) (scope_view l.scope) (numbers_view l.progress.at) (items_view (drop l.tree-index l.trees)) l.level ≡ items_fault l.list.cases none_met (allowed_view l.list.allowed) (scope_view l.fn.scope) (numbers_view l.fn.progress.at) (items_view l.trees) l.level)
-    × (max l.width (width_of_items (scope_view l.scope) 0 (numbers_view l.progress.at) (items_view (drop l.tree-index l.trees)) l.level) ≡ width_of_items (scope_view l.fn.scope) 0 (numbers_view l.fn.progress.at) (items_view l.trees) l.level)
+    (items_fault l.list.cases (met_view l.met) (allowed_view l.list.commands.allowed) (scope_view l.scope) (numbers_view l.progress.at) (items_view (drop l.tree-index l.trees)) l.list.commands.level ≡ items_fault l.list.cases none_met (allowed_view l.list.commands.allowed) (scope_view l.fn.scope) (numbers_view l.fn.progress.at) (items_view l.trees) l.list.commands.level)
+    × (max l.width (width_of_items (scope_view l.scope) 0 (numbers_view l.progress.at) (items_view (drop l.tree-index l.trees)) l.list.commands.level) ≡ width_of_items (scope_view l.fn.scope) 0 (numbers_view l.fn.progress.at) (items_view l.trees) l.list.commands.level)
     × (after_items (numbers_view l.progress.at) (items_view (drop l.tree-index l.trees)) ≡ after_items (numbers_view l.fn.progress.at) (items_view l.trees))
-    × (frames_fit l.progress.fits (found_in_items (scope_view l.scope) 0 (numbers_view l.progress.at) (items_view (drop l.tree-index l.trees)) l.level) ≡ frames_fit l.fn.progress.fits (found_in_items (scope_view l.fn.scope) 0 (numbers_view l.fn.progress.at) (items_view l.trees) l.level))
+    × (frames_fit l.progress.fits (found_in_items (scope_view l.scope) 0 (numbers_view l.progress.at) (items_view (drop l.tree-index l.trees)) l.list.commands.level) ≡ frames_fit l.fn.progress.fits (found_in_items (scope_view l.fn.scope) 0 (numbers_view l.fn.progress.at) (items_view l.trees) l.list.commands.level))
     × (l.scope ≡ l.fn.scope)

@@ -23,7 +23,7 @@ abbrev pub decreases-pair : goal.decreases-pair
 decreases-pair l = 4 * nodes (exp l.a.now) + 4 * nodes (exp l.b.now) + 4
 
 abbrev pub decreases-triple : goal.decreases-triple
-decreases-triple l = 4 * nodes (exp l.c.now) + 4 * nodes (exp l.x.now) + 4 * nodes (exp l.y.now) + 4
+decreases-triple l = 4 * nodes (exp l.condition.now) + 4 * nodes (exp l.values.0.now) + 4 * nodes (exp l.values.1.now) + 4
 
 abbrev pub decreases-all : goal.decreases-all
 decreases-all l = 4 * nodes_of_args (args l.arguments.now) + 4

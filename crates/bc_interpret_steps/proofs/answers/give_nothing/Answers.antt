@@ -7,7 +7,7 @@ use Rattle.bc_interpret_steps.proofs.answers.give_nothing.Goals as goal
 
 pub returns-in-Some-Nothing : goal.returns-in-Some-Nothing
 returns-in-Some-Nothing c program table =
-    let middle = c.take.new.self.rests.items in
+    let middle = c.pop.new.self.rests.items in
     let after = c.nothing_taken.new.stacks.rests.items in
     let st = c.args.state.now in
     on_ok_weaker c.nothing_taken.result (λ h. handed program machine.Nothing (stack c.args.stacks.now.rests.items) (nothing_rest c.in-Some-Nothing.rest) (stack middle) st

@@ -9,6 +9,6 @@ pub returns-in-Some : goal.returns-in-Some
 returns-in-Some c =
     let a = c.args.arguments in
     let before = c.args.stacks.now.rests.items in
-    let after = c.put.new.rests.items in
-    last_valued c.args.state.now (spot_of a.spot) (given_for a.fresh (given before)) a.level (exp a.routine.now) a.count a.s (stack before) (stack after) (given after) c.in_ok-worth.field-0 c.in-Some.worth c.settled-stacks.result c.in_ok-worth.ensures (cc)
-    (c.in_ok-put.ensures.stack ∙ ap (λ f. machine.Calls (given_for a.fresh (given before)) f ∷ stack before) c.in_ok-frame.ensures) c.settled-stacks.ensures
+    let after = c.push.new.rests.items in
+    last_valued c.args.state.now (spot_of a.site) (given_for a.fresh (given before)) a.level (exp a.routine.now) a.count a.site.level (stack before) (stack after) (given after) c.in_ok-worth.field-0 c.in-Some.worth c.outcome_of_worth-stacks.result c.in_ok-worth.ensures (cc)
+    (c.in_ok-push.ensures.stack ∙ ap (λ f. machine.Calls (given_for a.fresh (given before)) f ∷ stack before) c.in_ok-frame.ensures) c.outcome_of_worth-stacks.ensures

@@ -8,4 +8,4 @@ pub returns-in_ok-put_argues-in-Some-Fails : goal.returns-in_ok-put_argues-in-So
 returns-in_ok-put_argues-in-Some-Fails c =
     let a = c.args.arguments in
     let before = c.args.stacks.now.rests.items in
-    argue_fails c.args.state.now (spot_of a.spot) (given_for a.fresh (given before)) (exp c.args.first.now) (args c.args.following.now) a.level (exp a.routine.now) a.count a.s c.in_ok-v.field-0 c.in-Some-Fails.cause (stack before) [] [] c.in_ok-v.ensures cc
+    argue_fails c.args.state.now (spot_of a.site) (given_for a.fresh (given before)) (exp c.args.first.now) (args c.args.following.now) a.level (exp a.routine.now) a.count a.site.level c.in_ok-v.field-0 c.in-Some-Fails.cause (stack before) [] [] c.in_ok-v.ensures cc

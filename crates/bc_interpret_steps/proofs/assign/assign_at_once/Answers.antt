@@ -7,7 +7,7 @@ use Rattle.bc_interpret_steps.proofs.assign.assign_at_once.Goals as goal
 
 pub returns-in-Some-2 : goal.returns-in-Some-2
 returns-in-Some-2 c =
-    let E = spot_of c.args.spot.now in
+    let E = spot_of c.args.site.now in
     let st = c.args.state.now in
     let v = exp c.args.value.now in
     let a = exp c.args.address.now in

@@ -6,6 +6,6 @@ use Rattle.bc_interpret_steps.proofs.call_command.perform_call.Goals as goal
 
 pub returns : goal.returns
 returns c program table =
-    let after = c.go_over.new.stacks.rests.items in
-    on_ok_weaker c.go_over.result (λ h. performed program c.args.state.now (spot_of c.args.spot) (exp c.args.call.now) c.args.s (stack c.args.stacks.now.rests.items) (stack c.put.new.rests.items)
-    c.go_over.new.stacks.next (stack after) (given after) c.go_over.new.state c.in_ok-put.ensures.stack h) (c.go_over.ensures program table)
+    let after = c.begin_other.new.stacks.rests.items in
+    on_ok_weaker c.begin_other.result (λ h. performed program c.args.state.now (spot_of c.args.site) (exp c.args.call.now) c.args.site.level (stack c.args.stacks.now.rests.items) (stack c.push.new.rests.items)
+    c.begin_other.new.stacks.next (stack after) (given after) c.begin_other.new.state c.in_ok-push.ensures.stack h) (c.begin_other.ensures program table)

@@ -10,4 +10,4 @@ returns c =
     let f = c.evaluate in
     let after = f.new.stacks.rests.items in
     let st = c.args.state.now in
-    subst (λ q. OnOk f.result (CameOrMalformed (machine.evaluate (spot_of c.args.spot) (exp c.args.e.now) c.args.s q) st f.new.stacks.next (stack after) (given after) st)) c.in_ok-put.ensures.stack f.ensures
+    subst (λ q. OnOk f.result (CameOrMalformed (machine.evaluate (spot_of c.args.site) (exp c.args.e.now) c.args.site.level q) st f.new.stacks.next (stack after) (given after) st)) c.in_ok-push.ensures.stack f.ensures

@@ -8,10 +8,10 @@ use Rattle.bc_interpret_steps.proofs.commands.for_body.Goals as goal
 pub returns : goal.returns
 returns c =
     let f = c.enter in
-    let E = spot_of c.args.spot in
-    let b = block_of c.args.body.now in
+    let E = spot_of c.args.site in
+    let b = block_of c.args.rounds.body.now in
     let before = c.args.stacks.now.rests.items in
     let after = f.new.stacks.rests.items in
     let old = c.args.state.now in
-    subst (λ n. OnOk f.result (Goes (λ rs. machine.enter E b n (machine.ForBody E c.args.bounds.0 c.args.bounds.1 b c.args.s ∷ rs)) before old f.new.stacks.next after f.new.state)) c.in_ok-level.ensures
-    (subst (λ q. OnOk f.result (Came (machine.enter E b c.in_ok-level.level q) old f.new.stacks.next (stack after) (given after) f.new.state)) c.in_ok-put.ensures.stack f.ensures)
+    subst (λ n. OnOk f.result (Goes (λ rs. machine.enter E b n (machine.ForBody E c.args.rounds.limit c.args.rounds.by b c.args.site.level ∷ rs)) before old f.new.stacks.next after f.new.state)) c.in_ok-level.ensures
+    (subst (λ q. OnOk f.result (Came (machine.enter E b c.in_ok-level.level q) old f.new.stacks.next (stack after) (given after) f.new.state)) c.in_ok-push.ensures.stack f.ensures)

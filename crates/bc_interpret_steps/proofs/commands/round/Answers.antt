@@ -7,5 +7,5 @@ use Rattle.bc_interpret_steps.proofs.commands.round.Goals as goal
 pub returns-in_ok-for_body-in-Set : goal.returns-in_ok-for_body-in-Set
 returns-in_ok-for_body-in-Set c =
     let after = c.for_body.new.stacks.rests.items in
-    round_goes (spot_of c.args.spot) c.args.limit c.args.by (block_of c.args.body.now) c.args.s c.in-Set.value (stack c.args.stacks.now.rests.items) c.args.state.now c.for_body.new.stacks.next (stack after) (given after) c.for_body.new.state
+    round_goes (spot_of c.args.site) c.args.rounds.limit c.args.rounds.by (block_of c.args.rounds.body.now) c.args.site.level c.in-Set.value (stack c.args.stacks.now.rests.items) c.args.state.now c.for_body.new.stacks.next (stack after) (given after) c.for_body.new.state
     (search rules) (sym c.is_past.ensures ∙ c.if-is_past.false) c.in_ok-for_body-in-Set.ensures

@@ -9,4 +9,4 @@ pub returns : goal.returns
 returns c =
     let f = c.enter in
     let after = f.new.stacks.rests.items in
-    subst (λ q. OnOk f.result (Came (machine.enter (spot_of c.args.spot) (block_of c.args.body.now) c.args.s q) c.args.state.now f.new.stacks.next (stack after) (given after) f.new.state)) c.in_ok-put.ensures.stack f.ensures
+    subst (λ q. OnOk f.result (Came (machine.enter (spot_of c.args.site) (block_of c.args.body.now) c.args.site.level q) c.args.state.now f.new.stacks.next (stack after) (given after) f.new.state)) c.in_ok-push.ensures.stack f.ensures

@@ -14,10 +14,10 @@ returns-in-Ifs c program =
     let after = c.enter_if.new.stacks.rests.items in
     let p = c.enter_if.new.stacks.next in
     let t = c.in-Ifs in
-    let E = spot_of t.spot in
+    let E = spot_of t.site in
     let b = block_of t.body.now in
     on_ok_weaker c.enter_if.result (λ h. subst (λ r. Goes (machine.next program (truth_rest r) (machine.Verdict c.args.t)) before c.args.state.now p after c.enter_if.new.state) (sym t.is)
-    (subst (λ h. Goes (λ rs. choose h (machine.enter E b t.s rs) (machine.give (machine.Left Past) rs)) before c.args.state.now p after c.enter_if.new.state) c.agrees-holds.ensures
+    (subst (λ h. Goes (λ rs. choose h (machine.enter E b t.site.level rs) (machine.give (machine.Left Past) rs)) before c.args.state.now p after c.enter_if.new.state) c.agrees-holds.ensures
     h)) c.enter_if.ensures
 
 pub returns-in-Chooses : goal.returns-in-Chooses
@@ -33,12 +33,12 @@ returns-in-Whiles c program =
     let after = c.enter_while.new.stacks.rests.items in
     let p = c.enter_while.new.stacks.next in
     let t = c.in-Whiles in
-    let E = spot_of t.spot in
+    let E = spot_of t.site in
     let b = block_of t.body.now in
     let sense = t.condition.now.sense in
     let e = exp t.condition.now.test in
     on_ok_weaker c.enter_while.result (λ h. subst (λ r. Goes (machine.next program (truth_rest r) (machine.Verdict c.args.t)) before c.args.state.now p after c.enter_while.new.state) (sym t.is)
-    (subst (λ h. Goes (λ rs. choose h (machine.enter E b t.s (machine.WhileBody E sense e b t.s ∷ rs)) (machine.give (machine.Left Past) rs)) before c.args.state.now p after c.enter_while.new.state) c.agrees-holds-in-Whiles.ensures
+    (subst (λ h. Goes (λ rs. choose h (machine.enter E b t.site.level (machine.WhileBody E sense e b t.site.level ∷ rs)) (machine.give (machine.Left Past) rs)) before c.args.state.now p after c.enter_while.new.state) c.agrees-holds-in-Whiles.ensures
     h)) c.enter_while.ensures
 
 pub returns-in-Conjoins : goal.returns-in-Conjoins

@@ -14,5 +14,5 @@ returns-in-Some c program table =
     let is = is_first_call (exp c.args.e.now) c.first_call.result c.in-Some.first c.first_call.ensures c.in-Some.is in
     on_ok_weaker c.operand.result (λ h. inr (
       call_there (exp c.args.e.now) c.in-Some.first is,
-      subst (λ e. Ran program (evaluating (spot_of c.args.spot) e c.args.s before) st c.operand.new.stacks.next (stack after) (given after) c.operand.new.state) is h,
+      subst (λ e. Ran program (evaluating (spot_of c.args.site) e c.args.site.level before) st c.operand.new.stacks.next (stack after) (given after) c.operand.new.state) is h,
     )) (c.operand.ensures program table)

@@ -7,6 +7,6 @@ use Rattle.bc_interpret_steps.proofs.descend.operand.Goals as goal
 pub returns : goal.returns
 returns c program table =
     let o = c.args.first in
-    let after = c.call_now.new.stacks.rests.items in
-    on_ok_weaker c.call_now.result (λ h. operand_into program c.args.state.now (spot_of c.args.spot) o.op (args o.arguments.now) (exp o.routine.now) (exp o.second.now) c.args.s c.in_ok-level.level
-    (stack c.args.stacks.now.rests.items) (stack c.put.new.rests.items) c.call_now.new.stacks.next (stack after) (given after) c.call_now.new.state c.in_ok-put.ensures.stack c.in_ok-level.ensures h) (c.call_now.ensures program table)
+    let after = c.begin_call.new.stacks.rests.items in
+    on_ok_weaker c.begin_call.result (λ h. operand_into program c.args.state.now (spot_of c.args.site) o.op (args o.arguments.now) (exp o.routine.now) (exp o.second.now) c.args.site.level c.in_ok-level.level
+    (stack c.args.stacks.now.rests.items) (stack c.push.new.rests.items) c.begin_call.new.stacks.next (stack after) (given after) c.begin_call.new.state c.in_ok-push.ensures.stack c.in_ok-level.ensures h) (c.begin_call.ensures program table)

@@ -10,5 +10,5 @@ pub returns-in-Not : goal.returns-in-Not
 returns-in-Not c st =
     let f = c.decide_part in
     let q = c.deref.ensures in
-    subst (λ e. OnOk f.result (Goes (machine.decide_parts (spot_of c.args.spot) e c.args.s) c.args.stacks.now.rests.items st f.new.stacks.next f.new.stacks.rests.items st))
+    subst (λ e. OnOk f.result (Goes (machine.decide_parts (spot_of c.args.site) e c.args.site.level) c.args.stacks.now.rests.items st f.new.stacks.next f.new.stacks.rests.items st))
     ((λ i. tree.Not (exp (q i))) ∙ sym (ap exp c.in-Not.is)) (f.ensures st)

@@ -10,7 +10,7 @@ use Rattle.bc_interpret_steps.proofs.evaluate.evaluate.Goals as goal
 
 pub returns-in-None : goal.returns-in-None
 returns-in-None c =
-    let E = spot_of c.args.spot in
+    let E = spot_of c.args.site in
     let e = exp c.args.e.now in
     let st = c.args.state.now in
     let f = c.evaluate_parts in
@@ -18,4 +18,4 @@ returns-in-None c =
     let P : Option Worth → Type 0 = λ o. IsWorth (sight st E) e o in
     let is : c.in_ok-worth.field-0 ≡ None = cc in
     let calls = subst P is c.in_ok-worth.ensures in
-    on_ok_weaker f.result (λ h. value_parts E e c.args.s (stack c.args.stacks.now.rests.items) st f.new.stacks.next (stack after) (given after) st calls h) f.ensures
+    on_ok_weaker f.result (λ h. value_parts E e c.args.site.level (stack c.args.stacks.now.rests.items) st f.new.stacks.next (stack after) (given after) st calls h) f.ensures

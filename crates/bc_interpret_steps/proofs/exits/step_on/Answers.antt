@@ -13,9 +13,9 @@ returns-in_ok-stacks-in-None c program =
     let before = c.args.stacks.now.rests.items in
     let old = c.args.state.now in
     let new = c.step_variable.new.state in
-    let E = spot_of c.args.spot in
-    let b = block_of c.args.body.now in
+    let E = spot_of c.args.site in
+    let b = block_of c.args.rounds.body.now in
     let came = c.in_ok-stacks-in-None in
     subst (λ r. CameOrMalformed r old came.field-0 (stack before) (given before) new)
-    (for_after program E c.args.bounds.0 c.args.bounds.1 b c.args.s (exit_of c.args.exit) (stack before) c.in-None.ensures)
-    (loosen (next program (ForBody E c.args.bounds.0 c.args.bounds.1 b c.args.s) (Left Past) (stack before)) old came.field-0 (stack before) (given before) new (came.ensures program (stack before) (given before)))
+    (for_after program E c.args.rounds.limit c.args.rounds.by b c.args.site.level (exit_of c.args.exit) (stack before) c.in-None.ensures)
+    (loosen (next program (ForBody E c.args.rounds.limit c.args.rounds.by b c.args.site.level) (Left Past) (stack before)) old came.field-0 (stack before) (given before) new (came.ensures program (stack before) (given before)))

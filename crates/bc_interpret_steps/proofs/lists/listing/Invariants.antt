@@ -10,7 +10,7 @@ use Rattle.bc_interpret_steps.proofs.lists.listing.Given as goal
 
 abbrev pub invariant-loop-left : goal.invariant-loop-left
 invariant-loop-left l = record {
-  kept : (rs : List machine.Rest) (streams : Content) → list_step (spot_of l.spot) (items l.fn.items) l.s (entry_of l.fn.entry) rs (state_of l.fn.state streams) ≡ list_step (spot_of l.spot) (items l.left) l.s (entry_of l.at) rs (state_of l.state streams);
+  kept : (rs : List machine.Rest) (streams : Content) → list_step (spot_of l.site) (items l.fn.items) l.site.level (entry_of l.fn.entry) rs (state_of l.fn.state streams) ≡ list_step (spot_of l.site) (items l.left) l.site.level (entry_of l.at) rs (state_of l.state streams);
   rests : l.stacks.rests.items ≡ l.fn.stacks.rests.items;
   stood : Stood l.fn.state.store l.state.store;
 }

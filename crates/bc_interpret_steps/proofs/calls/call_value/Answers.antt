@@ -5,7 +5,7 @@ use Rattle.bc_interpret_steps.specs.Code.{stack, given}
 use Rattle.bc_interpret_steps.specs.Arrived.{Lands}
 use Rattle.bc_interpret_steps.specs.Sections.{called}
 use Rattle.bc_interpret_steps.proofs.Arrivals.{sized_among}
-use Rattle.bc_interpret_steps.proofs.calls.land.Goals as goal
+use Rattle.bc_interpret_steps.proofs.calls.call_value.Goals as goal
 
 pub returns-in-Some : goal.returns-in-Some
 returns-in-Some c program table =

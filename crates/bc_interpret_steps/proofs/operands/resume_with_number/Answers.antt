@@ -2,7 +2,7 @@ use Rattle.std.proofs.lemmas.Result.{on_ok_weaker}
 use Rattle.bc_interpret_defs.specs.Machine as machine
 use Rattle.bc_interpret_steps.specs.Code.{stack, given}
 use Rattle.bc_interpret_steps.proofs.Passing.{ran}
-use Rattle.bc_interpret_steps.proofs.operands.hand_number.Goals as goal
+use Rattle.bc_interpret_steps.proofs.operands.resume_with_number.Goals as goal
 
 pub returns-in-None : goal.returns-in-None
 returns-in-None c program table =

@@ -2,7 +2,7 @@ use Rattle.std.proofs.Common.{rules, arith, ◌-◌, length, take, drop}
 use Rattle.std.proofs.lemmas.Grind.{common_steps}
 use Rattle.bc_interpret_steps.proofs.Counts.{apart}
 use Rattle.bc_interpret_steps.proofs.Argues.{argued_over, argued_last}
-use Rattle.bc_interpret_steps.proofs.arguments.argue.Goals as goal
+use Rattle.bc_interpret_steps.proofs.arguments.evaluate_arguments.Goals as goal
 
 pub returns-in-Over : goal.returns-in-Over
 returns-in-Over c =
