@@ -15,35 +15,13 @@ ghost use Rattle.bc_gen.specs.Writing.{Writes, Puts};
 
 use crate::context::{Around, label_of};
 use crate::gen_error::GenError;
-use crate::items::{FINISH, RETURN, SWITCH};
 use crate::list_labels::entry_after;
-use crate::roots::Jump;
 use crate::writer::Writer;
 use bc_core::{
     Block, Command, Condition, CoreExp, Declaration, ListItem, Root, Variable, copy_expression,
 };
 use bc_word::{Memory, Op, Word};
 use std::alloc::Global;
-
-/// The commands of a TEST.
-#[derive(Clone, Copy)]
-struct Branches<'c> {
-    /// Performed if the test is true.
-    this: &'c Block,
-    /// Performed if it is false.
-    that: &'c Block,
-}
-
-/// The values that the variable of a FOR takes.
-#[derive(Clone, Copy)]
-struct Range<'c> {
-    /// The first value.
-    start: &'c CoreExp,
-    /// The last one, at most.
-    limit: &'c CoreExp,
-    /// The step.
-    by: Word,
-}
 
 /// The expression for the variable at this offset of the frame.
 fn variable(alloc: Global, offset: u16) -> Result<Box<CoreExp>, Memory>
@@ -126,9 +104,7 @@ impl Writer {
             Command::Call(call) => self.value(around, level, call),
             Command::Assign { value, address } => self.assign(around, level, value, address),
             Command::If(condition, body) => self.if_command(around, level, condition, body),
-            Command::Test(test, this, that) => {
-                self.test_command(around, level, test, Branches { this, that })
-            }
+            Command::Test(test, this, that) => self.test_command(around, level, test, this, that),
             Command::While(condition, body) => self.while_loop(around, level, condition, body),
             Command::Repeat(body) => self.repeat(around, level, body),
             Command::RepeatWhile(body, condition) => {
@@ -139,21 +115,14 @@ impl Writer {
                 limit,
                 by,
                 body,
-            } => {
-                let range = Range {
-                    start,
-                    limit,
-                    by: *by,
-                };
-                self.for_loop(around, level, range, body)
-            }
+            } => self.for_loop(around, level, start, limit, *by, body),
             Command::SwitchOn(value, list) => self.switchon(around, level, value, list),
             Command::Break => self.jump(around.broken),
             Command::Loop => self.jump(around.looped),
             Command::EndCase => self.jump(around.cases),
             Command::Return => self.return_zero(),
             Command::ResultIs(value) => self.resultis(around, level, value),
-            Command::Finish => self.execute(FINISH),
+            Command::Finish => self.execute(22),
             Command::Goto(number) => self.jump(label_of(around.labels, *number, 0)),
             Command::Nested(body) => self.block(around, level, body),
         }
@@ -164,7 +133,7 @@ impl Writer {
         ensures { Puts result self.old self.new (Plain zero_item ∷ Plain (execute_item 4) ∷ []) }
     {
         self.zero()?;
-        self.execute(RETURN)
+        self.execute(4)
     }
 
     /// Writes the code of an assignment.
@@ -224,11 +193,7 @@ impl Writer {
             (exits_of around.now) self.old.next) }
     {
         let past = self.take(1)?;
-        let out = Jump {
-            sense: !condition.sense,
-            target: past,
-        };
-        self.test(around, level, &condition.test, out)?;
+        self.test(around, level, !condition.sense, &condition.test, past)?;
         self.block(around, level, body)?;
         self.label(past)
     }
@@ -240,25 +205,21 @@ impl Writer {
         around: &Around<'_>,
         level: u16,
         test: &CoreExp,
-        branches: Branches<'_>,
+        this: &Block,
+        that: &Block,
     ) -> Result<(), GenError>
-        requires { CommandHasRoom (room_in around.now)
-            (forms.Test (exp test.now) (block_of branches.this.now) (block_of branches.that.now)) level }
+        requires { CommandHasRoom (room_in around.now) (forms.Test (exp test.now) (block_of this.now) (block_of that.now)) level }
         ensures { Writes result self.old self.new
-            (emit Plain (roots_in around.now) (forms.Test (exp test.now) (block_of branches.entry.this.now) (block_of branches.entry.that.now)) level
+            (emit Plain (roots_in around.now) (forms.Test (exp test.now) (block_of this.now) (block_of that.now)) level
             (exits_of around.now) self.old.next) }
     {
         let other = self.take(1)?;
         let past = self.take(1)?;
-        let out = Jump {
-            sense: false,
-            target: other,
-        };
-        self.test(around, level, test, out)?;
-        self.block(around, level, branches.this)?;
+        self.test(around, level, false, test, other)?;
+        self.block(around, level, this)?;
         self.jump(past)?;
         self.label(other)?;
-        self.block(around, level, branches.that)?;
+        self.block(around, level, that)?;
         self.label(past)
     }
 
@@ -279,11 +240,7 @@ impl Writer {
         let again = self.take(1)?;
         let past = self.take(1)?;
         self.label(again)?;
-        let out = Jump {
-            sense: !condition.sense,
-            target: past,
-        };
-        self.test(around, level, &condition.test, out)?;
+        self.test(around, level, !condition.sense, &condition.test, past)?;
         self.block(&around.in_loop(past, again), level, body)?;
         self.jump(again)?;
         self.label(past)
@@ -324,11 +281,7 @@ impl Writer {
         self.label(again)?;
         self.block(&around.in_loop(past, onward), level, body)?;
         self.label(onward)?;
-        let back = Jump {
-            sense: condition.sense,
-            target: again,
-        };
-        self.test(around, level, &condition.test, back)?;
+        self.test(around, level, condition.sense, &condition.test, again)?;
         self.label(past)
     }
 
@@ -338,34 +291,30 @@ impl Writer {
         &mut self,
         around: &Around<'_>,
         offset: u16,
-        range: Range<'_>,
+        start: &CoreExp,
+        limit: &CoreExp,
+        by: Word,
         body: &Block,
     ) -> Result<(), GenError>
-        requires { CommandHasRoom (room_in around.now)
-            (forms.For (exp range.start.now) (exp range.limit.now) range.by (block_of body.now)) offset }
+        requires { CommandHasRoom (room_in around.now) (forms.For (exp start.now) (exp limit.now) by (block_of body.now)) offset }
         ensures { Writes result self.old self.new
-            (emit Plain (roots_in around.now)
-            (forms.For (exp range.entry.start.now) (exp range.entry.limit.now) range.entry.by (block_of body.now)) offset
+            (emit Plain (roots_in around.now) (forms.For (exp start.now) (exp limit.now) by (block_of body.now)) offset
             (exits_of around.now) self.old.next) }
     {
         let again = self.take(1)?;
         let past = self.take(1)?;
         let onward = self.take(1)?;
         let level = offset + 2;
-        let start = copy_expression(self.alloc, range.start)?;
+        let start = copy_expression(self.alloc, start)?;
         self.set(around, level, start, offset)?;
-        let limit = copy_expression(self.alloc, range.limit)?;
+        let limit = copy_expression(self.alloc, limit)?;
         self.set(around, level, limit, offset + 1)?;
         self.label(again)?;
-        let end = end_of_for(self.alloc, range.by, offset)?;
-        let out = Jump {
-            sense: true,
-            target: past,
-        };
-        self.test(around, level, &end, out)?;
+        let end = end_of_for(self.alloc, by, offset)?;
+        self.test(around, level, true, &end, past)?;
         self.block(&around.in_loop(past, onward), level, body)?;
         self.label(onward)?;
-        let step = step_of_for(self.alloc, range.by, offset)?;
+        let step = step_of_for(self.alloc, by, offset)?;
         self.set(around, level, step, offset)?;
         self.jump(again)?;
         self.label(past)
@@ -393,7 +342,7 @@ impl Writer {
             labels: &labels,
             ..*around
         };
-        self.execute(SWITCH)?;
+        self.execute(23)?;
         self.data(Word::new(found.count))?;
         self.data_label(found.default)?;
         self.table(found.first, list)?;

@@ -11,7 +11,6 @@ mod declarations;
 mod error;
 mod expressions;
 mod fault;
-mod levels;
 mod names;
 mod read;
 mod section;

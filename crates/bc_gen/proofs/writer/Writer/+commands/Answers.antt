@@ -146,7 +146,7 @@ if_command-returns t c =
 
 pub test_command-returns : goal.test_command-returns
 test_command-returns t c =
-    test_writes c.label-2.result (roots_in c.args.around.now) (exp c.args.test.now) (block_of c.args.branches.this.now) (block_of c.args.branches.that.now) c.args.level (exits_of c.args.around.now) c.in_ok-other.other c.in_ok-past.past
+    test_writes c.label-2.result (roots_in c.args.around.now) (exp c.args.test.now) (block_of c.args.this.now) (block_of c.args.that.now) c.args.level (exits_of c.args.around.now) c.in_ok-other.other c.in_ok-past.past
     c.args.self.now c.take.new.self c.take-2.new.self c.test.new.self c.block.new.self c.jump.new.self c.label.new.self c.block-2.new.self c.label-2.new.self
     c.in_ok-other.ensures.taken c.in_ok-other.ensures.parts c.in_ok-past.ensures.taken c.in_ok-past.ensures.parts
     c.in_ok-test.ensures c.in_ok-block.ensures c.in_ok-jump.ensures c.in_ok-label.ensures c.in_ok-block-2.ensures c.label-2.ensures
@@ -175,7 +175,7 @@ repeat_while-returns t c =
 pub for_loop-returns : goal.for_loop-returns
 for_loop-returns t c =
     for_writes c.label-3.result (roots_in c.args.around.now) (roots_in c.in_loop.result) (exits_of c.args.around.now) (exits_of c.in_loop.result)
-    (exp c.args.range.start.now) (exp c.args.range.limit.now) (exp c.in_ok-start.start) (exp c.in_ok-limit.limit) (exp c.in_ok-end.end) (exp c.in_ok-step.step) c.args.range.by (block_of c.args.body.now)
+    (exp c.args.start.now) (exp c.args.limit.now) (exp c.in_ok-start.start) (exp c.in_ok-limit.limit) (exp c.in_ok-end.end) (exp c.in_ok-step.step) c.args.by (block_of c.args.body.now)
     c.args.offset (c.args.offset + 2) (c.args.offset + 1) c.in_ok-again.again c.in_ok-past.past c.in_ok-onward.onward
     c.args.self.now c.take.new.self c.take-2.new.self c.take-3.new.self c.set.new.self c.set-2.new.self c.label.new.self c.test.new.self c.block.new.self c.label-2.new.self c.set-3.new.self c.jump.new.self c.label-3.new.self
     c.in_ok-again.ensures.taken c.in_ok-again.ensures.parts c.in_ok-past.ensures.taken c.in_ok-past.ensures.parts c.in_ok-onward.ensures.taken c.in_ok-onward.ensures.parts
@@ -294,37 +294,37 @@ if_command-returns-in_err-test t c =
 pub test_command-returns-in_err-other : goal.test_command-returns-in_err-other
 test_command-returns-in_err-other t c =
     fails c.from_residual.result c.in_err-other.field-0.0 c.args.self.now c.take.new.self (c.args.self.now.next + 1)
-    (emit Plain (roots_in c.args.around.now) (commands.Test (exp c.args.test.now) (block_of c.args.branches.this.now) (block_of c.args.branches.that.now)) c.args.level (exits_of c.args.around.now) c.args.self.now.next)
+    (emit Plain (roots_in c.args.around.now) (commands.Test (exp c.args.test.now) (block_of c.args.this.now) (block_of c.args.that.now)) c.args.level (exits_of c.args.around.now) c.args.self.now.next)
     c.from_residual.ensures.1 c.in_err-other.ensures.out
-    (less_one _ _ (test_taken (roots_in c.args.around.now) (rising c.args.around.now) (exp c.args.test.now) (block_of c.args.branches.this.now) (block_of c.args.branches.that.now) c.args.level (exits_of c.args.around.now) c.args.self.now.next))
+    (less_one _ _ (test_taken (roots_in c.args.around.now) (rising c.args.around.now) (exp c.args.test.now) (block_of c.args.this.now) (block_of c.args.that.now) c.args.level (exits_of c.args.around.now) c.args.self.now.next))
 
 pub test_command-returns-in_err-past : goal.test_command-returns-in_err-past
 test_command-returns-in_err-past t c =
     fails c.from_residual-in_err-past.result c.in_err-past.field-0.0 c.args.self.now c.take-2.new.self (c.take.new.self.next + 1)
-    (emit Plain (roots_in c.args.around.now) (commands.Test (exp c.args.test.now) (block_of c.args.branches.this.now) (block_of c.args.branches.that.now)) c.args.level (exits_of c.args.around.now) c.args.self.now.next)
+    (emit Plain (roots_in c.args.around.now) (commands.Test (exp c.args.test.now) (block_of c.args.this.now) (block_of c.args.that.now)) c.args.level (exits_of c.args.around.now) c.args.self.now.next)
     c.from_residual-in_err-past.ensures.1 c.in_err-past.ensures.out
-    (second _ _ _ c.in_ok-other.ensures.taken.1 (test_taken (roots_in c.args.around.now) (rising c.args.around.now) (exp c.args.test.now) (block_of c.args.branches.this.now) (block_of c.args.branches.that.now) c.args.level (exits_of c.args.around.now) c.args.self.now.next))
+    (second _ _ _ c.in_ok-other.ensures.taken.1 (test_taken (roots_in c.args.around.now) (rising c.args.around.now) (exp c.args.test.now) (block_of c.args.this.now) (block_of c.args.that.now) c.args.level (exits_of c.args.around.now) c.args.self.now.next))
 
 pub test_command-returns-in_err-test : goal.test_command-returns-in_err-test
 test_command-returns-in_err-test t c =
     fails c.from_residual-in_err-test.result c.in_err-test.field-0.0 c.args.self.now c.test.new.self (roots_in c.args.around.now (Test c.args.level false (exp c.args.test.now)) c.in_ok-other.other c.take-2.new.self.next).1
-    (emit Plain (roots_in c.args.around.now) (commands.Test (exp c.args.test.now) (block_of c.args.branches.this.now) (block_of c.args.branches.that.now)) c.args.level (exits_of c.args.around.now) c.args.self.now.next)
+    (emit Plain (roots_in c.args.around.now) (commands.Test (exp c.args.test.now) (block_of c.args.this.now) (block_of c.args.that.now)) c.args.level (exits_of c.args.around.now) c.args.self.now.next)
     c.from_residual-in_err-test.ensures.1 c.in_err-test.ensures
-    (test_tested (roots_in c.args.around.now) (rising c.args.around.now) (exp c.args.test.now) (block_of c.args.branches.this.now) (block_of c.args.branches.that.now) c.args.level (exits_of c.args.around.now) c.args.self.now.next _ _ c.in_ok-other.ensures.taken.0 (two_taken _ _ _ c.in_ok-other.ensures.taken.1 c.in_ok-past.ensures.taken.1))
+    (test_tested (roots_in c.args.around.now) (rising c.args.around.now) (exp c.args.test.now) (block_of c.args.this.now) (block_of c.args.that.now) c.args.level (exits_of c.args.around.now) c.args.self.now.next _ _ c.in_ok-other.ensures.taken.0 (two_taken _ _ _ c.in_ok-other.ensures.taken.1 c.in_ok-past.ensures.taken.1))
 
 pub test_command-returns-in_err-block : goal.test_command-returns-in_err-block
 test_command-returns-in_err-block t c =
-    fails c.from_residual-in_err-block.result c.in_err-block.field-0.0 c.args.self.now c.block.new.self (emit_block Plain (roots_in c.args.around.now) (block_of c.args.branches.this.now) c.args.level (exits_of c.args.around.now) c.test.new.self.next).1
-    (emit Plain (roots_in c.args.around.now) (commands.Test (exp c.args.test.now) (block_of c.args.branches.this.now) (block_of c.args.branches.that.now)) c.args.level (exits_of c.args.around.now) c.args.self.now.next)
+    fails c.from_residual-in_err-block.result c.in_err-block.field-0.0 c.args.self.now c.block.new.self (emit_block Plain (roots_in c.args.around.now) (block_of c.args.this.now) c.args.level (exits_of c.args.around.now) c.test.new.self.next).1
+    (emit Plain (roots_in c.args.around.now) (commands.Test (exp c.args.test.now) (block_of c.args.this.now) (block_of c.args.that.now)) c.args.level (exits_of c.args.around.now) c.args.self.now.next)
     c.from_residual-in_err-block.ensures.1 c.in_err-block.ensures
-    (test_half (roots_in c.args.around.now) (rising c.args.around.now) (exp c.args.test.now) (block_of c.args.branches.this.now) (block_of c.args.branches.that.now) c.args.level (exits_of c.args.around.now) c.args.self.now.next _ _ _ c.in_ok-other.ensures.taken.0 (two_taken _ _ _ c.in_ok-other.ensures.taken.1 c.in_ok-past.ensures.taken.1) c.in_ok-test.ensures.1)
+    (test_half (roots_in c.args.around.now) (rising c.args.around.now) (exp c.args.test.now) (block_of c.args.this.now) (block_of c.args.that.now) c.args.level (exits_of c.args.around.now) c.args.self.now.next _ _ _ c.in_ok-other.ensures.taken.0 (two_taken _ _ _ c.in_ok-other.ensures.taken.1 c.in_ok-past.ensures.taken.1) c.in_ok-test.ensures.1)
 
 pub test_command-returns-in_err-block-2 : goal.test_command-returns-in_err-block-2
 test_command-returns-in_err-block-2 t c =
-    fails c.from_residual-in_err-block-2.result c.in_err-block-2.field-0.0 c.args.self.now c.block-2.new.self (emit_block Plain (roots_in c.args.around.now) (block_of c.args.branches.that.now) c.args.level (exits_of c.args.around.now) c.label.new.self.next).1
-    (emit Plain (roots_in c.args.around.now) (commands.Test (exp c.args.test.now) (block_of c.args.branches.this.now) (block_of c.args.branches.that.now)) c.args.level (exits_of c.args.around.now) c.args.self.now.next)
+    fails c.from_residual-in_err-block-2.result c.in_err-block-2.field-0.0 c.args.self.now c.block-2.new.self (emit_block Plain (roots_in c.args.around.now) (block_of c.args.that.now) c.args.level (exits_of c.args.around.now) c.label.new.self.next).1
+    (emit Plain (roots_in c.args.around.now) (commands.Test (exp c.args.test.now) (block_of c.args.this.now) (block_of c.args.that.now)) c.args.level (exits_of c.args.around.now) c.args.self.now.next)
     c.from_residual-in_err-block-2.ensures.1 c.in_err-block-2.ensures
-    (test_done (roots_in c.args.around.now) (exp c.args.test.now) (block_of c.args.branches.this.now) (block_of c.args.branches.that.now) c.args.level (exits_of c.args.around.now) c.args.self.now.next _ _ _ _ c.in_ok-other.ensures.taken.0 (two_taken _ _ _ c.in_ok-other.ensures.taken.1 c.in_ok-past.ensures.taken.1) c.in_ok-test.ensures.1 (c.in_ok-label.ensures.1 ∙ c.in_ok-jump.ensures.1 ∙ c.in_ok-block.ensures.1))
+    (test_done (roots_in c.args.around.now) (exp c.args.test.now) (block_of c.args.this.now) (block_of c.args.that.now) c.args.level (exits_of c.args.around.now) c.args.self.now.next _ _ _ _ c.in_ok-other.ensures.taken.0 (two_taken _ _ _ c.in_ok-other.ensures.taken.1 c.in_ok-past.ensures.taken.1) c.in_ok-test.ensures.1 (c.in_ok-label.ensures.1 ∙ c.in_ok-jump.ensures.1 ∙ c.in_ok-block.ensures.1))
 
 pub while_loop-returns-in_err-again : goal.while_loop-returns-in_err-again
 while_loop-returns-in_err-again t c =
@@ -413,58 +413,58 @@ repeat_while-returns-in_err-test t c =
 pub for_loop-returns-in_err-again : goal.for_loop-returns-in_err-again
 for_loop-returns-in_err-again t c =
     fails c.from_residual.result c.in_err-again.field-0.0 c.args.self.now c.take.new.self (c.args.self.now.next + 1)
-    (emit Plain (roots_in c.args.around.now) (commands.For (exp c.args.range.start.now) (exp c.args.range.limit.now) c.args.range.by (block_of c.args.body.now)) c.args.offset (exits_of c.args.around.now) c.args.self.now.next)
+    (emit Plain (roots_in c.args.around.now) (commands.For (exp c.args.start.now) (exp c.args.limit.now) c.args.by (block_of c.args.body.now)) c.args.offset (exits_of c.args.around.now) c.args.self.now.next)
     c.from_residual.ensures.1 c.in_err-again.ensures.out
-    (less_two _ _ (for_taken (roots_in c.args.around.now) (rising c.args.around.now) (exits_of c.args.around.now) (exp c.args.range.start.now) (exp c.args.range.limit.now) c.args.range.by (block_of c.args.body.now) c.args.offset c.args.self.now.next))
+    (less_two _ _ (for_taken (roots_in c.args.around.now) (rising c.args.around.now) (exits_of c.args.around.now) (exp c.args.start.now) (exp c.args.limit.now) c.args.by (block_of c.args.body.now) c.args.offset c.args.self.now.next))
 
 pub for_loop-returns-in_err-past : goal.for_loop-returns-in_err-past
 for_loop-returns-in_err-past t c =
     fails c.from_residual-in_err-past.result c.in_err-past.field-0.0 c.args.self.now c.take-2.new.self (c.take.new.self.next + 1)
-    (emit Plain (roots_in c.args.around.now) (commands.For (exp c.args.range.start.now) (exp c.args.range.limit.now) c.args.range.by (block_of c.args.body.now)) c.args.offset (exits_of c.args.around.now) c.args.self.now.next)
+    (emit Plain (roots_in c.args.around.now) (commands.For (exp c.args.start.now) (exp c.args.limit.now) c.args.by (block_of c.args.body.now)) c.args.offset (exits_of c.args.around.now) c.args.self.now.next)
     c.from_residual-in_err-past.ensures.1 c.in_err-past.ensures.out
-    (second_of_three _ _ _ c.in_ok-again.ensures.taken.1 (for_taken (roots_in c.args.around.now) (rising c.args.around.now) (exits_of c.args.around.now) (exp c.args.range.start.now) (exp c.args.range.limit.now) c.args.range.by (block_of c.args.body.now) c.args.offset c.args.self.now.next))
+    (second_of_three _ _ _ c.in_ok-again.ensures.taken.1 (for_taken (roots_in c.args.around.now) (rising c.args.around.now) (exits_of c.args.around.now) (exp c.args.start.now) (exp c.args.limit.now) c.args.by (block_of c.args.body.now) c.args.offset c.args.self.now.next))
 
 pub for_loop-returns-in_err-onward : goal.for_loop-returns-in_err-onward
 for_loop-returns-in_err-onward t c =
     fails c.from_residual-in_err-onward.result c.in_err-onward.field-0.0 c.args.self.now c.take-3.new.self (c.take-2.new.self.next + 1)
-    (emit Plain (roots_in c.args.around.now) (commands.For (exp c.args.range.start.now) (exp c.args.range.limit.now) c.args.range.by (block_of c.args.body.now)) c.args.offset (exits_of c.args.around.now) c.args.self.now.next)
+    (emit Plain (roots_in c.args.around.now) (commands.For (exp c.args.start.now) (exp c.args.limit.now) c.args.by (block_of c.args.body.now)) c.args.offset (exits_of c.args.around.now) c.args.self.now.next)
     c.from_residual-in_err-onward.ensures.1 c.in_err-onward.ensures.out
-    (third _ _ _ (two_taken _ _ _ c.in_ok-again.ensures.taken.1 c.in_ok-past.ensures.taken.1) (for_taken (roots_in c.args.around.now) (rising c.args.around.now) (exits_of c.args.around.now) (exp c.args.range.start.now) (exp c.args.range.limit.now) c.args.range.by (block_of c.args.body.now) c.args.offset c.args.self.now.next))
+    (third _ _ _ (two_taken _ _ _ c.in_ok-again.ensures.taken.1 c.in_ok-past.ensures.taken.1) (for_taken (roots_in c.args.around.now) (rising c.args.around.now) (exits_of c.args.around.now) (exp c.args.start.now) (exp c.args.limit.now) c.args.by (block_of c.args.body.now) c.args.offset c.args.self.now.next))
 
 pub for_loop-returns-in_err-set : goal.for_loop-returns-in_err-set
 for_loop-returns-in_err-set t c =
     fails c.from_residual-in_err-set.result c.in_err-set.field-0.0 c.args.self.now c.set.new.self (roots_in c.args.around.now (Assign (c.args.offset + 2) (exp c.in_ok-start.start) (Frame c.args.offset)) 0 c.take-3.new.self.next).1
-    (emit Plain (roots_in c.args.around.now) (commands.For (exp c.args.range.start.now) (exp c.args.range.limit.now) c.args.range.by (block_of c.args.body.now)) c.args.offset (exits_of c.args.around.now) c.args.self.now.next)
+    (emit Plain (roots_in c.args.around.now) (commands.For (exp c.args.start.now) (exp c.args.limit.now) c.args.by (block_of c.args.body.now)) c.args.offset (exits_of c.args.around.now) c.args.self.now.next)
     c.from_residual-in_err-set.ensures.1 c.in_err-set.ensures
-    (for_started (roots_in c.args.around.now) (rising c.args.around.now) (exits_of c.args.around.now) (exp c.args.range.start.now) (exp c.args.range.limit.now) c.args.range.by (block_of c.args.body.now) c.args.offset c.args.self.now.next _ (started (roots_in c.args.around.now) c.args.offset c.args.self.now.next (c.args.offset + 2) _ _ _ refl c.in_ok-start.ensures (three_taken _ _ _ _ c.in_ok-again.ensures.taken.1 c.in_ok-past.ensures.taken.1 c.in_ok-onward.ensures.taken.1)))
+    (for_started (roots_in c.args.around.now) (rising c.args.around.now) (exits_of c.args.around.now) (exp c.args.start.now) (exp c.args.limit.now) c.args.by (block_of c.args.body.now) c.args.offset c.args.self.now.next _ (started (roots_in c.args.around.now) c.args.offset c.args.self.now.next (c.args.offset + 2) _ _ _ refl c.in_ok-start.ensures (three_taken _ _ _ _ c.in_ok-again.ensures.taken.1 c.in_ok-past.ensures.taken.1 c.in_ok-onward.ensures.taken.1)))
 
 pub for_loop-returns-in_err-set-2 : goal.for_loop-returns-in_err-set-2
 for_loop-returns-in_err-set-2 t c =
     fails c.from_residual-in_err-set-2.result c.in_err-set-2.field-0.0 c.args.self.now c.set-2.new.self (roots_in c.args.around.now (Assign (c.args.offset + 2) (exp c.in_ok-limit.limit) (Frame (c.args.offset + 1))) 0 c.set.new.self.next).1
-    (emit Plain (roots_in c.args.around.now) (commands.For (exp c.args.range.start.now) (exp c.args.range.limit.now) c.args.range.by (block_of c.args.body.now)) c.args.offset (exits_of c.args.around.now) c.args.self.now.next)
+    (emit Plain (roots_in c.args.around.now) (commands.For (exp c.args.start.now) (exp c.args.limit.now) c.args.by (block_of c.args.body.now)) c.args.offset (exits_of c.args.around.now) c.args.self.now.next)
     c.from_residual-in_err-set-2.ensures.1 c.in_err-set-2.ensures
-    (for_limited (roots_in c.args.around.now) (rising c.args.around.now) (exits_of c.args.around.now) (exp c.args.range.start.now) (exp c.args.range.limit.now) c.args.range.by (block_of c.args.body.now) c.args.offset c.args.self.now.next _ (limited (roots_in c.args.around.now) c.args.offset c.args.self.now.next (c.args.offset + 2) _ _ _ _ _ refl refl c.in_ok-limit.ensures (c.in_ok-set.ensures.1 ∙ started (roots_in c.args.around.now) c.args.offset c.args.self.now.next (c.args.offset + 2) _ _ _ refl c.in_ok-start.ensures (three_taken _ _ _ _ c.in_ok-again.ensures.taken.1 c.in_ok-past.ensures.taken.1 c.in_ok-onward.ensures.taken.1))))
+    (for_limited (roots_in c.args.around.now) (rising c.args.around.now) (exits_of c.args.around.now) (exp c.args.start.now) (exp c.args.limit.now) c.args.by (block_of c.args.body.now) c.args.offset c.args.self.now.next _ (limited (roots_in c.args.around.now) c.args.offset c.args.self.now.next (c.args.offset + 2) _ _ _ _ _ refl refl c.in_ok-limit.ensures (c.in_ok-set.ensures.1 ∙ started (roots_in c.args.around.now) c.args.offset c.args.self.now.next (c.args.offset + 2) _ _ _ refl c.in_ok-start.ensures (three_taken _ _ _ _ c.in_ok-again.ensures.taken.1 c.in_ok-past.ensures.taken.1 c.in_ok-onward.ensures.taken.1))))
 
 pub for_loop-returns-in_err-test : goal.for_loop-returns-in_err-test
 for_loop-returns-in_err-test t c =
     fails c.from_residual-in_err-test.result c.in_err-test.field-0.0 c.args.self.now c.test.new.self (roots_in c.args.around.now (Test (c.args.offset + 2) true (exp c.in_ok-end.end)) c.in_ok-past.past c.label.new.self.next).1
-    (emit Plain (roots_in c.args.around.now) (commands.For (exp c.args.range.start.now) (exp c.args.range.limit.now) c.args.range.by (block_of c.args.body.now)) c.args.offset (exits_of c.args.around.now) c.args.self.now.next)
+    (emit Plain (roots_in c.args.around.now) (commands.For (exp c.args.start.now) (exp c.args.limit.now) c.args.by (block_of c.args.body.now)) c.args.offset (exits_of c.args.around.now) c.args.self.now.next)
     c.from_residual-in_err-test.ensures.1 c.in_err-test.ensures
-    (for_tested (roots_in c.args.around.now) (rising c.args.around.now) (exits_of c.args.around.now) (exp c.args.range.start.now) (exp c.args.range.limit.now) c.args.range.by (block_of c.args.body.now) c.args.offset c.args.self.now.next _ (tested (roots_in c.args.around.now) c.args.offset c.args.self.now.next (c.args.offset + 2) c.args.range.by _ _ _ _ _ refl c.in_ok-end.ensures (c.in_ok-past.ensures.taken.0 ∙ c.in_ok-again.ensures.taken.1) (c.in_ok-label.ensures.1 ∙ c.in_ok-set-2.ensures.1 ∙ limited (roots_in c.args.around.now) c.args.offset c.args.self.now.next (c.args.offset + 2) _ _ _ _ _ refl refl c.in_ok-limit.ensures (c.in_ok-set.ensures.1 ∙ started (roots_in c.args.around.now) c.args.offset c.args.self.now.next (c.args.offset + 2) _ _ _ refl c.in_ok-start.ensures (three_taken _ _ _ _ c.in_ok-again.ensures.taken.1 c.in_ok-past.ensures.taken.1 c.in_ok-onward.ensures.taken.1)))))
+    (for_tested (roots_in c.args.around.now) (rising c.args.around.now) (exits_of c.args.around.now) (exp c.args.start.now) (exp c.args.limit.now) c.args.by (block_of c.args.body.now) c.args.offset c.args.self.now.next _ (tested (roots_in c.args.around.now) c.args.offset c.args.self.now.next (c.args.offset + 2) c.args.by _ _ _ _ _ refl c.in_ok-end.ensures (c.in_ok-past.ensures.taken.0 ∙ c.in_ok-again.ensures.taken.1) (c.in_ok-label.ensures.1 ∙ c.in_ok-set-2.ensures.1 ∙ limited (roots_in c.args.around.now) c.args.offset c.args.self.now.next (c.args.offset + 2) _ _ _ _ _ refl refl c.in_ok-limit.ensures (c.in_ok-set.ensures.1 ∙ started (roots_in c.args.around.now) c.args.offset c.args.self.now.next (c.args.offset + 2) _ _ _ refl c.in_ok-start.ensures (three_taken _ _ _ _ c.in_ok-again.ensures.taken.1 c.in_ok-past.ensures.taken.1 c.in_ok-onward.ensures.taken.1)))))
 
 pub for_loop-returns-in_err-block : goal.for_loop-returns-in_err-block
 for_loop-returns-in_err-block t c =
     fails c.from_residual-in_err-block.result c.in_err-block.field-0.0 c.args.self.now c.block.new.self (emit_block Plain (roots_in c.in_loop.result) (block_of c.args.body.now) (c.args.offset + 2) (exits_of c.in_loop.result) c.test.new.self.next).1
-    (emit Plain (roots_in c.args.around.now) (commands.For (exp c.args.range.start.now) (exp c.args.range.limit.now) c.args.range.by (block_of c.args.body.now)) c.args.offset (exits_of c.args.around.now) c.args.self.now.next)
+    (emit Plain (roots_in c.args.around.now) (commands.For (exp c.args.start.now) (exp c.args.limit.now) c.args.by (block_of c.args.body.now)) c.args.offset (exits_of c.args.around.now) c.args.self.now.next)
     c.from_residual-in_err-block.ensures.1 c.in_err-block.ensures
-    (for_ended (roots_in c.args.around.now) (rising c.args.around.now) (exits_of c.args.around.now) (exp c.args.range.start.now) (exp c.args.range.limit.now) c.args.range.by (block_of c.args.body.now) c.args.offset c.args.self.now.next _ (ended c.args.around.now c.in_loop.result (block_of c.args.body.now) c.args.offset c.args.self.now.next (c.args.offset + 2) c.args.range.by (exp c.args.range.start.now) (exp c.args.range.limit.now) _ _ _ refl c.in_loop.ensures (c.in_ok-past.ensures.taken.0 ∙ c.in_ok-again.ensures.taken.1) (c.in_ok-onward.ensures.taken.0 ∙ (two_taken _ _ _ c.in_ok-again.ensures.taken.1 c.in_ok-past.ensures.taken.1)) (c.in_ok-test.ensures.1 ∙ tested (roots_in c.args.around.now) c.args.offset c.args.self.now.next (c.args.offset + 2) c.args.range.by _ _ _ _ _ refl c.in_ok-end.ensures (c.in_ok-past.ensures.taken.0 ∙ c.in_ok-again.ensures.taken.1) (c.in_ok-label.ensures.1 ∙ c.in_ok-set-2.ensures.1 ∙ limited (roots_in c.args.around.now) c.args.offset c.args.self.now.next (c.args.offset + 2) _ _ _ _ _ refl refl c.in_ok-limit.ensures (c.in_ok-set.ensures.1 ∙ started (roots_in c.args.around.now) c.args.offset c.args.self.now.next (c.args.offset + 2) _ _ _ refl c.in_ok-start.ensures (three_taken _ _ _ _ c.in_ok-again.ensures.taken.1 c.in_ok-past.ensures.taken.1 c.in_ok-onward.ensures.taken.1))))))
+    (for_ended (roots_in c.args.around.now) (rising c.args.around.now) (exits_of c.args.around.now) (exp c.args.start.now) (exp c.args.limit.now) c.args.by (block_of c.args.body.now) c.args.offset c.args.self.now.next _ (ended c.args.around.now c.in_loop.result (block_of c.args.body.now) c.args.offset c.args.self.now.next (c.args.offset + 2) c.args.by (exp c.args.start.now) (exp c.args.limit.now) _ _ _ refl c.in_loop.ensures (c.in_ok-past.ensures.taken.0 ∙ c.in_ok-again.ensures.taken.1) (c.in_ok-onward.ensures.taken.0 ∙ (two_taken _ _ _ c.in_ok-again.ensures.taken.1 c.in_ok-past.ensures.taken.1)) (c.in_ok-test.ensures.1 ∙ tested (roots_in c.args.around.now) c.args.offset c.args.self.now.next (c.args.offset + 2) c.args.by _ _ _ _ _ refl c.in_ok-end.ensures (c.in_ok-past.ensures.taken.0 ∙ c.in_ok-again.ensures.taken.1) (c.in_ok-label.ensures.1 ∙ c.in_ok-set-2.ensures.1 ∙ limited (roots_in c.args.around.now) c.args.offset c.args.self.now.next (c.args.offset + 2) _ _ _ _ _ refl refl c.in_ok-limit.ensures (c.in_ok-set.ensures.1 ∙ started (roots_in c.args.around.now) c.args.offset c.args.self.now.next (c.args.offset + 2) _ _ _ refl c.in_ok-start.ensures (three_taken _ _ _ _ c.in_ok-again.ensures.taken.1 c.in_ok-past.ensures.taken.1 c.in_ok-onward.ensures.taken.1))))))
 
 pub for_loop-returns-in_err-set-3 : goal.for_loop-returns-in_err-set-3
 for_loop-returns-in_err-set-3 t c =
     fails c.from_residual-in_err-set-3.result c.in_err-set-3.field-0.0 c.args.self.now c.set-3.new.self (roots_in c.args.around.now (Assign (c.args.offset + 2) (exp c.in_ok-step.step) (Frame c.args.offset)) 0 c.label-2.new.self.next).1
-    (emit Plain (roots_in c.args.around.now) (commands.For (exp c.args.range.start.now) (exp c.args.range.limit.now) c.args.range.by (block_of c.args.body.now)) c.args.offset (exits_of c.args.around.now) c.args.self.now.next)
+    (emit Plain (roots_in c.args.around.now) (commands.For (exp c.args.start.now) (exp c.args.limit.now) c.args.by (block_of c.args.body.now)) c.args.offset (exits_of c.args.around.now) c.args.self.now.next)
     c.from_residual-in_err-set-3.ensures.1 c.in_err-set-3.ensures
-    (for_stepped (roots_in c.args.around.now) (exits_of c.args.around.now) (exp c.args.range.start.now) (exp c.args.range.limit.now) c.args.range.by (block_of c.args.body.now) c.args.offset c.args.self.now.next (c.args.offset + 2) _ _ refl c.in_ok-step.ensures (c.in_ok-label-2.ensures.1 ∙ c.in_ok-block.ensures.1 ∙ ended c.args.around.now c.in_loop.result (block_of c.args.body.now) c.args.offset c.args.self.now.next (c.args.offset + 2) c.args.range.by (exp c.args.range.start.now) (exp c.args.range.limit.now) _ _ _ refl c.in_loop.ensures (c.in_ok-past.ensures.taken.0 ∙ c.in_ok-again.ensures.taken.1) (c.in_ok-onward.ensures.taken.0 ∙ (two_taken _ _ _ c.in_ok-again.ensures.taken.1 c.in_ok-past.ensures.taken.1)) (c.in_ok-test.ensures.1 ∙ tested (roots_in c.args.around.now) c.args.offset c.args.self.now.next (c.args.offset + 2) c.args.range.by _ _ _ _ _ refl c.in_ok-end.ensures (c.in_ok-past.ensures.taken.0 ∙ c.in_ok-again.ensures.taken.1) (c.in_ok-label.ensures.1 ∙ c.in_ok-set-2.ensures.1 ∙ limited (roots_in c.args.around.now) c.args.offset c.args.self.now.next (c.args.offset + 2) _ _ _ _ _ refl refl c.in_ok-limit.ensures (c.in_ok-set.ensures.1 ∙ started (roots_in c.args.around.now) c.args.offset c.args.self.now.next (c.args.offset + 2) _ _ _ refl c.in_ok-start.ensures (three_taken _ _ _ _ c.in_ok-again.ensures.taken.1 c.in_ok-past.ensures.taken.1 c.in_ok-onward.ensures.taken.1))))))
+    (for_stepped (roots_in c.args.around.now) (exits_of c.args.around.now) (exp c.args.start.now) (exp c.args.limit.now) c.args.by (block_of c.args.body.now) c.args.offset c.args.self.now.next (c.args.offset + 2) _ _ refl c.in_ok-step.ensures (c.in_ok-label-2.ensures.1 ∙ c.in_ok-block.ensures.1 ∙ ended c.args.around.now c.in_loop.result (block_of c.args.body.now) c.args.offset c.args.self.now.next (c.args.offset + 2) c.args.by (exp c.args.start.now) (exp c.args.limit.now) _ _ _ refl c.in_loop.ensures (c.in_ok-past.ensures.taken.0 ∙ c.in_ok-again.ensures.taken.1) (c.in_ok-onward.ensures.taken.0 ∙ (two_taken _ _ _ c.in_ok-again.ensures.taken.1 c.in_ok-past.ensures.taken.1)) (c.in_ok-test.ensures.1 ∙ tested (roots_in c.args.around.now) c.args.offset c.args.self.now.next (c.args.offset + 2) c.args.by _ _ _ _ _ refl c.in_ok-end.ensures (c.in_ok-past.ensures.taken.0 ∙ c.in_ok-again.ensures.taken.1) (c.in_ok-label.ensures.1 ∙ c.in_ok-set-2.ensures.1 ∙ limited (roots_in c.args.around.now) c.args.offset c.args.self.now.next (c.args.offset + 2) _ _ _ _ _ refl refl c.in_ok-limit.ensures (c.in_ok-set.ensures.1 ∙ started (roots_in c.args.around.now) c.args.offset c.args.self.now.next (c.args.offset + 2) _ _ _ refl c.in_ok-start.ensures (three_taken _ _ _ _ c.in_ok-again.ensures.taken.1 c.in_ok-past.ensures.taken.1 c.in_ok-onward.ensures.taken.1))))))
 
 pub switchon-returns-in_err-past : goal.switchon-returns-in_err-past
 switchon-returns-in_err-past t c =

@@ -51,7 +51,7 @@ abbrev pub decreases-if_command : goal.decreases-if_command
 decreases-if_command l = weight_around l.around.now + (64 * weight_of_block (block_of l.body.now) + 50)
 
 abbrev pub decreases-test_command : goal.decreases-test_command
-decreases-test_command l = weight_around l.around.now + (64 * (weight_of_block (block_of l.branches.this.now) + weight_of_block (block_of l.branches.that.now)) + 50)
+decreases-test_command l = weight_around l.around.now + (64 * (weight_of_block (block_of l.this.now) + weight_of_block (block_of l.that.now)) + 50)
 
 abbrev pub decreases-while_loop : goal.decreases-while_loop
 decreases-while_loop l = weight_around l.around.now + (64 * weight_of_block (block_of l.body.now) + 50)
