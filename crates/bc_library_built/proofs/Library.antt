@@ -1,5 +1,5 @@
 -- A built program's first section is the library; the laws of all programs then hold of it.
-use Rattle.std.proofs.Common.{ℕ, suc, ◌≡◌, List, [], ◌∷◌, map, length, sym, ap, subst, absurd, ⊥}
+use Rattle.std.proofs.Common.{ℕ, suc, ◌≡◌, List, [], ◌∷◌, map, length, refl, ap, subst, arith}
 use Rattle.bc_lex.specs.Files.{File}
 use Rattle.bc_parse_tree.specs.Tree.{Declarations}
 use Rattle.bc_scope_defs.specs.Translation.{core_of}
@@ -29,7 +29,7 @@ routines others address places base m = record {
 has_library : (section : Declarations) (sections : List Declarations) (image : Image) (ps : List (ℕ → ℕ)) → (addresses image).places ≡ ps
     → core_of section ≡ library → IsMap (library ∷ map core_of sections) (record { places = ps; stack_base = image.stack_base })
     → HasLibrary (section ∷ sections) image
-has_library section sections image [] e is m = absurd (let z : ⊥ = let n = m.named in cc in z)
+has_library section sections image [] e is m = let n : suc (length (map core_of sections)) ≡ 0 = m.named in absurd (omega (arith, n))
 has_library section sections image (address ∷ places) e is m = record {
   others = map core_of sections;
   cores = ap (λ (core : Core). core ∷ map core_of sections) is;
