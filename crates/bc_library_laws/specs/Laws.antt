@@ -34,17 +34,23 @@ pub record Ready (address : ℕ → ℕ) (cells : List Cell) (f most : ℕ) : Ty
   pub write_s : cell_at cells 30 ≡ Set (address 3)
   pub write_n : cell_at cells 31 ≡ Set (address 5)
 
--- In every program of the library and other sections, under every map of it: call the routine with this label and these arguments, in a
--- store of which `Given` holds, in a frame with this room, with at least these turns left. The call returns this value. The store is
--- changed by `change` and in nothing else, these bytes are written to the selected output, and exactly these turns are used.
+-- In this program: call the routine with this label and these arguments, in a store of which `Given` holds, in a frame with this room, with
+-- at least these turns left. The call returns this value. The store is changed by `change` and in nothing else, these bytes are written to
+-- the selected output, and exactly these turns are used.
+abbrev pub CallIn : (cores : List Core) → (address : ℕ → ℕ) → (places : List (ℕ → ℕ)) → (label : ℕ) → (arguments : List ℕ)
+    → (room turns : ℕ) → (Given : List Cell → Type 0) → (value : ℕ) → (change : List Cell → List Cell) → (bytes : List ℕ) → Type 0
+CallIn cores address places label arguments room turns Given value change bytes =
+    (cells : List Cell) (streams : Content) (f n t : ℕ) → Ready address cells f room → Given cells
+    → calls (placed cores (address ∷ places)) (turns + n) (address label) arguments f (state cells streams (turns + t))
+    ≡ Done value (state (change cells) (after_writes bytes streams) t)
+
+-- the same in every program of the library and other sections, under every map of it
 abbrev pub Call : (label : ℕ) → (arguments : List ℕ) → (room turns : ℕ) → (Given : List Cell → Type 0)
     → (value : ℕ) → (change : List Cell → List Cell) → (bytes : List ℕ) → Type 0
 Call label arguments room turns Given value change bytes =
     (cores : List Core) (address : ℕ → ℕ) (places : List (ℕ → ℕ)) (base : ℕ)
     → IsMap (library ∷ cores) (record { places = address ∷ places; stack_base = base })
-    → (cells : List Cell) (streams : Content) (f n t : ℕ) → Ready address cells f room → Given cells
-    → calls (placed (library ∷ cores) (address ∷ places)) (turns + n) (address label) arguments f (state cells streams (turns + t))
-    ≡ Done value (state (change cells) (after_writes bytes streams) t)
+    → CallIn (library ∷ cores) address places label arguments room turns Given value change bytes
 
 -- nothing is required of the store
 abbrev pub anything : List Cell → Type 0

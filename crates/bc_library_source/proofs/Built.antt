@@ -1,4 +1,4 @@
--- Whatever section a source with BLIB's text parses to, it resolves to the library.
+-- Whatever section a source parses to, it resolves to the one that its text computes to; and BLIB's is the library.
 use Rattle.std.specs.Prelude.{ℕ, ◌≡◌, List, ◌∷◌, Some, Result, Ok, Err, length}
 use Rattle.std.proofs.Common.{sym, ap, ◌∙◌}
 use Rattle.bc_lex_tokens.specs.Token.{Lexeme}
@@ -30,10 +30,15 @@ by_closed end (Ok ps) section e = by_section (places_in ps) end (section_of (par
 by_closed end (Err (closing.NotOpen at)) section e = absurd (let z : ⊥ = cc in z)
 by_closed end (Err closing.Unclosed) section e = absurd (let z : ⊥ = cc in z)
 
+-- if a text computes to this section, so does every section that its tokens parse to
+pub section_of_text : (files : List File) (main : ℕ) (core : Core) → core_read (read_of files main) ≡ Some core
+    → (tokens : List Lexeme) (section : Declarations) → HasTokens files main tokens → parsed tokens ≡ Ok section → core_of section ≡ core
+section_of_text files main core computed tokens section lexed read =
+    let e : read_of files main ≡ Ok tokens = tokens_read files main tokens lexed in
+    let found : core_read (read_of files main) ≡ Some (core_of section) = ap core_read e ∙ by_closed (length tokens) (closed_list tokens) section read in
+    same_core (core_of section) core (sym found ∙ computed)
+
 -- the section of BLIB's text resolves to the library
 pub library_of : (rest : List File) (tokens : List Lexeme) (section : Declarations)
     → HasTokens (header_file ∷ source_file ∷ rest) 1 tokens → parsed tokens ≡ Ok section → core_of section ≡ library
-library_of rest tokens section lexed read =
-    let e : read_of (header_file ∷ source_file ∷ rest) 1 ≡ Ok tokens = tokens_read (header_file ∷ source_file ∷ rest) 1 tokens lexed in
-    let found : core_read (read_of (header_file ∷ source_file ∷ rest) 1) ≡ Some (core_of section) = ap core_read e ∙ by_closed (length tokens) (closed_list tokens) section read in
-    same_core (core_of section) library (sym found ∙ library_is rest)
+library_of rest = section_of_text (header_file ∷ source_file ∷ rest) 1 library (library_is rest)

@@ -1,0 +1,9 @@
+pub mod Cells
+pub mod Finding
+pub mod Streams
+pub mod Beginning
+pub mod Calls
+pub mod Reading
+pub mod Divisors
+pub mod Gcd
+pub mod Double
