@@ -8,4 +8,4 @@ if exists(':CompilerSet') != 2
 endif
 CompilerSet makeprg=bcpl\ build\ --places\ always\ --out\ %:r:S.int\ $*\ %:S\ 2>&1
 " The first line of a refusal is for scripts. The lines that quote the source and its helps belong to the message before them.
-CompilerSet errorformat=%-Gbcpl:\ %.%#,%-Gok\ %.%#,%W%f:%l:%c:\ warning:\ %m,%E%f:%l:%c:\ error:\ %m,%-C\ %#%\\d%\\+\ \|%.%#,%-C\ %#\|%.%#,%C\ \ help:\ %m,%E%f:%l:%c:\ %m
+CompilerSet errorformat=%-Gbcpl:\ %.%#,%-Gok\ %.%#,%W%f:%l:%c:\ warning:\ %m,%E%f:%l:%c:\ error:\ %m,%-C\ %#%\\d%\\+\ \|%.%#,%-C\ %#\|%.%#,%C\ \ %m,%E%f:%l:%c:\ %m
