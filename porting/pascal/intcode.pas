@@ -41,7 +41,7 @@ type
     procedure Skip;
     procedure Fault(const name: String; place: SizeInt);
     function Number(least, most: LongInt): Word;
-    function NumberOrLabel(var made: Item; const others: String): Boolean;
+    function NumberOrLabel(var made: Item; mayBeLabel: Boolean): Boolean;
     procedure Read;
     procedure ReadAll(const bytes: RawByteString);
   end;
@@ -105,10 +105,10 @@ begin
   Number := Word(n);
 end;
 
-{ A number, or L and a label. Whether it was a label. }
-function Reader.NumberOrLabel(var made: Item; const others: String): Boolean;
+{ A number, or, where a label may be, L and a label. Whether it was a label. }
+function Reader.NumberOrLabel(var made: Item; mayBeLabel: Boolean): Boolean;
 begin
-  NumberOrLabel := (Pos('L', others) > 0) and (Next = 'L');
+  NumberOrLabel := mayBeLabel and (Next = 'L');
   if NumberOrLabel then begin
     Inc(at);
     made.lab := Number(0, 65535);
@@ -134,7 +134,7 @@ begin
         made.what := AByte;
         made.number := Number(0, 255);
       end;
-      'D': if NumberOrLabel(made, 'L') then made.what := AWordOfLabel else made.what := AWord;
+      'D': if NumberOrLabel(made, True) then made.what := AWordOfLabel else made.what := AWord;
       'G': begin
         made.what := AGlobal;
         made.number := Number(0, 511);
@@ -153,10 +153,10 @@ begin
           'P', 'G': begin
             if Next = 'P' then made.code := made.code + 2048 else made.code := made.code + 1024;
             Inc(at);
-            NumberOrLabel(made, '');
+            NumberOrLabel(made, False);
           end;
         else
-          if NumberOrLabel(made, 'L') then made.what := AnOperationOfLabel;
+          if NumberOrLabel(made, True) then made.what := AnOperationOfLabel;
         end;
       end;
     else
@@ -219,7 +219,7 @@ begin
     end;
 end;
 
-{ What the labels of one segment are, and which segment each was last set in. }
+{ In which segment each label was last set, and its address there. }
 var
   setIn: array[Word] of LongInt;
   address: array[Word] of Word;
@@ -431,9 +431,9 @@ begin
   c := at;
 end;
 
-function Truth(is_true: Boolean): Word;
+function Truth(isTrue: Boolean): Word;
 begin
-  if is_true then Truth := 65535 else Truth := 0;
+  if isTrue then Truth := 65535 else Truth := 0;
 end;
 
 function Operation(d: Word): Ending;
