@@ -47,6 +47,7 @@ class Page:
 
     def __init__(self, path, folder):
         self.path, self.commands, self.programs, self.faults = path, 0, {}, []
+        self.makefile = ""
         self.text = read(path)
         pieces = FENCE.split(self.text)
         for i, piece in enumerate(pieces):
@@ -64,6 +65,8 @@ class Page:
         name = head.split()[1]
         if name.endswith(".bcpl"):
             self.programs[name] = body
+        if name == "Makefile":
+            self.makefile = body
         with open(os.path.join(folder, name), "w", encoding="utf-8") as file:
             file.write(body)
 
@@ -75,7 +78,7 @@ class Page:
     def complaints(self):
         """What is wrong with the page, a line each."""
         found = list(self.faults)
-        commands = "\n".join(re.findall(r"(?m)^\$ (.*)$", self.text))
+        commands = "\n".join(re.findall(r"(?m)^\$ (.*)$", self.text)) + self.makefile
         for name in self.programs:
             if name not in commands:
                 found.append(f"no command names {name}")
