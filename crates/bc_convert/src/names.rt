@@ -4,7 +4,7 @@ use crate::formats::gets_header_alone;
 use crate::library::library_name;
 use crate::numbers::{decimal, value_of_number};
 use crate::options::{Options, Renaming};
-use bc_convert_tokens::{Dialect, Kind, TokenizedText};
+use bc_convert_tokens::{Dialect, Kind, TokenizedText, reserved};
 use bc_word::Memory;
 use std::alloc::Global;
 
@@ -108,13 +108,32 @@ fn is_small(word: &[u8]) -> bool {
     !word.iter().any(|byte| byte.is_ascii_uppercase())
 }
 
+/// Whether the name at an index is a reserved word in this dialect.
+fn is_reserved_here(source: TokenizedText<'_>, index: usize) -> bool {
+    reserved(source.bytes(index), false).is_some_and(|word| !word.is_name_now)
+}
+
+/// Whether a word has upper-case and lower-case letters.
+fn is_mixed(word: &[u8]) -> bool {
+    !is_small(word) && word.iter().any(|byte| byte.is_ascii_lowercase())
+}
+
+/// Whether the name at an index, in upper and lower case, must be the library's: the source doesn't declare it and gets no
+/// other header.
+fn is_mixed_library(source: TokenizedText<'_>, index: usize) -> bool {
+    is_mixed(source.bytes(index)) && gets_header_alone(source) && !is_declared(source, index)
+}
+
 /// The library's name that the name at an index means, in a dialect that spells it otherwise.
 fn for_library(source: TokenizedText<'_>, index: usize, dialect: Dialect) -> Option<&'static [u8]> {
     let bytes = source.bytes(index);
+    let new = library_name(bytes)?;
     let is_meant = dialect.has_small_words || dialect.has_small_library && is_small(bytes);
-    match library_name(bytes) {
-        Some(new) if is_meant && !(gets_header_alone(source) && is_own(source, index)) => Some(new),
-        _ => None,
+    let is_own = is_meant && gets_header_alone(source) && is_own(source, index);
+    if is_meant && !is_own || !is_meant && is_mixed_library(source, index) {
+        Some(new)
+    } else {
+        None
     }
 }
 
@@ -137,6 +156,11 @@ pub fn name_change(
 ) -> Result<Option<Vec<u8>>, Memory> {
     if let Some(new) = new_name(source, index, dialect, options) {
         return Ok(Some(Vec::from_slice(alloc, new)?));
+    }
+    if is_reserved_here(source, index) {
+        let mut name = Vec::from_slice(alloc, source.bytes(index))?;
+        name.extend_from_slice(b".NAME")?;
+        return Ok(Some(name));
     }
     if source.bytes(index).contains(&b'_') {
         return Ok(Some(without_underlines(alloc, source, index)?));

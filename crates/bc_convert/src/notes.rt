@@ -5,7 +5,7 @@
 use crate::complaint::{Complaint, Fault};
 use crate::numbers::decimal;
 use bc_convert_edits::Replacement;
-use bc_convert_tokens::{Kind, TokenizedText, is_name_byte};
+use bc_convert_tokens::{Kind, TokenizedText, is_name_byte, next_old_comment};
 use bc_word::Memory;
 use std::alloc::Global;
 
@@ -70,6 +70,8 @@ pub struct Notes {
     /// The indices of the destinations of GOTO.
     destinations: Vec<usize>,
     blocks: Vec<LateBlock>,
+    /// The first place of each name after which `*(` was looked at.
+    stars: Vec<usize>,
     /// The number of the last new name.
     fresh: u32,
     /// The index after the last nest that was reported as too deep.
@@ -92,6 +94,7 @@ impl Notes {
             labels: Vec::new(alloc),
             destinations: Vec::new(alloc),
             blocks: Vec::new(alloc),
+            stars: Vec::new(alloc),
             fresh: 0,
             told_until: 0,
             is_refused: false,
@@ -289,6 +292,35 @@ impl Notes {
         })
     }
 
+    /// Whether `*(` after the name at an index is looked at for the first time. Other operands are always new.
+    pub fn is_new_star(&mut self, source: TokenizedText<'_>, index: usize) -> bool {
+        if source.kind(index) != Kind::Name {
+            return true;
+        }
+        if self.stars.iter().any(|other| source.is_same(*other, index)) {
+            return false;
+        }
+        if self.stars.push(index).is_err() {
+            self.refuse();
+        }
+        true
+    }
+
+    /// The indices of the destinations of GOTO.
+    pub fn destinations(&self) -> &[usize] {
+        self.destinations.as_slice()
+    }
+
+    /// Drops all changes.
+    pub fn drop_changes(&mut self) {
+        self.slots = Vec::new(self.alloc);
+    }
+
+    /// Drops all complaints.
+    pub fn drop_complaints(&mut self) {
+        self.complaints = Vec::new(self.alloc);
+    }
+
     /// The indices of the labels.
     pub fn labels(&self) -> &[usize] {
         self.labels.as_slice()
@@ -355,11 +387,37 @@ fn replacements(
 ) -> Result<Vec<Replacement>, Memory> {
     let mut replacements = Vec::new(alloc);
     for (index, slot) in slots.iter().enumerate() {
+        put_old_comments(alloc, &mut replacements, source, index)?;
         if !slot.is_untouched() {
             replacements.push(replacement(alloc, source, index, slot)?)?;
         }
     }
+    put_old_comments(alloc, &mut replacements, source, slots.len())?;
     Ok(replacements)
+}
+
+/// Appends a replacement for the beginning of each comment with `\\` before a token.
+fn put_old_comments(
+    alloc: Global,
+    replacements: &mut Vec<Replacement>,
+    source: TokenizedText<'_>,
+    index: usize,
+) -> Result<(), Memory> {
+    let gap = source.gap(index);
+    let start = source.start(index).saturating_sub(gap.len());
+    let mut from: usize = 0;
+    for _ in 0..gap.len() {
+        let Some((at, end)) = next_old_comment(gap, from) else {
+            break;
+        };
+        from = end;
+        replacements.push(Replacement {
+            start: start.saturating_add(at),
+            end: start.saturating_add(at).saturating_add(2),
+            text: Vec::from_slice(alloc, b"//")?,
+        })?;
+    }
+    Ok(())
 }
 
 /// The replacement for a token.

@@ -1,6 +1,6 @@
 //! Reads a text into classified tokens.
 
-use bc_convert_tokens::{Dialect, Token, TokenizedText, classified, lex, partners};
+use bc_convert_tokens::{Dialect, Token, TokenizedText, classified, lex, partners, with_arrows};
 use bc_word::Memory;
 use std::alloc::Global;
 
@@ -15,7 +15,8 @@ pub struct Reading {
 impl Reading {
     /// Reads a text.
     pub fn new(alloc: Global, text: &[u8]) -> Result<Reading, Memory> {
-        let raw = Paired::new(alloc, text, lex(alloc, text)?)?;
+        let tokens = with_arrows(alloc, text, lex(alloc, text)?)?;
+        let raw = Paired::new(alloc, text, tokens)?;
         Reading::told(alloc, raw.source(text))
     }
 

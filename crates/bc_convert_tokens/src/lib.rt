@@ -4,6 +4,7 @@
 //! language changes nothing in how old sources are read.
 #![tactic(auto)]
 
+mod arrows;
 mod brackets;
 mod bytes;
 mod dialect;
@@ -13,10 +14,12 @@ mod lexing;
 mod source;
 mod words;
 
+pub use arrows::with_arrows;
 pub use brackets::partners;
 pub use bytes::{following, is_name_byte, span};
 pub use dialect::{Dialect, classified};
 pub use kind::Kind;
+pub use lexeme::next_old_comment;
 pub use lexing::lex;
 pub use source::{Token, TokenizedText};
 pub use words::{ReservedWord, reserved};
