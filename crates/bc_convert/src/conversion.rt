@@ -5,7 +5,7 @@ ghost use Rattle.bc_convert_edits.specs.Converted.{converted, RiseWithin, Change
 
 use crate::complaint::{Complaint, Fault};
 use crate::doubts::{find_doubts, find_formats, find_old_meanings, find_stars};
-use crate::formats::{Format, format_at, gets_header, gets_header_alone};
+use crate::formats::{Format, format_at, gets_header};
 use crate::names::{is_called, is_declared, is_for};
 use crate::notes::Notes;
 use crate::options::{Header, Lawful, Options};
@@ -44,19 +44,9 @@ fn find_label_values(source: TokenizedText<'_>, notes: &mut Notes) {
 /// Whether the token at an index is the name of a label, used as a value.
 fn is_label_value(source: TokenizedText<'_>, notes: &Notes, index: usize) -> bool {
     source.kind(index) == Kind::Name
-        && has_label(source, notes.labels(), index)
+        && !notes.labels_like(source, index).is_empty()
         && !notes.is_label_or_destination(index)
         && !is_declared(source, index)
-}
-
-/// Whether one of these labels has the name at an index.
-fn has_label(source: TokenizedText<'_>, labels: &[usize], index: usize) -> bool {
-    for label in labels {
-        if source.is_same(*label, index) {
-            return true;
-        }
-    }
-    false
 }
 
 /// Reports each GOTO to a label that is now in the block of a later declaration.
@@ -118,7 +108,7 @@ fn tell_library(
     }
     let header = options.header.unwrap_or(program.header());
     tell_formats(source, notes, options, header);
-    if !program.gets_library && !gets_header_alone(source) {
+    if !program.gets_library && !source.names.gets_library_alone {
         tell_want(source, notes, options);
     }
     if !program.makes_pool {

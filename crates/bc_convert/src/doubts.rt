@@ -159,7 +159,7 @@ pub fn find_old_meanings(source: TokenizedText<'_>, notes: &mut Notes) {
 
 /// Whether the name at an index is set up as a vector: declared with VEC or TABLE, or something is assigned to a subscript of
 /// it with a star.
-fn shows_vector(source: TokenizedText<'_>, index: usize) -> bool {
+pub fn shows_vector(source: TokenizedText<'_>, index: usize) -> bool {
     let next = index.saturating_add(1);
     match source.kind(next) {
         Kind::Equal | Kind::Assign => {
@@ -176,11 +176,7 @@ fn shows_vector(source: TokenizedText<'_>, index: usize) -> bool {
 
 /// Whether the operand from `at` up to `end` is a name that is set up as a vector somewhere in the source.
 fn is_vector(source: TokenizedText<'_>, at: usize, end: usize) -> bool {
-    end == at.saturating_add(1)
-        && source.kind(at) == Kind::Name
-        && (0..source.tokens.len()).any(|index| source.kind(index) == Kind::Name
-            && source.is_same(index, at)
-            && shows_vector(source, index))
+    end == at.saturating_add(1) && source.name(at).is_vector
 }
 
 /// Reports that `*(` after the operand from `at` up to `star` is taken for a subscript, unless that is certain. A name is

@@ -11,6 +11,7 @@ mod doubts;
 mod formats;
 mod library;
 mod magnitudes;
+mod name_table;
 mod names;
 mod notes;
 mod numbers;

@@ -1,7 +1,7 @@
 //! What the sources of a program show together: the dialect, and the library's header that they need.
 
 use crate::formats::{
-    Format, bit_at, format_at, gets_header, gets_header_alone, is_further_string,
+    Format, bit_at, format_at, gets_header, is_further_string,
 };
 use crate::names::{declares, declares_routine, is_declared, is_entry, is_for};
 use crate::options::{Header, Renaming};
@@ -64,7 +64,7 @@ impl Program {
             has_further_string: false,
             has_stars: dialect.has_star_subscripts,
             gets_library: false,
-            gets_library_alone: gets_header_alone(source),
+            gets_library_alone: source.names.gets_library_alone,
             has_several: false,
             makes_pool: false,
             used: 0,

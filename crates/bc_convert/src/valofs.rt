@@ -53,12 +53,10 @@ fn leaves_valof(
         return false;
     }
     let mut has_label = false;
-    for label in notes.labels() {
-        if source.is_same(*label, destination) {
-            has_label = true;
-            if innermost.get(*label).copied() == valof {
-                return false;
-            }
+    for label in notes.labels_like(source, destination) {
+        has_label = true;
+        if innermost.get(*label).copied() == valof {
+            return false;
         }
     }
     has_label

@@ -148,7 +148,7 @@ fn item(walk: Walk<'_>, notes: &mut Notes, at: usize, to: usize) -> usize {
         Kind::Get => following(next, to),
         Kind::OpenSection => bracket(walk.deeper(), notes, at, to),
         Kind::Name if source.kind(next) == Kind::Colon => {
-            notes.note_label(at);
+            notes.note_label(source, at);
             following(next, to)
         }
         kind if kind.can_be_operand() => command(walk.deeper(), notes, at, to),

@@ -1,5 +1,6 @@
 //! The dialect of a source, and the kinds of words and square brackets in it.
 
+use crate::context::is_let_or_and;
 use crate::kind::Kind;
 use crate::source::{Token, TokenizedText};
 use crate::words::{MOST_WORDS, ReservedWord, is_same_word, is_small, reserved, reserved_place};
@@ -110,12 +111,6 @@ fn is_small_header(string: &[u8]) -> bool {
     string == b"\"libhdr\"".as_slice() || string.starts_with(b"\"libhdr.".as_slice())
 }
 
-/// Whether the token at an index is LET or AND.
-fn is_let_or_and(source: TokenizedText<'_>, index: usize) -> bool {
-    let word = source.bytes(index);
-    is_same_word(word, b"LET") || is_same_word(word, b"AND")
-}
-
 /// Whether a routine of this name is declared.
 fn declares_routine(source: TokenizedText<'_>, name: &[u8]) -> bool {
     (1..source.tokens.len()).any(|index| source.bytes(index) == name
@@ -168,15 +163,13 @@ fn opens_entries(source: TokenizedText<'_>, index: usize) -> bool {
 
 /// Whether an index is in a list of GLOBAL, MANIFEST or STATIC.
 fn is_in_entries(source: TokenizedText<'_>, index: usize) -> bool {
-    for back in 1..=index {
-        let at = index - back;
-        match source.kind(at) {
-            Kind::CloseSection | Kind::CloseSquare => return false,
-            Kind::OpenSection | Kind::OpenSquare => return opens_entries(source, at),
-            _ => {}
+    match source.context(index).bracket {
+        Some(bracket) => {
+            matches!(source.kind(bracket), Kind::OpenSection | Kind::OpenSquare)
+                && opens_entries(source, bracket)
         }
+        None => false,
     }
-    false
 }
 
 /// Whether an entry of such a list can begin at an index: after the bracket, a semicolon or a line break, or after a
@@ -198,18 +191,7 @@ fn begins_entry(source: TokenizedText<'_>, index: usize) -> bool {
 /// Whether only words, commas and opening parentheses are between LET or AND and an index, and no word directly
 /// before it.
 fn is_in_heading(source: TokenizedText<'_>, index: usize) -> bool {
-    if index == 0 || source.kind(index - 1) == Kind::Word {
-        return false;
-    }
-    for back in 1..=index {
-        let at = index - back;
-        match source.kind(at) {
-            Kind::Word if is_let_or_and(source, at) => return true,
-            Kind::Word | Kind::Comma | Kind::OpenRound => {}
-            _ => return false,
-        }
-    }
-    false
+    index > 0 && source.kind(index - 1) != Kind::Word && source.context(index).is_in_heading
 }
 
 /// Whether the word at an index is declared there, provided that it is a name.
