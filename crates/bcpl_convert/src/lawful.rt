@@ -41,7 +41,7 @@ pub struct Given<'g, 'p> {
 
 /// How far a source builds.
 #[derive(Clone, Copy, PartialEq, Eq)]
-enum Built {
+enum Reach {
     /// It doesn't.
     No,
     /// It builds.
@@ -53,39 +53,39 @@ enum Built {
 }
 
 /// How far a section without syntax errors builds.
-fn resolved(alloc: Global, section: &Section<'_>) -> Result<Built, Memory>
+fn resolved(alloc: Global, section: &Section<'_>) -> Result<Reach, Memory>
     requires { declarations_size (section_view section.now) ≤ 60000 }
 {
     match resolve(alloc, section) {
         Ok(core) => {
             // A drop of a large tree is expensive to prove.
             forget(core);
-            Ok(Built::Yes)
+            Ok(Reach::Yes)
         }
-        Err(ScopeError::Undeclared(name)) if library_name(name).is_none() => Ok(Built::Undeclared),
+        Err(ScopeError::Undeclared(name)) if library_name(name).is_none() => Ok(Reach::Undeclared),
         Err(ScopeError::Memory) => Err(Memory),
-        Err(_) => Ok(Built::No),
+        Err(_) => Ok(Reach::No),
     }
 }
 
 /// How far the source with index 0 builds.
-fn built(alloc: Global, sources: &[Source<'_>]) -> Result<Built, Memory>
+fn reach_of(alloc: Global, sources: &[Source<'_>]) -> Result<Reach, Memory>
     requires { 0 < length sources.now }
 {
     let tokens = match lex(alloc, sources, 0) {
         Ok(tokens) => tokens,
-        Err(LexError::GetMissing(file, offset)) => return Ok(Built::Missing(file, offset)),
+        Err(LexError::GetMissing(file, offset)) => return Ok(Reach::Missing(file, offset)),
         Err(LexError::Memory) => return Err(Memory),
-        Err(_) => return Ok(Built::No),
+        Err(_) => return Ok(Reach::No),
     };
     match parse(alloc, tokens.as_slice()) {
         Ok(section) => {
-            let built = resolved(alloc, &section);
+            let found = resolved(alloc, &section);
             forget(section);
-            built
+            found
         }
         Err(ParseError::Memory) => Err(Memory),
-        Err(_) => Ok(Built::No),
+        Err(_) => Ok(Reach::No),
     }
 }
 
@@ -115,12 +115,12 @@ fn sources_for<'s>(
 }
 
 /// How far a text builds with the headers found up to here.
-fn built_with(alloc: Global, text: &[u8], headers: &[GotHeader]) -> Result<Built, Memory> {
+fn reach_with(alloc: Global, text: &[u8], headers: &[GotHeader]) -> Result<Reach, Memory> {
     let sources = sources_for(alloc, text, headers)?;
     if sources.is_empty() {
-        return Ok(Built::No);
+        return Ok(Reach::No);
     }
-    built(alloc, sources.as_slice())
+    reach_of(alloc, sources.as_slice())
 }
 
 /// The text of the file with this index among the sources.
@@ -222,8 +222,8 @@ fn lawful_source<F: Files>(
     }
     for _ in 0..MOST_HEADERS {
         let is_complete = headers.iter().all(|header| header.is_found);
-        match built_with(alloc, text, headers.as_slice())? {
-            Built::Missing(file, offset) => {
+        match reach_with(alloc, text, headers.as_slice())? {
+            Reach::Missing(file, offset) => {
                 let name = got_name(text_of(text, headers.as_slice(), file), offset);
                 if name.is_empty() || is_library_header(name) {
                     return Ok((Lawful::No, headers));
@@ -231,10 +231,10 @@ fn lawful_source<F: Files>(
                 let header = header_of(rt, alloc, given, path, name)?;
                 headers.push(header)?;
             }
-            Built::Yes if is_complete => return Ok((Lawful::Whole, headers)),
-            Built::Yes => return Ok((Lawful::Unseen, headers)),
-            Built::Undeclared if !is_complete => return Ok((Lawful::Unseen, headers)),
-            Built::Undeclared | Built::No => return Ok((Lawful::No, headers)),
+            Reach::Yes if is_complete => return Ok((Lawful::Whole, headers)),
+            Reach::Yes => return Ok((Lawful::Unseen, headers)),
+            Reach::Undeclared if !is_complete => return Ok((Lawful::Unseen, headers)),
+            Reach::Undeclared | Reach::No => return Ok((Lawful::No, headers)),
         }
     }
     Ok((Lawful::No, headers))
