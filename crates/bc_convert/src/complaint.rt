@@ -73,8 +73,6 @@ pub enum Fault {
     NoHeader,
     /// GETVEC, where nothing sets up its pool.
     NoPool,
-    /// A name that is a reserved word in this dialect.
-    ReservedName,
     /// `%` that may mean `|`.
     PercentOr,
     /// A line of a list of names that has only one name.
@@ -83,10 +81,30 @@ pub enum Fault {
     NameTwice,
     /// A new name that neither library has.
     NoLibraryName,
+    /// `*(` that was taken for a subscript.
+    StarSubscript,
+    /// `*(` that was left as a product, in a program in which it is a subscript elsewhere.
+    StarLeft,
+    /// `@` in a source that may be written for the Alto.
+    AltoContent,
+    /// An escape that is octal in some dialects.
+    OctalEscape,
+    /// A number that may be octal.
+    OctalNumber,
+    /// A shift by 16 or more.
+    LongShift,
+    /// A parameter of START.
+    StartParameter,
+    /// A GOTO out of a VALOF.
+    JumpOutOfValof,
+    /// A value outside routines that isn't a constant.
+    OuterValue,
+    /// A header that wasn't found, in a source that may be lawful.
+    UnseenHeader,
 }
 
 /// The message and the remedy for each fault, in the order of the faults.
-static WORDS: [(&str, &str); 39] = [
+static WORDS: [(&str, &str); 48] = [
     (
         "a jump can't leave a routine in this dialect",
         "instead of LEVEL and LONGJUMP, set a flag that each routine checks after a call",
@@ -224,10 +242,6 @@ static WORDS: [(&str, &str); 39] = [
         "at the beginning of START write LET POOL = VEC 4000, then INITVEC(POOL, 4000)",
     ),
     (
-        "this name is a reserved word in this dialect",
-        "rename it everywhere",
-    ),
-    (
         "this % may mean | rather than a byte of a string",
         "write | instead, or GETBYTE(S, I) if it is byte I of S",
     ),
@@ -242,6 +256,46 @@ static WORDS: [(&str, &str); 39] = [
     (
         "neither LIBHDR nor EXTHDR has the new name of this one",
         "use a name listed in docs/library.md, all in upper case, or declare a routine with the old name in the source",
+    ),
+    (
+        "this *( is taken for a subscript, here and wherever this source has it after the same name",
+        "if it is a product, write a space after the * and convert the source again",
+    ),
+    (
+        "*( is a subscript elsewhere in this program, but was left as a product in this source",
+        "if it is a subscript, write ! instead of *",
+    ),
+    (
+        "@ takes an address here, but the contents of a cell in the dialect of the Alto",
+        "if it means rv, write ! instead of @",
+    ),
+    (
+        "this escape is taken for decimal, but some dialects have octal ones",
+        "if it is octal, write *O instead of * and convert the source again",
+    ),
+    (
+        "this number is taken for decimal, but it looks octal, and no number in this source has a digit 8 or 9",
+        "if the numbers in this source are octal, write # before each of them",
+    ),
+    (
+        "a shift by 16 or more gives 0, since a word has 16 bits",
+        "store the value in two words",
+    ),
+    (
+        "START is called without arguments in this dialect, so this parameter has no value",
+        "remove it, or read the value from an input stream",
+    ),
+    (
+        "a jump can't leave a VALOF in this dialect",
+        "set a variable, leave the VALOF by RESULTIS, and test the variable after it",
+    ),
+    (
+        "a value outside routines must be a constant in this dialect",
+        "declare the name by STATIC, and assign to it at the beginning of START",
+    ),
+    (
+        "this header was not found, and with it the source may be lawful, so nothing was changed",
+        "convert the header together with this source, or put it into the same folder",
     ),
 ];
 

@@ -4,13 +4,17 @@ ghost use Rattle.std.specs.Prelude.{◌≡◌, [], length, IfOk};
 ghost use Rattle.bc_convert_edits.specs.Converted.{converted, RiseWithin, ChangesText};
 
 use crate::complaint::{Complaint, Fault};
-use crate::formats::{Format, format_at, gets_header_alone};
+use crate::doubts::{find_doubts, find_formats, find_old_meanings, find_stars};
+use crate::formats::{Format, format_at, gets_header};
 use crate::names::{is_called, is_declared, is_for};
 use crate::notes::Notes;
-use crate::options::{Header, Options};
+use crate::options::{Header, Lawful, Options};
+use crate::prepared::{prepared, with_differences};
 use crate::program::Program;
 use crate::reading::Reading;
-use crate::spelling::respell;
+use crate::spelling::{respell, respell_header};
+use crate::statics::find_statics;
+use crate::valofs::find_valof_jumps;
 use crate::walk::{MOST_DEPTH, Walk, items};
 use bc_convert_edits::{Replacement, apply, settle};
 use bc_convert_tokens::{Dialect, Kind, TokenizedText};
@@ -40,19 +44,9 @@ fn find_label_values(source: TokenizedText<'_>, notes: &mut Notes) {
 /// Whether the token at an index is the name of a label, used as a value.
 fn is_label_value(source: TokenizedText<'_>, notes: &Notes, index: usize) -> bool {
     source.kind(index) == Kind::Name
-        && has_label(source, notes.labels(), index)
+        && !notes.labels_like(source, index).is_empty()
         && !notes.is_label_or_destination(index)
         && !is_declared(source, index)
-}
-
-/// Whether one of these labels has the name at an index.
-fn has_label(source: TokenizedText<'_>, labels: &[usize], index: usize) -> bool {
-    for label in labels {
-        if source.is_same(*label, index) {
-            return true;
-        }
-    }
-    false
 }
 
 /// Reports each GOTO to a label that is now in the block of a later declaration.
@@ -114,7 +108,7 @@ fn tell_library(
     }
     let header = options.header.unwrap_or(program.header());
     tell_formats(source, notes, options, header);
-    if !program.gets_library && !gets_header_alone(source) {
+    if !program.gets_library && !source.names.gets_library_alone {
         tell_want(source, notes, options);
     }
     if !program.makes_pool {
@@ -149,6 +143,60 @@ fn shown_with(source: TokenizedText<'_>, shown: Dialect, options: Options<'_>) -
 
 /// Collects the notes on a source of a program.
 fn find(source: TokenizedText<'_>, notes: &mut Notes, options: Options<'_>, program: Program) {
+    match options.lawful {
+        Lawful::No => find_changes(source, notes, options, program),
+        Lawful::Header => find_headers(source, notes, options, program),
+        Lawful::Whole => find_formats(source, notes, options),
+        Lawful::Unseen => {
+            find_changes(source, notes, options, program);
+            leave_unseen(source, notes);
+        }
+    }
+    find_doubts(source, notes, options);
+    find_stars(source, notes, program);
+}
+
+/// Exchanges the library's header in a lawful source.
+fn find_headers(
+    source: TokenizedText<'_>,
+    notes: &mut Notes,
+    options: Options<'_>,
+    program: Program,
+) {
+    let header = options.header.unwrap_or(program.header());
+    for index in 0..source.tokens.len() {
+        if gets_header(source, index) {
+            respell_header(source, notes, index, header);
+        }
+    }
+    if let Header::Basic = header {
+        find_formats(source, notes, options);
+    }
+}
+
+/// Drops all notes on a source that may be lawful. If there were changes, the first header other than the library's is
+/// reported.
+fn leave_unseen(source: TokenizedText<'_>, notes: &mut Notes) {
+    let has_changes = notes.has_changes();
+    notes.drop_changes();
+    notes.drop_complaints();
+    let mut names = 1..source.tokens.len();
+    let unseen = names.find(|index| source.kind(*index - 1) == Kind::Get
+        && !gets_header(source, *index));
+    if let Some(index) = unseen
+        && has_changes
+    {
+        notes.complain(source, index, Fault::UnseenHeader);
+    }
+}
+
+/// Collects the changes of a source that isn't lawful, and what can't be converted.
+fn find_changes(
+    source: TokenizedText<'_>,
+    notes: &mut Notes,
+    options: Options<'_>,
+    program: Program,
+) {
     let dialect = program.dialect;
     let header = options.header.unwrap_or(program.header());
     respell(source, notes, dialect, options, header);
@@ -160,6 +208,9 @@ fn find(source: TokenizedText<'_>, notes: &mut Notes, options: Options<'_>, prog
     items(walk, notes, 0, source.tokens.len());
     find_label_values(source, notes);
     find_parted_jumps(source, notes);
+    find_valof_jumps(source, notes);
+    find_statics(source, notes);
+    find_old_meanings(source, notes);
     tell_library(source, notes, options, program);
 }
 
@@ -172,6 +223,21 @@ fn found_in(
     let reading = Reading::new(alloc, text)?;
     let source = reading.source(text);
     found(alloc, source, reading.dialect, options)?.finished(source)
+}
+
+/// All candidates for replacements: those found, and those that lead to the text as the lexer reads it. A lawful source has
+/// only those found.
+fn candidates(
+    alloc: Global,
+    text: &[u8],
+    prepared: &[u8],
+    options: Options<'_>,
+    found: Vec<Replacement>,
+) -> Result<Vec<Replacement>, Memory> {
+    match options.lawful {
+        Lawful::No => with_differences(alloc, text, prepared, found),
+        Lawful::Header | Lawful::Whole | Lawful::Unseen => Ok(found),
+    }
 }
 
 /// Converts a source from an old dialect to this one.
@@ -189,8 +255,10 @@ pub fn convert(alloc: Global, text: &[u8], options: Options<'_>) -> Result<Conve
     ensures whole { IfOk result (λ c. c.text.items ≡ converted text.now c.replacements.items) }
     ensures kept { IfOk result (λ c. c.replacements.items ≡ [] → c.text.items ≡ text.now) }
 {
-    let (candidates, mut complaints) = found_in(alloc, text, options)?;
+    let prepared = prepared(alloc, text)?;
+    let (found, mut complaints) = found_in(alloc, prepared.as_slice(), options)?;
     complaints.sort_by_key(|complaint| complaint.start)?;
+    let candidates = candidates(alloc, text, prepared.as_slice(), options, found)?;
     let replacements = settle(alloc, text, candidates)?;
     Ok(Conversion {
         text: apply(alloc, text, replacements.as_slice())?,

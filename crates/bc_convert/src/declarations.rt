@@ -37,9 +37,15 @@ impl Values {
     }
 }
 
-/// Gives each name of a definition a definition of its own. `commas` are the indices of the commas between the
-/// values.
-pub fn put_values(source: TokenizedText<'_>, notes: &mut Notes, values: Values, commas: &[usize]) {
+/// Gives each name of a definition a definition of its own. `commas` are the indices of the commas between the values, and
+/// `joint` is put instead of each.
+pub fn put_values(
+    source: TokenizedText<'_>,
+    notes: &mut Notes,
+    values: Values,
+    commas: &[usize],
+    joint: &[u8],
+) {
     let mut name = values.first;
     for comma in commas {
         let sign = name.saturating_add(1);
@@ -47,7 +53,7 @@ pub fn put_values(source: TokenizedText<'_>, notes: &mut Notes, values: Values, 
         let text = notes.rendered(source, name, name.saturating_add(1));
         notes.take_out(source, sign);
         notes.take_out(source, name);
-        notes.replace(*comma, b" AND ");
+        notes.replace(*comma, joint);
         notes.put_all_after(comma.saturating_add(1), &[text.as_slice(), b" ="]);
     }
 }

@@ -145,14 +145,18 @@ pub fn bit_at(source: TokenizedText<'_>, index: usize, library: &[Renaming<'_>])
 
 /// Whether the string at an index follows GET and names the library's header, in either case and with any extension.
 pub fn gets_header(source: TokenizedText<'_>, index: usize) -> bool {
-    let name = inside(source.bytes(index));
+    index > 0
+        && source.kind(index - 1) == Kind::Get
+        && is_library_header(inside(source.bytes(index)))
+}
+
+/// Whether a name is that of the library's header, in either case and with any extension.
+pub fn is_library_header(name: &[u8]) -> bool {
     let stem = match name.iter().position(|byte| *byte == b'.') {
         Some(dot) => span(name, 0, dot),
         None => name,
     };
-    index > 0
-        && source.kind(index - 1) == Kind::Get
-        && (stem.eq_ignore_ascii_case(b"LIBHDR") || stem == b"EXTHDR".as_slice())
+    stem.eq_ignore_ascii_case(b"LIBHDR") || stem == b"EXTHDR".as_slice()
 }
 
 /// Whether the source gets no header but the library's.

@@ -1,57 +1,24 @@
 //! What a name is called in this dialect, where it is declared, and how it is used.
 
-use crate::formats::gets_header_alone;
+use crate::doubts::shows_vector;
 use crate::library::library_name;
 use crate::numbers::{decimal, value_of_number};
 use crate::options::{Options, Renaming};
-use bc_convert_tokens::{Dialect, Kind, TokenizedText};
+use bc_convert_tokens::{Dialect, Kind, NameFacts, TokenizedText, reserved};
 use bc_word::Memory;
 use std::alloc::Global;
-
-/// Whether two words are the same once each underline is a dot.
-fn meets(one: &[u8], other: &[u8]) -> bool {
-    one.len() == other.len() && one.iter().zip(other).all(|(a, b)| dotted(*a) == dotted(*b))
-}
 
 /// A byte of a name, with a dot for an underline.
 pub fn dotted(byte: u8) -> u8 {
     if byte == b'_' { b'.' } else { byte }
 }
 
-/// Whether the name at an index occurs there for the first time.
-pub fn is_first(source: TokenizedText<'_>, index: usize) -> bool {
-    let mut earlier = 0..index;
-    !earlier.any(|other| source.kind(other) == Kind::Name && source.is_same(index, other))
-}
-
-/// How many other names become the same as the one at an index once underlines are dots, and take precedence: those
-/// without an underline, and of the others those that come before it.
-fn rank(source: TokenizedText<'_>, index: usize) -> u32 {
-    let bytes = source.bytes(index);
-    let mut rank: u32 = 0;
-    let mut is_after = false;
-    for other in 0..source.tokens.len() {
-        let name = source.bytes(other);
-        if source.kind(other) != Kind::Name || !meets(name, bytes) {
-            continue;
-        }
-        if name == bytes {
-            is_after = true;
-        } else if is_first(source, other) && (!is_after || !name.contains(&b'_')) {
-            rank = rank.saturating_add(1);
-        }
-    }
-    rank
-}
-
-/// Whether the source has a name with this spelling.
-fn has_name(source: TokenizedText<'_>, bytes: &[u8]) -> bool {
-    (0..source.tokens.len()).any(|index| source.kind(index) == Kind::Name
-        && source.bytes(index) == bytes)
-}
-
 /// A name with dots for its underlines, followed by the number if that isn't 1.
-fn with_dots(alloc: Global, bytes: &[u8], number: u32) -> Result<Vec<u8>, Memory> {
+///
+/// # Errors
+///
+/// `Memory` if an allocation failed.
+pub fn with_dots(alloc: Global, bytes: &[u8], number: u32) -> Result<Vec<u8>, Memory> {
     let mut text = Vec::new(alloc);
     for byte in bytes {
         text.push(dotted(*byte))?;
@@ -60,29 +27,6 @@ fn with_dots(alloc: Global, bytes: &[u8], number: u32) -> Result<Vec<u8>, Memory
         text.extend_from_slice(decimal(alloc, i64::from(number))?.as_bytes())?;
     }
     Ok(text)
-}
-
-/// The name at an index with dots for its underlines. If that is another name, it also gets a number from 2 on that
-/// makes it unique.
-fn without_underlines(
-    alloc: Global,
-    source: TokenizedText<'_>,
-    index: usize,
-) -> Result<Vec<u8>, Memory> {
-    let bytes = source.bytes(index);
-    let mut left = rank(source, index);
-    let mut number: u32 = 1;
-    for _ in 0..source.tokens.len() {
-        if left == 0 {
-            break;
-        }
-        number = number.saturating_add(1);
-        let text = with_dots(alloc, bytes, number)?;
-        if !has_name(source, text.as_slice()) {
-            left = left.saturating_sub(1);
-        }
-    }
-    with_dots(alloc, bytes, number)
 }
 
 /// The new name of an old library's name, if it is listed.
@@ -108,13 +52,32 @@ fn is_small(word: &[u8]) -> bool {
     !word.iter().any(|byte| byte.is_ascii_uppercase())
 }
 
+/// Whether the name at an index is a reserved word in this dialect.
+fn is_reserved_here(source: TokenizedText<'_>, index: usize) -> bool {
+    reserved(source.bytes(index), false).is_some_and(|word| !word.is_name_now)
+}
+
+/// Whether a word has upper-case and lower-case letters.
+fn is_mixed(word: &[u8]) -> bool {
+    !is_small(word) && word.iter().any(|byte| byte.is_ascii_lowercase())
+}
+
+/// Whether the name at an index, in upper and lower case, must be the library's: the source doesn't declare it and gets no
+/// other header.
+fn is_mixed_library(source: TokenizedText<'_>, index: usize) -> bool {
+    is_mixed(source.bytes(index)) && source.names.gets_library_alone && !is_declared(source, index)
+}
+
 /// The library's name that the name at an index means, in a dialect that spells it otherwise.
 fn for_library(source: TokenizedText<'_>, index: usize, dialect: Dialect) -> Option<&'static [u8]> {
     let bytes = source.bytes(index);
+    let new = library_name(bytes)?;
     let is_meant = dialect.has_small_words || dialect.has_small_library && is_small(bytes);
-    match library_name(bytes) {
-        Some(new) if is_meant && !(gets_header_alone(source) && is_own(source, index)) => Some(new),
-        _ => None,
+    let is_own = is_meant && source.names.gets_library_alone && is_own(source, index);
+    if is_meant && !is_own || !is_meant && is_mixed_library(source, index) {
+        Some(new)
+    } else {
+        None
     }
 }
 
@@ -138,8 +101,14 @@ pub fn name_change(
     if let Some(new) = new_name(source, index, dialect, options) {
         return Ok(Some(Vec::from_slice(alloc, new)?));
     }
+    if is_reserved_here(source, index) {
+        let mut name = Vec::from_slice(alloc, source.bytes(index))?;
+        name.extend_from_slice(b".NAME")?;
+        return Ok(Some(name));
+    }
     if source.bytes(index).contains(&b'_') {
-        return Ok(Some(without_underlines(alloc, source, index)?));
+        let suffix = source.name(index).suffix;
+        return Ok(Some(with_dots(alloc, source.bytes(index), suffix)?));
     }
     Ok(None)
 }
@@ -165,9 +134,24 @@ fn new_name<'o>(
 
 /// Whether the name at an index is declared somewhere in the source.
 pub fn is_declared(source: TokenizedText<'_>, index: usize) -> bool {
-    (0..source.tokens.len()).any(|other| source.kind(other) == Kind::Name
-        && source.is_same(index, other)
-        && declares(source, other))
+    source.name(index).is_declared
+}
+
+/// What the name at an index shows there.
+pub fn shown_at(source: TokenizedText<'_>, index: usize) -> NameFacts {
+    let next = index.saturating_add(1);
+    NameFacts {
+        first: index,
+        is_declared: declares(source, index),
+        is_own: declares_own(source, index),
+        is_routine: declares_routine(source, index),
+        is_called: is_called(source, index),
+        is_vector: shows_vector(source, index),
+        has_star: source.kind(next) == Kind::Star
+            && source.kind(next.saturating_add(1)) == Kind::OpenRound,
+        is_number: false,
+        suffix: 1,
+    }
 }
 
 /// Whether the name at an index is declared there: after LET, AND or FOR, as a parameter, or in a list of GLOBAL,
@@ -178,7 +162,9 @@ pub fn declares(source: TokenizedText<'_>, index: usize) -> bool {
     }
     match source.kind(index - 1) {
         Kind::Let | Kind::And | Kind::For => true,
-        Kind::Comma | Kind::OpenRound => is_in_heading(source, index) || is_entry(source, index),
+        Kind::Comma | Kind::OpenRound => {
+            source.context(index).is_in_heading || is_entry(source, index)
+        }
         Kind::OpenSection | Kind::Semicolon => is_entry(source, index),
         _ => source.is_separated(index) && is_entry(source, index),
     }
@@ -195,26 +181,12 @@ pub fn is_entry(source: TokenizedText<'_>, index: usize) -> bool {
 /// The token before the innermost section bracket around a name; `End` if the nearest section bracket before the name
 /// is a closing one.
 fn listing_word(source: TokenizedText<'_>, index: usize) -> Kind {
-    for back in 1..=index {
-        let at = index - back;
-        match source.kind(at) {
-            Kind::CloseSection => return Kind::End,
-            Kind::OpenSection => {
-                return if at == 0 {
-                    Kind::End
-                } else {
-                    source.kind(at - 1)
-                };
-            }
-            _ => {}
+    match source.context(index).bracket {
+        Some(bracket) if bracket > 0 && source.kind(bracket) == Kind::OpenSection => {
+            source.kind(bracket - 1)
         }
+        _ => Kind::End,
     }
-    Kind::End
-}
-
-/// Whether the token at `other` is a name, spelled like the one at `index`.
-fn is_same_name(source: TokenizedText<'_>, index: usize, other: usize) -> bool {
-    source.kind(other) == Kind::Name && source.is_same(index, other)
 }
 
 /// Whether a parenthesis follows the name at an index.
@@ -229,19 +201,17 @@ pub fn declares_routine(source: TokenizedText<'_>, index: usize) -> bool {
 
 /// Whether the source declares a routine with the name at an index.
 pub fn has_routine(source: TokenizedText<'_>, index: usize) -> bool {
-    (0..source.tokens.len()).any(|other| is_same_name(source, index, other)
-        && declares_routine(source, other))
+    source.name(index).is_routine
 }
 
-/// Whether the name at an index is used as a number somewhere in the source: declared by MANIFEST, the variable of a
-/// FOR, or set to or compared with a number other than 0.
+/// Whether the name at an index, which a star and a parenthesis follow, is used as a number somewhere in the source: declared by
+/// MANIFEST, the variable of a FOR, or set to or compared with a number other than 0.
 pub fn is_number(source: TokenizedText<'_>, index: usize) -> bool {
-    (0..source.tokens.len()).any(|other| is_same_name(source, index, other)
-        && stands_as_number(source, other))
+    source.name(index).is_number
 }
 
 /// Whether the name at an index is used there as a number.
-fn stands_as_number(source: TokenizedText<'_>, index: usize) -> bool {
+pub fn stands_as_number(source: TokenizedText<'_>, index: usize) -> bool {
     let before = if index == 0 {
         Kind::End
     } else {
@@ -273,7 +243,7 @@ fn value_of_name(source: TokenizedText<'_>, index: usize) -> usize {
         next
     };
     match source.kind(sign) {
-        Kind::Equal if is_in_heading(source, index) => value_after(source, sign, index),
+        Kind::Equal if source.context(index).is_in_heading => value_after(source, sign, index),
         Kind::Assign | Kind::Underline => value_after(source, sign, index),
         Kind::Equal | Kind::Relation if sign == next => next.saturating_add(1),
         _ => index,
@@ -353,22 +323,9 @@ fn declares_own(source: TokenizedText<'_>, index: usize) -> bool {
 /// Whether the name at an index is the source's own, although the library has it. Either it is a routine other than
 /// START, or it is declared other than by GLOBAL and never called.
 fn is_own(source: TokenizedText<'_>, index: usize) -> bool {
-    let count = source.tokens.len();
-    if has_routine(source, index) {
+    let name = source.name(index);
+    if name.is_routine {
         return !source.bytes(index).eq_ignore_ascii_case(b"START");
     }
-    (0..count).any(|other| is_same_name(source, index, other) && declares_own(source, other))
-        && !(0..count).any(|other| is_same_name(source, index, other) && is_called(source, other))
-}
-
-/// Whether only names, commas and opening parentheses are between LET or AND and a name.
-fn is_in_heading(source: TokenizedText<'_>, index: usize) -> bool {
-    for back in 1..=index {
-        match source.kind(index - back) {
-            Kind::Let | Kind::And => return true,
-            Kind::Name | Kind::Comma | Kind::OpenRound => {}
-            _ => return false,
-        }
-    }
-    false
+    name.is_own && !name.is_called
 }

@@ -5,12 +5,13 @@
 use crate::complaint::{Complaint, Fault};
 use crate::numbers::decimal;
 use bc_convert_edits::Replacement;
-use bc_convert_tokens::{Kind, TokenizedText, is_name_byte};
+use bc_convert_tokens::{Kind, TokenizedText, is_name_byte, next_old_comment};
 use bc_word::Memory;
+use indexmap::IndexMap;
 use std::alloc::Global;
 
-/// The changes to a token: the text before it, instead of it and after it, and whether the blanks before it are
-/// removed.
+/// The changes to a token: the text before it, last byte first, the text instead of it and after it, and whether the blanks before
+/// it are removed.
 #[derive(Drop)]
 struct Slot {
     before: Vec<u8>,
@@ -20,7 +21,7 @@ struct Slot {
 }
 
 impl Slot {
-    /// Global) -> Slot: A token that doesn't change.
+    /// A token that doesn't change.
     fn new(alloc: Global) -> Slot {
         Slot {
             before: Vec::new(alloc),
@@ -36,10 +37,10 @@ impl Slot {
     }
 
     /// Puts bytes before the text that is already before the token.
-    fn put_before(&mut self, alloc: Global, bytes: &[u8]) -> Result<(), Memory> {
-        let mut whole = Vec::from_slice(alloc, bytes)?;
-        whole.extend_from_slice(self.before.as_slice())?;
-        self.before = whole;
+    fn put_before(&mut self, bytes: &[u8]) -> Result<(), Memory> {
+        for byte in bytes.iter().rev() {
+            self.before.push(*byte)?;
+        }
         Ok(())
     }
 
@@ -59,17 +60,29 @@ pub struct LateBlock {
     pub to: usize,
 }
 
+/// What a token is to a GOTO.
+#[derive(Clone, Copy)]
+enum Role {
+    None,
+    Label,
+    Destination,
+}
+
 /// The changes and complaints found up to here.
 #[derive(Drop)]
 pub struct Notes {
     alloc: Global,
     slots: Vec<Slot>,
     complaints: Vec<Complaint>,
-    /// The indices of the labels.
-    labels: Vec<usize>,
+    /// For the number of each name of a label, the indices of its labels.
+    labels: IndexMap<usize, Vec<usize>>,
     /// The indices of the destinations of GOTO.
     destinations: Vec<usize>,
+    /// For each token, what it is to a GOTO.
+    roles: Vec<Role>,
     blocks: Vec<LateBlock>,
+    /// For the number of each name, whether a `*(` after it was looked at.
+    stars: Vec<bool>,
     /// The number of the last new name.
     fresh: u32,
     /// The index after the last nest that was reported as too deep.
@@ -89,9 +102,11 @@ impl Notes {
             alloc,
             slots,
             complaints: Vec::new(alloc),
-            labels: Vec::new(alloc),
+            labels: IndexMap::new(alloc),
             destinations: Vec::new(alloc),
+            roles: vec![in alloc; Role::None; count]?,
             blocks: Vec::new(alloc),
+            stars: vec![in alloc; false; count]?,
             fresh: 0,
             told_until: 0,
             is_refused: false,
@@ -123,7 +138,7 @@ impl Notes {
     pub fn put_before(&mut self, index: usize, bytes: &[u8]) {
         if index < self.slots.len() {
             let slot = &mut self.slots[index];
-            if slot.put_before(self.alloc, bytes).is_err() {
+            if slot.put_before(bytes).is_err() {
                 self.refuse();
             }
         }
@@ -248,14 +263,36 @@ impl Notes {
     }
 
     /// Notes a label.
-    pub fn note_label(&mut self, index: usize) {
-        if self.labels.push(index).is_err() {
+    pub fn note_label(&mut self, source: TokenizedText<'_>, index: usize) {
+        self.set_role(index, Role::Label);
+        if self.add_label(source.name_number(index), index).is_err() {
             self.refuse();
+        }
+    }
+
+    /// Adds a label whose name has this number.
+    fn add_label(&mut self, name: usize, index: usize) -> Result<(), Memory> {
+        match self.labels.get_mut(&name) {
+            Some(labels) => labels.push(index)?,
+            None => {
+                let mut labels = Vec::new(self.alloc);
+                labels.push(index)?;
+                self.labels.insert(name, labels)?;
+            }
+        }
+        Ok(())
+    }
+
+    /// Notes what a token is to a GOTO.
+    fn set_role(&mut self, index: usize, role: Role) {
+        if index < self.roles.len() {
+            self.roles[index] = role;
         }
     }
 
     /// Notes the destination of a GOTO.
     pub fn note_destination(&mut self, index: usize) {
+        self.set_role(index, Role::Destination);
         if self.destinations.push(index).is_err() {
             self.refuse();
         }
@@ -271,7 +308,7 @@ impl Notes {
     /// Whether the token at `destination` is the destination of a GOTO that comes before such a block, with its label
     /// inside the block.
     pub fn is_parted(&self, source: TokenizedText<'_>, destination: usize) -> bool {
-        self.destinations.contains(&destination)
+        matches!(self.roles.get(destination), Some(Role::Destination))
             && self.blocks.iter().any(|block| {
                 block.from <= destination
                     && destination < block.at
@@ -281,22 +318,50 @@ impl Notes {
 
     /// Whether the label of a destination is in a block and in no bracket inside it.
     fn has_label(&self, source: TokenizedText<'_>, block: LateBlock, destination: usize) -> bool {
-        self.labels.iter().any(|label| {
-            block.at <= *label
-                && *label < block.to
-                && source.is_same(*label, destination)
-                && !is_enclosed(source, block.at, *label)
+        self.labels_like(source, destination).iter().any(|label| {
+            block.at <= *label && *label < block.to && !is_enclosed(source, block.at, *label)
         })
     }
 
-    /// The indices of the labels.
-    pub fn labels(&self) -> &[usize] {
-        self.labels.as_slice()
+    /// Whether `*(` after the name at an index is looked at for the first time. Other operands are always new.
+    pub fn is_new_star(&mut self, source: TokenizedText<'_>, index: usize) -> bool {
+        if source.kind(index) != Kind::Name {
+            return true;
+        }
+        let name = source.name_number(index);
+        if name >= self.stars.len() || self.stars[name] {
+            return false;
+        }
+        self.stars[name] = true;
+        true
+    }
+
+    /// The indices of the destinations of GOTO.
+    pub fn destinations(&self) -> &[usize] {
+        self.destinations.as_slice()
+    }
+
+    /// Drops all changes.
+    pub fn drop_changes(&mut self) {
+        self.slots = Vec::new(self.alloc);
+    }
+
+    /// Drops all complaints.
+    pub fn drop_complaints(&mut self) {
+        self.complaints = Vec::new(self.alloc);
+    }
+
+    /// The indices of the labels with the name at an index.
+    pub fn labels_like(&self, source: TokenizedText<'_>, index: usize) -> &[usize] {
+        match self.labels.get(&source.name_number(index)) {
+            Some(labels) => labels.as_slice(),
+            None => &[],
+        }
     }
 
     /// Whether a label or the destination of a GOTO is at an index.
     pub fn is_label_or_destination(&self, index: usize) -> bool {
-        self.labels.contains(&index) || self.destinations.contains(&index)
+        matches!(self.roles.get(index), Some(Role::Label | Role::Destination))
     }
 
     /// A name that the source doesn't have; empty if an allocation failed.
@@ -314,9 +379,8 @@ impl Notes {
     fn next_name(&mut self, source: TokenizedText<'_>) -> Result<Vec<u8>, Memory> {
         for _ in 0..source.tokens.len() {
             self.fresh = self.fresh.saturating_add(1);
-            let name = self.numbered()?;
-            if !has_token(source, name.as_slice()) {
-                return Ok(name);
+            if !is_taken(source, self.fresh) {
+                break;
             }
         }
         self.numbered()
@@ -355,11 +419,37 @@ fn replacements(
 ) -> Result<Vec<Replacement>, Memory> {
     let mut replacements = Vec::new(alloc);
     for (index, slot) in slots.iter().enumerate() {
+        put_old_comments(alloc, &mut replacements, source, index)?;
         if !slot.is_untouched() {
             replacements.push(replacement(alloc, source, index, slot)?)?;
         }
     }
+    put_old_comments(alloc, &mut replacements, source, slots.len())?;
     Ok(replacements)
+}
+
+/// Appends a replacement for the beginning of each comment with `\\` before a token.
+fn put_old_comments(
+    alloc: Global,
+    replacements: &mut Vec<Replacement>,
+    source: TokenizedText<'_>,
+    index: usize,
+) -> Result<(), Memory> {
+    let gap = source.gap(index);
+    let start = source.start(index).saturating_sub(gap.len());
+    let mut from: usize = 0;
+    for _ in 0..gap.len() {
+        let Some((at, end)) = next_old_comment(gap, from) else {
+            break;
+        };
+        from = end;
+        replacements.push(Replacement {
+            start: start.saturating_add(at),
+            end: start.saturating_add(at).saturating_add(2),
+            text: Vec::from_slice(alloc, b"//")?,
+        })?;
+    }
+    Ok(())
 }
 
 /// The replacement for a token.
@@ -413,7 +503,9 @@ fn needs_blank(text: &[u8], source: TokenizedText<'_>, index: usize) -> bool {
 
 /// Appends the new text of a token.
 fn put_token(whole: &mut Vec<u8>, slot: &Slot, bytes: &[u8]) -> Result<(), Memory> {
-    whole.extend_from_slice(slot.before.as_slice())?;
+    for byte in slot.before.iter().rev() {
+        whole.push(*byte)?;
+    }
     match &slot.instead {
         Some(instead) => whole.extend_from_slice(instead.as_slice())?,
         None => whole.extend_from_slice(bytes)?,
@@ -427,9 +519,12 @@ fn is_plain_gap(gap: &[u8]) -> bool {
     !gap.is_empty() && gap.iter().all(|byte| *byte == b' ' || *byte == b'\t')
 }
 
-/// Whether a bracket that opens between two indices closes after the second one.
+/// Whether a section bracket that opens between two indices closes after the second one.
 fn is_enclosed(source: TokenizedText<'_>, from: usize, index: usize) -> bool {
-    (from..index).any(|at| source.kind(at) == Kind::OpenSection && source.partner(at) > index)
+    source
+        .context(index)
+        .section
+        .is_some_and(|section| section >= from)
 }
 
 /// The index after the outermost bracket around a token, or after the token if there is none.
@@ -445,7 +540,10 @@ fn opens(source: TokenizedText<'_>, index: usize) -> bool {
     matches!(source.kind(index), Kind::OpenRound | Kind::OpenSection)
 }
 
-/// Whether a token has this spelling.
-fn has_token(source: TokenizedText<'_>, bytes: &[u8]) -> bool {
-    (0..source.tokens.len()).any(|index| source.bytes(index) == bytes)
+/// Whether the source has the new name with this number already.
+fn is_taken(source: TokenizedText<'_>, number: u32) -> bool {
+    match usize::try_from(number) {
+        Ok(number) => source.names.taken.get(number).copied().unwrap_or(false),
+        Err(_) => false,
+    }
 }

@@ -22,6 +22,19 @@ pub enum Header {
     Further,
 }
 
+/// Whether a source needs a conversion.
+#[derive(Clone, Copy, PartialEq, Eq)]
+pub enum Lawful {
+    /// It doesn't build as it is.
+    No,
+    /// It builds as it is, in a program of which other sources don't: only the library's header may be exchanged.
+    Header,
+    /// It builds as it is: nothing may be changed.
+    Whole,
+    /// It may build as it is, with a header that wasn't found: nothing may be changed.
+    Unseen,
+}
+
 /// The inputs of a conversion besides the source.
 #[derive(Clone, Copy)]
 pub struct Options<'o> {
@@ -31,6 +44,8 @@ pub struct Options<'o> {
     pub header: Option<Header>,
     /// The facts about the whole program; `None` if this source is the whole program.
     pub program: Option<Program>,
+    /// Whether the source needs a conversion.
+    pub lawful: Lawful,
 }
 
 /// The renamings of a list of names, and the faults in its lines.

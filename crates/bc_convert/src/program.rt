@@ -1,8 +1,6 @@
 //! What the sources of a program show together: the dialect, and the library's header that they need.
 
-use crate::formats::{
-    Format, bit_at, format_at, gets_header, gets_header_alone, is_further_string,
-};
+use crate::formats::{Format, bit_at, format_at, gets_header, is_further_string};
 use crate::names::{declares, declares_routine, is_declared, is_entry, is_for};
 use crate::options::{Header, Renaming};
 use crate::reading::Reading;
@@ -13,7 +11,7 @@ use std::alloc::Global;
 /// What the sources of a program show together about their dialect and library.
 #[derive(Clone, Copy)]
 pub struct Program {
-    /// The dialect. Only the case of reserved words may differ between the sources.
+    /// The dialect. Only the case of the library's names is the same in all sources.
     pub dialect: Dialect,
     /// A source gets EXTHDR, or has a call that only EXTHDR's WRITEF supports.
     needs_further: bool,
@@ -21,6 +19,8 @@ pub struct Program {
     hides_format: bool,
     /// There is a string that would need EXTHDR if it is a format.
     has_further_string: bool,
+    /// In a source something is assigned to a subscript with a star.
+    pub has_stars: bool,
     /// A source gets the library's header.
     pub gets_library: bool,
     /// No source gets a header other than the library's.
@@ -60,8 +60,9 @@ impl Program {
             needs_further: false,
             hides_format: false,
             has_further_string: false,
+            has_stars: dialect.has_star_subscripts,
             gets_library: false,
-            gets_library_alone: gets_header_alone(source),
+            gets_library_alone: source.names.gets_library_alone,
             has_several: false,
             makes_pool: false,
             used: 0,
@@ -118,6 +119,7 @@ impl Program {
             needs_further: self.needs_further || other.needs_further,
             hides_format: self.hides_format || other.hides_format,
             has_further_string: self.has_further_string || other.has_further_string,
+            has_stars: self.has_stars || other.has_stars,
             gets_library: self.gets_library || other.gets_library,
             gets_library_alone: self.gets_library_alone && other.gets_library_alone,
             has_several: true,

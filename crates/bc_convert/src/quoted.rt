@@ -158,6 +158,21 @@ pub fn inside_respelled(alloc: Global, inside: &[u8]) -> Result<Result<Respelled
     }))
 }
 
+/// A string in double quotes, from what is between the single quotes of an old one. Double quotes in it are escaped.
+pub fn requoted(alloc: Global, inside: &[u8]) -> Result<Vec<u8>, Memory> {
+    let mut text = Vec::from_slice(alloc, b"\"")?;
+    let mut is_escaped = false;
+    for byte in inside {
+        if *byte == b'"' && !is_escaped {
+            text.push(b'*')?;
+        }
+        text.push(*byte)?;
+        is_escaped = *byte == b'*' && !is_escaped;
+    }
+    text.push(b'"')?;
+    Ok(text)
+}
+
 /// The byte that a character constant means, if it has one character.
 pub fn character_of(inside: &[u8]) -> Option<u8> {
     match inside {

@@ -1,65 +1,97 @@
 //! Reads a text into classified tokens.
 
-use bc_convert_tokens::{Dialect, Token, TokenizedText, classified, lex, partners};
+use crate::name_table::Names;
+use bc_convert_tokens::{
+    Context, Dialect, NameTable, Token, TokenizedText, classified, contexts, lex, partners,
+    with_arrows,
+};
 use bc_word::Memory;
 use std::alloc::Global;
 
-/// The classified tokens of a text, with the partners of its brackets, and its dialect.
+/// The classified tokens of a text, with the partners of its brackets, its names, and its dialect.
 #[derive(Drop)]
 pub struct Reading {
     paired: Paired,
+    names: Names,
     /// The dialect that the text shows by itself.
     pub dialect: Dialect,
 }
 
 impl Reading {
     /// Reads a text.
+    ///
+    /// # Errors
+    ///
+    /// `Memory` if an allocation failed.
     pub fn new(alloc: Global, text: &[u8]) -> Result<Reading, Memory> {
-        let raw = Paired::new(alloc, text, lex(alloc, text)?)?;
-        Reading::told(alloc, raw.source(text))
+        let tokens = with_arrows(alloc, text, lex(alloc, text)?)?;
+        let raw = Paired::new(alloc, text, tokens)?;
+        Reading::classified(alloc, raw.source(text))
     }
 
     /// Classifies the tokens of a text.
-    fn told(alloc: Global, raw: TokenizedText<'_>) -> Result<Reading, Memory> {
+    fn classified(alloc: Global, raw: TokenizedText<'_>) -> Result<Reading, Memory> {
         let dialect = Dialect::of(raw);
         let tokens = classified(alloc, raw, dialect)?;
+        let paired = Paired::new(alloc, raw.text, tokens)?;
+        let names = Names::of(alloc, paired.source(raw.text))?;
         Ok(Reading {
-            paired: Paired::new(alloc, raw.text, tokens)?,
+            paired,
+            names,
             dialect,
         })
     }
 
     /// The text and its tokens.
     pub fn source<'s>(&'s self, text: &'s [u8]) -> TokenizedText<'s> {
-        self.paired.source(text)
+        TokenizedText {
+            names: self.names.table(),
+            ..self.paired.source(text)
+        }
     }
 }
 
-/// Tokens with the partners of their brackets.
+/// Tokens with the partners of their brackets, and what the tokens before each say about it.
 #[derive(Drop)]
 struct Paired {
     tokens: Vec<Token>,
     partners: Vec<usize>,
+    contexts: Vec<Context>,
 }
 
 impl Paired {
-    /// Finds the partners.
+    /// Finds the partners and the contexts.
     fn new(alloc: Global, text: &[u8], tokens: Vec<Token>) -> Result<Paired, Memory> {
         let bare = TokenizedText {
             text,
             tokens: tokens.as_slice(),
             partners: &[],
+            contexts: &[],
+            names: NameTable::empty(),
         };
         let partners = partners(alloc, bare)?;
-        Ok(Paired { tokens, partners })
+        let contexts = contexts(
+            alloc,
+            TokenizedText {
+                partners: partners.as_slice(),
+                ..bare
+            },
+        )?;
+        Ok(Paired {
+            tokens,
+            partners,
+            contexts,
+        })
     }
 
-    /// The text and these tokens.
+    /// The text and these tokens, without its names.
     fn source<'s>(&'s self, text: &'s [u8]) -> TokenizedText<'s> {
         TokenizedText {
             text,
             tokens: self.tokens.as_slice(),
             partners: self.partners.as_slice(),
+            contexts: self.contexts.as_slice(),
+            names: NameTable::empty(),
         }
     }
 }

@@ -2,11 +2,11 @@
 
 use crate::complaint::Fault;
 use crate::formats::gets_header;
-use crate::names::{dotted, is_declared, is_first, name_change};
+use crate::names::{dotted, is_declared, name_change};
 use crate::notes::Notes;
 use crate::numbers::{NumberChange, decimal, number_change};
 use crate::options::{Header, Options};
-use crate::quoted::{Respelled, inside_respelled};
+use crate::quoted::{Respelled, inside_respelled, requoted};
 use bc_convert_tokens::{Dialect, Kind, TokenizedText, reserved, span};
 
 /// Rewrites each token by itself: words and signs, names with underlines, numbers and strings. Reports what has no
@@ -46,12 +46,14 @@ fn respell_further(
     }
 }
 
-/// The byte with which some systems fill up files.
-const FILLER: &[u8] = b"\x1a";
+/// Whether a token is a byte with which some systems fill up files.
+fn is_filler(bytes: &[u8]) -> bool {
+    matches!(bytes, [0x1a | 0])
+}
 
 /// Whether only fillers follow from the token at an index on.
 fn is_filled_up(source: TokenizedText<'_>, index: usize) -> bool {
-    (index..source.tokens.len()).all(|at| source.bytes(at) == FILLER)
+    (index..source.tokens.len()).all(|at| is_filler(source.bytes(at)))
 }
 
 /// Rewrites a byte that begins no token. Fillers at the end of the text are removed, and so is the full stop after
@@ -98,11 +100,6 @@ fn routine_fault(bytes: &[u8]) -> Option<Fault> {
     }
 }
 
-/// Whether the name at an index is a reserved word in this dialect.
-fn is_reserved_here(source: TokenizedText<'_>, index: usize) -> bool {
-    reserved(source.bytes(index), false).is_some_and(|word| !word.is_name_now)
-}
-
 /// Rewrites a name.
 fn respell_name(
     source: TokenizedText<'_>,
@@ -116,9 +113,6 @@ fn respell_name(
         && !is_declared(source, index)
     {
         notes.complain(source, index, fault);
-    }
-    if is_reserved_here(source, index) && is_first(source, index) {
-        notes.complain(source, index, Fault::ReservedName);
     }
     let change = name_change(notes.alloc(), source, index, dialect, options);
     if let Some(Some(new)) = notes.made(change) {
@@ -141,14 +135,22 @@ pub fn inside(bytes: &[u8]) -> &[u8] {
     span(bytes, 1, bytes.len().saturating_sub(1))
 }
 
+/// Rewrites the name of the library's header.
+pub fn respell_header(source: TokenizedText<'_>, notes: &mut Notes, index: usize, header: Header) {
+    let name: &[u8] = match header {
+        Header::Further => b"\"EXTHDR\"",
+        Header::Basic => b"\"LIBHDR\"",
+    };
+    replace_if_other(source, notes, index, name)
+}
+
 /// Rewrites a string. After GET the library's header gets its name in this dialect.
 fn respell_string(source: TokenizedText<'_>, notes: &mut Notes, index: usize, header: Header) {
     if gets_header(source, index) {
-        let name: &[u8] = match header {
-            Header::Further => b"\"EXTHDR\"",
-            Header::Basic => b"\"LIBHDR\"",
-        };
-        return replace_if_other(source, notes, index, name);
+        return respell_header(source, notes, index, header);
+    }
+    if source.bytes(index).starts_with(b"'".as_slice()) {
+        return respell_quoted(source, notes, index);
     }
     match respelled(source, notes, index) {
         Some(respelled) if respelled.count > 255 => notes.complain(
@@ -161,8 +163,24 @@ fn respell_string(source: TokenizedText<'_>, notes: &mut Notes, index: usize, he
     }
 }
 
+/// Rewrites a string in single quotes.
+fn respell_quoted(source: TokenizedText<'_>, notes: &mut Notes, index: usize) {
+    if let Some(respelled) = respelled(source, notes, index) {
+        if respelled.count > 255 {
+            return notes.complain(source, index, Fault::StringTooLong);
+        }
+        let text = requoted(notes.alloc(), respelled.inside.as_slice());
+        if let Some(text) = notes.made(text) {
+            notes.replace(index, text.as_slice());
+        }
+    }
+}
+
 /// Rewrites a character constant. One without a visible character becomes a number.
 fn respell_character(source: TokenizedText<'_>, notes: &mut Notes, index: usize) {
+    if let [b'$', letter] = source.bytes(index) {
+        return notes.replace(index, &[b'\'', *letter, b'\'']);
+    }
     match respelled(source, notes, index) {
         Some(respelled) if respelled.count != 1 => notes.complain(
             source,

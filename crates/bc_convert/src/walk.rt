@@ -8,6 +8,7 @@ use crate::chain::{Chain, ChainState, close_chain};
 use crate::commands::{put_byte_of, put_compound};
 use crate::complaint::Fault;
 use crate::declarations::{Values, continued, put_entry, put_values};
+use crate::doubts::tell_star;
 use crate::magnitudes::{put_absolute, tell_absolutes};
 use crate::names::is_number;
 use crate::notes::{LateBlock, Notes};
@@ -37,6 +38,14 @@ impl<'s> Walk<'s> {
             ..self
         }
     }
+}
+
+/// An operand that was read: its first token, the index after it, and the index at which the walk ends.
+#[derive(Clone, Copy)]
+struct Part {
+    at: usize,
+    end: usize,
+    to: usize,
 }
 
 /// The index of the token that closes the bracket at an index, at most `to`.
@@ -139,7 +148,7 @@ fn item(walk: Walk<'_>, notes: &mut Notes, at: usize, to: usize) -> usize {
         Kind::Get => following(next, to),
         Kind::OpenSection => bracket(walk.deeper(), notes, at, to),
         Kind::Name if source.kind(next) == Kind::Colon => {
-            notes.note_label(at);
+            notes.note_label(source, at);
             following(next, to)
         }
         kind if kind.can_be_operand() => command(walk.deeper(), notes, at, to),
@@ -246,7 +255,7 @@ fn definitions(walk: Walk<'_>, notes: &mut Notes, values: Values, to: usize) -> 
         start = following(start, to);
     }
     if has_vector {
-        put_values(source, notes, values, commas.as_slice());
+        put_values(source, notes, values, commas.as_slice(), b" AND ");
     }
     start
 }
@@ -362,7 +371,12 @@ fn command(walk: Walk<'_>, notes: &mut Notes, at: usize, to: usize) -> usize {
         return assignment(walk.deeper(), notes, at, left, to);
     }
     finish(notes, at, left);
-    let mut end = operators(walk.deeper(), notes, 0, at, left.end, to);
+    let first = Part {
+        at,
+        end: left.end,
+        to,
+    };
+    let mut end = operators(walk.deeper(), notes, 0, first);
     let mut has_byte = left.byte.is_some();
     for _ in at..to {
         if source.kind(end) != Kind::Comma || end >= to {
@@ -372,7 +386,12 @@ fn command(walk: Walk<'_>, notes: &mut Notes, at: usize, to: usize) -> usize {
         let further = operand(walk.deeper(), notes, start, to, false);
         has_byte = has_byte || further.byte.is_some();
         finish(notes, start, further);
-        end = operators(walk.deeper(), notes, 0, start, further.end, to);
+        let part = Part {
+            at: start,
+            end: further.end,
+            to,
+        };
+        end = operators(walk.deeper(), notes, 0, part);
     }
     if is_compound(source, end) {
         notes.complain(source, end, Fault::OperatorInList);
@@ -412,7 +431,12 @@ fn compound(walk: Walk<'_>, notes: &mut Notes, at: usize, left: Operand, to: usi
     let start = following(following(left.end, to), to);
     let right = operand(walk.deeper(), notes, start, to, false);
     finish(notes, start, right);
-    let end = operators(walk.deeper(), notes, 1, start, right.end, to);
+    let part = Part {
+        at: start,
+        end: right.end,
+        to,
+    };
+    let end = operators(walk.deeper(), notes, 1, part);
     if !is_plain(source, at, left.end) {
         notes.complain(source, at, Fault::CallOnTheLeft);
         return end;
@@ -438,26 +462,25 @@ fn expression(walk: Walk<'_>, notes: &mut Notes, level: u8, at: usize, to: usize
         return at;
     }
     finish(notes, at, left);
-    operators(walk.deeper(), notes, level, at, left.end, to)
+    let part = Part {
+        at,
+        end: left.end,
+        to,
+    };
+    operators(walk.deeper(), notes, level, part)
 }
 
-/// The operators after an operand, with their right operands, that bind at least as tightly as `level`. The operand
-/// begins at `at` and ends before `from`.
+/// The operators after an operand, with their right operands, that bind at least as tightly as `level`. Returns the index
+/// after them.
 #[cycle(walk)]
-fn operators(
-    walk: Walk<'_>,
-    notes: &mut Notes,
-    level: u8,
-    at: usize,
-    from: usize,
-    to: usize,
-) -> usize {
+fn operators(walk: Walk<'_>, notes: &mut Notes, level: u8, part: Part) -> usize {
+    let Part { at, end, to } = part;
     if walk.depth == 0 {
         notes.complain(walk.source, at, Fault::TooDeep);
         return to;
     }
     let source = walk.source;
-    let mut end = from;
+    let mut end = end;
     let mut chain: Option<Chain> = None;
     for _ in at..to {
         let operator = level_at(source, end);
@@ -539,9 +562,11 @@ fn operand(walk: Walk<'_>, notes: &mut Notes, at: usize, to: usize, calls_only: 
         Kind::Valof | Kind::Table => Operand::plain(next),
         Kind::OpenRound => {
             let end = bracket(walk.deeper(), notes, at, to);
-            selected(walk.deeper(), notes, at, end, to, calls_only)
+            selected(walk.deeper(), notes, Part { at, end, to }, calls_only)
         }
-        kind if kind.can_be_operand() => selected(walk.deeper(), notes, at, next, to, calls_only),
+        kind if kind.can_be_operand() => {
+            selected(walk.deeper(), notes, Part { at, end: next, to }, calls_only)
+        }
         _ => Operand::plain(at),
     }
 }
@@ -611,21 +636,15 @@ fn subscript_fault(walk: Walk<'_>, at: usize, sign: usize) -> Option<Fault> {
     if is_or { Some(Fault::PercentOr) } else { None }
 }
 
-/// The calls and subscripts after an operand, which begins at `at` and ends before `from`.
+/// The calls and subscripts after an operand.
 #[cycle(walk)]
-fn selected(
-    walk: Walk<'_>,
-    notes: &mut Notes,
-    at: usize,
-    from: usize,
-    to: usize,
-    calls_only: bool,
-) -> Operand {
+fn selected(walk: Walk<'_>, notes: &mut Notes, part: Part, calls_only: bool) -> Operand {
+    let Part { at, end, to } = part;
     if walk.depth == 0 {
-        return Operand::plain(from);
+        return Operand::plain(end);
     }
     let source = walk.source;
-    let mut whole = Operand::plain(from);
+    let mut whole = Operand::plain(end);
     for _ in at..to {
         let here = whole.end;
         if here >= to || source.is_separated(here) || is_compound(source, here) {
@@ -642,6 +661,7 @@ fn selected(
             break;
         } else if is_star_subscript(walk, here) {
             finish(notes, at, whole);
+            tell_star(source, notes, at, here);
             notes.replace(here, b"!");
             whole = Operand::plain(bracket(walk.deeper(), notes, following(here, to), to));
         } else if kind == Kind::Bang || kind == Kind::Percent {

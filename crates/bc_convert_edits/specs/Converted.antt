@@ -1,5 +1,5 @@
 -- A text with some of its spans replaced.
-use Rattle.std.specs.Prelude.{◌≡◌, ◌≢◌, ℕ, ◌≤◌, List, [], ◌∷◌, ◌++◌, length, drop, slice_range, All}
+use Rattle.std.specs.Prelude.{◌≢◌, ℕ, ◌≤◌, List, [], ◌∷◌, ◌++◌, drop, slice_range, All}
 use Rattle.bc_convert_edits.specs.declared.replacement.Replacement.{Replacement}
 
 -- the text from a position on, with each span replaced

@@ -1,8 +1,9 @@
 -- Worked examples of texts with replaced spans.
-use Rattle.std.specs.Prelude.{◌≡◌, List, [], ◌∷◌, codes, ℕ}
+use Rattle.std.specs.Prelude.{◌≡◌, true, false, List, [], ◌∷◌, codes, ℕ}
 use Rattle.std.proofs.Common.{refl, arith}
 use Rattle.bc_convert_edits.specs.declared.replacement.Replacement.{Replacement}
 use Rattle.bc_convert_edits.specs.Converted.{converted, RiseWithin, Changes}
+use Rattle.bc_convert_edits.specs.Settled.{fits}
 
 -- without replacements the text is unchanged
 unchanged : (text : List ℕ) → converted text [] ≡ text
@@ -31,3 +32,15 @@ past_the_end r b rise = omega (arith, rise.2)
 -- a replacement with the bytes of its span changes nothing
 no_change : (r : Replacement) → r.start ≡ 0 → r.end ≡ 1 → r.text.items ≡ codes "a" → Changes (codes "abc") r → ⊥
 no_change r start end text changes = changes (rw (start, end, text) refl)
+
+-- a replacement fits after one that ends where it begins
+fits_after : (r : Replacement) → r.start ≡ 1 → r.end ≡ 3 → r.text.items ≡ codes "X" → fits 1 (codes "abc") r ≡ true
+fits_after r start end text = rw (start, end, text) refl
+
+-- but not after one that ends within it
+overlaps_before : (r : Replacement) → r.start ≡ 1 → fits 2 (codes "abc") r ≡ false
+overlaps_before r start = rw start refl
+
+-- one that changes nothing doesn't fit
+no_change_fits : (r : Replacement) → r.start ≡ 0 → r.end ≡ 2 → r.text.items ≡ codes "ab" → fits 0 (codes "abc") r ≡ false
+no_change_fits r start end text = rw (start, end, text) refl

@@ -1,2 +1,3 @@
 pub mod Converted
 pub mod Examples
+pub mod Settled

@@ -1,8 +1,9 @@
 //! The dialect of a source, and the kinds of words and square brackets in it.
 
+use crate::context::is_let_or_and;
 use crate::kind::Kind;
 use crate::source::{Token, TokenizedText};
-use crate::words::{ReservedWord, is_same_word, is_small, reserved};
+use crate::words::{MOST_WORDS, ReservedWord, is_same_word, is_small, reserved, reserved_place};
 use bc_word::Memory;
 use std::alloc::Global;
 
@@ -15,6 +16,8 @@ pub struct Dialect {
     pub has_small_library: bool,
     /// `*` directly followed by a parenthesis or square bracket is a subscript.
     pub has_star_subscripts: bool,
+    /// Strings are in single quotes, as characters are.
+    pub has_quoted_strings: bool,
 }
 
 impl Dialect {
@@ -23,25 +26,64 @@ impl Dialect {
     /// Reserved words are in lower case if the source begins with one, or if a word follows `let` on the same line,
     /// which this dialect can't have. The library's names are in lower case if reserved words are, if `GET "libhdr"`
     /// is, or if `start` is declared and START isn't. `*(` and `*[` are subscripts if something is assigned to one of
-    /// them.
+    /// them. Strings are in single quotes if more than one character is, and nothing is in double quotes.
     pub fn of(source: TokenizedText<'_>) -> Dialect {
         let has_small_words = begins_small(source) || has_small_let(source);
         Dialect {
             has_small_words,
             has_small_library: has_small_words || has_small_library(source),
             has_star_subscripts: assigns_to_star(source),
+            has_quoted_strings: has_quoted_strings(source),
         }
     }
 
-    /// This dialect, in a program in which another source has the dialect `other`. The case of reserved words is each
-    /// source's own; the rest holds for all sources of a program.
+    /// This dialect, in a program in which another source has the dialect `other`. The case of the library's names is the
+    /// same in all sources of a program; the rest is each source's own.
     pub fn among(self, other: Dialect) -> Dialect {
         Dialect {
-            has_small_words: self.has_small_words,
             has_small_library: self.has_small_library || other.has_small_library,
-            has_star_subscripts: self.has_star_subscripts || other.has_star_subscripts,
+            ..self
         }
     }
+}
+
+/// Whether strings are in single quotes: something other than a single character is, and only names of headers are in
+/// double quotes.
+fn has_quoted_strings(source: TokenizedText<'_>) -> bool {
+    let count = source.tokens.len();
+    let has_string = (0..count).any(|index| source.kind(index) == Kind::Character
+        && !is_character(source.bytes(index)));
+    has_string
+        && (0..count).all(|index| source.kind(index) != Kind::Text
+            || index > 0 && is_same_word(source.bytes(index - 1), b"GET"))
+}
+
+/// Whether a character constant, with its quotes, has a single character.
+fn is_character(bytes: &[u8]) -> bool {
+    match bytes {
+        [b'\'', b'*', second, ..] => {
+            bytes.len() == 4 || second.is_ascii_digit() || b"XxDdOo".contains(second)
+        }
+        [b'\'', ..] => bytes.len() == 3,
+        _ => true,
+    }
+}
+
+/// Whether the token at an index must be a string: it is the first argument of WRITES, WRITEF, FINDINPUT or FINDOUTPUT, or
+/// the name after GET.
+fn must_be_string(source: TokenizedText<'_>, index: usize) -> bool {
+    if index > 0 && is_same_word(source.bytes(index - 1), b"GET") {
+        return true;
+    }
+    let name = if index > 1 && source.kind(index - 1) == Kind::OpenRound {
+        source.bytes(index - 2)
+    } else {
+        return false;
+    };
+    is_same_word(name, b"WRITES")
+        || is_same_word(name, b"WRITEF")
+        || is_same_word(name, b"FINDINPUT")
+        || is_same_word(name, b"FINDOUTPUT")
 }
 
 /// Whether the first word is a reserved word in lower case.
@@ -67,12 +109,6 @@ fn has_small_let(source: TokenizedText<'_>) -> bool {
 /// Whether a string is the name of the library's header in lower case, with any extension.
 fn is_small_header(string: &[u8]) -> bool {
     string == b"\"libhdr\"".as_slice() || string.starts_with(b"\"libhdr.".as_slice())
-}
-
-/// Whether the token at an index is LET or AND.
-fn is_let_or_and(source: TokenizedText<'_>, index: usize) -> bool {
-    let word = source.bytes(index);
-    is_same_word(word, b"LET") || is_same_word(word, b"AND")
 }
 
 /// Whether a routine of this name is declared.
@@ -127,15 +163,13 @@ fn opens_entries(source: TokenizedText<'_>, index: usize) -> bool {
 
 /// Whether an index is in a list of GLOBAL, MANIFEST or STATIC.
 fn is_in_entries(source: TokenizedText<'_>, index: usize) -> bool {
-    for back in 1..=index {
-        let at = index - back;
-        match source.kind(at) {
-            Kind::CloseSection | Kind::CloseSquare => return false,
-            Kind::OpenSection | Kind::OpenSquare => return opens_entries(source, at),
-            _ => {}
+    match source.context(index).bracket {
+        Some(bracket) => {
+            matches!(source.kind(bracket), Kind::OpenSection | Kind::OpenSquare)
+                && opens_entries(source, bracket)
         }
+        None => false,
     }
-    false
 }
 
 /// Whether an entry of such a list can begin at an index: after the bracket, a semicolon or a line break, or after a
@@ -157,18 +191,7 @@ fn begins_entry(source: TokenizedText<'_>, index: usize) -> bool {
 /// Whether only words, commas and opening parentheses are between LET or AND and an index, and no word directly
 /// before it.
 fn is_in_heading(source: TokenizedText<'_>, index: usize) -> bool {
-    if index == 0 || source.kind(index - 1) == Kind::Word {
-        return false;
-    }
-    for back in 1..=index {
-        let at = index - back;
-        match source.kind(at) {
-            Kind::Word if is_let_or_and(source, at) => return true,
-            Kind::Word | Kind::Comma | Kind::OpenRound => {}
-            _ => return false,
-        }
-    }
-    false
+    index > 0 && source.kind(index - 1) != Kind::Word && source.context(index).is_in_heading
 }
 
 /// Whether the word at an index is declared there, provided that it is a name.
@@ -194,24 +217,24 @@ fn is_used_as_name(source: TokenizedText<'_>, index: usize, kind: Kind) -> bool 
     }
 }
 
-/// Whether the word at an index is used as a name somewhere.
-fn is_name_somewhere(source: TokenizedText<'_>, index: usize, kind: Kind) -> bool {
-    for other in 0..source.tokens.len() {
-        if source.kind(other) == Kind::Word
-            && source.is_same(index, other)
-            && is_used_as_name(source, other, kind)
-        {
-            return true;
-        }
+/// Whether the word at an index begins a command, or is the destination of a GOTO.
+fn begins_command(source: TokenizedText<'_>, index: usize) -> bool {
+    if index == 0 {
+        return false;
     }
-    false
+    matches!(
+        source.kind(index - 1),
+        Kind::Semicolon | Kind::OpenSection | Kind::OpenSquare | Kind::Colon
+    ) || source.gap(index).contains(&b'\n')
+        || is_same_word(source.bytes(index - 1), b"GOTO")
 }
 
-/// Whether the reserved word at an index is declared there or assigned to.
+/// Whether the reserved word at an index is declared there, assigned to, or a label.
 fn is_set_as_name(source: TokenizedText<'_>, index: usize, kind: Kind) -> bool {
     match source.kind(index.saturating_add(1)) {
         Kind::Assign => kind.level() == 0,
         Kind::OpenRound => index > 0 && is_let_or_and(source, index - 1),
+        Kind::Colon if begins_command(source, index) => kind != Kind::Default,
         Kind::Comma | Kind::CloseRound | Kind::Semicolon | Kind::Equal | Kind::Colon => {
             is_declared_at(source, index)
         }
@@ -219,40 +242,72 @@ fn is_set_as_name(source: TokenizedText<'_>, index: usize, kind: Kind) -> bool {
     }
 }
 
-/// Whether the upper-case reserved word at an index is a name: it is declared or assigned to somewhere.
-fn is_capital_name(source: TokenizedText<'_>, index: usize, kind: Kind) -> bool {
-    let mut indices = 0..source.tokens.len();
-    indices.any(|other| source.is_same(index, other) && is_set_as_name(source, other, kind))
+/// The place of a spelling of a reserved word among all spellings: upper case or not.
+fn spelling_place(source: TokenizedText<'_>, index: usize, number: usize) -> usize {
+    let small = if is_small(source.bytes(index)) { 1 } else { 0 };
+    number.saturating_mul(2).saturating_add(small)
 }
 
-/// Whether the reserved word at an index is a name in this source.
-fn is_name_here(
+/// For each spelling of each reserved word, whether it is a name somewhere in the source, and so everywhere.
+fn words_as_names(
+    alloc: Global,
+    source: TokenizedText<'_>,
+    dialect: Dialect,
+) -> Result<Vec<bool>, Memory> {
+    let mut are_names = vec![in alloc; false; 2 * MOST_WORDS]?;
+    for index in 0..source.tokens.len() {
+        if source.kind(index) != Kind::Word {
+            continue;
+        }
+        if let Some((number, word)) = reserved_place(source.bytes(index), dialect.has_small_words) {
+            let place = spelling_place(source, index, number);
+            if is_name_at(source, index, word) && place < are_names.len() {
+                are_names[place] = true;
+            }
+        }
+    }
+    Ok(are_names)
+}
+
+/// Whether the reserved word at an index is used as a name there.
+fn is_name_at(source: TokenizedText<'_>, index: usize, word: &ReservedWord) -> bool {
+    if word.is_name_now {
+        is_used_as_name(source, index, word.kind)
+    } else {
+        is_set_as_name(source, index, word.kind)
+    }
+}
+
+/// The kind of the word at an index. `are_names` has the reserved words that are names in this source.
+fn kind_of_word(
     source: TokenizedText<'_>,
     index: usize,
     dialect: Dialect,
-    word: &ReservedWord,
-) -> bool {
-    if word.is_name_now {
-        return is_name_somewhere(source, index, word.kind);
-    }
-    dialect.has_small_words
-        && source.bytes(index) == word.text
-        && is_capital_name(source, index, word.kind)
-}
-
-/// The kind of the word at an index.
-fn kind_of_word(source: TokenizedText<'_>, index: usize, dialect: Dialect) -> Kind {
-    match reserved(source.bytes(index), dialect.has_small_words) {
+    are_names: &[bool],
+) -> Kind {
+    match reserved_place(source.bytes(index), dialect.has_small_words) {
         None => Kind::Name,
-        Some(word) if word.kind == Kind::Header => {
+        Some((_, word)) if word.kind == Kind::Header => {
             if source.kind(index.saturating_add(1)) == Kind::Text {
                 Kind::Header
             } else {
                 Kind::Name
             }
         }
-        Some(word) if is_name_here(source, index, dialect, word) => Kind::Name,
-        Some(word) => word.kind,
+        Some((number, word)) => match are_names.get(spelling_place(source, index, number)) {
+            Some(true) => Kind::Name,
+            _ => word.kind,
+        },
+    }
+}
+
+/// The kind of a character constant, which may be a string.
+fn kind_of_character(source: TokenizedText<'_>, index: usize, dialect: Dialect) -> Kind {
+    let is_string = !is_character(source.bytes(index)) || must_be_string(source, index);
+    if dialect.has_quoted_strings && is_string {
+        Kind::Text
+    } else {
+        Kind::Character
     }
 }
 
@@ -291,12 +346,14 @@ pub fn classified(
     source: TokenizedText<'_>,
     dialect: Dialect,
 ) -> Result<Vec<Token>, Memory> {
+    let are_names = words_as_names(alloc, source, dialect)?;
     let mut tokens = Vec::new(alloc);
     let mut open = Vec::new(alloc);
     let mut before = Kind::End;
     for (index, token) in source.tokens.iter().enumerate() {
         let kind = match token.kind {
-            Kind::Word => kind_of_word(source, index, dialect),
+            Kind::Word => kind_of_word(source, index, dialect, are_names.as_slice()),
+            Kind::Character => kind_of_character(source, index, dialect),
             Kind::OpenSquare => {
                 let kind = kind_of_square(before, token.line_before && before.can_end());
                 open.push(kind)?;

@@ -2,7 +2,9 @@
 
 ghost use Rattle.std.specs.Prelude.{◌≡◌, ◌+◌, ◌<◌, ◌≤◌, length, IfSome};
 
-use crate::bytes::{digit_bytes, following, hexadecimal_bytes, is_space, line_bytes, name_bytes};
+use crate::bytes::{
+    digit_bytes, following, hexadecimal_bytes, is_name_byte, is_space, line_bytes, name_bytes, span,
+};
 use crate::kind::Kind;
 
 /// Whether the text begins with the end of a block comment.
@@ -29,7 +31,7 @@ fn blank(bytes: &[u8]) -> usize
     ensures { result ≤ length bytes.now }
 {
     match bytes {
-        [b'/', b'/', ..] | [b'|', b'|', ..] => line_bytes(bytes),
+        [b'/', b'/', ..] | [b'|', b'|', ..] | [b'\\', b'\\', ..] => line_bytes(bytes),
         [b'/', b'*', ..] => block_comment(bytes).unwrap_or(0),
         [byte, ..] if is_space(*byte) => 1,
         _ => 0,
@@ -49,6 +51,20 @@ pub fn gap(bytes: &[u8]) -> usize
         at += count;
     }
     at
+}
+
+/// The offset of the next comment that begins with `\\` in a gap, and the offset of its end. The search begins at the
+/// offset `from`, where a blank or a comment begins.
+pub fn next_old_comment(gap: &[u8], from: usize) -> Option<(usize, usize)> {
+    let mut at = from;
+    for _ in 0..gap.len() {
+        let rest = span(gap, at, gap.len());
+        if matches!(rest, [b'\\', b'\\', ..]) {
+            return Some((at, at.saturating_add(line_bytes(rest))));
+        }
+        at = at.saturating_add(blank(rest).max(1));
+    }
+    None
 }
 
 /// The length of the string or character constant at the start, with its quotes, or `None` if it isn't closed. It
@@ -179,6 +195,15 @@ fn character_bytes(bytes: &[u8]) -> usize
     }
 }
 
+/// Whether a `$` is followed by one letter or digit, which is a character constant in the dialect of the Alto.
+fn is_dollar_character(bytes: &[u8]) -> bool {
+    match bytes {
+        [b'$', letter, next, ..] => letter.is_ascii_alphanumeric() && !is_name_byte(*next),
+        [b'$', letter] => letter.is_ascii_alphanumeric(),
+        _ => false,
+    }
+}
+
 /// The sign at the start. A section bracket includes its whole tag.
 fn sign(bytes: &[u8]) -> (Kind, usize)
     requires { 0 < length bytes.now }
@@ -191,6 +216,7 @@ fn sign(bytes: &[u8]) -> (Kind, usize)
         [0xc2, 0xac, ..] => (Kind::Not, 2),
         [0xe2, 0x89, 0xa0 | 0xa4 | 0xa5, ..] => (Kind::Relation, 3),
         [b'/', b'*', ..] => (Kind::Unclosed, bytes.len()),
+        [b'$', _, ..] if is_dollar_character(bytes) => (Kind::Character, 2),
         _ => match long_sign(bytes) {
             Some(kind) => (kind, 2),
             None => (short_sign(bytes[0]), character_bytes(bytes)),

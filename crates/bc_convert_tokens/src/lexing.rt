@@ -1,6 +1,7 @@
 //! The tokens of a text.
 
-ghost use Rattle.std.specs.Prelude.{◌≤◌, length};
+ghost use Rattle.std.specs.Prelude.{◌≤◌, length, IfOk};
+ghost use Rattle.bc_convert_tokens.specs.Spans.{TokensWithin};
 
 use crate::bytes::{following, span};
 use crate::lexeme::{gap, lexeme};
@@ -13,7 +14,10 @@ use std::alloc::Global;
 /// # Errors
 ///
 /// `Memory` if an allocation failed.
-pub fn lex(alloc: Global, text: &[u8]) -> Result<Vec<Token>, Memory> {
+pub fn lex(alloc: Global, text: &[u8]) -> Result<Vec<Token>, Memory>
+    // The tokens are slices of the text, in order and without overlaps.
+    ensures { IfOk result (λ tokens. TokensWithin 0 (length text.now) tokens.items) }
+{
     let mut tokens = Vec::new(alloc);
     let mut at = 0;
     for _ in 0..text.len() {

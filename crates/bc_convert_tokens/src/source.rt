@@ -1,7 +1,9 @@
 //! A text with its tokens.
 
 use crate::bytes::span;
+use crate::context::Context;
 use crate::kind::Kind;
+use crate::name_table::{NameFacts, NameTable};
 
 /// A token: its kind, the index of its first byte and of the byte after it, and whether a line break precedes it.
 #[derive(Clone, Copy)]
@@ -12,13 +14,16 @@ pub struct Token {
     pub line_before: bool,
 }
 
-/// A text, its tokens, and for each token that opens a bracket the index of the token that closes it. Any index is
-/// allowed in the methods below: one that is past the last token has the kind `End` and no bytes.
+/// A text, its tokens, and what is known of each: for one that opens a bracket the index of the token that closes it, what the
+/// tokens before it say, and what all places of its name show. Any index is allowed in the methods below: one that is past the
+/// last token has the kind `End` and no bytes.
 #[derive(Clone, Copy)]
 pub struct TokenizedText<'s> {
     pub text: &'s [u8],
     pub tokens: &'s [Token],
     pub partners: &'s [usize],
+    pub contexts: &'s [Context],
+    pub names: NameTable<'s>,
 }
 
 impl<'s> TokenizedText<'s> {
@@ -61,6 +66,26 @@ impl<'s> TokenizedText<'s> {
             .get(index)
             .copied()
             .unwrap_or(self.tokens.len())
+    }
+
+    /// What the tokens before a token say about it.
+    pub fn context(self, index: usize) -> Context {
+        self.contexts.get(index).copied().unwrap_or_default()
+    }
+
+    /// The number of the name at an index, or the number of tokens if there is no name.
+    pub fn name_number(self, index: usize) -> usize {
+        self.names
+            .numbers
+            .get(index)
+            .copied()
+            .unwrap_or(self.tokens.len())
+    }
+
+    /// What all places of the name at an index show together; nothing if there is no name.
+    pub fn name(self, index: usize) -> NameFacts {
+        let number = self.name_number(index);
+        self.names.facts.get(number).copied().unwrap_or_default()
     }
 
     /// Whether a line break or a semicolon separates the token at an index from the one before.

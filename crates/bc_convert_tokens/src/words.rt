@@ -15,6 +15,9 @@ pub struct ReservedWord {
     pub is_name_now: bool,
 }
 
+/// The number of reserved words.
+pub const MOST_WORDS: usize = 66;
+
 static RESERVED: [ReservedWord; 66] = [
     ReservedWord {
         text: b"AND",
@@ -433,12 +436,20 @@ pub fn is_same_word(one: &[u8], other: &[u8]) -> bool {
             .all(|(a, b)| a.to_ascii_uppercase() == b.to_ascii_uppercase())
 }
 
-/// The reserved word that a word spells, if any. `small` says whether lower case counts.
-pub fn reserved(word: &[u8], small: bool) -> Option<&'static ReservedWord> {
-    for candidate in &RESERVED {
+/// The reserved word that a word spells, if any, with its index. `small` says whether lower case counts.
+pub fn reserved_place(word: &[u8], small: bool) -> Option<(usize, &'static ReservedWord)> {
+    for (index, candidate) in RESERVED.iter().enumerate() {
         if is_spelled(word, candidate.text, small) {
-            return Some(candidate);
+            return Some((index, candidate));
         }
     }
     None
+}
+
+/// The reserved word that a word spells, if any. `small` says whether lower case counts.
+pub fn reserved(word: &[u8], small: bool) -> Option<&'static ReservedWord> {
+    match reserved_place(word, small) {
+        Some((_, found)) => Some(found),
+        None => None,
+    }
 }

@@ -1,9 +1,10 @@
 //! The command `convert`: reads the sources, converts them, writes them and reports what must be done by hand.
 
 use crate::job::{Job, Target, write_job};
+use crate::lawful::{Given, lawful_files};
 use crate::protected_files::spare;
 use crate::summary::{add_told, told_of};
-use bc_convert::{Header, NameList, Options, Program, Renaming, convert, renamings};
+use bc_convert::{Header, Lawful, NameList, Options, Program, Renaming, convert, renamings};
 use bcpl_cli::{Cause, ConvertHeader, ConvertOrder, Failure, Places, contents};
 use std::alloc::Global;
 use std::io::Write;
@@ -82,10 +83,13 @@ fn jobs_of<'a>(
     alloc: Global,
     order: &ConvertOrder<'a>,
     texts: Vec<Vec<u8>>,
+    lawful: &[Lawful],
     options: Options<'_>,
 ) -> Result<Vec<Job<'a>>, Failure> {
     let mut jobs = Vec::new(alloc);
-    for (file, old) in order.files.iter().zip(texts) {
+    for (index, (file, old)) in order.files.iter().zip(texts).enumerate() {
+        let lawful = lawful.get(index).copied().unwrap_or(Lawful::No);
+        let options = Options { lawful, ..options };
         let conversion = convert(alloc, old.as_slice(), options)?;
         let to = Target::of(alloc, order.to, file, &conversion)?;
         jobs.push(Job {
@@ -145,8 +149,14 @@ pub fn convert_file<F: Files, O: Write + Drop>(
             ConvertHeader::Needed => None,
         },
         program: program_of(alloc, texts.as_slice(), library)?,
+        lawful: Lawful::No,
     };
-    let jobs = jobs_of(alloc, order, texts, options)?;
+    let given = Given {
+        paths: order.files.as_slice(),
+        texts: texts.as_slice(),
+    };
+    let lawful = lawful_files(rt, alloc, given, options.header.is_some())?;
+    let jobs = jobs_of(alloc, order, texts, lawful.as_slice(), options)?;
     spare(rt, alloc, order, jobs.as_slice())?;
     for job in &jobs {
         write_job(rt, alloc, job, out)?;

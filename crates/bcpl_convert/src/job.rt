@@ -44,7 +44,7 @@ impl Target {
 }
 
 /// The last part of a path.
-fn name_of(path: &str) -> &str {
+pub fn name_of(path: &str) -> &str {
     path.rsplit('/').next().unwrap_or(path)
 }
 

@@ -3,6 +3,7 @@
 
 mod command;
 mod job;
+mod lawful;
 mod protected_files;
 mod summary;
 

@@ -1,23 +1,26 @@
-use Rattle.std.proofs.Common.{arith, ◌≡◌, ◌≤◌, length, ◌++◌, [], ◌∷◌, subst, sym}
+use Rattle.std.proofs.Common.{◌≡◌, length, ◌∙◌, subst, sym, arith}
 use Rattle.std.proofs.lemmas.Grind.{common_steps}
-use Rattle.std.proofs.lemmas.List.Elements.{All-append, All-cons, All-nil}
-use Rattle.bc_convert_edits.specs.Converted.{RiseWithin, Changes, ChangesText}
-use Rattle.bc_convert_edits.proofs.Rising.{RiseTo, RiseTo-push, RiseTo-within}
+use Rattle.bc_convert_edits.specs.Converted.{RiseWithin, ChangesText}
+use Rattle.bc_convert_edits.specs.Settled.{settled, IsSublist}
+use Rattle.bc_convert_edits.proofs.Settling.{settled-sublist, settled-rise, settled-change, settled-all}
 use Rattle.bc_convert_edits.proofs.settled.settle.Goals as goal
 
-pub loop-candidate-preserved-then-changes : goal.loop-candidate-preserved-then-changes
-loop-candidate-preserved-then-changes c =
-    let e : c.push.new.self.items ≡ c.loop-candidate.taken.items ++ (c.in-Some.candidate ∷ []) = grind (arith, common_steps) in
-    let differs : Changes c.args.text.now c.in-Some.candidate = c.changes.ensures c.if-changes.true in
-    record {
-      rise = subst (RiseTo 0 c.in-Some.candidate.end) (sym e)
-          (RiseTo-push 0 c.loop-candidate.at c.loop-candidate.taken.items c.in-Some.candidate c.loop-candidate.invariant.rise (omega arith) (omega arith));
-      within = omega arith;
-      change = subst (ChangesText c.args.text.now) (sym e)
-          (All-append (Changes c.args.text.now) c.loop-candidate.taken.items (c.in-Some.candidate ∷ []) c.loop-candidate.invariant.change
-          (All-cons (Changes c.args.text.now) c.in-Some.candidate [] differs (All-nil (Changes c.args.text.now))));
-    }
+pub returns-clause-candidates : goal.returns-clause-candidates
+returns-clause-candidates c =
+    let e : c.loop-candidate.taken.items ≡ settled c.args.text.now c.args.candidates.items = grind (arith, common_steps) in
+    subst (λ xs. IsSublist xs c.args.candidates.items) (sym e) (settled-sublist 0 c.args.text.now c.args.candidates.items)
 
 pub returns-clause-rise : goal.returns-clause-rise
 returns-clause-rise c =
-    RiseTo-within 0 c.loop-candidate.at (length c.args.text.now) c.loop-candidate.taken.items c.loop-candidate.invariant.rise c.loop-candidate.invariant.within
+    let e : c.loop-candidate.taken.items ≡ settled c.args.text.now c.args.candidates.items = grind (arith, common_steps) in
+    subst (λ xs. RiseWithin 0 (length c.args.text.now) xs) (sym e) (settled-rise 0 c.args.text.now c.args.candidates.items (omega arith))
+
+pub returns-clause-change : goal.returns-clause-change
+returns-clause-change c =
+    let e : c.loop-candidate.taken.items ≡ settled c.args.text.now c.args.candidates.items = grind (arith, common_steps) in
+    subst (λ xs. ChangesText c.args.text.now xs) (sym e) (settled-change 0 c.args.text.now c.args.candidates.items)
+
+pub returns-clause-all : goal.returns-clause-all
+returns-clause-all c rise change =
+    let e : c.loop-candidate.taken.items ≡ settled c.args.text.now c.args.candidates.items = grind (arith, common_steps) in
+    e ∙ settled-all 0 c.args.text.now c.args.candidates.items rise change

@@ -1,6 +1,10 @@
--- The position stays within the text.
+-- The tokens read up to here end at the position or before it, and the position stays within the text.
 use Rattle.std.proofs.Common.{◌≤◌, length}
+use Rattle.bc_convert_tokens.specs.Spans.{TokensWithin}
 use Rattle.bc_convert_tokens.proofs.lexing.lex.Given as goal
 
 abbrev pub invariant-loop : goal.invariant-loop
-invariant-loop l = l.at ≤ length l.text
+invariant-loop l = record {
+  within : l.at ≤ length l.text;
+  rise : TokensWithin 0 l.at l.tokens.items;
+}

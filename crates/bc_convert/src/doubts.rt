@@ -1,0 +1,191 @@
+//! Places that are lawful and may mean something else in an older dialect. They are reported.
+
+use crate::complaint::Fault;
+use crate::formats::{Format, format_at, gets_header};
+use crate::names::{declares_routine, is_for, is_number};
+use crate::notes::Notes;
+use crate::numbers::value_of_number;
+use crate::operands::is_adjacent;
+use crate::options::{Options, Renaming};
+use crate::program::Program;
+use bc_convert_tokens::{Kind, TokenizedText, span};
+
+/// Reports shifts by 16 or more and parameters of START.
+pub fn find_doubts(source: TokenizedText<'_>, notes: &mut Notes, options: Options<'_>) {
+    for index in 0..source.tokens.len() {
+        let next = index.saturating_add(1);
+        match source.kind(index) {
+            Kind::Shift if value_of_number(source, next).is_ok_and(|value| value > 15) => {
+                notes.complain(source, next, Fault::LongShift);
+            }
+            Kind::Name if has_parameter(source, index, options.library) => {
+                notes.complain(source, index.saturating_add(2), Fault::StartParameter);
+            }
+            _ => {}
+        }
+    }
+}
+
+/// Whether START is declared with a parameter at an index.
+fn has_parameter(source: TokenizedText<'_>, index: usize, library: &[Renaming<'_>]) -> bool {
+    is_for(source.bytes(index), library, b"START")
+        && declares_routine(source, index)
+        && source.kind(index.saturating_add(2)) == Kind::Name
+}
+
+/// Whether the operand before the sign at an index can be a vector.
+fn may_be_vector(source: TokenizedText<'_>, star: usize) -> bool {
+    let Some(before) = star.checked_sub(1) else {
+        return false;
+    };
+    match source.kind(before) {
+        Kind::Name => !is_number(source, before),
+        Kind::CloseRound => true,
+        _ => false,
+    }
+}
+
+/// Reports `*(` in a source that shows no subscripts with a star, if others of its program do.
+pub fn find_stars(source: TokenizedText<'_>, notes: &mut Notes, program: Program) {
+    if !program.has_stars || program.dialect.has_star_subscripts {
+        return;
+    }
+    for index in 1..source.tokens.len() {
+        if source.kind(index) == Kind::Star
+            && source.kind(index.saturating_add(1)) == Kind::OpenRound
+            && is_adjacent(source, index)
+            && may_be_vector(source, index)
+            && notes.is_new_star(source, index - 1)
+        {
+            notes.complain(source, index, Fault::StarLeft);
+        }
+    }
+}
+
+/// Reports calls of WRITEF that LIBHDR's doesn't support, in a lawful source that gets LIBHDR.
+pub fn find_formats(source: TokenizedText<'_>, notes: &mut Notes, options: Options<'_>) {
+    let gets_basic = (0..source.tokens.len()).any(|index| gets_header(source, index)
+        && source.bytes(index) == b"\"LIBHDR\"".as_slice());
+    if !gets_basic {
+        return;
+    }
+    for index in 0..source.tokens.len() {
+        if let Some(Format::Further) = format_at(source, index, options.library) {
+            notes.complain(source, index, Fault::FurtherCall);
+        }
+    }
+}
+
+/// Whether a source may be written for the Alto: it has LV, or a character written with a dollar sign.
+fn may_be_alto(source: TokenizedText<'_>) -> bool {
+    (0..source.tokens.len()).any(|index| match source.kind(index) {
+        Kind::Address => source.bytes(index).eq_ignore_ascii_case(b"LV"),
+        Kind::Character => source.bytes(index).starts_with(b"$".as_slice()),
+        _ => false,
+    })
+}
+
+/// Reports each `@` in a source that may be written for the Alto.
+fn find_contents(source: TokenizedText<'_>, notes: &mut Notes) {
+    if !may_be_alto(source) {
+        return;
+    }
+    for index in 0..source.tokens.len() {
+        if source.kind(index) == Kind::Address && source.bytes(index) == b"@".as_slice() {
+            notes.complain(source, index, Fault::AltoContent);
+        }
+    }
+}
+
+/// Whether a number is decimal.
+fn is_decimal(source: TokenizedText<'_>, index: usize) -> bool {
+    source.kind(index) == Kind::Number && !source.bytes(index).starts_with(b"#".as_slice())
+}
+
+/// Whether a number looks like an octal mask: at least three digits up to 7, the last two 7.
+fn looks_octal(digits: &[u8]) -> bool {
+    digits.len() > 2
+        && digits.ends_with(b"77".as_slice())
+        && digits.iter().all(|digit| matches!(digit, b'0'..=b'7'))
+}
+
+/// Reports the first number that looks octal, if no number has a digit 8 or 9.
+fn find_octal_number(source: TokenizedText<'_>, notes: &mut Notes) {
+    let count = source.tokens.len();
+    let has_decimal = (0..count).any(|index| is_decimal(source, index)
+        && source
+            .bytes(index)
+            .iter()
+            .any(|digit| matches!(digit, b'8' | b'9')));
+    let octal = (0..count).find(|index| is_decimal(source, *index)
+        && looks_octal(source.bytes(*index)));
+    if let Some(index) = octal
+        && !has_decimal
+    {
+        notes.complain(source, index, Fault::OctalNumber);
+    }
+}
+
+/// Whether a string or character has an escape of three digits that is taken for decimal and may be octal.
+fn has_octal_escape(bytes: &[u8]) -> bool {
+    let mut is_escaped = false;
+    for (index, byte) in bytes.iter().enumerate() {
+        let digits = span(bytes, index, index.saturating_add(3));
+        if is_escaped && matches!(digits, [b'1' | b'2', b'0'..=b'7', b'0'..=b'7']) {
+            return true;
+        }
+        is_escaped = *byte == b'*' && !is_escaped;
+    }
+    false
+}
+
+/// Reports each string or character with such an escape.
+fn find_octal_escapes(source: TokenizedText<'_>, notes: &mut Notes) {
+    for index in 0..source.tokens.len() {
+        if matches!(source.kind(index), Kind::Text | Kind::Character)
+            && has_octal_escape(source.bytes(index))
+        {
+            notes.complain(source, index, Fault::OctalEscape);
+        }
+    }
+}
+
+/// Reports what means something else in the dialect of the Alto, and what may be octal.
+pub fn find_old_meanings(source: TokenizedText<'_>, notes: &mut Notes) {
+    find_contents(source, notes);
+    find_octal_number(source, notes);
+    find_octal_escapes(source, notes);
+}
+
+/// Whether the name at an index is set up as a vector: declared with VEC or TABLE, or something is assigned to a subscript of
+/// it with a star.
+pub fn shows_vector(source: TokenizedText<'_>, index: usize) -> bool {
+    let next = index.saturating_add(1);
+    match source.kind(next) {
+        Kind::Equal | Kind::Assign => {
+            matches!(source.kind(next.saturating_add(1)), Kind::Vec | Kind::Table)
+        }
+        Kind::Star => {
+            let closing = source.partner(next.saturating_add(1));
+            let sign = source.kind(closing.saturating_add(1));
+            is_adjacent(source, next) && matches!(sign, Kind::Assign | Kind::Underline)
+        }
+        _ => false,
+    }
+}
+
+/// Whether the operand from `at` up to `end` is a name that is set up as a vector somewhere in the source.
+fn is_vector(source: TokenizedText<'_>, at: usize, end: usize) -> bool {
+    end == at.saturating_add(1) && source.name(at).is_vector
+}
+
+/// Reports that `*(` after the operand from `at` up to `star` is taken for a subscript, unless that is certain. A name is
+/// reported once.
+pub fn tell_star(source: TokenizedText<'_>, notes: &mut Notes, at: usize, star: usize) {
+    let name = star.saturating_sub(1);
+    let is_name = name == at;
+    let is_new = !is_name || notes.is_new_star(source, name);
+    if is_new && !is_vector(source, at, star) {
+        notes.complain(source, star, Fault::StarSubscript);
+    }
+}
