@@ -13,6 +13,10 @@ WORDS = re.compile(
     r"\b(behind|in front of|stands? (?:for|on|in|at|there|here)|told apart|are told|is told|in the place of|lets? go of|anew|worked out|works out"
     r"|for want of|at hand)\b", re.I)
 LONGEST_SENTENCE = 40
+# "That the lines are right is tested": a clause as the subject of a sentence.
+CLAUSE = re.compile(r"(?:[-*] )?That (?:.+ )?(?:is|isn.t|are|aren.t|has|have|fits) .+ (?:is|isn.t) (?:not )?(?:tested|proved|said|read|compared|shown)\b")
+# The headline is stated word for word wherever it is, with a paraphrase beside it.
+HEADLINE = "*For every accepted program, a run of its source that meets no wild cell in n turns has the same output"
 MOST_PARAMETERS = 5
 
 
@@ -74,12 +78,16 @@ def sentences_of(text):
 
 
 def count_sentences():
-    """For each page of docs/ and each README, how many sentences are too long."""
+    """For each page of docs/ and each README, how many sentences are too long, and how many have a clause with "That" as their subject."""
     found = {}
     for path in tracked("docs/*.md", "*README.md", "CONTRIBUTING.md"):
-        count = sum(len(sentence.split()) > LONGEST_SENTENCE for sentence in sentences_of(read(path)))
+        sentences = [sentence for sentence in sentences_of(read(path)) if not sentence.startswith(HEADLINE)]
+        count = sum(len(sentence.split()) > LONGEST_SENTENCE for sentence in sentences)
         if count:
             found[f"sentences {path}"] = count
+        count = sum(bool(CLAUSE.match(sentence)) for sentence in sentences)
+        if count:
+            found[f"clauses {path}"] = count
     return found
 
 
@@ -96,8 +104,15 @@ def count_heads():
 
 
 def count_readmes():
-    """Crates without a README."""
-    return {f"readme crates/{crate}": 1 for crate in crates() if not os.path.exists(os.path.join(TOP, "crates", crate, "README.md"))}
+    """Crates without a README of ten to thirty lines."""
+    found = {}
+    for crate in crates():
+        path = os.path.join("crates", crate, "README.md")
+        if not os.path.exists(os.path.join(TOP, path)):
+            found[f"readme crates/{crate}"] = 1
+        elif not 10 <= read(path).count("\n") <= 30:
+            found[f"readme {path}"] = 1
+    return found
 
 
 def parameters_of(text):
@@ -141,7 +156,8 @@ def count_all():
 MEANINGS = {
     "words": "words that docs/STYLE.md replaces",
     "sentences": f"sentences of more than {LONGEST_SENTENCE} words",
+    "clauses": "sentences with a clause as their subject (That .. is tested)",
     "heads": "no comment at its head",
-    "readme": "no README.md",
+    "readme": "no README.md of ten to thirty lines",
     "parameters": f"functions with more than {MOST_PARAMETERS} parameters",
 }

@@ -1,20 +1,6 @@
-// The page over the interpreter of intcode.mjs. `make` puts both into index.html.
+// The page over the interpreter of intcode.mjs. `make` puts both into index.html, with the helpers for elements that web/page has as well.
+import { bytesOf, counted, element, grouped, made, pictured, textOf } from "../../web/page/dom.mjs";
 import { DeviceFault, FUNCTIONS, G, GLOBALS, Machine, Refusal, SEGMENTS, Streams, linkTexts, signed } from "../javascript/intcode.mjs";
-
-const element = (id) => document.getElementById(id);
-
-/** An element with properties and children; texts may be children. */
-function made(tag, properties = {}, ...children) {
-  const node = Object.assign(document.createElement(tag), properties);
-  node.append(...children);
-  return node;
-}
-
-const grouped = (number) => number.toLocaleString("en-US");
-const counted = (number, one) => `${grouped(number)} ${one}${number === 1 ? "" : "s"}`;
-const encoder = new TextEncoder();
-const decoder = new TextDecoder("utf-8", { ignoreBOM: true });
-const bytesOf = (text) => encoder.encode(text);
 
 // ---- What the page keeps
 
@@ -95,7 +81,7 @@ function placeAt(count) {
 }
 
 /** Bytes as a field shows them, where each line ends in LF. */
-const inField = (bytes) => decoder.decode(bytes).replace(/\r\n?/g, "\n");
+const inField = (bytes) => textOf(bytes).replace(/\r\n?/g, "\n");
 
 /** Tells a refusal, and chooses its place in the text. */
 function tellRefusal(refusal) {
@@ -677,9 +663,6 @@ function showFromAddress() {
 
 // ---- Streams on the page
 
-/** Control characters other than tab and line feed as their pictures. */
-const pictured = (text) => text.replace(/[\0-\x08\x0b-\x1f]/g, (letter) => String.fromCharCode(0x2400 + letter.charCodeAt(0)));
-
 /** The most bytes of an output that are shown. */
 const SHOWN = 8_000;
 
@@ -748,7 +731,7 @@ function showCounts() {
     output.said.textContent = `${isSelected("outputs", i)}${counted(output.count, "byte")}${cut}`;
     if (output.drawn === output.count) return;
     const shown = output.bytes.subarray(Math.max(0, output.count - SHOWN), output.count);
-    output.pre.textContent = pictured(decoder.decode(shown));
+    output.pre.textContent = pictured(textOf(shown));
     output.pre.scrollTop = output.pre.scrollHeight;
     output.drawn = output.count;
   });
@@ -888,6 +871,12 @@ function listen() {
   element("theme").addEventListener("change", () => (document.documentElement.dataset.theme = element("theme").value));
 }
 
+/** A text that the address carries in base64, as the page of web/ passes it, or null. */
+function givenText() {
+  const found = location.hash.match(/^#text=([\w-]+={0,2})$/);
+  return found && atob(found[1].replaceAll("-", "+").replaceAll("_", "/"));
+}
+
 function begin() {
   const groups = [...new Set(examples.map(({ group }) => group))].map((group) => {
     const members = examples.filter((example) => example.group === group);
@@ -896,7 +885,9 @@ function begin() {
   });
   element("example").replaceChildren(made("option", { value: "", textContent: "(a text of your own)" }), ...groups);
   const wanted = decodeURIComponent(location.hash.replace("#", ""));
-  const first = examples.find(({ name }) => name === wanted) ?? examples[0];
+  const given = givenText();
+  const own = { name: "", text: given, input: "", inputs: [], outputs: [], steps: 1_000_000 };
+  const first = given ? own : (examples.find(({ name }) => name === wanted) ?? examples[0]);
   element("example").value = first.name;
   listen();
   loadExample(first);

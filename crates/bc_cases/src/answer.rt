@@ -1,7 +1,7 @@
 //! The answer of a case, as text.
 
 use crate::growth::Growth;
-use bc_show::ShownBytes;
+use bcpl_show::ShownBytes;
 use std::alloc::Global;
 use std::fmt;
 

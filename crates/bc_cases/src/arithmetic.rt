@@ -3,8 +3,8 @@
 use crate::answer::Answer;
 use crate::number::{next, short, word};
 use bc_lex_tokens::Symbol;
-use bc_show::sign;
 use bc_word::{Op, Rel, Word, apply, complement, mirror};
+use bcpl_show::sign;
 
 /// The dyadic operator with this sign.
 pub fn operator(text: &str) -> Option<Op> {

@@ -1,4 +1,4 @@
-//! Reads derivations in the form in which `bc_show` writes them, such as `(V12 (V0 V1) V1)`.
+//! Reads derivations in the form in which `bcpl_show` writes them, such as `(V12 (V0 V1) V1)`.
 
 use crate::growth::Growth;
 use crate::number::short;

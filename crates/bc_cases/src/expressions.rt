@@ -1,4 +1,4 @@
-//! Reads expressions and roots in the form in which `bc_show` writes them, such as `(VALUE 3 (+ !P2 1))`.
+//! Reads expressions and roots in the form in which `bcpl_show` writes them, such as `(VALUE 3 (+ !P2 1))`.
 
 use crate::arithmetic::operator;
 use crate::growth::{Growth, both};

@@ -5,9 +5,9 @@ use crate::escapes::expanded;
 use crate::growth::Growth;
 use bc_rules::words;
 use bc_rules_defs::Piece;
-use bc_show::ShownItem;
 use bc_text::{Reader, TextError, read_all};
 use bc_text_items::{Item, Segment};
+use bcpl_show::ShownItem;
 use std::alloc::Global;
 
 /// The bytes of an input with escapes and repetitions expanded, without its last line feed.

@@ -7,9 +7,9 @@ use crate::number::{next, short};
 use bc_core::{CoreExp, Operand, Root, constant, copy, copy_expression, operand};
 use bc_rules::{code_of, free, is_derivation, is_derivation_by, next_label, words};
 use bc_rules_defs::{Derivation, Piece, Table};
-use bc_show::{ShownExpression, ShownPiece, ShownRoot};
 use bc_text_items::Base;
 use bc_word::{Memory, Word};
+use bcpl_show::{ShownExpression, ShownPiece, ShownRoot};
 
 /// A question about a root.
 #[derive(Clone, Copy)]

@@ -8,12 +8,12 @@ use thiserror::Error;
 #[derive(Clone, Copy, Debug, PartialEq, Eq, Hash, Error)]
 pub enum Mismatch {
     /// The items are not the entry's code.
-    #[error("entry {0}: the items are not its code")]
+    #[error("entry {0}: the items in the text are not its code")]
     CodeDiffers(u64),
     /// The text has no such segment, or not all of the entry's items are within it.
-    #[error("entry {0}: its items do not lie in the text")]
+    #[error("entry {0}: the text has no such items")]
     OutsideText(u64),
     /// The entry's place, its segment and item, is before that of the preceding entry.
-    #[error("entry {0} stands in front of the one before it")]
+    #[error("entry {0}: its items begin before those of the previous entry")]
     Order(u64),
 }

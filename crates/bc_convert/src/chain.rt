@@ -1,9 +1,10 @@
 //! Chains of relations, such as `A<=B<=C`, are split into relations joined by `&`.
 
 use crate::complaint::Fault;
+use crate::kind::Kind;
 use crate::notes::Notes;
 use crate::operands::{is_plain, is_too_long, take_out};
-use bc_convert_tokens::{Kind, TokenizedText};
+use crate::source::TokenizedText;
 
 /// The part of a chain of relations read up to here: where it begins, the range of its last operand, and its state.
 #[derive(Clone, Copy)]

@@ -2,7 +2,7 @@
 
 use crate::notes::Notes;
 use crate::operands::Operand;
-use bc_convert_tokens::TokenizedText;
+use crate::source::TokenizedText;
 
 /// Turns an assignment to a byte into a call of PUTBYTE, except for its closing parenthesis. `percent` is the index
 /// of the `%`, `assign` that of the `:=`.

@@ -1,23 +1,27 @@
 //! The public call `convert`.
 
 ghost use Rattle.std.specs.Prelude.{◌≡◌, [], length, IfOk};
-ghost use Rattle.bc_convert_edits.specs.Converted.{converted, RiseWithin, ChangesText};
+ghost use Rattle.bc_convert.specs.Converted.{converted, RiseWithin, ChangesText};
 
+use crate::applied::apply;
 use crate::complaint::{Complaint, Fault};
+use crate::dialect::Dialect;
 use crate::doubts::{find_doubts, find_formats, find_old_meanings, find_stars};
 use crate::formats::{Format, format_at, gets_header};
+use crate::kind::Kind;
 use crate::names::{is_called, is_declared, is_for};
 use crate::notes::Notes;
 use crate::options::{Header, Lawful, Options};
 use crate::prepared::{prepared, with_differences};
 use crate::program::Program;
 use crate::reading::Reading;
+use crate::replacement::Replacement;
+use crate::settled::settle;
+use crate::source::TokenizedText;
 use crate::spelling::{respell, respell_header};
 use crate::statics::find_statics;
 use crate::valofs::find_valof_jumps;
 use crate::walk::{MOST_DEPTH, Walk, items};
-use bc_convert_edits::{Replacement, apply, settle};
-use bc_convert_tokens::{Dialect, Kind, TokenizedText};
 use bc_word::Memory;
 use std::alloc::Global;
 

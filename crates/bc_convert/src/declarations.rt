@@ -1,10 +1,11 @@
 //! Definitions of several names with a vector among the values, and declared names without a number.
 
 use crate::complaint::Fault;
+use crate::kind::Kind;
 use crate::names::is_first_free;
 use crate::notes::Notes;
 use crate::numbers::value_of_number;
-use bc_convert_tokens::{Kind, TokenizedText};
+use crate::source::TokenizedText;
 
 /// The names of a definition: the index of the first one, their number, with a comma between each two, and the index
 /// of the sign after them.

@@ -1,14 +1,16 @@
 //! Places that are lawful and may mean something else in an older dialect. They are reported.
 
+use crate::bytes::span;
 use crate::complaint::Fault;
 use crate::formats::{Format, format_at, gets_header};
+use crate::kind::Kind;
 use crate::names::{declares_routine, is_for, is_number};
 use crate::notes::Notes;
 use crate::numbers::value_of_number;
 use crate::operands::is_adjacent;
 use crate::options::{Options, Renaming};
 use crate::program::Program;
-use bc_convert_tokens::{Kind, TokenizedText, span};
+use crate::source::TokenizedText;
 
 /// Reports shifts by 16 or more and parameters of START.
 pub fn find_doubts(source: TokenizedText<'_>, notes: &mut Notes, options: Options<'_>) {

@@ -1,9 +1,11 @@
 //! Which header a program needs: formats of WRITEF, names, and GETs of the library's header.
 
+use crate::bytes::span;
+use crate::kind::Kind;
 use crate::names::{has_routine, is_for, renamed};
 use crate::options::Renaming;
+use crate::source::TokenizedText;
 use crate::spelling::inside;
-use bc_convert_tokens::{Kind, TokenizedText, span};
 use bc_library_ext::further_bit;
 
 /// The format of a call of WRITEF.
@@ -132,7 +134,7 @@ pub fn is_further_string(source: TokenizedText<'_>, index: usize) -> bool {
 }
 
 /// The bit of the name at an index, if only EXTHDR has it, else 0. Names of an old library count as their new names.
-pub fn bit_at(source: TokenizedText<'_>, index: usize, library: &[Renaming<'_>]) -> u32 {
+pub fn bit_at(source: TokenizedText<'_>, index: usize, library: &[Renaming<'_>]) -> u64 {
     let word = source.bytes(index);
     if source.kind(index) != Kind::Name {
         return 0;

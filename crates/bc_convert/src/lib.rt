@@ -1,16 +1,29 @@
 //! Converts a source from an old dialect of BCPL to this one: finds the spans to replace, and what must be done by
 //! hand.
+//!
+//! It defines blanks, names, lines and comments itself, although `bc_lex` does too: so a change of the language changes
+//! nothing in how old sources are read.
 #![tactic(auto)]
 
+mod applied;
+mod arrows;
+mod brackets;
+mod bytes;
 mod chain;
 mod commands;
 mod complaint;
+mod context;
 mod conversion;
 mod declarations;
+mod dialect;
 mod doubts;
 mod formats;
+mod kind;
+mod lexeme;
+mod lexing;
 mod library;
 mod magnitudes;
+mod name_facts;
 mod name_table;
 mod names;
 mod notes;
@@ -22,15 +35,23 @@ mod program;
 mod quoted;
 mod ranges;
 mod reading;
+mod replacement;
+mod settled;
+mod source;
 mod spelling;
 mod statics;
 mod valofs;
 mod walk;
+mod words;
 
-pub use bc_convert_edits::Replacement;
+pub use applied::apply;
 pub use complaint::{Complaint, Fault};
 pub use conversion::{Conversion, convert};
 pub use formats::is_library_header;
+pub use lexing::lex;
 pub use library::library_name;
 pub use options::{Header, Lawful, NameList, Options, Renaming, renamings};
 pub use program::Program;
+pub use replacement::Replacement;
+pub use settled::settle;
+pub use source::Token;

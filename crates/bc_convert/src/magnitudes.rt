@@ -1,10 +1,11 @@
 //! ABS, which this dialect doesn't have.
 
 use crate::complaint::Fault;
+use crate::kind::Kind;
 use crate::notes::Notes;
 use crate::numbers::value_of_number;
 use crate::operands::{is_plain, is_too_long};
-use bc_convert_tokens::{Kind, TokenizedText};
+use crate::source::TokenizedText;
 
 /// The index of the number or character to which the ABS at an index applies, with or without a sign between them.
 /// `None` if it applies to something else.

@@ -2,8 +2,10 @@
 //! name needs no other one.
 
 use crate::formats::gets_header_alone;
+use crate::kind::Kind;
+use crate::name_facts::{NameFacts, NameTable};
 use crate::names::{shown_at, stands_as_number, with_dots};
-use bc_convert_tokens::{Kind, NameFacts, NameTable, TokenizedText};
+use crate::source::TokenizedText;
 use bc_word::Memory;
 use indexmap::IndexMap;
 use std::alloc::Global;

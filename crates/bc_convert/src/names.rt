@@ -1,10 +1,14 @@
 //! What a name is called in this dialect, where it is declared, and how it is used.
 
+use crate::dialect::Dialect;
 use crate::doubts::shows_vector;
+use crate::kind::Kind;
 use crate::library::library_name;
+use crate::name_facts::NameFacts;
 use crate::numbers::{decimal, value_of_number};
 use crate::options::{Options, Renaming};
-use bc_convert_tokens::{Dialect, Kind, NameFacts, TokenizedText, reserved};
+use crate::source::TokenizedText;
+use crate::words::reserved;
 use bc_word::Memory;
 use std::alloc::Global;
 

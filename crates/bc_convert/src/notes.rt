@@ -2,10 +2,13 @@
 //! remembered and reported by `finished`. Code that puts text around tokens therefore needs no `?`, which would be
 //! expensive to prove.
 
+use crate::bytes::is_name_byte;
 use crate::complaint::{Complaint, Fault};
+use crate::kind::Kind;
+use crate::lexeme::next_old_comment;
 use crate::numbers::decimal;
-use bc_convert_edits::Replacement;
-use bc_convert_tokens::{Kind, TokenizedText, is_name_byte, next_old_comment};
+use crate::replacement::Replacement;
+use crate::source::TokenizedText;
 use bc_word::Memory;
 use indexmap::IndexMap;
 use std::alloc::Global;

@@ -1,7 +1,8 @@
 //! Numbers: their values, and how this dialect writes them.
 
+use crate::bytes::following;
 use crate::complaint::Fault;
-use bc_convert_tokens::{TokenizedText, following};
+use crate::source::TokenizedText;
 use bc_word::Memory;
 use std::alloc::Global;
 

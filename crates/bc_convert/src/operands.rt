@@ -1,7 +1,8 @@
 //! Operands and operators, as the walk reads them.
 
+use crate::kind::Kind;
 use crate::notes::Notes;
-use bc_convert_tokens::{Kind, TokenizedText};
+use crate::source::TokenizedText;
 
 /// An operand that was read: the index after it, and the index of its `%` if it is a byte of a string. That byte
 /// isn't rewritten yet.

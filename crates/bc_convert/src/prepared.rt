@@ -1,7 +1,7 @@
 //! Texts with line breaks of old systems or with card numbers: what the lexer reads instead of them.
 
-use bc_convert_edits::Replacement;
-use bc_convert_tokens::span;
+use crate::bytes::span;
+use crate::replacement::Replacement;
 use bc_word::Memory;
 use std::alloc::Global;
 

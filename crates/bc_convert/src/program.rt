@@ -1,10 +1,12 @@
 //! What the sources of a program show together: the dialect, and the library's header that they need.
 
+use crate::dialect::Dialect;
 use crate::formats::{Format, bit_at, format_at, gets_header, is_further_string};
+use crate::kind::Kind;
 use crate::names::{declares, declares_routine, is_declared, is_entry, is_for};
 use crate::options::{Header, Renaming};
 use crate::reading::Reading;
-use bc_convert_tokens::{Dialect, Kind, TokenizedText};
+use crate::source::TokenizedText;
 use bc_word::Memory;
 use std::alloc::Global;
 
@@ -31,8 +33,8 @@ pub struct Program {
     pub makes_pool: bool,
     /// The names that only EXTHDR has, as bits: those that a source uses without declaring them, and those that a
     /// source declares by GLOBAL, MANIFEST or STATIC.
-    used: u32,
-    declared: u32,
+    used: u64,
+    declared: u64,
 }
 
 /// Whether the name at an index is INITVEC, or GETVEC declared by the source as a routine.

@@ -1,7 +1,7 @@
 //! Strings and character constants, as this dialect writes them.
 
+use crate::bytes::{following, span};
 use crate::complaint::Fault;
-use bc_convert_tokens::{following, span};
 use bc_word::Memory;
 use std::alloc::Global;
 

@@ -1,10 +1,11 @@
 //! Ranges of cases, which are written out.
 
+use crate::kind::Kind;
 use crate::notes::Notes;
 use crate::numbers::{decimal, value_of_number};
 use crate::quoted::character_of;
+use crate::source::TokenizedText;
 use crate::spelling::inside;
-use bc_convert_tokens::{Kind, TokenizedText};
 use bc_word::Memory;
 use std::alloc::Global;
 

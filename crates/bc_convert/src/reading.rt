@@ -1,10 +1,13 @@
 //! Reads a text into classified tokens.
 
+use crate::arrows::with_arrows;
+use crate::brackets::partners;
+use crate::context::{Context, contexts};
+use crate::dialect::{Dialect, classified};
+use crate::lexing::lex;
+use crate::name_facts::NameTable;
 use crate::name_table::Names;
-use bc_convert_tokens::{
-    Context, Dialect, NameTable, Token, TokenizedText, classified, contexts, lex, partners,
-    with_arrows,
-};
+use crate::source::{Token, TokenizedText};
 use bc_word::Memory;
 use std::alloc::Global;
 

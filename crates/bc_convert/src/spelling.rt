@@ -1,13 +1,17 @@
 //! The tokens that change by themselves: words, signs, names, numbers and strings.
 
+use crate::bytes::span;
 use crate::complaint::Fault;
+use crate::dialect::Dialect;
 use crate::formats::gets_header;
+use crate::kind::Kind;
 use crate::names::{dotted, is_declared, name_change};
 use crate::notes::Notes;
 use crate::numbers::{NumberChange, decimal, number_change};
 use crate::options::{Header, Options};
 use crate::quoted::{Respelled, inside_respelled, requoted};
-use bc_convert_tokens::{Dialect, Kind, TokenizedText, reserved, span};
+use crate::source::TokenizedText;
+use crate::words::reserved;
 
 /// Rewrites each token by itself: words and signs, names with underlines, numbers and strings. Reports what has no
 /// counterpart.

@@ -2,8 +2,9 @@
 
 use crate::complaint::Fault;
 use crate::declarations::{Values, put_values};
+use crate::kind::Kind;
 use crate::notes::Notes;
-use bc_convert_tokens::{Kind, TokenizedText};
+use crate::source::TokenizedText;
 
 /// Whether a constant may contain such a token.
 fn is_of_constant(kind: Kind) -> bool {

@@ -1,8 +1,9 @@
 //! Jumps out of a VALOF, which this dialect doesn't have.
 
 use crate::complaint::Fault;
+use crate::kind::Kind;
 use crate::notes::Notes;
-use bc_convert_tokens::{Kind, TokenizedText};
+use crate::source::TokenizedText;
 use bc_word::Memory;
 use std::alloc::Global;
 

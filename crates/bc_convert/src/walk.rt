@@ -4,17 +4,20 @@
 
 ghost use Rattle.std.specs.Prelude.{◌≡◌, ◌+◌, ◌<◌, ◌≤◌};
 
+use crate::bytes::is_name_byte;
 use crate::chain::{Chain, ChainState, close_chain};
 use crate::commands::{put_byte_of, put_compound};
 use crate::complaint::Fault;
 use crate::declarations::{Values, continued, put_entry, put_values};
+use crate::dialect::Dialect;
 use crate::doubts::tell_star;
+use crate::kind::Kind;
 use crate::magnitudes::{put_absolute, tell_absolutes};
 use crate::names::is_number;
 use crate::notes::{LateBlock, Notes};
 use crate::operands::{Operand, finish, is_adjacent, is_compound, is_plain, level_at};
 use crate::ranges::{case_constant, cases_between, replace_apart};
-use bc_convert_tokens::{Dialect, Kind, TokenizedText, is_name_byte};
+use crate::source::TokenizedText;
 
 /// The limit on nesting. Each construct takes several of these levels.
 pub const MOST_DEPTH: usize = 3000;

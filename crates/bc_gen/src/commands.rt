@@ -15,7 +15,9 @@ ghost use Rattle.bc_gen.specs.Writing.{Writes, Puts};
 
 use crate::context::{Around, label_of};
 use crate::gen_error::GenError;
+use crate::items::{FINISH, RETURN, SWITCH};
 use crate::list_labels::entry_after;
+use crate::roots::Jump;
 use crate::writer::Writer;
 use bc_core::{
     Block, Command, Condition, CoreExp, Declaration, ListItem, Root, Variable, copy_expression,
@@ -122,7 +124,7 @@ impl Writer {
             Command::EndCase => self.jump(around.cases),
             Command::Return => self.return_zero(),
             Command::ResultIs(value) => self.resultis(around, level, value),
-            Command::Finish => self.execute(22),
+            Command::Finish => self.execute(FINISH),
             Command::Goto(number) => self.jump(label_of(around.labels, *number, 0)),
             Command::Nested(body) => self.block(around, level, body),
         }
@@ -133,7 +135,7 @@ impl Writer {
         ensures { Puts result self.old self.new (Plain zero_item ∷ Plain (execute_item 4) ∷ []) }
     {
         self.zero()?;
-        self.execute(4)
+        self.execute(RETURN)
     }
 
     /// Writes the code of an assignment.
@@ -193,7 +195,11 @@ impl Writer {
             (exits_of around.now) self.old.next) }
     {
         let past = self.take(1)?;
-        self.test(around, level, !condition.sense, &condition.test, past)?;
+        let out = Jump {
+            sense: !condition.sense,
+            target: past,
+        };
+        self.test(around, level, &condition.test, out)?;
         self.block(around, level, body)?;
         self.label(past)
     }
@@ -215,7 +221,11 @@ impl Writer {
     {
         let other = self.take(1)?;
         let past = self.take(1)?;
-        self.test(around, level, false, test, other)?;
+        let out = Jump {
+            sense: false,
+            target: other,
+        };
+        self.test(around, level, test, out)?;
         self.block(around, level, this)?;
         self.jump(past)?;
         self.label(other)?;
@@ -240,7 +250,11 @@ impl Writer {
         let again = self.take(1)?;
         let past = self.take(1)?;
         self.label(again)?;
-        self.test(around, level, !condition.sense, &condition.test, past)?;
+        let out = Jump {
+            sense: !condition.sense,
+            target: past,
+        };
+        self.test(around, level, &condition.test, out)?;
         self.block(&around.in_loop(past, again), level, body)?;
         self.jump(again)?;
         self.label(past)
@@ -281,7 +295,11 @@ impl Writer {
         self.label(again)?;
         self.block(&around.in_loop(past, onward), level, body)?;
         self.label(onward)?;
-        self.test(around, level, condition.sense, &condition.test, again)?;
+        let back = Jump {
+            sense: condition.sense,
+            target: again,
+        };
+        self.test(around, level, &condition.test, back)?;
         self.label(past)
     }
 
@@ -311,7 +329,11 @@ impl Writer {
         self.set(around, level, limit, offset + 1)?;
         self.label(again)?;
         let end = end_of_for(self.alloc, by, offset)?;
-        self.test(around, level, true, &end, past)?;
+        let out = Jump {
+            sense: true,
+            target: past,
+        };
+        self.test(around, level, &end, out)?;
         self.block(&around.in_loop(past, onward), level, body)?;
         self.label(onward)?;
         let step = step_of_for(self.alloc, by, offset)?;
@@ -342,7 +364,7 @@ impl Writer {
             labels: &labels,
             ..*around
         };
-        self.execute(23)?;
+        self.execute(SWITCH)?;
         self.data(Word::new(found.count))?;
         self.data_label(found.default)?;
         self.table(found.first, list)?;

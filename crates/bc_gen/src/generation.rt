@@ -16,6 +16,7 @@ ghost use Rattle.bc_gen.specs.Writing.{Writes};
 
 use crate::context::Around;
 use crate::gen_error::GenError;
+use crate::items::RETURN;
 use crate::marked_items::{Apart, separated};
 use crate::writer::Writer;
 use bc_cert_write::Workings;
@@ -101,7 +102,7 @@ impl Writer {
         match &routine.body {
             Body::Value(value) => {
                 self.value(around, level, value)?;
-                self.execute(4)
+                self.execute(RETURN)
             }
             Body::Commands(block) => {
                 self.block(around, level, block)?;

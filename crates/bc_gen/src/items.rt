@@ -11,6 +11,15 @@ use crate::writer::Writer;
 use bc_text_items::{Base, Function, Item};
 use bc_word::Word;
 
+/// The operation of `X4`, which returns from a routine.
+pub(crate) const RETURN: u16 = 4;
+
+/// The operation of `X22`, which ends the run.
+pub(crate) const FINISH: u16 = 22;
+
+/// The operation of `X23`, which jumps by the table that follows it.
+pub(crate) const SWITCH: u16 = 23;
+
 /// The greatest label that a section may take.
 const GREATEST_LABEL: u16 = 20_000;
 

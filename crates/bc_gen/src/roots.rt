@@ -25,6 +25,15 @@ use bc_rules::CodeFault;
 use bc_rules_defs::{Derivation, Piece};
 use bc_text_items::Item;
 
+/// When a test jumps, and where to.
+#[derive(Clone, Copy)]
+pub(crate) struct Jump {
+    /// The truth on which it jumps.
+    pub(crate) sense: bool,
+    /// The label to which it jumps.
+    pub(crate) target: u16,
+}
+
 /// The label of a VALOF, which comes right after its body.
 fn label_ahead(pieces: &[Piece]) -> u16
     ensures { result ≡ label_ahead_of pieces.now }
@@ -59,26 +68,25 @@ impl Writer {
         self.root(around, Root::Value { level, expression }, 0)
     }
 
-    /// Writes a jump to the target that is taken if the truth of the expression is this sense.
+    /// Writes the code that tests an expression and jumps.
     #[cycle(commands)]
     pub(crate) fn test(
         &mut self,
         around: &Around<'_>,
         level: u16,
-        sense: bool,
         expression: &CoreExp,
-        target: u16,
+        jump: Jump,
     ) -> Result<(), GenError>
-        requires { RootHasRoom (room_in around.now) (tree.Test level sense (exp expression.now)) }
-        ensures { Writes result self.old self.new (roots_in around.now (tree.Test level sense (exp expression.now)) target self.old.next) }
+        requires { RootHasRoom (room_in around.now) (tree.Test level jump.sense (exp expression.now)) }
+        ensures { Writes result self.old self.new (roots_in around.now (tree.Test level jump.sense (exp expression.now)) jump.target self.old.next) }
     {
         let expression = copy_expression(self.alloc, expression)?;
         let root = Root::Test {
             level,
-            sense,
+            sense: jump.sense,
             expression,
         };
-        self.root(around, root, target)
+        self.root(around, root, jump.target)
     }
 
     /// Writes a root's code. The mark is inserted before the code afterwards, since it has the numbers of items of the VALOFs' bodies.

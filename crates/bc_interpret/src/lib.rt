@@ -2,6 +2,7 @@
 //! primitives. It uses only bounded native stack, however deep calls and trees are.
 #![tactic(auto)]
 
+mod observer;
 mod places;
 mod run;
 mod running;
@@ -10,7 +11,9 @@ mod start;
 mod table;
 
 pub use bc_interpret_pure::Cause;
-pub use bc_interpret_steps::Ending;
+pub use bc_interpret_steps::{Ending, Section, Stacks, State};
 pub use bc_interpret_trace::Standing;
+pub use observer::Observer;
+pub use places::{after_first, all_addresses};
 pub use run::{Interpreted, Outcome, Trail};
-pub use running::interpret;
+pub use running::{interpret, observe};

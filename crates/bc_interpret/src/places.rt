@@ -48,7 +48,7 @@ fn addresses_of(alloc: Global, place: &SegmentPlace) -> Result<Vec<u16>, Memory>
 ///
 /// `Memory` if an allocation fails.
 #[tactic(auto, using(crate::proofs::Placing::addresses_more))]
-pub(crate) fn all_addresses(alloc: Global, places: &[SegmentPlace]) -> Result<Vec<Vec<u16>>, Memory>
+pub fn all_addresses(alloc: Global, places: &[SegmentPlace]) -> Result<Vec<Vec<u16>>, Memory>
     ensures { IfOk result (λ all. addresses_by_label all.items ≡ label_addresses places.now) }
 {
     let mut all = Vec::new(alloc);
@@ -61,7 +61,7 @@ pub(crate) fn all_addresses(alloc: Global, places: &[SegmentPlace]) -> Result<Ve
 }
 
 /// All segments but the first, which has the primitives.
-pub(crate) fn after_first(places: &[SegmentPlace]) -> &[SegmentPlace]
+pub fn after_first(places: &[SegmentPlace]) -> &[SegmentPlace]
     ensures { result.now ≡ drop 1 places.now }
 {
     match places {

@@ -4,6 +4,7 @@
 ghost use Rattle.std.specs.Prelude.{IfOk};
 ghost use Rattle.bc_interpret.specs.Moving.{HasProgram, MovesBy, next_of, AdvancedOn, StretchedOn, CompletedOn};
 
+use crate::observer::Observer;
 use crate::serve::{Served, serve};
 use bc_interpret_pure::Cause;
 use bc_interpret_steps::{Callable, Ending, Progress, Stacks, State, Work, step};
@@ -100,17 +101,20 @@ fn moved_by(served: Served, stacks: &mut Stacks<'_>) -> Moved
 ///
 /// `Memory` if an allocation fails.
 #[inline(always)]
-fn advance<'c, S: Streams>(
+fn advance<'c, S: Streams, O: Observer>(
     table: &[Callable<'c>],
     run: &mut Run<'c>,
     streams: &mut S,
+    observer: &mut O,
 ) -> Result<Moved, Memory>
     requires { HasProgram table.now }
     ensures { IfOk result (λ moved. AdvancedOn S.known S.content S.failures table.now (next_of run.old) run.old run.new streams.old streams.new moved) }
 {
+    observer.before(&run.stacks, &run.state)?;
     run.trace.follow(&run.stacks)?;
     step(table, &mut run.stacks, &mut run.state)?;
     run.trace.enter(&run.stacks)?;
+    observer.after(&run.stacks, &run.state)?;
     match run.stacks.next {
         Progress::On(_) => Ok(Moved::On),
         Progress::Serve(primitive, frame) => {
@@ -134,17 +138,18 @@ fn advance<'c, S: Streams>(
 ///
 /// `Memory` if an allocation fails.
 #[inline(always)]
-fn stretch<'c, S: Streams>(
+fn stretch<'c, S: Streams, O: Observer>(
     table: &[Callable<'c>],
     run: &mut Run<'c>,
     streams: &mut S,
+    observer: &mut O,
 ) -> Result<Moved, Memory>
     requires { HasProgram table.now }
     ensures { IfOk result (λ moved. StretchedOn S.known S.content S.failures table.now (next_of run.old) run.old run.new streams.old streams.new moved) }
 {
     loop {
         let before = run.state.turns;
-        let moved = advance(table, run, streams)?;
+        let moved = advance(table, run, streams, observer)?;
         match moved {
             Moved::On => {
                 if run.state.turns < before {
@@ -159,16 +164,17 @@ fn stretch<'c, S: Streams>(
 /// Steps to the end of the run.
 ///
 /// `Memory` if an allocation fails.
-pub(crate) fn to_end<'c, S: Streams>(
+pub(crate) fn to_end<'c, S: Streams, O: Observer>(
     table: &[Callable<'c>],
     run: &mut Run<'c>,
     streams: &mut S,
+    observer: &mut O,
 ) -> Result<Outcome, Memory>
     requires { HasProgram table.now }
     ensures { IfOk result (λ outcome. CompletedOn S.known S.content S.failures table.now (next_of run.old) run.old streams.old streams.new outcome) }
 {
     loop {
-        let moved = stretch(table, run, streams)?;
+        let moved = stretch(table, run, streams, observer)?;
         match moved {
             Moved::On => {}
             Moved::Over(outcome) => return Ok(outcome),

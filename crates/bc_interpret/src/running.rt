@@ -1,4 +1,4 @@
-//! The public call: runs resolved sections whose places are where an image has them.
+//! The public calls: run resolved sections whose places are where an image has them, with an observer or without.
 
 ghost use Rattle.std.specs.Prelude.{◌≡◌, ◌+◌, [], map, IfOk};
 ghost use Rattle.bc_core.specs.View.{section as section_view};
@@ -8,6 +8,7 @@ ghost use Rattle.bc_interpret_steps.specs.declared.forms.Work.TheVariants.{Numbe
 ghost use Rattle.bc_interpret.specs.Interpreted.{InterpretedOn};
 ghost use Rattle.bc_interpret.specs.Moving.{RunOn};
 
+use crate::observer::{Observer, Unobserved};
 use crate::places::{after_first, all_addresses, sections_of};
 use crate::run::{Interpreted, Run, to_end};
 use crate::start::start_store;
@@ -56,15 +57,17 @@ fn first_frame(stack_base: u16) -> u32
     u32::from(stack_base) + 2
 }
 
-/// Runs sections for at most `turns` turns, with the stack beginning at `stack_base`.
+/// Runs sections for at most `turns` turns, with the stack beginning at `stack_base`, and lets an observer see each step. What the observer
+/// does has no effect on the outcome and the output.
 ///
 /// `Memory` if an allocation fails.
-fn run_sections<S: Streams>(
+pub fn observe<S: Streams, O: Observer>(
     alloc: Global,
     sections: &[Section<'_>],
     stack_base: u16,
     streams: &mut S,
     turns: u64,
+    observer: &mut O,
 ) -> Result<Interpreted, Memory>
     ensures { IfOk result (λ i. RunOn S.known S.content S.failures (program_of sections.now) stack_base turns streams.old streams.new i.outcome) }
 {
@@ -77,7 +80,7 @@ fn run_sections<S: Streams>(
         &mut run.stacks.rests,
     )?;
     push(Rest::Number(NumberRest::Loads), &mut run.stacks.rests)?;
-    let outcome = to_end(table.as_slice(), &mut run, streams)?;
+    let outcome = to_end(table.as_slice(), &mut run, streams, observer)?;
     let trail = run.trail(alloc)?;
     Ok(Interpreted { outcome, trail })
 }
@@ -103,6 +106,14 @@ pub fn interpret<S: Streams>(
     let addresses = all_addresses(alloc, places)?;
     let sections = sections_of(alloc, cores, addresses.as_slice())?;
     let stack_base = image.stack_base.get();
-    let interpreted = run_sections(alloc, sections.as_slice(), stack_base, streams, turns)?;
+    let mut unobserved = Unobserved;
+    let interpreted = observe(
+        alloc,
+        sections.as_slice(),
+        stack_base,
+        streams,
+        turns,
+        &mut unobserved,
+    )?;
     Ok(interpreted)
 }

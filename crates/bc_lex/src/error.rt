@@ -11,28 +11,28 @@ use thiserror::Error;
 #[derive(Clone, Copy, Debug, PartialEq, Eq, Hash, Error)]
 pub enum LexError {
     /// The byte at the offset begins no token.
-    #[error("a byte at offset {1} of file {0} begins no token")]
+    #[error("the byte at offset {1} of file {0} begins no token")]
     BadCharacter(usize, usize),
     /// The number that begins at the offset is over 65,535.
-    #[error("the number at offset {1} of file {0} is over 65535")]
+    #[error("the number at offset {1} of file {0} is greater than 65535")]
     NumberTooLarge(usize, usize),
     /// The string that begins at the offset has more than 255 characters.
     #[error("the string at offset {1} of file {0} has more than 255 characters")]
     StringTooLong(usize, usize),
     /// The comment, string or character constant that begins at the offset isn't closed.
-    #[error("what begins at offset {1} of file {0} is not closed")]
+    #[error("the comment, string or character constant at offset {1} of file {0} is not closed")]
     Unterminated(usize, usize),
     /// The `*` at the offset begins no escape.
-    #[error("no escape goes on behind the * at offset {1} of file {0}")]
+    #[error("the * at offset {1} of file {0} begins no escape")]
     BadEscape(usize, usize),
     /// The GET at the offset isn't followed by a string, or no source has the name that the string spells.
-    #[error("the GET at offset {1} of file {0} names no file")]
+    #[error("the GET at offset {1} of file {0} names no source")]
     GetMissing(usize, usize),
     /// The GET at the offset is in a file to which eight nested GETs led.
     #[error("the GET at offset {1} of file {0} is nested too deep")]
     GetTooDeep(usize, usize),
     /// The token at the offset comes after 60,000 others.
-    #[error("the token at offset {1} of file {0} is one too many")]
+    #[error("the token at offset {1} of file {0} comes after 60,000 others")]
     TooManyTokens(usize, usize),
     /// An allocation failed.
     #[error("out of memory")]

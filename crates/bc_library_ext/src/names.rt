@@ -2,7 +2,7 @@
 //! of the text.
 
 /// The names that EXTHDR declares and LIBHDR doesn't.
-const NAMES: [&str; 27] = [
+const NAMES: [&str; 34] = [
     "WRITED",
     "WRITEU",
     "WRITEOCT",
@@ -26,6 +26,13 @@ const NAMES: [&str; 27] = [
     "RANDOM",
     "RANDOMISE",
     "STOP",
+    "REWIND",
+    "WRITEO",
+    "RDARGS",
+    "TESTFLAGS",
+    "COMPCH",
+    "TIME",
+    "MAPSTORE",
     "FIRSTFREEGLOBAL",
     "BYTESPERWORD",
     "MAXINT",
@@ -43,8 +50,8 @@ pub fn further_word(word: &[u8]) -> Option<&'static str> {
 }
 
 /// A different bit for each name that EXTHDR declares and LIBHDR doesn't, if `word` equals it with case ignored; otherwise 0.
-pub fn further_bit(word: &[u8]) -> u32 {
-    let mut bit: u32 = 1;
+pub fn further_bit(word: &[u8]) -> u64 {
+    let mut bit: u64 = 1;
     for name in NAMES {
         if word.eq_ignore_ascii_case(name.as_bytes()) {
             return bit;

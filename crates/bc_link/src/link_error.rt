@@ -9,16 +9,16 @@ use thiserror::Error;
 #[derive(Clone, Copy, Debug, PartialEq, Eq, Hash, Error)]
 pub enum LinkError {
     /// In this segment an item refers to this label, but the segment doesn't set it.
-    #[error("a label of segment {0} is spoken of and stands nowhere in it")]
+    #[error("segment {0} uses a label that it does not set")]
     LabelUnset(usize, Word),
     /// This segment sets this label twice.
-    #[error("a label of segment {0} stands twice in it")]
+    #[error("segment {0} sets a label twice")]
     LabelTwice(usize, Word),
     /// This global is set twice.
     #[error("a global is set twice")]
     GlobalTwice(GlobalNumber),
     /// The stack base would be above 65,472, which leaves too little room for the stack.
-    #[error("the segments take more words than the store has for them")]
+    #[error("the segments do not fit in the store")]
     TooLarge,
     /// An allocation failed.
     #[error("out of memory")]

@@ -12,7 +12,7 @@ pub struct DeviceFault;
 #[derive(Clone, Copy, Debug, PartialEq, Eq, Error)]
 pub enum StreamsError {
     /// Two streams of one table have the same name.
-    #[error("a name stands twice in a table of streams")]
+    #[error("a table of streams has a name twice")]
     NameTwice,
     /// A name has more than 255 bytes.
     #[error("the name of a stream has more than 255 bytes")]

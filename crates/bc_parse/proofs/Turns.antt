@@ -1,11 +1,13 @@
 -- The loops of the parser: a turn that goes on, one that is the last, one that fails, and no turn left.
-use Rattle.std.proofs.Common.{◌≡◌, ℕ, suc, ◌-◌, ◌+◌, ◌<◌, ◌≤◌, Bool, true, false, List, length, max, None, Result, Ok, Err, refl, sym, ap, subst, ◌∙◌, arith}
+use Rattle.std.proofs.Common.{◌≡◌, ℕ, suc, ◌-◌, ◌+◌, ◌<◌, ◌≤◌, Bool, true, false, List, length, max, Some, Result, Ok, Err, refl, sym, ap, subst, ◌∙◌, arith}
 use Rattle.std.proofs.lemmas.Bool.{lt-ltb}
 use Rattle.bc_lex_tokens.specs.declared.symbol.Symbol.TheVariants as sign
 use Rattle.bc_parse_tree.specs.Parts.{Part}
 use Rattle.bc_parse_tree.specs.Tree.{Command, Exp}
 use Rattle.bc_parse_tree.specs.Tree as tree
-use Rattle.bc_parse_defs.specs.Reading.{Fault, Expected, ◌>>=◌, Piece, piece, Reader, Choice, expect_of, suffix_read, with_choice, turns, word_in, repeat_word_of, repeat_turn, repeats_read}
+use Rattle.bc_parse_defs.specs.declared.words.RepeatWord.{RepeatWord}
+use Rattle.bc_parse_defs.specs.declared.words.RepeatWord.TheVariants as repeat_word
+use Rattle.bc_parse_defs.specs.Reading.{Fault, Expected, ◌>>=◌, Piece, piece, Reader, Choice, expect_of, suffix_read, with_choice, turns, word_in, repeat_word_of, repeat_turn, repeated}
 use Rattle.bc_parse.specs.Seen.{Fails, Takes, read_view, turn_view, turn_height}
 use Rattle.bc_parse.specs.declared.read.Read.{Read}
 use Rattle.bc_parse.specs.declared.read.Step.{Step}
@@ -47,19 +49,6 @@ fails_then (faults.TooDeep m) r f is = rw is refl
 pub more_low : {T : Type 0} (v : Step T) (r : Read T) (m : ℕ) → v ≡ turn.More r → turn_height v ≤ m → r.height ≤ m
 more_low v r m is low = subst (λ (w : Step _). turn_height w ≤ m) is low
 
--- a loop whose first turn is its last
-pub turns_at_once : {X : Type 0} (step : Piece X → Result (Piece X × Bool) Fault) (n : ℕ) (s : Piece X) → step s ≡ Ok (s, true) → turns step (n + 1) s ≡ Ok s
-unfolding turns
-turns_at_once step n s is = let k : n + 1 ≡ suc n = omega arith in rw (k, is) refl
-
--- no repetition after a command
-pub repeats_none : (E : Reader) (nest round : ℕ) (s : Piece Command) → None ≡ word_in repeat_word_of s.rest → repeats_read E nest round s ≡ Ok s
-unfolding repeats_read repeat_turn
-repeats_none E nest round s is = turns_at_once (repeat_turn E nest round) (length s.rest) s (once is)
-  where
-    once : None ≡ word_in repeat_word_of s.rest → repeat_turn E nest round s ≡ Ok (s, true)
-    once e = rw (← e) refl
-
 pub ok_is : {X : Type 0} (x y : X) (r : Result X Fault) → r ≡ Ok x → r ≡ Ok y → x ≡ y
 ok_is x y r is_x is_y = cc
 
@@ -68,3 +57,24 @@ pub choice_is : (E : Reader) (nest round begin height high place most : ℕ) (le
     → suffix_read E nest round begin (Choice ts) left height place ≡ ((expect_of sign.Comma rest >>= λ remaining. E (nest - 1) round 1 remaining >>= λ that. Ok (piece (tree.Condition test this that.tree) (max most that.height + 1) that.rest)) >>= λ p. Ok (piece (p.tree, 1) p.height p.rest))
 unfolding suffix_read with_choice
 choice_is E nest round begin height high place most left test this ts rest lt is same top = rw (lt-ltb height nest lt, is, same, top) refl
+
+-- a repetition whose word follows the command
+repeated_by : (E : Reader) (nest round : ℕ) (whole : Piece Command) (w : RepeatWord) (ts : List Part) → Some (w, ts) ≡ word_in repeat_word_of whole.rest → whole.height < nest → repeat_turn E nest round whole ≡ repeated E nest round w whole ts
+unfolding repeat_turn
+repeated_by E nest round whole w ts is lt = rw (← is, lt-ltb whole.height nest lt) refl
+
+-- a repetition with REPEATWHILE, whose command is in a box
+pub while_is : (E : Reader) (nest round : ℕ) (whole : Piece Command) (body : Command) (w : RepeatWord) (ts : List Part) → Some (w, ts) ≡ word_in repeat_word_of whole.rest → whole.height < nest → whole.tree ≡ body → w ≡ repeat_word.While
+    → repeat_turn E nest round whole ≡ (E (nest - 1) round 1 ts >>= λ e. Ok (piece (tree.RepeatWhile body e.tree) (max whole.height e.height + 1) e.rest, false))
+unfolding repeated
+while_is E nest round whole body w ts is lt same by =
+    repeated_by E nest round whole w ts is lt ∙ (ap (λ (v : RepeatWord). repeated E nest round v whole ts) by
+    ∙ ap (λ (k : Command). E (nest - 1) round 1 ts >>= λ e. Ok (piece (tree.RepeatWhile k e.tree) (max whole.height e.height + 1) e.rest, false)) same)
+
+-- the same with REPEATUNTIL
+pub until_is : (E : Reader) (nest round : ℕ) (whole : Piece Command) (body : Command) (w : RepeatWord) (ts : List Part) → Some (w, ts) ≡ word_in repeat_word_of whole.rest → whole.height < nest → whole.tree ≡ body → w ≡ repeat_word.Until
+    → repeat_turn E nest round whole ≡ (E (nest - 1) round 1 ts >>= λ e. Ok (piece (tree.RepeatUntil body e.tree) (max whole.height e.height + 1) e.rest, false))
+unfolding repeated
+until_is E nest round whole body w ts is lt same by =
+    repeated_by E nest round whole w ts is lt ∙ (ap (λ (v : RepeatWord). repeated E nest round v whole ts) by
+    ∙ ap (λ (k : Command). E (nest - 1) round 1 ts >>= λ e. Ok (piece (tree.RepeatUntil k e.tree) (max whole.height e.height + 1) e.rest, false)) same)

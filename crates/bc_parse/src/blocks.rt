@@ -1,24 +1,26 @@
 //! The readers of blocks, bodies and sections: lists of declarations and items, and what ends them.
-ghost use Rattle.std.specs.Prelude.{◌≡◌, ◌+◌, ◌≤◌, ℕ, length, max, option_map, if◌then◌else◌, Ok, Err, IfOk};
+ghost use Rattle.std.specs.Prelude.{◌≡◌, ◌+◌, ◌≤◌, ℕ, max, option_map, Ok, IfOk};
 ghost use Rattle.bc_parse_tree.specs.Spelling.{add_item};
 ghost use Rattle.bc_parse_tree.specs.Tree.{Labels_alone};
 ghost use Rattle.bc_parse_tree.specs.View.{command_view, block_view, declarations_view, labels_view};
 ghost use Rattle.bc_parse_tree.specs.View.{items_view};
 ghost use Rattle.bc_parse_defs.specs.Reading.{piece, exp_of, command_of, definition_of, label_read};
-ghost use Rattle.bc_parse_defs.specs.Reading.{labels_read, DefaultLabel, NameLabel, Expected};
-ghost use Rattle.bc_parse_defs.specs.Reading.{item_read, part_read, place_turn, places_read};
+ghost use Rattle.bc_parse_defs.specs.Reading.{labels_read, DefaultLabel, NameLabel};
+ghost use Rattle.bc_parse_defs.specs.Reading.{part_read, place_turn, places_read};
 ghost use Rattle.bc_parse_defs.specs.Reading.{block_read, body_of_block, body_read, do_read, section_of, moved};
-ghost use Rattle.bc_parse_defs.specs.Reading.{label_start, as_body, place_end, declares, no_item_yet, some_label};
+ghost use Rattle.bc_parse_defs.specs.Reading.{label_start, place_end, declares, no_item_yet, some_label};
 ghost use Rattle.bc_parse_defs.specs.Reading.{may_command};
 ghost use Rattle.bc_parse.specs.Seen.{◌~>◌, seen, Gives, read_view, list_view, parts_view, Reads, Takes};
 ghost use Rattle.bc_parse.specs.Seen.{turn_height};
 ghost use Rattle.bc_parse.specs.SeenFollow.{end_view};
+ghost use Rattle.bc_parse.specs.Partial.{body_of_command, item_more};
 
 use crate::commands::{command, repeats};
 use crate::cursor::{LabelStartAt, Rest};
 use crate::declarations::declaration;
 use crate::expressions::boxed_exp;
 use crate::fault::ReadFault;
+use crate::levels::CONSTANT;
 use crate::read::{Limits, Read, ReadResult, Step};
 use crate::{boxes, construction, cursor};
 use bc_lex_tokens::Symbol;
@@ -100,8 +102,7 @@ pub fn body_from<'s, 't>(
     alloc: Global,
     whole: Read<'s, 't, Command<'s>>,
 ) -> ReadResult<'s, 't, Block<'s>>
-    ensures read { Reads block_view result (Ok (piece (as_body (command_view whole.entry.tree) whole.entry.height).0
-        (as_body (command_view whole.entry.tree) whole.entry.height).1 (seen whole.entry.rest))) }
+    ensures read { Reads block_view result (body_of_command (read_view command_view whole.entry)) }
     ensures low { (m : ℕ) → whole.entry.height ≤ m → IfOk result (λ x. x.height ≤ m) }
 {
     let Read { tree, height, rest } = whole;
@@ -155,7 +156,11 @@ fn label_step<'s, 't>(
 {
     match cursor::label_at(list.rest) {
         LabelStartAt::No => Ok(Step::Last(list)),
-        LabelStartAt::Case(rest) => construction::case_of(room, boxed_exp(room, 2, rest), list),
+        LabelStartAt::Case(rest) => construction::case_of(
+            room,
+            boxed_exp(room, CONSTANT, rest),
+            list,
+        ),
         LabelStartAt::Default(rest) => default_label(list, rest),
         LabelStartAt::Name(name, rest) => name_label(list, name, rest),
     }
@@ -212,11 +217,7 @@ fn item_part<'s, 't>(
     requires { list.height ≤ room.nest }
     ensures read { (n : ℕ) → room.nest + room.round ≤ n →
         Reads parts_view result
-        (if may_command mode then (
-        item_read (exp_of n) (command_of n) (definition_of n) room.nest room.round (seen list.entry.rest) ~> λ i.
-        Ok (piece (declarations_view list.entry.tree.declarations.items, add_item (items_view list.entry.tree.items.items) i.tree)
-        (max list.entry.height i.height) i.rest))
-        else Err (Expected (length (seen list.entry.rest)))) }
+        (item_more (exp_of n) (command_of n) (definition_of n) room.nest room.round mode (read_view parts_view list.entry)) }
     ensures low { IfOk result (λ x. x.height ≤ room.nest) }
 {
     if !has_items(mode) {

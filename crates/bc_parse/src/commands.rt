@@ -2,26 +2,23 @@
 //!
 //! One construct is often read by several functions. Each member of the cycle is expensive to prove, and more so the
 //! more trees it holds by value, so a function reads little, and a tree that waits for another one is in a box.
-ghost use Rattle.std.specs.Prelude.{◌≡◌, ◌+◌, ◌-◌, ◌<◌, ◌≤◌, ◌==◌, if◌then◌else◌, ℕ, length, max, Ok, Err, IfOk};
+ghost use Rattle.std.specs.Prelude.{◌≡◌, ◌+◌, ◌<◌, ◌≤◌, ℕ, max, IfOk};
 ghost use Rattle.std.specs.Prelude.{option_map};
-ghost use Rattle.bc_parse_tree.specs.View.{exp_view, exps_view, command_view, block_view, items_view, for_from};
-ghost use Rattle.bc_lex_tokens.specs.declared.symbol.Symbol.TheVariants as sign;
+ghost use Rattle.bc_parse_tree.specs.View.{exp_view, exps_view, command_view, block_view, items_view};
 ghost use Rattle.bc_parse_tree.specs.Tree as tree;
-ghost use Rattle.bc_parse_defs.specs.Reading.{Expected, on, name_of, piece, expect_of, exp_of};
-ghost use Rattle.bc_parse_defs.specs.Reading.{command_of, definition_of, repeated, repeat_turn, repeats_read};
+ghost use Rattle.bc_parse_defs.specs.Reading.{piece, exp_of};
+ghost use Rattle.bc_parse_defs.specs.Reading.{command_of, definition_of, repeat_turn, repeats_read};
 ghost use Rattle.bc_parse_defs.specs.Reading.{assigned_read, simple_read, tested_read, test_read, step_read, for_read};
 ghost use Rattle.bc_parse_defs.specs.Reading.{switch_read, compound_read, repeatable_read, command_read, call_in};
-ghost use Rattle.bc_parse_defs.specs.Reading.{do_read, body_read, word_in, simple_word_of, tested_command, places_read};
-ghost use Rattle.bc_parse_defs.specs.declared.words.Places.TheVariants as places_mode;
-ghost use Rattle.bc_parse_defs.specs.declared.words.RepeatWord.TheVariants as repeat_word;
-ghost use Rattle.bc_parse_defs.specs.declared.words.SimpleWord.TheVariants as simple_word;
-ghost use Rattle.bc_parse.specs.Seen.{◌~>◌, seen, read_view, box_view};
-ghost use Rattle.bc_parse.specs.Seen.{Reads, Takes, turn_height, exp_option};
+ghost use Rattle.bc_parse_defs.specs.Reading.{tested_command};
+ghost use Rattle.bc_parse.specs.Seen.{seen, read_view, list_view, Reads, Takes, turn_height, exp_option};
+ghost use Rattle.bc_parse.specs.Partial.{call_alone, goto_rest, unrepeated_read, else_rest, for_by_rest, for_to_rest, cases_rest};
 
 use crate::blocks::{Parts, block, body, do_body, places};
 use crate::cursor::Rest;
 use crate::expressions::{boxed_exp, exp, exp_count, exps};
 use crate::fault::ReadFault;
+use crate::levels::{CHOICE, CONSTANT};
 use crate::read::{Limits, Read, ReadResult, Step};
 use crate::{boxes, construction, cursor};
 use bc_lex_tokens::Symbol;
@@ -75,9 +72,7 @@ fn repeatable<'s, 't>(room: Limits, rest: Rest<'s, 't>) -> ReadResult<'s, 't, Co
 fn simple_command<'s, 't>(room: Limits, rest: Rest<'s, 't>) -> ReadResult<'s, 't, Command<'s>>
     requires { 0 < room.nest }
     ensures read { (n : ℕ) → room.nest + room.round ≤ n + 1 →
-        Reads command_view result
-        (on (word_in simple_word_of (seen rest.entry)) (assigned_read (exp_of n) (command_of n) (definition_of n) room.nest room.round (seen rest.entry))
-        (λ w. simple_read (exp_of n) (command_of n) (definition_of n) room.nest room.round w.0 w.1)) }
+        Reads command_view result (unrepeated_read (exp_of n) (command_of n) (definition_of n) room.nest room.round (seen rest.entry)) }
     ensures low { IfOk result (λ x. x.height ≤ room.nest) }
 {
     match cursor::simple_word(rest) {
@@ -88,6 +83,7 @@ fn simple_command<'s, 't>(room: Limits, rest: Rest<'s, 't>) -> ReadResult<'s, 't
 
 /// A command with the repetitions that follow it.
 #[cycle(parser)]
+#[tactic(auto, unfolding(bc_parse_defs::specs::Reading::repeats_read))]
 pub fn repeats<'s, 't>(
     room: Limits,
     first: Read<'s, 't, Command<'s>>,
@@ -95,46 +91,6 @@ pub fn repeats<'s, 't>(
     requires { first.height ≤ room.nest }
     ensures read { (n : ℕ) → room.nest + room.round ≤ n + 1 →
         Reads command_view result (repeats_read (exp_of n) room.nest room.round (read_view command_view first.entry)) }
-    ensures low { IfOk result (λ x. x.height ≤ room.nest) }
-{
-    match cursor::repeat_word(first.rest) {
-        None => Ok(first),
-        Some(_) => repeats_boxed(room, first),
-    }
-}
-
-/// The same if there is a repetition, which needs the command in a box.
-#[cycle(parser)]
-fn repeats_boxed<'s, 't>(
-    room: Limits,
-    first: Read<'s, 't, Command<'s>>,
-) -> ReadResult<'s, 't, Command<'s>>
-    requires { first.height ≤ room.nest }
-    ensures read { (n : ℕ) → room.nest + room.round ≤ n + 1 →
-        Reads command_view result (repeats_read (exp_of n) room.nest room.round (read_view command_view first.entry)) }
-    ensures low { IfOk result (λ x. x.height ≤ room.nest) }
-{
-    let height = first.height;
-    let rest = first.rest;
-    let tree = boxes::command(room.alloc, first.tree)?;
-    let whole = repeats_of_box(room, Read { tree, height, rest })?;
-    Ok(Read {
-        tree: Box::into_inner(whole.tree),
-        height: whole.height,
-        rest: whole.rest,
-    })
-}
-
-/// The same for a command in a box.
-#[cycle(parser)]
-#[tactic(auto, unfolding(bc_parse_defs::specs::Reading::repeats_read))]
-fn repeats_of_box<'s, 't>(
-    room: Limits,
-    first: Read<'s, 't, Box<Command<'s>>>,
-) -> ReadResult<'s, 't, Box<Command<'s>>>
-    requires { first.height ≤ room.nest }
-    ensures read { (n : ℕ) → room.nest + room.round ≤ n + 1 →
-        Reads (box_view command_view) result (repeats_read (exp_of n) room.nest room.round (read_view (box_view command_view) first.entry)) }
     ensures low { IfOk result (λ x. x.height ≤ room.nest) }
 {
     let turns = first.rest.parts.len() + 1;
@@ -145,77 +101,50 @@ fn repeats_of_box<'s, 't>(
             Step::More(found) => whole = found,
         }
     }
-    Err(ReadFault::Expected(whole.rest.parts.len()))
+    Err(boxes::no_turn_left(whole))
 }
 
 /// One repetition, if one follows.
 #[cycle(parser)]
-#[tactic(auto, unfolding(bc_parse_defs::specs::Reading::repeat_turn))]
+#[tactic(auto, unfolding(bc_parse_defs::specs::Reading::repeat_turn, bc_parse_defs::specs::Reading::repeated))]
 fn repeat_step<'s, 't>(
     room: Limits,
-    whole: Read<'s, 't, Box<Command<'s>>>,
-) -> Result<Step<'s, 't, Box<Command<'s>>>, ReadFault>
+    whole: Read<'s, 't, Command<'s>>,
+) -> Result<Step<'s, 't, Command<'s>>, ReadFault>
     requires { whole.height ≤ room.nest }
     ensures read { (n : ℕ) → room.nest + room.round ≤ n + 1 →
-        Takes (box_view command_view) result (repeat_turn (exp_of n) room.nest room.round (read_view (box_view command_view) whole.entry)) }
+        Takes command_view result (repeat_turn (exp_of n) room.nest room.round (read_view command_view whole.entry)) }
     ensures low { IfOk result (λ x. turn_height x ≤ room.nest) }
 {
     match cursor::repeat_word(whole.rest) {
         None => Ok(Step::Last(whole)),
-        Some((word, remaining)) => {
+        Some((word, rest)) => {
             if whole.height >= room.nest {
-                return Err(ReadFault::TooDeep(whole.rest.parts.len()));
+                return Err(boxes::too_deep(whole));
             }
-            repeat_by(room, word, whole, remaining)
+            let inner = Limits {
+                nest: room.nest - 1,
+                ..room
+            };
+            let height = whole.height;
+            let body = boxes::command(room.alloc, whole.tree)?;
+            match word {
+                RepeatWord::Repeat => construction::repeated(room, height, body, rest),
+                RepeatWord::While => construction::repeated_while(
+                    room,
+                    height,
+                    body,
+                    exp(inner, CHOICE, rest),
+                ),
+                RepeatWord::Until => construction::repeated_until(
+                    room,
+                    height,
+                    body,
+                    exp(inner, CHOICE, rest),
+                ),
+            }
         }
     }
-}
-
-/// A repetition, after its word.
-#[cycle(parser)]
-#[tactic(auto, unfolding(bc_parse_defs::specs::Reading::repeated))]
-fn repeat_by<'s, 't>(
-    room: Limits,
-    word: RepeatWord,
-    whole: Read<'s, 't, Box<Command<'s>>>,
-    rest: Rest<'s, 't>,
-) -> Result<Step<'s, 't, Box<Command<'s>>>, ReadFault>
-    requires { whole.height < room.nest }
-    ensures read { (n : ℕ) → room.nest + room.round ≤ n + 1 →
-        Takes (box_view command_view) result
-        (repeated (exp_of n) room.nest room.round word (read_view (box_view command_view) whole.entry) (seen rest.entry)) }
-    ensures low { IfOk result (λ x. turn_height x ≤ room.nest) }
-{
-    let inner = Limits {
-        nest: room.nest - 1,
-        ..room
-    };
-    match word {
-        RepeatWord::Repeat => repeat_always(room, whole, rest),
-        RepeatWord::While => construction::while_of(room, whole, exp(inner, 1, rest)),
-        RepeatWord::Until => construction::until_of(room, whole, exp(inner, 1, rest)),
-    }
-}
-
-/// A command with REPEAT.
-#[tactic(auto, unfolding(bc_parse_defs::specs::Reading::repeated))]
-fn repeat_always<'s, 't>(
-    room: Limits,
-    whole: Read<'s, 't, Box<Command<'s>>>,
-    rest: Rest<'s, 't>,
-) -> Result<Step<'s, 't, Box<Command<'s>>>, ReadFault>
-    requires { whole.height < room.nest }
-    ensures read { (n : ℕ) →
-        Takes (box_view command_view) result
-        (repeated (exp_of n) room.nest room.round repeat_word.Repeat (read_view (box_view command_view) whole.entry) (seen rest.entry)) }
-    ensures low { IfOk result (λ x. turn_height x ≤ room.nest) }
-{
-    let tree = boxes::command(room.alloc, Command::Repeat(whole.tree))?;
-    Ok(Step::More(Read {
-        tree,
-        height: whole.height + 1,
-        rest,
-    }))
 }
 
 /// An assignment or a call.
@@ -231,12 +160,12 @@ fn assigned<'s, 't>(room: Limits, rest: Rest<'s, 't>) -> ReadResult<'s, 't, Comm
         nest: room.nest - 1,
         ..room
     };
-    let targets = exps(inner, 1, rest.parts.len() + 1, rest)?;
+    let targets = exps(inner, CHOICE, rest.parts.len() + 1, rest)?;
     match cursor::after(Symbol::Assign, targets.rest) {
         None => call_of(room, targets),
         Some(then) => {
             let limit = exp_count(&targets.tree);
-            construction::assignment(room, targets, exps(inner, 1, limit, then))
+            construction::assignment(room, targets, exps(inner, CHOICE, limit, then))
         }
     }
 }
@@ -248,9 +177,7 @@ fn call_of<'s, 't>(
     found: Read<'s, 't, Vec<Exp<'s>>>,
 ) -> ReadResult<'s, 't, Command<'s>>
     requires { found.height < room.nest }
-    ensures read { Reads command_view result
-        (on (call_in (exps_view found.entry.tree.items)) (Err (Expected (length (seen found.entry.rest))))
-        (λ c. Ok (piece (tree.Do c.0 c.1) (found.entry.height + 1) (seen found.entry.rest)))) }
+    ensures read { Reads command_view result (call_alone (read_view (list_view exps_view) found.entry)) }
     ensures low { IfOk result (λ x. x.height ≤ room.nest) }
 {
     match one_call(found.tree) {
@@ -301,7 +228,7 @@ fn simple<'s, 't>(
         SimpleWord::EndCase => Ok(alone(Command::EndCase, rest)),
         SimpleWord::Return => Ok(alone(Command::Return, rest)),
         SimpleWord::Finish => Ok(alone(Command::Finish, rest)),
-        SimpleWord::ResultIs => construction::result_of(room, exp(inner, 1, rest)),
+        SimpleWord::ResultIs => construction::result_of(room, exp(inner, CHOICE, rest)),
         SimpleWord::Goto => goto(rest),
     }
 }
@@ -320,7 +247,7 @@ fn alone<'s, 't>(tree: Command<'s>, rest: Rest<'s, 't>) -> Read<'s, 't, Command<
 
 /// GOTO, after its word.
 fn goto<'s, 't>(rest: Rest<'s, 't>) -> ReadResult<'s, 't, Command<'s>>
-    ensures read { Reads command_view result (name_of (seen rest.entry) ~> λ n. Ok (piece (tree.Goto n.0) 1 n.1)) }
+    ensures read { Reads command_view result (goto_rest (seen rest.entry)) }
     ensures low { (m : ℕ) → 0 < m → IfOk result (λ x. x.height ≤ m) }
 {
     let (name, rest) = cursor::name(rest)?;
@@ -361,7 +288,7 @@ fn tested<'s, 't>(room: Limits, word: Tested, rest: Rest<'s, 't>) -> ReadResult<
         nest: room.nest - 1,
         ..room
     };
-    let test = boxed_exp(inner, 1, rest)?;
+    let test = boxed_exp(inner, CHOICE, rest)?;
     let remaining = test.rest;
     construction::tested(room, word, test, do_body(inner, remaining))
 }
@@ -392,7 +319,7 @@ fn test<'s, 't>(room: Limits, rest: Rest<'s, 't>) -> ReadResult<'s, 't, Command<
         nest: room.nest - 1,
         ..room
     };
-    let test = boxed_exp(inner, 1, rest)?;
+    let test = boxed_exp(inner, CHOICE, rest)?;
     let this = do_body(inner, test.rest)?;
     test_else(room, test, this)
 }
@@ -407,10 +334,8 @@ fn test_else<'s, 't>(
     requires test { test.height < room.nest }
     requires this { this.height < room.nest }
     ensures read { (n : ℕ) → room.nest + room.round ≤ n + 1 →
-        Reads command_view result (expect_of sign.Else (seen this.entry.rest) ~> λ remaining.
-        body_read (exp_of n) (command_of n) (definition_of n) (room.nest - 1) room.round remaining ~> λ d.
-        Ok (piece (tree.Test (exp_view test.entry.tree.value) (block_view this.entry.tree) d.tree)
-        (max (max test.entry.height this.entry.height) d.height + 1) d.rest)) }
+        Reads command_view result (else_rest (exp_of n) (command_of n) (definition_of n) room.nest room.round
+        (max test.entry.height this.entry.height) (exp_view test.entry.tree.value) (block_view this.entry.tree) (seen this.entry.rest)) }
     ensures low { IfOk result (λ x. x.height ≤ room.nest) }
 {
     let inner = Limits {
@@ -443,7 +368,7 @@ fn step<'s, 't>(room: Limits, rest: Rest<'s, 't>) -> ReadResult<'s, 't, Option<B
             rest,
         }),
         Some(then) => {
-            let value = boxed_exp(room, 2, then)?;
+            let value = boxed_exp(room, CONSTANT, then)?;
             Ok(Read {
                 tree: Some(value.tree),
                 height: value.height,
@@ -468,7 +393,7 @@ fn for_command<'s, 't>(room: Limits, rest: Rest<'s, 't>) -> ReadResult<'s, 't, C
     };
     let (variable, rest) = cursor::name(rest)?;
     let rest = cursor::expect(Symbol::Equal, rest)?;
-    let start = boxed_exp(inner, 1, rest)?;
+    let start = boxed_exp(inner, CHOICE, rest)?;
     for_to(room, variable, start)
 }
 
@@ -481,12 +406,8 @@ fn for_to<'s, 't>(
 ) -> ReadResult<'s, 't, Command<'s>>
     requires { start.height < room.nest }
     ensures read { (n : ℕ) → room.nest + room.round ≤ n + 1 →
-        Reads command_view result (expect_of sign.To (seen start.entry.rest) ~> λ last.
-        exp_of n (room.nest - 1) room.round 1 last ~> λ z.
-        step_read (exp_of n) (command_of n) (definition_of n) (room.nest - 1) room.round z.rest ~> λ k.
-        do_read (exp_of n) (command_of n) (definition_of n) (room.nest - 1) room.round k.rest ~> λ b.
-        Ok (piece (for_from variable.entry.now (exp_view start.entry.tree.value) z.tree k.tree b.tree)
-        (max (max (max start.entry.height z.height) k.height) b.height + 1) b.rest)) }
+        Reads command_view result (for_to_rest (exp_of n) (command_of n) (definition_of n) room.nest room.round
+        start.entry.height variable.entry.now (exp_view start.entry.tree.value) (seen start.entry.rest)) }
     ensures low { IfOk result (λ x. x.height ≤ room.nest) }
 {
     let inner = Limits {
@@ -494,7 +415,7 @@ fn for_to<'s, 't>(
         ..room
     };
     let rest = cursor::expect(Symbol::To, start.rest)?;
-    let limit = boxed_exp(inner, 1, rest)?;
+    let limit = boxed_exp(inner, CHOICE, rest)?;
     for_by(room, variable, start, limit)
 }
 
@@ -509,11 +430,9 @@ fn for_by<'s, 't>(
     requires start { start.height < room.nest }
     requires limit { limit.height < room.nest }
     ensures read { (n : ℕ) → room.nest + room.round ≤ n + 1 →
-        Reads command_view result
-        (step_read (exp_of n) (command_of n) (definition_of n) (room.nest - 1) room.round (seen limit.entry.rest) ~> λ k.
-        do_read (exp_of n) (command_of n) (definition_of n) (room.nest - 1) room.round k.rest ~> λ b.
-        Ok (piece (for_from variable.entry.now (exp_view start.entry.tree.value) (exp_view limit.entry.tree.value) k.tree b.tree)
-        (max (max (max start.entry.height limit.entry.height) k.height) b.height + 1) b.rest)) }
+        Reads command_view result (for_by_rest (exp_of n) (command_of n) (definition_of n) room.nest room.round
+        (max start.entry.height limit.entry.height) variable.entry.now (exp_view start.entry.tree.value)
+        (exp_view limit.entry.tree.value) (seen limit.entry.rest)) }
     ensures low { IfOk result (λ x. x.height ≤ room.nest) }
 {
     let inner = Limits {
@@ -550,7 +469,7 @@ fn switch_on<'s, 't>(room: Limits, rest: Rest<'s, 't>) -> ReadResult<'s, 't, Com
         nest: room.nest - 1,
         ..room
     };
-    let value = boxed_exp(inner, 1, rest)?;
+    let value = boxed_exp(inner, CHOICE, rest)?;
     let rest = cursor::expect(Symbol::Into, value.rest)?;
     switch_cases(room, value, rest)
 }
@@ -564,9 +483,8 @@ fn switch_cases<'s, 't>(
 ) -> ReadResult<'s, 't, Command<'s>>
     requires { value.height < room.nest }
     ensures read { (n : ℕ) → room.nest + room.round ≤ n + 1 →
-        Reads command_view result (expect_of sign.OpenSection (seen rest.entry) ~> λ inner.
-        places_read (exp_of n) (command_of n) (definition_of n) places_mode.Cases (room.nest - 1) room.round inner ~> λ p.
-        Ok (piece (tree.SwitchOn (exp_view value.entry.tree.value) p.tree.1) (max value.entry.height p.height + 1) p.rest)) }
+        Reads command_view result (cases_rest (exp_of n) (command_of n) (definition_of n) room.nest room.round
+        value.entry.height (exp_view value.entry.tree.value) (seen rest.entry)) }
     ensures low { IfOk result (λ x. x.height ≤ room.nest) }
 {
     let inner = Limits {

@@ -2,24 +2,26 @@
 //!
 //! They call no reader, so they are outside the cycle of readers and each is proved by itself. This keeps the cycle's
 //! proof small.
-ghost use Rattle.std.specs.Prelude.{◌≡◌, ◌+◌, ◌-◌, ◌<◌, ◌≤◌, ◌==◌, if◌then◌else◌, true, false, length, max, Result, Ok, Err};
+ghost use Rattle.std.specs.Prelude.{◌≡◌, ◌+◌, ◌-◌, ◌<◌, ◌≤◌, true, false, max, Result, Ok};
 ghost use Rattle.bc_lex_tokens.specs.declared.symbol.Symbol.TheVariants as sign;
 ghost use Rattle.bc_parse_tree.specs.Operators.{own_level, level_of};
-ghost use Rattle.bc_parse_tree.specs.Spelling.{count, add_exp, add_declaration, add_definition, add_entry, add_item, add_label};
+ghost use Rattle.bc_parse_tree.specs.Spelling.{add_exp, add_declaration, add_definition, add_entry, add_item, add_label};
 ghost use Rattle.bc_parse_tree.specs.Tree as tree;
 ghost use Rattle.bc_parse_tree.specs.View.{exp_view, exps_view, command_view, block_view, declaration_view, declarations_view};
 ghost use Rattle.bc_parse_tree.specs.View.{definition_view, definitions_view, entries_view, items_view, labels_view};
-ghost use Rattle.bc_parse_defs.specs.Reading.{Fault, Expected, Piece, piece, on, after_of, expect_of, moved, as_body, next_exp};
+ghost use Rattle.bc_parse_defs.specs.Reading.{Fault, Piece, piece, on, after_of, expect_of, moved, next_exp};
 ghost use Rattle.bc_parse_defs.specs.Reading.{tested_command};
 ghost use Rattle.bc_parse.specs.Names.{names_view};
 ghost use Rattle.bc_parse.specs.Seen.{◌~>◌, seen, read_view, box_view, list_view, levelled_view, parts_view, Reads};
-ghost use Rattle.bc_parse.specs.Seen.{Made, MadeOperand, MadeTurn, Nests, NestsTurn};
+ghost use Rattle.bc_parse.specs.Seen.{Made, MadeOperand, MadeTurn, Nests, NestsTurn, Takes};
+ghost use Rattle.bc_parse.specs.Partial.{around, joined, joined_so_far, body_of_command, assignment_to, variables_of};
 
 use crate::blocks::{Parts, body_from};
 use crate::commands::{switch_of, test_of, tested_of};
 use crate::cursor::Rest;
 use crate::expressions::{Levelled, exp_count};
 use crate::fault::ReadFault;
+use crate::levels::{CHOICE, PRIMARY};
 use crate::names::name_count;
 use crate::read::{Limits, Read, ReadResult, Step};
 use crate::{boxes, cursor};
@@ -69,11 +71,16 @@ pub fn table_of<'s, 't>(
 ) -> ReadResult<'s, 't, Levelled<'s>>
     requires room { 0 < room.nest }
     requires found { Nests found (room.nest - 1) }
-    ensures read { MadeOperand (list_view exps_view) found.entry result (λ ks. Ok (piece (tree.Table ks.tree) (ks.height + 1) ks.rest)) 12 }
+    ensures read { MadeOperand (list_view exps_view) found.entry result (around tree.Table) 12 }
     ensures low { Nests result room.nest }
 {
     let found = found?;
-    Ok(operand(Exp::Table(found.tree), 12, found.height + 1, found.rest))
+    Ok(operand(
+        Exp::Table(found.tree),
+        PRIMARY,
+        found.height + 1,
+        found.rest,
+    ))
 }
 
 /// A VALOF.
@@ -83,11 +90,16 @@ pub fn valof_of<'s, 't>(
 ) -> ReadResult<'s, 't, Levelled<'s>>
     requires room { 0 < room.nest }
     requires found { Nests found (room.nest - 1) }
-    ensures read { MadeOperand block_view found.entry result (λ b. Ok (piece (tree.Valof b.tree) (b.height + 1) b.rest)) 12 }
+    ensures read { MadeOperand block_view found.entry result (around tree.Valof) 12 }
     ensures low { Nests result room.nest }
 {
     let found = found?;
-    Ok(operand(Exp::Valof(found.tree), 12, found.height + 1, found.rest))
+    Ok(operand(
+        Exp::Valof(found.tree),
+        PRIMARY,
+        found.height + 1,
+        found.rest,
+    ))
 }
 
 /// A monadic operator and its operand.
@@ -98,7 +110,7 @@ pub fn monadic_of<'s, 't>(
 ) -> ReadResult<'s, 't, Levelled<'s>>
     requires room { 0 < room.nest }
     requires found { Nests found (room.nest - 1) }
-    ensures read { MadeOperand (box_view exp_view) found.entry result (λ e. Ok (piece (tree.Monadic op e.tree) (e.height + 1) e.rest)) (own_level op) }
+    ensures read { MadeOperand (box_view exp_view) found.entry result (around (tree.Monadic op)) (own_level op) }
     ensures low { Nests result room.nest }
 {
     let found = found?;
@@ -117,7 +129,7 @@ pub fn bracket_of<'s, 't>(
 {
     let found = found?;
     let found = boxes::followed_by(Symbol::CloseBracket, found)?;
-    Ok(operand(found.tree, 12, found.height, found.rest))
+    Ok(operand(found.tree, PRIMARY, found.height, found.rest))
 }
 
 /// A dyadic operator and its operands. `height` is how deep the left one nests.
@@ -130,8 +142,8 @@ pub fn dyadic_of<'s, 't>(
 ) -> ReadResult<'s, 't, Levelled<'s>>
     requires room { height < room.nest }
     requires right { Nests right (room.nest - 1) }
-    ensures read { MadeOperand (box_view exp_view) right.entry result (λ r. Ok
-        (piece (tree.Dyadic op (exp_view left.entry.value) r.tree) (max height r.height + 1) r.rest)) (level_of op) }
+    ensures read { MadeOperand (box_view exp_view) right.entry result
+        (joined height (tree.Dyadic op (exp_view left.entry.value))) (level_of op) }
     ensures low { Nests result room.nest }
 {
     let right = right?;
@@ -153,13 +165,13 @@ pub fn call_from<'s, 't>(
 ) -> ReadResult<'s, 't, Levelled<'s>>
     requires room { height < room.nest }
     requires found { Nests found (room.nest - 1) }
-    ensures read { MadeOperand (list_view exps_view) found.entry result (λ es. Ok
-        (piece (tree.Call (exp_view routine.entry.value) es.tree) (max height es.height + 1) es.rest)) 12 }
+    ensures read { MadeOperand (list_view exps_view) found.entry result
+        (joined height (tree.Call (exp_view routine.entry.value))) 12 }
     ensures low { Nests result room.nest }
 {
     let found = found?;
     let exp = Exp::Call(routine, found.tree);
-    Ok(operand(exp, 12, height.max(found.height) + 1, found.rest))
+    Ok(operand(exp, PRIMARY, height.max(found.height) + 1, found.rest))
 }
 
 /// A choice. `height` is how deep the test and the first value nest.
@@ -172,14 +184,14 @@ pub fn condition_of<'s, 't>(
 ) -> ReadResult<'s, 't, Levelled<'s>>
     requires room { height < room.nest }
     requires that { Nests that (room.nest - 1) }
-    ensures read { MadeOperand (box_view exp_view) that.entry result (λ y. Ok
-        (piece (tree.Condition (exp_view test.entry.value) (exp_view this.entry.value) y.tree) (max height y.height + 1) y.rest)) 1 }
+    ensures read { MadeOperand (box_view exp_view) that.entry result
+        (joined height (tree.Condition (exp_view test.entry.value) (exp_view this.entry.value))) 1 }
     ensures low { Nests result room.nest }
 {
     let found = that?;
     let that = found.tree;
     let exp = Exp::Condition { test, this, that };
-    Ok(operand(exp, 1, height.max(found.height) + 1, found.rest))
+    Ok(operand(exp, CHOICE, height.max(found.height) + 1, found.rest))
 }
 
 /// A longer operand, which may be continued.
@@ -220,44 +232,60 @@ pub fn exps_more<'s, 't>(
     })
 }
 
-/// A command with REPEATWHILE and its test.
-pub fn while_of<'s, 't>(
+/// A command with REPEAT. `height` is how deep the command nests.
+pub fn repeated<'s, 't>(
     room: Limits,
-    whole: Read<'s, 't, Box<Command<'s>>>,
+    height: usize,
+    body: Box<Command<'s>>,
+    rest: Rest<'s, 't>,
+) -> Result<Step<'s, 't, Command<'s>>, ReadFault>
+    requires { height < room.nest }
+    ensures read { Takes command_view result (Ok (piece (tree.Repeat (command_view body.entry.value)) (height + 1) (seen rest.entry), false)) }
+    ensures low { NestsTurn result room.nest }
+{
+    Ok(Step::More(Read {
+        tree: Command::Repeat(body),
+        height: height + 1,
+        rest,
+    }))
+}
+
+/// A command with REPEATWHILE and its test. `height` is how deep the command nests.
+pub fn repeated_while<'s, 't>(
+    room: Limits,
+    height: usize,
+    body: Box<Command<'s>>,
     test: ReadResult<'s, 't, Exp<'s>>,
-) -> Result<Step<'s, 't, Box<Command<'s>>>, ReadFault>
-    requires room { whole.height < room.nest }
+) -> Result<Step<'s, 't, Command<'s>>, ReadFault>
+    requires room { height < room.nest }
     requires test { Nests test (room.nest - 1) }
-    ensures read { MadeTurn exp_view test.entry (box_view command_view) result (λ e. Ok
-        (piece (tree.RepeatWhile (command_view whole.entry.tree.value) e.tree) (max whole.entry.height e.height + 1) e.rest, false)) }
+    ensures read { MadeTurn exp_view test.entry command_view result (joined_so_far height (tree.RepeatWhile (command_view body.entry.value))) }
     ensures low { NestsTurn result room.nest }
 {
     let test = test?;
-    let tree = boxes::command(room.alloc, Command::RepeatWhile(whole.tree, test.tree))?;
     Ok(Step::More(Read {
-        tree,
-        height: whole.height.max(test.height) + 1,
+        tree: Command::RepeatWhile(body, test.tree),
+        height: height.max(test.height) + 1,
         rest: test.rest,
     }))
 }
 
-/// A command with REPEATUNTIL and its test.
-pub fn until_of<'s, 't>(
+/// A command with REPEATUNTIL and its test. `height` is how deep the command nests.
+pub fn repeated_until<'s, 't>(
     room: Limits,
-    whole: Read<'s, 't, Box<Command<'s>>>,
+    height: usize,
+    body: Box<Command<'s>>,
     test: ReadResult<'s, 't, Exp<'s>>,
-) -> Result<Step<'s, 't, Box<Command<'s>>>, ReadFault>
-    requires room { whole.height < room.nest }
+) -> Result<Step<'s, 't, Command<'s>>, ReadFault>
+    requires room { height < room.nest }
     requires test { Nests test (room.nest - 1) }
-    ensures read { MadeTurn exp_view test.entry (box_view command_view) result (λ e. Ok
-        (piece (tree.RepeatUntil (command_view whole.entry.tree.value) e.tree) (max whole.entry.height e.height + 1) e.rest, false)) }
+    ensures read { MadeTurn exp_view test.entry command_view result (joined_so_far height (tree.RepeatUntil (command_view body.entry.value))) }
     ensures low { NestsTurn result room.nest }
 {
     let test = test?;
-    let tree = boxes::command(room.alloc, Command::RepeatUntil(whole.tree, test.tree))?;
     Ok(Step::More(Read {
-        tree,
-        height: whole.height.max(test.height) + 1,
+        tree: Command::RepeatUntil(body, test.tree),
+        height: height.max(test.height) + 1,
         rest: test.rest,
     }))
 }
@@ -271,10 +299,8 @@ pub fn assignment<'s, 't>(
 ) -> ReadResult<'s, 't, Command<'s>>
     requires room { targets.height < room.nest }
     requires values { Nests values (room.nest - 1) }
-    ensures read { Made (list_view exps_view) values.entry command_view result (λ es.
-        if count es.tree == count (exps_view targets.entry.tree.items)
-        then Ok (piece (tree.Assign (exps_view targets.entry.tree.items) es.tree) (max targets.entry.height es.height + 1) es.rest)
-        else Err (Expected (length es.rest))) }
+    ensures read { Made (list_view exps_view) values.entry command_view result
+        (assignment_to (exps_view targets.entry.tree.items) targets.entry.height) }
     ensures low { Nests result room.nest }
 {
     let values = values?;
@@ -295,7 +321,7 @@ pub fn compound<'s, 't>(
 ) -> ReadResult<'s, 't, Command<'s>>
     requires room { 0 < room.nest }
     requires inner { Nests inner (room.nest - 1) }
-    ensures read { Made block_view inner.entry command_view result (λ b. Ok (piece (tree.Compound b.tree) (b.height + 1) b.rest)) }
+    ensures read { Made block_view inner.entry command_view result (around tree.Compound) }
     ensures low { Nests result room.nest }
 {
     let inner = inner?;
@@ -313,7 +339,7 @@ pub fn result_of<'s, 't>(
 ) -> ReadResult<'s, 't, Command<'s>>
     requires room { 0 < room.nest }
     requires value { Nests value (room.nest - 1) }
-    ensures read { Made exp_view value.entry command_view result (λ e. Ok (piece (tree.ResultIs e.tree) (e.height + 1) e.rest)) }
+    ensures read { Made exp_view value.entry command_view result (around tree.ResultIs) }
     ensures low { Nests result room.nest }
 {
     let value = value?;
@@ -333,8 +359,8 @@ pub fn tested<'s, 't>(
 ) -> ReadResult<'s, 't, Command<'s>>
     requires room { test.height < room.nest }
     requires found { Nests found (room.nest - 1) }
-    ensures read { Made block_view found.entry command_view result (λ b. Ok
-        (piece (tested_command word (exp_view test.entry.tree.value) b.tree) (max test.entry.height b.height + 1) b.rest)) }
+    ensures read { Made block_view found.entry command_view result
+        (joined test.entry.height (tested_command word (exp_view test.entry.tree.value))) }
     ensures low { Nests result room.nest }
 {
     let found = found?;
@@ -355,9 +381,8 @@ pub fn test<'s, 't>(
     requires room { test.height < room.nest }
     requires this { this.height < room.nest }
     requires that { Nests that (room.nest - 1) }
-    ensures read { Made block_view that.entry command_view result (λ d. Ok (piece
-        (tree.Test (exp_view test.entry.tree.value) (block_view this.entry.tree) d.tree)
-        (max (max test.entry.height this.entry.height) d.height + 1) d.rest)) }
+    ensures read { Made block_view that.entry command_view result
+        (joined (max test.entry.height this.entry.height) (tree.Test (exp_view test.entry.tree.value) (block_view this.entry.tree))) }
     ensures low { Nests result room.nest }
 {
     let that = that?;
@@ -376,8 +401,8 @@ pub fn switch<'s, 't>(
 ) -> ReadResult<'s, 't, Command<'s>>
     requires room { value.height < room.nest }
     requires found { Nests found (room.nest - 1) }
-    ensures read { Made parts_view found.entry command_view result (λ p. Ok
-        (piece (tree.SwitchOn (exp_view value.entry.tree.value) p.tree.1) (max value.entry.height p.height + 1) p.rest)) }
+    ensures read { Made parts_view found.entry command_view result
+        (joined value.entry.height (λ p. tree.SwitchOn (exp_view value.entry.tree.value) p.1)) }
     ensures low { Nests result room.nest }
 {
     let found = found?;
@@ -419,8 +444,7 @@ pub fn body_of<'s, 't>(
     whole: ReadResult<'s, 't, Command<'s>>,
 ) -> ReadResult<'s, 't, Block<'s>>
     requires { Nests whole room.nest }
-    ensures read { Made command_view whole.entry block_view result (λ c. Ok
-        (piece (as_body c.tree c.height).0 (as_body c.tree c.height).1 c.rest)) }
+    ensures read { Made command_view whole.entry block_view result body_of_command }
     ensures low { Nests result room.nest }
 {
     body_from(room.alloc, whole?)
@@ -601,7 +625,7 @@ pub fn vector<'s, 't>(
 ) -> ReadResult<'s, 't, Definition<'s>>
     requires room { 0 < room.nest }
     requires size { Nests size (room.nest - 1) }
-    ensures read { Made exp_view size.entry definition_view result (λ k. Ok (piece (tree.Vector name.entry.now k.tree) (k.height + 1) k.rest)) }
+    ensures read { Made exp_view size.entry definition_view result (around (tree.Vector name.entry.now)) }
     ensures low { Nests result room.nest }
 {
     let size = size?;
@@ -620,10 +644,8 @@ pub fn variables<'s, 't>(
 ) -> ReadResult<'s, 't, Definition<'s>>
     requires room { 0 < room.nest }
     requires values { Nests values (room.nest - 1) }
-    ensures read { Made (list_view exps_view) values.entry definition_view result (λ es.
-        if count es.tree == length (names_view found.entry.items)
-        then Ok (piece (tree.Variables (names_view found.entry.items) es.tree) (es.height + 1) es.rest)
-        else Err (Expected (length es.rest))) }
+    ensures read { Made (list_view exps_view) values.entry definition_view result
+        (variables_of (names_view found.entry.items)) }
     ensures low { Nests result room.nest }
 {
     let values = values?;
@@ -646,8 +668,8 @@ pub fn function<'s, 't>(
 ) -> ReadResult<'s, 't, Definition<'s>>
     requires room { 0 < room.nest }
     requires value { Nests value (room.nest - 1) }
-    ensures read { Made exp_view value.entry definition_view result (λ e. Ok
-        (piece (tree.Function name.entry.now (names_view found.entry.items) e.tree) (e.height + 1) e.rest)) }
+    ensures read { Made exp_view value.entry definition_view result
+        (around (tree.Function name.entry.now (names_view found.entry.items))) }
     ensures low { Nests result room.nest }
 {
     let value = value?;
@@ -667,8 +689,8 @@ pub fn routine<'s, 't>(
 ) -> ReadResult<'s, 't, Definition<'s>>
     requires room { 0 < room.nest }
     requires body { Nests body (room.nest - 1) }
-    ensures read { Made block_view body.entry definition_view result (λ b. Ok
-        (piece (tree.Routine name.entry.now (names_view found.entry.items) b.tree) (b.height + 1) b.rest)) }
+    ensures read { Made block_view body.entry definition_view result
+        (around (tree.Routine name.entry.now (names_view found.entry.items))) }
     ensures low { Nests result room.nest }
 {
     let body = body?;

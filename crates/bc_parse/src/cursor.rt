@@ -8,6 +8,7 @@ ghost use Rattle.bc_parse.specs.SeenFollow.{follow_view, label_at_view, shape_vi
 ghost use Rattle.bc_parse_defs.specs.Reading.{after_of, expect_of, separator_of, name_in, name_of, leaf_of, word_in, start_of, command_word_of, simple_word_of, repeat_word_of, declaration_word_of, following, operator_of, label_start, shape_of, past_do, past_line, end_of, is_place_end, constant_sign_of};
 
 use crate::fault::ReadFault;
+use crate::levels::{CHOICE, CONSTANT, PRIMARY};
 use bc_lex_tokens::Symbol;
 use bc_parse_defs::words;
 use bc_parse_defs::words::{CommandWord, DeclarationWord, Places, RepeatWord, SimpleWord, Start};
@@ -160,14 +161,14 @@ pub fn following_at<'s, 't>(level: usize, top: usize, rest: Rest<'s, 't>) -> Fol
 {
     match first(rest) {
         Some((Part::Symbol(Symbol::OpenBracket), remaining)) => {
-            if top < 12 {
+            if top < PRIMARY {
                 FollowingPart::Ends
             } else {
                 FollowingPart::Arguments(remaining)
             }
         }
         Some((Part::Symbol(Symbol::Arrow), remaining)) => {
-            if 1 < level || top < 2 {
+            if CHOICE < level || top < CONSTANT {
                 FollowingPart::Ends
             } else {
                 FollowingPart::Choice(remaining)

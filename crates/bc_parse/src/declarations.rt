@@ -1,21 +1,21 @@
 //! The readers of declarations and definitions.
-ghost use Rattle.std.specs.Prelude.{◌+◌, ◌-◌, ◌<◌, ◌≤◌, ◌==◌, ℕ, Ok, Err, IfOk};
-ghost use Rattle.bc_lex_tokens.specs.declared.symbol.Symbol.TheVariants as sign;
-ghost use Rattle.bc_parse_tree.specs.Tree as tree;
+ghost use Rattle.std.specs.Prelude.{◌+◌, ◌<◌, ◌≤◌, ℕ, Ok, IfOk};
 ghost use Rattle.bc_parse_defs.specs.declared.words.Places.TheVariants as places_mode;
 ghost use Rattle.bc_parse_tree.specs.View.{declaration_view, definition_view, definitions_view, entries_view};
-ghost use Rattle.bc_parse_defs.specs.Reading.{piece, moved, place_end, expect_of, body_read, exp_of, command_of};
+ghost use Rattle.bc_parse_defs.specs.Reading.{moved, place_end, exp_of, command_of};
 ghost use Rattle.bc_parse_defs.specs.Reading.{definition_of, entry_read, entry_turn, entries_read};
-ghost use Rattle.bc_parse_defs.specs.Reading.{definitions_read, declaration_read, variables_read, vector_read};
+ghost use Rattle.bc_parse_defs.specs.Reading.{definitions_read, declaration_read, variables_read};
 ghost use Rattle.bc_parse_defs.specs.Reading.{routine_read, defined_read};
 ghost use Rattle.bc_parse_defs.specs.declared.words.DeclarationWord.TheVariants as declaration_word;
 ghost use Rattle.bc_parse.specs.Names.{names_view};
+ghost use Rattle.bc_parse.specs.Partial.{be_rest};
 ghost use Rattle.bc_parse.specs.Seen.{◌~>◌, seen, read_view, list_view, Reads, Takes, turn_height};
 
 use crate::blocks::{ElementEnd, body, place_end_at};
 use crate::cursor::{DefinitionShape, Rest};
 use crate::expressions::{exp, exps};
 use crate::fault::ReadFault;
+use crate::levels::{CHOICE, CONSTANT};
 use crate::names::{name_count, names, parameters};
 use crate::read::{Limits, Read, ReadResult, Step};
 use crate::{boxes, construction, cursor};
@@ -130,7 +130,7 @@ fn entry<'s, 't>(
 {
     let (name, rest) = cursor::name(list.rest)?;
     let rest = cursor::constant_sign(rest)?;
-    construction::constant(room, name, exp(room, 2, rest), list)
+    construction::constant(room, name, exp(room, CONSTANT, rest), list)
 }
 
 /// The definitions of a LET, separated by AND.
@@ -184,7 +184,7 @@ fn defined<'s, 't>(room: Limits, rest: Rest<'s, 't>) -> ReadResult<'s, 't, Defin
     let (name, remaining) = cursor::name(rest)?;
     match cursor::shape_at(remaining) {
         DefinitionShape::Parameters(then) => routine(room, name, remaining.parts.len(), then),
-        DefinitionShape::Size(then) => construction::vector(room, name, exp(inner, 2, then)),
+        DefinitionShape::Size(then) => construction::vector(room, name, exp(inner, CONSTANT, then)),
         DefinitionShape::Values => variables(room, rest),
     }
 }
@@ -205,7 +205,7 @@ fn variables<'s, 't>(room: Limits, rest: Rest<'s, 't>) -> ReadResult<'s, 't, Def
     let found = names(room.alloc, rest)?;
     let rest = cursor::expect(Symbol::Equal, found.rest)?;
     let limit = name_count(&found.tree);
-    construction::variables(room, found.tree, exps(inner, 1, limit, rest))
+    construction::variables(room, found.tree, exps(inner, CHOICE, limit, rest))
 }
 
 /// A function or a routine, after its `(`, whose place is `place`.
@@ -232,7 +232,7 @@ fn routine<'s, 't>(
     };
     let found = parameters(room.alloc, rest)?;
     match cursor::after(Symbol::Equal, found.rest) {
-        Some(then) => construction::function(room, name, found.tree, exp(inner, 1, then)),
+        Some(then) => construction::function(room, name, found.tree, exp(inner, CHOICE, then)),
         None => procedure(room, name, found.tree, found.rest),
     }
 }
@@ -247,9 +247,8 @@ fn procedure<'s, 't>(
 ) -> ReadResult<'s, 't, Definition<'s>>
     requires { 0 < room.nest }
     ensures read { (n : ℕ) → room.nest + room.round ≤ n + 1 →
-        Reads definition_view result (expect_of sign.Be (seen rest.entry) ~> λ remaining.
-        body_read (exp_of n) (command_of n) (definition_of n) (room.nest - 1) room.round remaining ~> λ b.
-        Ok (piece (tree.Routine name.entry.now (names_view found.entry.items) b.tree) (b.height + 1) b.rest)) }
+        Reads definition_view result (be_rest (exp_of n) (command_of n) (definition_of n) room.nest room.round
+        name.entry.now (names_view found.entry.items) (seen rest.entry)) }
     ensures low { IfOk result (λ x. x.height ≤ room.nest) }
 {
     let inner = Limits {

@@ -5,17 +5,17 @@ use thiserror::Error;
 #[derive(Clone, Copy, Debug, PartialEq, Eq, Error)]
 pub enum ParseError {
     /// This token can't continue what is being read.
-    #[error("another token is wanted at token {0}")]
+    #[error("unexpected token {0}")]
     Expected(usize),
     /// A section bracket is still open at the end.
     #[error("a section is not closed")]
     Unclosed,
     /// This `$)` closes no section.
-    #[error("no such section is open at token {0}")]
+    #[error("token {0} closes no open section")]
     NotOpen(usize),
     /// Here definitions, commands and expressions would nest more than 200 deep, or more than 400 parentheses would
     /// be open at once.
-    #[error("too deep at token {0}")]
+    #[error("nested too deep at token {0}")]
     TooDeep(usize),
     /// An allocation failed.
     #[error("out of memory")]

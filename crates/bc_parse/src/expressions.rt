@@ -1,19 +1,20 @@
 //! The readers of expressions.
-ghost use Rattle.std.specs.Prelude.{◌≡◌, ◌+◌, ◌-◌, ◌<◌, ◌≤◌, ℕ, length, max, Ok, IfOk};
-ghost use Rattle.bc_lex_tokens.specs.declared.symbol.Symbol.TheVariants as sign;
+ghost use Rattle.std.specs.Prelude.{◌≡◌, ◌+◌, ◌<◌, ◌≤◌, ℕ, length, IfOk};
 ghost use Rattle.bc_parse_tree.specs.Spelling.{count};
 ghost use Rattle.bc_parse_tree.specs.Tree as tree;
 ghost use Rattle.bc_parse_tree.specs.View.{exp_view, exps_view};
-ghost use Rattle.bc_parse_defs.specs.Reading.{piece, exp_of, command_of, definition_of, exps_read};
+ghost use Rattle.bc_parse_defs.specs.Reading.{exp_of, command_of, definition_of, exps_read};
 ghost use Rattle.bc_parse_defs.specs.Reading.{arguments_read, suffix_read, grow_turn, grow_read, started_read};
-ghost use Rattle.bc_parse_defs.specs.Reading.{operand_read, expect_of, Operator, Arguments, Choice};
+ghost use Rattle.bc_parse_defs.specs.Reading.{operand_read, Operator, Arguments, Choice};
 ghost use Rattle.bc_parse_defs.specs.declared.words.Start.TheVariants as start;
-ghost use Rattle.bc_parse.specs.Seen.{◌~>◌, seen, read_view, list_view, box_view, levelled_view, Reads, Takes};
+ghost use Rattle.bc_parse.specs.Seen.{seen, read_view, list_view, box_view, levelled_view, Reads, Takes};
 ghost use Rattle.bc_parse.specs.Seen.{turn_height};
+ghost use Rattle.bc_parse.specs.Partial.{choice_rest};
 
 use crate::blocks::body;
 use crate::cursor::{FollowingPart, Rest};
 use crate::fault::ReadFault;
+use crate::levels::{CHOICE, CONSTANT, PRIMARY};
 use crate::read::{Limits, Read, ReadResult, Step};
 use crate::{boxes, construction, cursor};
 use bc_lex_tokens::Symbol;
@@ -67,7 +68,10 @@ fn operand<'s, 't>(room: Limits, rest: Rest<'s, 't>) -> ReadResult<'s, 't, Level
     ensures low { IfOk result (λ x. x.height ≤ room.nest) }
 {
     if let Some((exp, rest)) = cursor::leaf(rest) {
-        let tree = Levelled { exp, level: 12 };
+        let tree = Levelled {
+            exp,
+            level: PRIMARY,
+        };
         return Ok(Read {
             tree,
             height: 1,
@@ -100,7 +104,10 @@ fn operand_rest<'s, 't>(
     };
     match word {
         Start::Bracket => bracket(room, place, rest),
-        Start::Table => construction::table_of(room, exps(inner, 2, rest.parts.len() + 1, rest)),
+        Start::Table => construction::table_of(
+            room,
+            exps(inner, CONSTANT, rest.parts.len() + 1, rest),
+        ),
         Start::Valof => construction::valof_of(room, body(inner, rest)),
         Start::Monadic(op) => {
             construction::monadic_of(room, op, boxed_exp(inner, words::level_after(op), rest))
@@ -127,7 +134,7 @@ fn bracket<'s, 't>(
         round: room.round - 1,
         ..room
     };
-    construction::bracket_of(room, exp(inner, 1, rest))
+    construction::bracket_of(room, exp(inner, CHOICE, rest))
 }
 
 /// An expression from its first operand on: the operators, calls and choices that follow. `begin` is the place where
@@ -266,7 +273,7 @@ fn chosen<'s, 't>(
     };
     let height = left.height;
     let test = boxes::exp(room.alloc, left.tree.exp)?;
-    let this = boxed_exp(inner, 1, rest)?;
+    let this = boxed_exp(inner, CHOICE, rest)?;
     choice_rest(room, height.max(this.height), test, this)
 }
 
@@ -280,10 +287,8 @@ fn choice_rest<'s, 't>(
 ) -> ReadResult<'s, 't, Levelled<'s>>
     requires { height < room.nest }
     ensures read { (n : ℕ) → room.nest + room.round ≤ n + 1 →
-        Reads levelled_view result ((expect_of sign.Comma (seen this.entry.rest) ~> λ remaining.
-        exp_of n (room.nest - 1) room.round 1 remaining ~> λ y.
-        Ok (piece (tree.Condition (exp_view test.entry.value) (exp_view this.entry.tree.value) y.tree) (max height y.height + 1) y.rest)) ~> λ p.
-        Ok (piece (p.tree, 1) p.height p.rest)) }
+        Reads levelled_view result (choice_rest (exp_of n) room.nest room.round height
+        (exp_view test.entry.value) (exp_view this.entry.tree.value) (seen this.entry.rest)) }
     ensures low { IfOk result (λ x. x.height ≤ room.nest) }
 {
     let inner = Limits {
@@ -291,7 +296,13 @@ fn choice_rest<'s, 't>(
         ..room
     };
     let rest = cursor::expect(Symbol::Comma, this.rest)?;
-    construction::condition_of(room, height, test, this.tree, boxed_exp(inner, 1, rest))
+    construction::condition_of(
+        room,
+        height,
+        test,
+        this.tree,
+        boxed_exp(inner, CHOICE, rest),
+    )
 }
 
 /// The arguments of a call, after `(`. The `)` is read too.
@@ -310,7 +321,7 @@ fn arguments<'s, 't>(room: Limits, rest: Rest<'s, 't>) -> ReadResult<'s, 't, Vec
             rest,
         });
     }
-    let found = exps(room, 1, rest.parts.len() + 1, rest)?;
+    let found = exps(room, CHOICE, rest.parts.len() + 1, rest)?;
     let rest = cursor::expect(Symbol::CloseBracket, found.rest)?;
     Ok(Read { rest, ..found })
 }

@@ -11,6 +11,7 @@ mod declarations;
 mod error;
 mod expressions;
 mod fault;
+mod levels;
 mod names;
 mod read;
 mod section;

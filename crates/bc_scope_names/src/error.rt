@@ -15,23 +15,23 @@ pub enum ScopeError<'s> {
     #[error("a name belongs to an enclosing routine")]
     DynamicFree(&'s [u8]),
     /// An expression isn't constant where a constant is required.
-    #[error("a constant is wanted")]
+    #[error("an expression is not constant")]
     NotConstant,
     /// The number of this global is over 511.
-    #[error("the number of a global is over 511")]
+    #[error("a global number is greater than 511")]
     GlobalNumber(&'s [u8]),
     /// An expression without a cell is assigned to, or its address is taken. Only a variable, a static, a global, `!E` and
     /// `E1!E2` have a cell.
-    #[error("an expression has no cell")]
+    #[error("an expression cannot be assigned to")]
     NotAssignable,
     /// A command, a label or a declaration of variables isn't allowed where it occurs.
-    #[error("a command, a label or a variable may not stand here")]
+    #[error("a command, label or variable is not allowed here")]
     Misplaced,
     /// A frame has more than 32,768 cells.
     #[error("a frame has more than 32,768 cells")]
     FrameTooLarge,
     /// Two cases of one SWITCHON have the same value, or it has two DEFAULTs.
-    #[error("a case stands twice")]
+    #[error("a case constant is repeated")]
     CaseTwice,
     /// The section has more than 8,000 routines, statics, tables and strings together.
     #[error("more than 8,000 routines, statics, tables and strings")]

@@ -9,16 +9,16 @@ use thiserror::Error;
 #[derive(Clone, Copy, Debug, PartialEq, Eq, Hash, Error)]
 pub enum TextError {
     /// No item begins with the byte at this position.
-    #[error("a byte that begins no item, at {0}")]
+    #[error("the byte at offset {0} begins no item")]
     BadCharacter(u64),
     /// The byte at this position should be a digit, or a number that is out of range begins there.
-    #[error("a bad number, at {0}")]
+    #[error("bad number at offset {0}")]
     BadNumber(u64),
     /// The byte at this position should be the `L` of a global.
-    #[error("a global without its label, at {0}")]
+    #[error("global without a label at offset {0}")]
     MissingLabel(u64),
     /// The text ends within an item, or with items after the last `Z`.
-    #[error("the text ends before its last segment does")]
+    #[error("the text ends within a segment")]
     Unended,
     /// The writer failed.
     #[error("the text could not be written")]
@@ -27,7 +27,7 @@ pub enum TextError {
     #[error("out of memory")]
     Memory,
     /// The reader has returned an error before.
-    #[error("the reader has failed")]
+    #[error("the reader failed")]
     Failed,
 }
 

@@ -1,11 +1,11 @@
 //! The command `check`.
 
 use crate::output::of_output;
-use crate::texts::{all_contents, explained, readable, segments_of, texts_of};
+use crate::texts::{explained, read_texts, readable, segments_of, texts_of};
 use bc_cert::{CheckFault, Judged, Mismatch, Verdict, check, check_against, check_sums};
 use bc_text_items::Segment;
 use bc_word::Memory;
-use bcpl_cli::{Cause, CheckOrder, Failure};
+use bcpl_cli::{Cause, CheckOrder, Failure, shown_path};
 use bcpl_reports::{Text, against_lines, check_lines};
 use std::alloc::Global;
 use std::io::{BufReader, Read, Write};
@@ -22,8 +22,9 @@ fn lines_on<F: Files>(
 ) -> Result<String, Memory> {
     match readable(rt, alloc, path) {
         Some(bytes) => {
+            let shown = shown_path(alloc, path)?;
             let text = Text {
-                path,
+                path: shown.as_str(),
                 bytes: bytes.as_slice(),
             };
             check_lines(alloc, text, fault)
@@ -32,8 +33,21 @@ fn lines_on<F: Files>(
     }
 }
 
-/// The failure of a certificate that can't be read to its end. Its reason is the error of reading the first byte or,
-/// if there is none, that reading failed later or the file is too large.
+/// The explanation if a certificate can be opened but not read to its end.
+const NOT_READ: &str =
+    "reading failed before the end of the file, or the file is larger than 1073741824 bytes";
+
+/// The refusal of a certificate that can be opened but not read to its end.
+fn not_read(alloc: Global, path: &str) -> Failure {
+    let shown = Failure::file_since(alloc, path, NOT_READ);
+    Failure {
+        cause: Cause::Check(CheckFault::Read),
+        explanation: shown.explanation,
+    }
+}
+
+/// The failure of a certificate that can't be read to its end: that of the file if not even its first byte can be
+/// read, and otherwise a refusal.
 fn unread<F: Files>(rt: &F, alloc: Global, path: &str) -> Failure {
     let mut first = [0u8; 1];
     let read = match fs::open(rt, path) {
@@ -41,23 +55,25 @@ fn unread<F: Files>(rt: &F, alloc: Global, path: &str) -> Failure {
         Err(error) => Err(error),
     };
     match read {
-        Ok(_) => Failure::file_since(
-            alloc,
-            path,
-            "reading failed before the end of the file, or the file is larger than 1073741824 bytes",
-        ),
+        Ok(_) => not_read(alloc, path),
         Err(error) => Failure::io(alloc, &error, path),
     }
 }
 
-/// The failure for a fault in the certificate with this path, with an explanation if `shows`.
-fn refused<F: Files>(rt: &F, alloc: Global, path: &str, fault: CheckFault, shows: bool) -> Failure {
+/// The failure for a fault in the certificate with this path, with an explanation if `explains`.
+fn refused<F: Files>(
+    rt: &F,
+    alloc: Global,
+    path: &str,
+    fault: CheckFault,
+    explains: bool,
+) -> Failure {
     match fault {
         CheckFault::Read => unread(rt, alloc, path),
         fault => {
             let failure = Failure::new(Cause::Check(fault));
-            if shows {
-                explained(failure, lines_on(rt, alloc, path, fault))
+            if explains {
+                explained(alloc, failure, lines_on(rt, alloc, path, fault))
             } else {
                 failure
             }
@@ -77,16 +93,16 @@ fn opened<F: Files>(rt: &F, alloc: Global, path: &str) -> Result<BufReader<F::Fi
     }
 }
 
-/// Checks the certificate with this path and returns what it says. If `shows`, explains a refusal.
+/// Checks the certificate with this path and returns what it says. If `explains`, explains a refusal.
 pub fn verdict_of<F: Files>(
     rt: &F,
     alloc: Global,
     path: &str,
-    shows: bool,
+    explains: bool,
 ) -> Result<Verdict, Failure> {
     match check(alloc, opened(rt, alloc, path)?) {
         Ok(verdict) => Ok(verdict),
-        Err(fault) => Err(refused(rt, alloc, path, fault, shows)),
+        Err(fault) => Err(refused(rt, alloc, path, fault, explains)),
     }
 }
 
@@ -96,11 +112,11 @@ fn sums_of<F: Files>(
     rt: &F,
     alloc: Global,
     path: &str,
-    shows: bool,
+    explains: bool,
 ) -> Result<(u64, u64), Failure> {
     match check_sums(alloc, opened(rt, alloc, path)?) {
         Ok(sums) => Ok((sums.entries, sums.words)),
-        Err(fault) => Err(refused(rt, alloc, path, fault, shows)),
+        Err(fault) => Err(refused(rt, alloc, path, fault, explains)),
     }
 }
 
@@ -118,10 +134,10 @@ fn sums_against<F: Files>(
     rt: &F,
     alloc: Global,
     order: &CheckOrder<'_>,
-    shows: bool,
+    explains: bool,
 ) -> Result<(u64, u64), Failure> {
-    let verdict = verdict_of(rt, alloc, order.certificate, shows)?;
-    match compare(rt, alloc, order, &verdict, shows) {
+    let verdict = verdict_of(rt, alloc, order.certificate, explains)?;
+    match compare(rt, alloc, order, &verdict, explains) {
         Ok(()) => Ok(sums_in(verdict.entries.as_slice())),
         Err(failure) => Err(failure),
     }
@@ -146,8 +162,9 @@ fn lines_against<F: Files>(
 ) -> Result<String, Memory> {
     match readable(rt, alloc, path) {
         Some(bytes) => {
+            let shown = shown_path(alloc, path)?;
             let certificate = Text {
-                path,
+                path: shown.as_str(),
                 bytes: bytes.as_slice(),
             };
             let with = (compared.texts, compared.segments);
@@ -157,20 +174,24 @@ fn lines_against<F: Files>(
     }
 }
 
-/// Compares a certificate with the segments. The failure for a mismatch has an explanation if `shows`.
+/// Compares a certificate with the segments. The failure for a mismatch has an explanation if `explains`.
 fn judged<F: Files>(
     rt: &F,
     alloc: Global,
     path: &str,
     compared: Compared<'_>,
-    shows: bool,
+    explains: bool,
 ) -> Result<(), Failure> {
     match check_against(compared.verdict, compared.segments) {
         Ok(()) => Ok(()),
         Err(mismatch) => {
             let failure = Failure::new(Cause::Against(mismatch));
-            Err(if shows {
-                explained(failure, lines_against(rt, alloc, path, compared, mismatch))
+            Err(if explains {
+                explained(
+                    alloc,
+                    failure,
+                    lines_against(rt, alloc, path, compared, mismatch),
+                )
             } else {
                 failure
             })
@@ -184,21 +205,21 @@ fn compare<F: Files>(
     alloc: Global,
     order: &CheckOrder<'_>,
     verdict: &Verdict,
-    shows: bool,
+    explains: bool,
 ) -> Result<(), Failure> {
-    let contents = all_contents(rt, alloc, order.texts.as_slice())?;
-    let texts = texts_of(alloc, order.texts.as_slice(), contents.as_slice())?;
-    let segments = segments_of(alloc, texts.as_slice(), shows)?;
+    let files = read_texts(rt, alloc, order.texts.as_slice())?;
+    let texts = texts_of(alloc, files.as_slice())?;
+    let segments = segments_of(alloc, texts.as_slice(), explains)?;
     let compared = Compared {
         verdict,
         texts: texts.as_slice(),
         segments: segments.as_slice(),
     };
-    judged(rt, alloc, order.certificate, compared, shows)
+    judged(rt, alloc, order.certificate, compared, explains)
 }
 
 /// Prints the result of `check`.
-fn tell<O: Write + Drop>(entries: u64, words: u64, out: &mut O) -> io::Result<()> {
+fn print_result<O: Write + Drop>(entries: u64, words: u64, out: &mut O) -> io::Result<()> {
     writeln!(out, "ok {entries} {words}")?;
     out.flush()
 }
@@ -208,24 +229,24 @@ fn sums_asked<F: Files>(
     rt: &F,
     alloc: Global,
     order: &CheckOrder<'_>,
-    shows: bool,
+    explains: bool,
 ) -> Result<(u64, u64), Failure> {
     if order.texts.is_empty() {
-        sums_of(rt, alloc, order.certificate, shows)
+        sums_of(rt, alloc, order.certificate, explains)
     } else {
-        sums_against(rt, alloc, order, shows)
+        sums_against(rt, alloc, order, explains)
     }
 }
 
-/// Runs `check`: checks a certificate and, if texts are named, whether they have its code. If `shows`, explains a
+/// Runs `check`: checks a certificate and, if texts are named, whether they have its code. If `explains`, explains a
 /// refusal.
 pub fn check_certificate<F: Files, O: Write + Drop>(
     rt: &F,
     alloc: Global,
     order: &CheckOrder<'_>,
-    shows: bool,
+    explains: bool,
     out: &mut O,
 ) -> Result<(), Failure> {
-    let (entries, words) = sums_asked(rt, alloc, order, shows)?;
-    of_output(alloc, tell(entries, words, out))
+    let (entries, words) = sums_asked(rt, alloc, order, explains)?;
+    of_output(alloc, print_result(entries, words, out))
 }

@@ -6,34 +6,43 @@ ghost use Rattle.bc_rules_defs.specs.View.{entry as entry_view};
 ghost use Rattle.bc_cert_write.specs.Workings.{WorkedOut};
 ghost use Rattle.bcpl_cli.specs.declared.failure.Cause.TheVariants as causes;
 
-use crate::diagnostics::{Program, explained, warnings_of};
-use crate::output::of_output;
-use crate::source_files::{Gathered, sources_of};
+use crate::diagnostics::{Program, explanation_of, part_warnings, warnings_of};
+use crate::output::{of_listing, of_output};
+use crate::source_files::{Gathered, lean_texts};
+use crate::standard::Console;
 use crate::unused_gets::ignored_gets;
 use bc_build::{BuildError, Built, build};
 use bc_cert::{CertFault, write_worked};
 use bc_text::{TextError, print};
 use bc_text_items::Segment;
 use bc_word::Memory;
-use bcpl_cli::{BuildOrder, Cause, Failure, Sources, Written, is_one_file};
+use bcpl_cli::{
+    AtomicFile, BuildOrder, Cause, Failure, LinkedLibrary, Sources, is_standard_output,
+    load_sources,
+};
 use std::alloc::{AllocError, Global};
 use std::io;
-use std::io::Write;
+use std::io::{BufWriter, Read, Write};
 use std::mem::forget;
 use std::rt::Files;
 
-/// The failure of a refused build. If `shows`, it explains the refusal, and those of later mains.
-pub fn refused(alloc: Global, program: &Program<'_, '_>, fault: BuildError, shows: bool) -> Failure
+/// The failure of a refused build. If `explains`, it explains the refusal, and those of later mains.
+pub fn refused(
+    alloc: Global,
+    program: &Program<'_, '_>,
+    fault: BuildError,
+    explains: bool,
+) -> Failure
     ensures { result.cause ≡ causes.Build fault }
 {
-    let told = if shows {
-        explained(alloc, program, &fault).ok()
+    let explanation = if explains {
+        explanation_of(alloc, program, &fault).ok()
     } else {
         None
     };
     Failure {
         cause: Cause::Build(fault),
-        told,
+        explanation,
     }
 }
 
@@ -45,7 +54,12 @@ pub fn warnings_on(
     segments: &[Segment],
 ) -> Result<String, Memory> {
     let mut warnings = ignored_gets(alloc, given)?;
-    let further = warnings_of(alloc, gathered.library, &gathered.program(), segments)?;
+    let program = gathered.program();
+    let further = if given.linked == LinkedLibrary::Nothing {
+        part_warnings(alloc, gathered.library, &program)?
+    } else {
+        warnings_of(alloc, gathered.library, &program, segments)?
+    };
     warnings.push_str(further.as_str())?;
     Ok(warnings)
 }
@@ -56,33 +70,33 @@ fn warnings_wanted(
     order: &BuildOrder<'_>,
     gathered: &Gathered<'_, '_>,
     segments: &[Segment],
-    shows: bool,
+    explains: bool,
 ) -> Result<String, Memory> {
-    if order.warns && shows {
+    if order.warns && explains {
         warnings_on(alloc, &order.sources, gathered, segments)
     } else {
         Ok(String::new(alloc))
     }
 }
 
-/// Builds a program and collects its warnings. If `shows`, explains refusals and collects warnings.
+/// Builds a program and collects its warnings. If `explains`, explains refusals and collects warnings.
 fn built_of(
     alloc: Global,
     order: &BuildOrder<'_>,
     gathered: &Gathered<'_, '_>,
-    shows: bool,
+    explains: bool,
 ) -> Result<(Built, String), Failure>
     ensures { IfOk result (λ found. AllZip WorkedOut (map entry_view found.0.entries.items) found.0.workings.items) }
 {
     let program = gathered.program();
     match build(alloc, program.named.sources, program.mains) {
         Ok(built) => {
-            match warnings_wanted(alloc, order, gathered, built.segments.as_slice(), shows) {
+            match warnings_wanted(alloc, order, gathered, built.segments.as_slice(), explains) {
                 Ok(warnings) => Ok((built, warnings)),
                 Err(_) => Err(Failure::new(Cause::Memory)),
             }
         }
-        Err(fault) => Err(refused(alloc, &program, fault, shows)),
+        Err(fault) => Err(refused(alloc, &program, fault, explains)),
     }
 }
 
@@ -91,14 +105,16 @@ fn built<F: Files>(
     rt: &F,
     alloc: Global,
     order: &BuildOrder<'_>,
-    shows: bool,
+    explains: bool,
 ) -> Result<(Built, String), Failure>
     ensures { IfOk result (λ found. AllZip WorkedOut (map entry_view found.0.entries.items) found.0.workings.items) }
 {
     let given = &order.sources;
-    let files = sources_of(rt, alloc, given)?;
-    let gathered = Gathered::new(alloc, given, files.as_slice())?;
-    built_of(alloc, order, &gathered, shows)
+    let files = load_sources(rt, alloc, given)?;
+    order.protect_files(rt, alloc, files.as_slice())?;
+    let lean = lean_texts(alloc, given, files.as_slice())?;
+    let gathered = Gathered::with_lean_library(alloc, given, files.as_slice(), lean.as_slice())?;
+    built_of(alloc, order, &gathered, explains)
 }
 
 /// Prints these segments as INTCODE text.
@@ -116,7 +132,7 @@ fn write_segments<F: Files>(
     path: &str,
     segments: &[Segment],
 ) -> Result<(), Failure> {
-    let mut written = Written::begin(rt, alloc, path)?;
+    let mut written = AtomicFile::begin(rt, alloc, path)?;
     match print_all(segments, written.out()) {
         Ok(()) => written.finish(rt, alloc, path),
         Err(fault) => {
@@ -130,6 +146,40 @@ fn write_segments<F: Files>(
     }
 }
 
+/// Prints these segments on standard output. If its reader closed it, that is no failure.
+fn print_segments<O: Write + Drop>(
+    alloc: Global,
+    segments: &[Segment],
+    out: &mut O,
+) -> Result<(), Failure> {
+    let mut out = match BufWriter::new(alloc, out) {
+        Ok(out) => out,
+        Err(error) => return Err(Failure::io(alloc, &error, "SYSPRINT")),
+    };
+    let printed = print_all(segments, &mut out);
+    match (printed, out.flush()) {
+        (Ok(()), flushed) => of_listing(alloc, flushed),
+        (Err(TextError::Write), Ok(())) => Err(Failure::file(alloc, "SYSPRINT")),
+        (Err(TextError::Write), flushed) => of_listing(alloc, flushed),
+        (Err(fault), _) => Err(Failure::from(fault)),
+    }
+}
+
+/// Writes these segments to the file with this path, or prints them if that is standard output.
+fn write_text<F: Files, O: Write + Drop>(
+    rt: &F,
+    alloc: Global,
+    path: &str,
+    segments: &[Segment],
+    out: &mut O,
+) -> Result<(), Failure> {
+    if is_standard_output(path) {
+        print_segments(alloc, segments, out)
+    } else {
+        write_segments(rt, alloc, path, segments)
+    }
+}
+
 /// Writes the certificate of a program to the file with this path, which is written completely or stays as it was.
 fn write_certificate<F: Files>(
     rt: &F,
@@ -139,7 +189,7 @@ fn write_certificate<F: Files>(
 ) -> Result<(), Failure>
     requires { AllZip WorkedOut (map entry_view built.now.entries.items) built.now.workings.items }
 {
-    let mut written = Written::begin(rt, alloc, path)?;
+    let mut written = AtomicFile::begin(rt, alloc, path)?;
     let entries = built.entries.as_slice();
     match write_worked(alloc, entries, built.workings.as_slice(), written.out()) {
         Ok(()) => written.finish(rt, alloc, path),
@@ -154,105 +204,25 @@ fn write_certificate<F: Files>(
     }
 }
 
-/// Refuses an output file that is one of the sources.
-pub fn spare_given<F: Files>(
-    rt: &F,
-    alloc: Global,
-    path: &str,
-    given: &Sources<'_>,
-) -> Result<(), Failure> {
-    for binding in &given.gets {
-        spare(rt, alloc, path, binding.path)?;
-    }
-    for file in &given.files {
-        spare(rt, alloc, path, file)?;
-    }
-    Ok(())
-}
-
-/// Refuses a certificate file that is one of the sources or the output for the text.
-fn spare_for_certificate<F: Files>(
-    rt: &F,
-    alloc: Global,
-    path: &str,
-    order: &BuildOrder<'_>,
-) -> Result<(), Failure> {
-    match spare_given(rt, alloc, path, &order.sources) {
-        Ok(()) => spare_text(rt, alloc, path, order.out),
-        Err(failure) => Err(failure),
-    }
-}
-
-/// Refuses output files that would overwrite a source or each other.
-fn spare_sources<F: Files>(rt: &F, alloc: Global, order: &BuildOrder<'_>) -> Result<(), Failure> {
-    spare_given(rt, alloc, order.out, &order.sources)?;
-    match order.certificate {
-        Some(path) => spare_for_certificate(rt, alloc, path, order),
-        None => Ok(()),
-    }
-}
-
-/// Refuses a certificate file that is the output for the text.
-fn spare_text<F: Files>(rt: &F, alloc: Global, path: &str, text: &str) -> Result<(), Failure> {
-    if is_one_file(rt, path, text) {
-        Err(Failure::file_since(
-            alloc,
-            path,
-            "the text and the certificate can't be the same file",
-        ))
-    } else {
-        Ok(())
-    }
-}
-
-/// Refuses an output file that is this source.
-fn spare<F: Files>(rt: &F, alloc: Global, path: &str, source: &str) -> Result<(), Failure> {
-    if is_one_file(rt, path, source) {
-        Err(Failure::file_since(
-            alloc,
-            path,
-            "this is one of the sources, so it can't be an output too",
-        ))
-    } else {
-        Ok(())
-    }
-}
-
-/// Writes the certificate, unless its file is the one just written for the text.
-fn write_beside<F: Files>(
-    rt: &F,
-    alloc: Global,
-    order: &BuildOrder<'_>,
-    path: &str,
-    built: &Built,
-) -> Result<(), Failure>
-    requires { AllZip WorkedOut (map entry_view built.now.entries.items) built.now.workings.items }
-{
-    // The paths may be two names of a file that did not exist before.
-    match spare_text(rt, alloc, path, order.out) {
-        Ok(()) => write_certificate(rt, alloc, path, built),
-        Err(failure) => Err(failure),
-    }
-}
-
 /// Writes the text and then the certificate, if one is ordered.
-fn write_files<F: Files>(
+fn write_files<F: Files, O: Write + Drop>(
     rt: &F,
     alloc: Global,
     order: &BuildOrder<'_>,
     built: &Built,
+    out: &mut O,
 ) -> Result<(), Failure>
     requires { AllZip WorkedOut (map entry_view built.now.entries.items) built.now.workings.items }
 {
-    write_segments(rt, alloc, order.out, built.segments.as_slice())?;
+    write_text(rt, alloc, order.out, built.segments.as_slice(), out)?;
     match order.certificate {
-        Some(path) => write_beside(rt, alloc, order, path, built),
+        Some(path) => write_certificate(rt, alloc, path, built),
         None => Ok(()),
     }
 }
 
 /// Prints the result of `build`.
-fn tell<O: Write + Drop>(built: &Built, out: &mut O) -> io::Result<()> {
+fn print_result<O: Write + Drop>(built: &Built, out: &mut O) -> io::Result<()> {
     let segments = built.segments.len();
     let entries = built.entries.len();
     let stack_base = built.image.stack_base.get();
@@ -270,35 +240,48 @@ fn make_room(alloc: Global) {
     let _room: Result<Vec<u8>, AllocError> = Vec::with_capacity(alloc, ROOM);
 }
 
+/// Prints the result of `build`: on standard error, if standard output has the text.
+fn report<R: Read + Drop, O: Write + Drop, E: Write + Drop>(
+    alloc: Global,
+    order: &BuildOrder<'_>,
+    built: &Built,
+    console: &mut Console<R, O, E>,
+) -> Result<(), Failure> {
+    if is_standard_output(order.out) {
+        let _ = print_result(built, &mut console.err);
+        Ok(())
+    } else {
+        of_output(alloc, print_result(built, &mut console.out))
+    }
+}
+
 /// Writes the files of a program and prints the result.
-fn write_and_tell<F: Files, O: Write + Drop>(
+fn write_and_report<F: Files, R: Read + Drop, O: Write + Drop, E: Write + Drop>(
     rt: &F,
     alloc: Global,
     order: &BuildOrder<'_>,
     built: &Built,
-    out: &mut O,
+    console: &mut Console<R, O, E>,
 ) -> Result<(), Failure>
     requires { AllZip WorkedOut (map entry_view built.now.entries.items) built.now.workings.items }
 {
-    match write_files(rt, alloc, order, built) {
-        Ok(()) => of_output(alloc, tell(built, out)),
+    match write_files(rt, alloc, order, built, &mut console.out) {
+        Ok(()) => report(alloc, order, built, console),
         Err(failure) => Err(failure),
     }
 }
 
 /// Runs `build`: builds a program, writes its text and certificate, and prints the result. Returns the warnings. If
-/// `shows`, explains refusals and collects warnings.
-pub fn compile<F: Files, O: Write + Drop>(
+/// `console.explains`, explains refusals and collects warnings.
+pub fn compile<F: Files, R: Read + Drop, O: Write + Drop, E: Write + Drop>(
     rt: &F,
     alloc: Global,
     order: &BuildOrder<'_>,
-    shows: bool,
-    out: &mut O,
+    console: &mut Console<R, O, E>,
 ) -> Result<String, Failure> {
     make_room(alloc);
-    spare_sources(rt, alloc, order)?;
-    let (program, warnings) = built(rt, alloc, order, shows)?;
-    let done = write_and_tell(rt, alloc, order, &program, out);
+    let (program, warnings) = built(rt, alloc, order, console.explains)?;
+    let done = write_and_report(rt, alloc, order, &program, console);
     // The process is about to end, and the system frees all its memory at once.
     forget(program);
     match done {

@@ -1,14 +1,24 @@
 //! Explanations of refused sources, and warnings about accepted ones.
 
-use bc_build::{BuildError, build};
+use bc_build::{BuildError, ParseError, ScopeFault, build};
 use bc_text_items::{Item, Segment};
 use bc_word::Memory;
-use bcpl_messages::{Named, message_of, told_lines};
-use bcpl_warnings::{likely_starts, warnings};
+use bcpl_advice::{FurtherFault, advised, further_faults};
+use bcpl_cli::BuildLine;
+use bcpl_messages::{Message, Named, message_of, told_lines};
+use bcpl_reports::{Label, Severity, message_line, text_objects};
+use bcpl_warnings::{all_warnings, likely_starts, warning_lines};
 use std::alloc::Global;
 
-/// The largest number of refusals that are explained.
-const MOST: usize = 10;
+/// The largest number of refused files that are explained, unless all are.
+const MOST_FILES: usize = 10;
+
+/// The largest number of errors of a file that are explained, unless all are.
+const MOST_ERRORS: usize = 20;
+
+/// The line after that many errors.
+const MORE: &str =
+    "the first 20 errors of this file are explained; --errors all explains all of them\n";
 
 /// The global that a run calls.
 const START: u16 = 1;
@@ -19,16 +29,83 @@ pub struct Program<'a, 's> {
     pub named: Named<'a, 's>,
     /// The indexes of the mains.
     pub mains: &'a [usize],
+    /// Whether messages are JSON objects.
+    pub is_json: bool,
+    /// Whether all errors of a file are explained.
+    pub explains_all: bool,
 }
 
-/// The explanation of one refusal, or an empty text.
+impl Program<'_, '_> {
+    /// The limit on what is explained, which is `usual` unless all is.
+    fn most(&self, usual: usize) -> usize {
+        if self.explains_all { usize::MAX } else { usual }
+    }
+}
+
+/// The lines of a message on an error, whose first line is `bcpl: ` and `code`. Where it has a place, `error: ` follows
+/// the place, as `warning: ` does in warnings.
+pub fn error_lines(
+    alloc: Global,
+    program: &Program<'_, '_>,
+    code: &str,
+    message: Message,
+) -> Result<String, Memory> {
+    if program.is_json {
+        let label = Label {
+            severity: Severity::Error,
+            code,
+        };
+        return message_line(alloc, program.named, label, &message);
+    }
+    let mut message = message;
+    if message.span.is_some() {
+        let sentence = message.sentence.as_str();
+        message.sentence = format!(in alloc; "error: {sentence}")?;
+    }
+    told_lines(alloc, program.named, &message)
+}
+
+/// Adds the explanations of the further faults of a main that the parser refused.
+fn add_further(
+    text: &mut String,
+    alloc: Global,
+    program: &Program<'_, '_>,
+    fault: &BuildError,
+) -> Result<(), Memory> {
+    let BuildError::Parse(main, ParseError::Expected(at)) = fault else {
+        return Ok(());
+    };
+    let most = program.most(MOST_ERRORS).saturating_sub(1);
+    let faults = further_faults(alloc, program.named.sources, *main, *at, most)?;
+    let is_cut = faults.len() >= most;
+    for fault in faults {
+        let FurtherFault { error, message } = fault;
+        let line = BuildLine(&error);
+        let code = format!(in alloc; "{line}")?;
+        let lines = error_lines(alloc, program, code.as_str(), message)?;
+        text.push_str(lines.as_str())?;
+    }
+    if is_cut && !program.is_json {
+        text.push_str(MORE)?;
+    }
+    Ok(())
+}
+
+/// The explanation of one refusal and of further ones of the same main, or an empty text.
 fn lines_of(
     alloc: Global,
     program: &Program<'_, '_>,
     fault: &BuildError,
 ) -> Result<String, Memory> {
+    let line = BuildLine(fault);
+    let code = format!(in alloc; "{line}")?;
     match message_of(alloc, program.named.sources, program.mains, fault)? {
-        Some(message) => told_lines(alloc, program.named, &message),
+        Some(message) => {
+            let message = advised(alloc, program.named.sources, fault, message)?;
+            let mut text = error_lines(alloc, program, code.as_str(), message)?;
+            add_further(&mut text, alloc, program, fault)?;
+            Ok(text)
+        }
         None => Ok(String::new(alloc)),
     }
 }
@@ -58,7 +135,7 @@ fn lines_of_main(alloc: Global, program: &Program<'_, '_>, main: usize) -> Resul
 
 /// Adds the explanation for this main. `count` is the number of refused mains before it; returns the number with it.
 fn add_main(
-    told: &mut String,
+    text: &mut String,
     alloc: Global,
     program: &Program<'_, '_>,
     main: usize,
@@ -68,23 +145,23 @@ fn add_main(
     if lines.is_empty() {
         return Ok(count);
     }
-    if count < MOST {
-        told.push_str(lines.as_str())?;
+    if count < program.most(MOST_FILES) {
+        text.push_str(lines.as_str())?;
     }
     Ok(count.saturating_add(1))
 }
 
 /// Adds the number of refused files.
-fn add_count(told: &mut String, count: usize) -> Result<(), Memory> {
+fn add_count(text: &mut String, count: usize) -> Result<(), Memory> {
     if count > 1 {
-        writeln!(told, "{count} files are refused")?;
+        writeln!(text, "{count} files are refused")?;
     }
     Ok(())
 }
 
 /// Adds the explanations for the mains after the first refused one, and the number of refused files.
 fn add_after(
-    told: &mut String,
+    text: &mut String,
     alloc: Global,
     program: &Program<'_, '_>,
     first: usize,
@@ -92,35 +169,83 @@ fn add_after(
     let mut count: usize = 1;
     for main in program.mains {
         if *main > first {
-            count = add_main(told, alloc, program, *main, count)?;
+            count = add_main(text, alloc, program, *main, count)?;
         }
     }
-    add_count(told, count)
+    if program.is_json {
+        return Ok(());
+    }
+    add_count(text, count)
 }
 
-/// The explanation of a refusal and of refusals in later mains, ten at most in all. `Memory` if an allocation fails.
-pub fn explained(
+/// The explanation of a refusal and of refusals in later mains, ten in all unless all are ordered. `Memory` if an allocation fails.
+pub fn explanation_of(
     alloc: Global,
     program: &Program<'_, '_>,
     fault: &BuildError,
 ) -> Result<String, Memory> {
-    let mut told = lines_of(alloc, program, fault)?;
+    let mut text = lines_of(alloc, program, fault)?;
     if let Some(first) = refused_main(fault) {
-        add_after(&mut told, alloc, program, first)?;
+        add_after(&mut text, alloc, program, first)?;
     }
-    Ok(told)
+    Ok(text)
 }
 
 /// The warning if no routine sets the global that a run calls.
 const NO_START: &str =
-    "bcpl: warning: no routine sets global 1, so a run does nothing; after GET \"LIBHDR\", LET START() BE .. sets it\n";
+    "no routine sets global 1, so a run does nothing; after GET \"LIBHDR\", LET START() BE .. sets it";
+
+/// A warning that concerns no place, as text or as an object.
+pub fn plain_warning(alloc: Global, is_json: bool, sentence: &str) -> Result<String, Memory> {
+    let label = Label {
+        severity: Severity::Warning,
+        code: "",
+    };
+    if is_json {
+        text_objects(alloc, label, sentence)
+    } else {
+        Ok(format!(in alloc; "bcpl: warning: {sentence}\n")?)
+    }
+}
+
+/// Warnings as JSON objects.
+fn warning_objects(
+    alloc: Global,
+    named: Named<'_, '_>,
+    messages: &[Message],
+) -> Result<String, Memory> {
+    let label = Label {
+        severity: Severity::Warning,
+        code: "",
+    };
+    let mut text = String::new(alloc);
+    for message in messages {
+        let line = message_line(alloc, named, label, message)?;
+        text.push_str(line.as_str())?;
+    }
+    Ok(text)
+}
+
+/// Warnings as lines or as JSON objects.
+fn lines_of_warnings(
+    alloc: Global,
+    program: &Program<'_, '_>,
+    messages: &[Message],
+) -> Result<String, Memory> {
+    if program.is_json {
+        warning_objects(alloc, program.named, messages)
+    } else {
+        warning_lines(alloc, program.named, messages)
+    }
+}
 
 /// That warning, with the routines that were probably meant to set it.
 fn no_start(alloc: Global, library: usize, program: &Program<'_, '_>) -> Result<String, Memory> {
-    let mut told = String::from_str(alloc, NO_START)?;
+    let mut text = plain_warning(alloc, program.is_json, NO_START)?;
     let starts = likely_starts(alloc, program.named, library, program.mains)?;
-    told.push_str(starts.as_str())?;
-    Ok(told)
+    let lines = lines_of_warnings(alloc, program, starts.as_slice())?;
+    text.push_str(lines.as_str())?;
+    Ok(text)
 }
 
 /// Whether a routine of this segment sets the global that a run calls.
@@ -145,6 +270,16 @@ fn start_warnings(
     }
 }
 
+/// The warnings about sources that are a part of a program: another part may have the routine that a run calls.
+pub fn part_warnings(
+    alloc: Global,
+    library: usize,
+    program: &Program<'_, '_>,
+) -> Result<String, Memory> {
+    let found = all_warnings(alloc, program.named, library, program.mains)?;
+    lines_of_warnings(alloc, program, found.as_slice())
+}
+
 /// All warnings about a program. `segments` is what it was built to, and its first `library` sources are the
 /// library's. `Memory` if an allocation fails.
 pub fn warnings_of(
@@ -153,8 +288,8 @@ pub fn warnings_of(
     program: &Program<'_, '_>,
     segments: &[Segment],
 ) -> Result<String, Memory> {
-    let mut told = start_warnings(alloc, library, program, segments)?;
-    let further = warnings(alloc, program.named, library, program.mains)?;
-    told.push_str(further.as_str())?;
-    Ok(told)
+    let mut text = start_warnings(alloc, library, program, segments)?;
+    let further = part_warnings(alloc, library, program)?;
+    text.push_str(further.as_str())?;
+    Ok(text)
 }

@@ -3,9 +3,9 @@
 ghost use Rattle.std.specs.Prelude.{◌≤◌, length, IfOk};
 ghost use Rattle.bc_lex_tokens.specs.Token.{lexemes_of};
 
-use crate::compiling::{refused, spare_given};
-use crate::output::{of_output, print_all};
-use crate::source_files::{Gathered, sources_of};
+use crate::compiling::refused;
+use crate::output::{of_listing, print_all};
+use crate::source_files::Gathered;
 use crate::texts::in_memory;
 use bc_build::{Built, build};
 use bc_cert::{check_sums, write_cert};
@@ -14,7 +14,7 @@ use bc_parse::{Section, parse};
 use bc_rules_defs::Entry;
 use bc_scope::{Core, resolve};
 use bc_word::Memory;
-use bcpl_cli::{Cause, ExplainOrder, Failure, Sources, Written};
+use bcpl_cli::{AtomicFile, Cause, ExplainOrder, Failure, Sources, load_sources};
 use bcpl_explain::{Checked, explanation};
 use bcpl_show::Files;
 use std::alloc::Global;
@@ -25,12 +25,12 @@ use std::rt::Files as Access;
 /// What the compiler knows of a main: its source and segment indexes, and its trees. It is never dropped, because the
 /// process is about to end.
 #[derive(Drop)]
-struct Front<'s> {
+pub struct Front<'s> {
     main: usize,
-    segment: usize,
-    tokens: Vec<Token<'s>>,
-    section: Section<'s>,
-    core: Core,
+    pub segment: usize,
+    pub tokens: Vec<Token<'s>>,
+    pub section: Section<'s>,
+    pub core: Core,
 }
 
 /// The tokens of a main. The program was built before, so only `Memory` can be the failure.
@@ -151,7 +151,7 @@ fn programs_of<'p, 's>(
 }
 
 /// Adds what the compiler knows of each main whose source index is at least `following`.
-fn add_fronts<'s>(
+pub fn add_fronts<'s>(
     alloc: Global,
     fronts: &mut Vec<Front<'s>>,
     sources: &[Source<'s>],
@@ -202,17 +202,17 @@ fn report_on(
     report
 }
 
-/// Builds the program and returns the report on it. If `shows`, explains a refusal.
+/// Builds the program and returns the report on it. If `explains`, explains a refusal.
 fn built_report(
     alloc: Global,
     gathered: &Gathered<'_, '_>,
     given: &Sources<'_>,
-    shows: bool,
+    explains: bool,
 ) -> Result<Vec<u8>, Failure> {
     let program = gathered.program();
     match build(alloc, program.named.sources, program.mains) {
         Ok(built) => report_on(alloc, gathered, given, &built),
-        Err(fault) => Err(refused(alloc, &program, fault, shows)),
+        Err(fault) => Err(refused(alloc, &program, fault, explains)),
     }
 }
 
@@ -221,22 +221,23 @@ fn reported<F: Access>(
     rt: &F,
     alloc: Global,
     order: &ExplainOrder<'_>,
-    shows: bool,
+    explains: bool,
 ) -> Result<Vec<u8>, Failure> {
     let given = &order.sources;
-    let loaded = sources_of(rt, alloc, given)?;
+    let loaded = load_sources(rt, alloc, given)?;
+    order.protect_files(rt, alloc, loaded.as_slice())?;
     let gathered = Gathered::new(alloc, given, loaded.as_slice())?;
-    built_report(alloc, &gathered, given, shows)
+    built_report(alloc, &gathered, given, explains)
 }
 
 /// Writes a report to the file with this path, which is written completely or stays as it was.
-fn write_report<F: Access>(
+pub fn write_report<F: Access>(
     rt: &F,
     alloc: Global,
     path: &str,
     report: &[u8],
 ) -> Result<(), Failure> {
-    let mut written = Written::begin(rt, alloc, path)?;
+    let mut written = AtomicFile::begin(rt, alloc, path)?;
     match written.out().write_all(report) {
         Ok(()) => written.finish(rt, alloc, path),
         Err(error) => {
@@ -246,30 +247,17 @@ fn write_report<F: Access>(
     }
 }
 
-/// Refuses an output file that is one of the sources.
-fn spare_sources<F: Access>(
-    rt: &F,
-    alloc: Global,
-    order: &ExplainOrder<'_>,
-) -> Result<(), Failure> {
-    match order.out {
-        Some(path) => spare_given(rt, alloc, path, &order.sources),
-        None => Ok(()),
-    }
-}
-
-/// Runs `explain`. If `shows`, explains a refusal.
+/// Runs `explain`. If `explains`, explains a refusal.
 pub fn explain<F: Access, O: Write + Drop>(
     rt: &F,
     alloc: Global,
     order: &ExplainOrder<'_>,
-    shows: bool,
+    explains: bool,
     out: &mut O,
 ) -> Result<(), Failure> {
-    spare_sources(rt, alloc, order)?;
-    let report = reported(rt, alloc, order, shows)?;
+    let report = reported(rt, alloc, order, explains)?;
     match order.out {
         Some(path) => write_report(rt, alloc, path, report.as_slice()),
-        None => of_output(alloc, print_all(report.as_slice(), out)),
+        None => of_listing(alloc, print_all(report.as_slice(), out)),
     }
 }

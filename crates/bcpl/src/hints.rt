@@ -5,46 +5,47 @@ use bc_build::BuildError;
 use bc_link::LinkError;
 use bc_word::Memory;
 use bcpl_cli::{
-    BadWords, Cause, Failure, Guess, Kind, Wanted, bare, guess_of, hint, kind_of, named_twice,
+    ArgumentError, Cause, Escaped, Expected, Failure, FileKind, Guess, file_kind, get_hint,
+    guess_of, hint, named_twice, without_extension,
 };
 use std::alloc::Global;
 use std::rt::Files;
 
 /// The hint on the file with this path, if it can be read and does not look as expected.
-fn hint_of<F: Files>(rt: &F, alloc: Global, wanted: Wanted, path: &str) -> Option<String> {
+fn hint_of<F: Files>(rt: &F, alloc: Global, expected: Expected, path: &str) -> Option<String> {
     let bytes = readable(rt, alloc, path)?;
-    hint(alloc, wanted, path, bytes.as_slice()).ok()?
+    hint(alloc, expected, path, bytes.as_slice()).ok()?
 }
 
 /// The files that a command takes.
 #[derive(Clone, Copy)]
-pub struct Taken<'a> {
+pub struct ExpectedFiles<'a> {
     /// What each file is expected to be.
-    wanted: Wanted,
+    expected: Expected,
     paths: &'a [&'a str],
     /// Whether more than the first line of a refusal is printed.
-    pub shows: bool,
+    pub explains: bool,
 }
 
-impl<'a> Taken<'a> {
-    /// The files with these paths, each expected to be `wanted`. `shows` is whether more than the first line of a
+impl<'a> ExpectedFiles<'a> {
+    /// The files with these paths, each expected to be `expected`. `explains` is whether more than the first line of a
     /// refusal is printed.
-    pub fn new(wanted: Wanted, paths: &'a [&'a str], shows: bool) -> Taken<'a> {
-        Taken {
-            wanted,
+    pub fn new(expected: Expected, paths: &'a [&'a str], explains: bool) -> ExpectedFiles<'a> {
+        ExpectedFiles {
+            expected,
             paths,
-            shows,
+            explains,
         }
     }
 }
 
 /// Whether this cause is about the content of a file of this kind.
-fn is_of_content(cause: &Cause, wanted: Wanted) -> bool {
-    match wanted {
-        Wanted::Source => matches!(cause, Cause::Build(_)),
-        Wanted::Text => matches!(cause, Cause::Text(_)),
-        Wanted::Certificate => matches!(cause, Cause::Check(_)),
-        Wanted::Command => false,
+fn is_of_content(cause: &Cause, expected: Expected) -> bool {
+    match expected {
+        Expected::Source => matches!(cause, Cause::Build(_)),
+        Expected::Text => matches!(cause, Cause::Text(_)),
+        Expected::Certificate => matches!(cause, Cause::Check(_)),
+        Expected::Command => false,
     }
 }
 
@@ -58,33 +59,37 @@ fn is_of_two_setters(cause: &Cause) -> bool {
 }
 
 /// A hint for each file that does not look as expected or has carriage returns only.
-fn looks_of<F: Files>(rt: &F, alloc: Global, taken: Taken<'_>) -> Result<String, Memory> {
+fn hints_on_files<F: Files>(
+    rt: &F,
+    alloc: Global,
+    files: ExpectedFiles<'_>,
+) -> Result<String, Memory> {
     let mut lines = String::new(alloc);
-    for path in taken.paths {
-        if let Some(said) = hint_of(rt, alloc, taken.wanted, path) {
-            let said = said.as_str();
-            writeln!(lines, "  help: {said}")?;
+    for path in files.paths {
+        if let Some(hint) = hint_of(rt, alloc, files.expected, path) {
+            let hint = hint.as_str();
+            writeln!(lines, "  help: {hint}")?;
         }
     }
     Ok(lines)
 }
 
 /// Whether a source is expected here and the file is one whose lines end in carriage returns only.
-fn has_returns_alone<F: Files>(rt: &F, alloc: Global, wanted: Wanted, path: &str) -> bool {
+fn has_returns_alone<F: Files>(rt: &F, alloc: Global, expected: Expected, path: &str) -> bool {
     match readable(rt, alloc, path) {
         Some(bytes) => matches!(
-            (kind_of(bytes.as_slice()), wanted),
-            (Some(Kind::Returns), Wanted::Source)
+            (file_kind(bytes.as_slice()), expected),
+            (Some(FileKind::Returns), Expected::Source)
         ),
         None => false,
     }
 }
 
 /// Whether one of these files is of another kind than expected. Then the help about its content is misleading.
-fn is_other_among<F: Files>(rt: &F, alloc: Global, taken: Taken<'_>) -> bool {
-    for path in taken.paths {
-        let is_told_of = hint_of(rt, alloc, taken.wanted, path).is_some();
-        if is_told_of && !has_returns_alone(rt, alloc, taken.wanted, path) {
+fn is_other_among<F: Files>(rt: &F, alloc: Global, files: ExpectedFiles<'_>) -> bool {
+    for path in files.paths {
+        let is_other = hint_of(rt, alloc, files.expected, path).is_some();
+        if is_other && !has_returns_alone(rt, alloc, files.expected, path) {
             return true;
         }
     }
@@ -92,8 +97,8 @@ fn is_other_among<F: Files>(rt: &F, alloc: Global, taken: Taken<'_>) -> bool {
 }
 
 /// The explanation without the help at its end, which assumes that the file is of the expected kind.
-fn without_help(told: &str) -> &str {
-    let whole = told.trim_end_matches('\n');
+fn without_help(explanation: &str) -> &str {
+    let whole = explanation.trim_end_matches('\n');
     match whole.rsplit_once('\n') {
         Some((front, last)) if last.starts_with("  help: ") => front,
         _ => whole,
@@ -101,8 +106,8 @@ fn without_help(told: &str) -> &str {
 }
 
 /// The explanation followed by these lines.
-fn joined(alloc: Global, told: &str, lines: &str) -> Result<String, Memory> {
-    let mut joined = String::from_str(alloc, told)?;
+fn joined(alloc: Global, explanation: &str, lines: &str) -> Result<String, Memory> {
+    let mut joined = String::from_str(alloc, explanation)?;
     if !joined.is_empty() {
         joined.push_str("\n")?;
     }
@@ -115,23 +120,37 @@ fn joined(alloc: Global, told: &str, lines: &str) -> Result<String, Memory> {
 fn lines_on_files<F: Files>(
     rt: &F,
     alloc: Global,
-    told: &str,
-    taken: Taken<'_>,
+    explanation: &str,
+    files: ExpectedFiles<'_>,
 ) -> Result<String, Memory> {
-    let looks = looks_of(rt, alloc, taken)?;
-    if looks.is_empty() {
-        return Ok(String::from_str(alloc, told)?);
+    let hints = hints_on_files(rt, alloc, files)?;
+    if hints.is_empty() {
+        return Ok(String::from_str(alloc, explanation)?);
     }
-    let kept = if is_other_among(rt, alloc, taken) {
-        without_help(told)
+    let kept = if is_other_among(rt, alloc, files) {
+        without_help(explanation)
     } else {
-        told.trim_end_matches('\n')
+        explanation.trim_end_matches('\n')
     };
-    joined(alloc, kept, looks.as_str())
+    joined(alloc, kept, hints.as_str())
+}
+
+/// The explanation of a refused content, with a hint where the file of a GET is, or with hints on the files.
+fn lines_on_content<F: Files>(
+    rt: &F,
+    alloc: Global,
+    explanation: &str,
+    files: ExpectedFiles<'_>,
+) -> Result<String, Memory> {
+    match get_hint(rt, alloc, explanation, files.paths)? {
+        Some(lines) => Ok(lines),
+        None => lines_on_files(rt, alloc, explanation, files),
+    }
 }
 
 /// The line about a file that is named twice.
 fn line_on_twice(alloc: Global, path: &str) -> Result<String, Memory> {
+    let path = Escaped(path);
     Ok(format!(in alloc; "{path} is named twice, so its content would be linked twice\n")?)
 }
 
@@ -140,21 +159,24 @@ fn lines_on_failure<F: Files>(
     rt: &F,
     alloc: Global,
     failure: &Failure,
-    taken: Taken<'_>,
+    files: ExpectedFiles<'_>,
 ) -> Option<String> {
     if is_of_two_setters(&failure.cause) {
-        let path = named_twice(rt, taken.paths)?;
+        let path = named_twice(rt, files.paths)?;
         line_on_twice(alloc, path).ok()
-    } else if is_of_content(&failure.cause, taken.wanted) {
-        lines_on_files(rt, alloc, failure.told(), taken).ok()
+    } else if is_of_content(&failure.cause, files.expected) {
+        lines_on_content(rt, alloc, failure.explanation(), files).ok()
     } else {
         None
     }
 }
 
-/// This failure with hints on the files that its command takes.
-fn hinted<F: Files>(rt: &F, alloc: Global, failure: Failure, taken: Taken<'_>) -> Failure {
-    match lines_on_failure(rt, alloc, &failure, taken) {
+/// This failure with hints on the files that its command takes. An explanation of JSON objects is kept as it is.
+fn hinted<F: Files>(rt: &F, alloc: Global, failure: Failure, files: ExpectedFiles<'_>) -> Failure {
+    if failure.explanation().starts_with('{') {
+        return failure;
+    }
+    match lines_on_failure(rt, alloc, &failure, files) {
         Some(lines) => failure.with(lines),
         None => failure,
     }
@@ -166,30 +188,34 @@ pub fn with_hints<T: Drop, F: Files>(
     rt: &F,
     alloc: Global,
     done: Result<T, Failure>,
-    taken: Taken<'_>,
+    files: ExpectedFiles<'_>,
 ) -> Result<T, Failure> {
     match done {
-        Err(failure) if taken.shows => Err(hinted(rt, alloc, failure, taken)),
+        Err(failure) if files.explains => Err(hinted(rt, alloc, failure, files)),
         done => done,
     }
 }
 
 /// The hint if `--steps` is missing: what the file looks like, or how to give the number.
-fn said_of_steps<F: Files>(rt: &F, alloc: Global, path: &str) -> Result<Option<String>, Memory> {
-    match hint_of(rt, alloc, Wanted::Text, path) {
-        Some(said) => Ok(Some(said)),
-        None => Ok(Some(format!(in alloc;
-            "add --steps N, the largest number of instructions to run, as in `bcpl run --steps 1000000 {path}`"
-        )?)),
+fn hint_on_steps<F: Files>(rt: &F, alloc: Global, path: &str) -> Result<Option<String>, Memory> {
+    match hint_of(rt, alloc, Expected::Text, path) {
+        Some(hint) => Ok(Some(hint)),
+        None => {
+            let path = Escaped(path);
+            Ok(Some(format!(in alloc;
+                "add --steps N, the largest number of instructions to run, as in `bcpl run --steps 1000000 {path}`"
+            )?))
+        }
     }
 }
 
 /// The hint if `--out` is missing: what the file looks like, or how to name the output.
-fn said_of_out<F: Files>(rt: &F, alloc: Global, path: &str) -> Result<Option<String>, Memory> {
-    match hint_of(rt, alloc, Wanted::Source, path) {
-        Some(said) => Ok(Some(said)),
+fn hint_on_out<F: Files>(rt: &F, alloc: Global, path: &str) -> Result<Option<String>, Memory> {
+    match hint_of(rt, alloc, Expected::Source, path) {
+        Some(hint) => Ok(Some(hint)),
         None => {
-            let bare = bare(path);
+            let bare = Escaped(without_extension(path));
+            let path = Escaped(path);
             Ok(Some(format!(in alloc;
                 "add --out OUT, the file for the INTCODE text, as in `bcpl build --out {bare}.int {path}`"
             )?))
@@ -198,67 +224,83 @@ fn said_of_out<F: Files>(rt: &F, alloc: Global, path: &str) -> Result<Option<Str
 }
 
 /// The hint if the output was named without `--out`.
-fn said_of_text(alloc: Global, text: &str, source: &str) -> Result<Option<String>, Memory> {
+fn hint_on_text(alloc: Global, text: &str, source: &str) -> Result<Option<String>, Memory> {
+    let text = Escaped(text);
+    let source = Escaped(source);
     Ok(Some(format!(in alloc;
         "name the file for the INTCODE text with --out, as in `bcpl build --out {text} {source}`"
     )?))
 }
 
 /// The hint on an option whose number is invalid.
-fn said_of_digits(alloc: Global, option: &str) -> Result<Option<String>, Memory> {
+fn hint_on_number(alloc: Global, option: &str) -> Result<Option<String>, Memory> {
     Ok(Some(format!(in alloc;
-        "{option} takes a number in decimal digits, as in `{option} 10000`"
+        "{option} takes a number, as in `{option} 10000`, 1_000_000, 1e6, 10M or 2k"
     )?))
 }
 
 /// The hint on an option with one dash.
-fn said_of_dash(alloc: Global, word: &str) -> Result<Option<String>, Memory> {
+fn hint_on_dash(alloc: Global, word: &str) -> Result<Option<String>, Memory> {
     Ok(Some(format!(in alloc; "options begin with two dashes: -{word}")?))
 }
 
+/// The hint if a file is given instead of a command: what it looks like, or how to run a source.
+fn hint_on_command<F: Files>(rt: &F, alloc: Global, path: &str) -> Result<Option<String>, Memory> {
+    match hint_of(rt, alloc, Expected::Command, path) {
+        Some(hint) => Ok(Some(hint)),
+        None if path.ends_with(".bcpl") => {
+            let path = Escaped(path);
+            Ok(Some(format!(in alloc;
+                "a command comes first: `bcpl go {path}` builds and runs a source"
+            )?))
+        }
+        None => Ok(None),
+    }
+}
+
 /// The hint for this guess.
-fn said_of_guess<F: Files>(
+fn hint_on_guess<F: Files>(
     rt: &F,
     alloc: Global,
     guess: Guess<'_>,
 ) -> Result<Option<String>, Memory> {
     match guess {
-        Guess::Command(path) => Ok(hint_of(rt, alloc, Wanted::Command, path)),
-        Guess::Steps(path) => said_of_steps(rt, alloc, path),
-        Guess::Out(path) => said_of_out(rt, alloc, path),
-        Guess::OutOf { text, source } => said_of_text(alloc, text, source),
-        Guess::Digits(option) => said_of_digits(alloc, option),
-        Guess::Dash(word) => said_of_dash(alloc, word),
+        Guess::Command(path) => hint_on_command(rt, alloc, path),
+        Guess::Steps(path) => hint_on_steps(rt, alloc, path),
+        Guess::Out(path) => hint_on_out(rt, alloc, path),
+        Guess::OutOf { text, source } => hint_on_text(alloc, text, source),
+        Guess::Number(option) => hint_on_number(alloc, option),
+        Guess::Dash(word) => hint_on_dash(alloc, word),
     }
 }
 
 /// The hint on an invalid command line, or `None` if nothing can be guessed.
-fn said_of_words<F: Files>(
+fn hint_on_arguments<F: Files>(
     rt: &F,
     alloc: Global,
     words: &[&str],
-    bad: &BadWords<'_>,
+    bad: &ArgumentError<'_>,
 ) -> Result<Option<String>, Memory> {
-    if let BadWords::Option { takes, .. } = bad {
-        return Ok(Some(String::from_str(alloc, takes)?));
+    if let ArgumentError::Option { accepts, .. } = bad {
+        return Ok(Some(String::from_str(alloc, accepts)?));
     }
     match guess_of(words, bad) {
-        Some(guess) => said_of_guess(rt, alloc, guess),
+        Some(guess) => hint_on_guess(rt, alloc, guess),
         None => Ok(None),
     }
 }
 
 /// The help line for an invalid command line, or an empty text. `Memory` if an allocation fails.
-pub fn line_on_words<F: Files>(
+pub fn help_on_arguments<F: Files>(
     rt: &F,
     alloc: Global,
     words: &[&str],
-    bad: &BadWords<'_>,
+    bad: &ArgumentError<'_>,
 ) -> Result<String, Memory> {
-    Ok(match said_of_words(rt, alloc, words, bad)? {
-        Some(said) => {
-            let said = said.as_str();
-            format!(in alloc; "  help: {said}\n")?
+    Ok(match hint_on_arguments(rt, alloc, words, bad)? {
+        Some(hint) => {
+            let hint = hint.as_str();
+            format!(in alloc; "  help: {hint}\n")?
         }
         None => String::new(alloc),
     })

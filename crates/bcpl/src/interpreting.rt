@@ -1,12 +1,11 @@
 //! The command `interpret`.
 
 use crate::compiling::{refused, warnings_on};
-use crate::devices::Source;
-use crate::diagnostics::Program;
-use crate::output::{tell_lines, unfinished};
-use crate::protected_files::spare_files;
+use crate::diagnostics::{Program, error_lines};
+use crate::output::{print_messages, unfinished};
 use crate::running::{Streams, streams_of};
-use crate::source_files::{Gathered, sources_of};
+use crate::source_files::Gathered;
+use crate::standard::{RunConsole, RunStreams};
 use bc_build::{Built, build};
 use bc_interpret_sources::{
     BuiltProgram as Sections, Cause as Access, Ending, Interpreted, Outcome, interpret,
@@ -14,54 +13,41 @@ use bc_interpret_sources::{
 use bc_machine_defs::End;
 use bc_text_items::Segment;
 use bc_word::Memory;
-use bcpl_cli::{Cause, Failure, InterpretOrder, Wild};
-use bcpl_messages::{Message, told_lines};
+use bcpl_cli::{Cause, Clean, Failure, InterpretOrder, ProgramOrder, Wild, load_sources};
+use bcpl_messages::Message;
 use bcpl_wild::{Met, Stand, placed_message, wild_message};
 use std::alloc::Global;
 use std::io::{Read, Write};
 use std::rt::Files;
 
-/// Standard input and output for a run, whether the output is a terminal, and whether refusals are explained.
-#[derive(Drop)]
-pub struct Standards<R: Read + Drop, O: Write + Drop> {
-    pub input: R,
-    pub out: O,
-    pub is_terminal: bool,
-    pub shows: bool,
-}
-
-/// The standard streams of a run, and the stream for warnings.
-#[derive(Drop)]
-pub struct Console<'e, R: Read + Drop, O: Write + Drop, E: Write + Drop> {
-    pub standards: Standards<R, O>,
-    pub err: &'e mut E,
-}
-
-/// Runs `interpret`. Refusals are explained and warnings printed if `console.standards.shows`; an abnormal end of the
-/// run is always explained.
+/// Runs `interpret`. Refusals are explained and warnings printed if `streams.explains`; an abnormal end of the run is
+/// always explained.
 pub fn interpret_files<F: Files, R: Read + Drop, O: Write + Drop, E: Write + Drop>(
     rt: &F,
     alloc: Global,
     order: &InterpretOrder<'_>,
-    console: Console<'_, R, O, E>,
+    streams: RunStreams<R, O>,
+    err: &mut Clean<E>,
 ) -> Result<(), Failure> {
-    let files = sources_of(rt, alloc, &order.sources)?;
-    let gathered = Gathered::new(alloc, &order.sources, files.as_slice())?;
+    let files = load_sources(rt, alloc, &order.program.sources)?;
+    order.program.protect_files(rt, alloc, files.as_slice())?;
+    let gathered = Gathered::new(alloc, &order.program.sources, files.as_slice())?;
+    let console = RunConsole { streams, err };
     let run = interpretation_of(rt, alloc, order, &gathered, console)?;
-    came_to(alloc, &gathered.program(), &run)
+    result_of(alloc, &gathered.program(), &run)
 }
 
 /// Prints the warnings about a program that was built to these segments, unless they are suppressed.
-fn tell_warnings<E: Write + Drop>(
+pub fn print_warnings<E: Write + Drop>(
     alloc: Global,
-    order: &InterpretOrder<'_>,
+    order: &ProgramOrder<'_>,
     gathered: &Gathered<'_, '_>,
     segments: &[Segment],
-    err: &mut E,
+    err: &mut Clean<E>,
 ) -> Result<(), Memory> {
     if order.warns {
         let warnings = warnings_on(alloc, &order.sources, gathered, segments)?;
-        tell_lines(warnings.as_str(), err);
+        print_messages(warnings.as_str(), err);
     }
     Ok(())
 }
@@ -82,20 +68,26 @@ fn interpretation_of<F: Files, R: Read + Drop, O: Write + Drop, E: Write + Drop>
     alloc: Global,
     order: &InterpretOrder<'_>,
     gathered: &Gathered<'_, '_>,
-    console: Console<'_, R, O, E>,
+    console: RunConsole<'_, R, O, E>,
 ) -> Result<Interpretation, Failure> {
-    let Console { standards, err } = console;
+    let RunConsole { streams, err } = console;
     let program = gathered.program();
     let sources = program.named.sources;
     let mains = program.mains;
     let built = match build(alloc, sources, mains) {
         Ok(built) => built,
-        Err(fault) => return Err(refused(alloc, &program, fault, standards.shows)),
+        Err(fault) => return Err(refused(alloc, &program, fault, streams.explains)),
     };
-    if standards.shows {
-        tell_warnings(alloc, order, gathered, built.segments.as_slice(), err)?;
+    if streams.explains {
+        print_warnings(
+            alloc,
+            &order.program,
+            gathered,
+            built.segments.as_slice(),
+            err,
+        )?;
     }
-    let mut streams = run_streams(rt, alloc, order, standards)?;
+    let mut streams = program_streams(rt, alloc, &order.program, streams)?;
     let run = Sections {
         sources,
         mains,
@@ -110,41 +102,15 @@ fn interpretation_of<F: Files, R: Read + Drop, O: Write + Drop, E: Write + Drop>
     })
 }
 
-/// Refuses an output whose file is a source, an input or another output.
-fn spare<F: Files>(rt: &F, alloc: Global, order: &InterpretOrder<'_>) -> Result<(), Failure> {
-    let outputs = order.outputs.as_slice();
-    let files = order.sources.files.as_slice();
-    spare_files(rt, alloc, files, order.inputs.as_slice(), outputs)?;
-    spare_files(rt, alloc, &[], order.sources.gets.as_slice(), outputs)
-}
-
 /// The streams of a run, in the order of the arguments.
-fn run_streams<F: Files, R: Read + Drop, O: Write + Drop>(
+pub fn program_streams<F: Files, R: Read + Drop, O: Write + Drop>(
     rt: &F,
     alloc: Global,
-    order: &InterpretOrder<'_>,
-    standards: Standards<R, O>,
+    order: &ProgramOrder<'_>,
+    streams: RunStreams<R, O>,
 ) -> Result<Streams<R, O, F::File>, Failure> {
-    let Standards {
-        input,
-        out,
-        is_terminal,
-        shows,
-    } = standards;
-    spare(rt, alloc, order)?;
-    let standards = Standards {
-        input: Source::Standard(input),
-        out,
-        is_terminal,
-        shows,
-    };
-    streams_of(
-        rt,
-        alloc,
-        standards,
-        order.inputs.as_slice(),
-        order.outputs.as_slice(),
-    )
+    let (inputs, outputs) = (order.inputs.as_slice(), order.outputs.as_slice());
+    streams_of(rt, alloc, streams.on_source(), inputs, outputs)
 }
 
 /// The failure of a run that finished while one of its outputs could not be written to its end.
@@ -153,89 +119,92 @@ fn unclosed(alloc: Global) -> Failure {
 }
 
 /// The result of a run as the result of the command.
-fn came_to(alloc: Global, program: &Program<'_, '_>, run: &Interpretation) -> Result<(), Failure> {
+fn result_of(
+    alloc: Global,
+    program: &Program<'_, '_>,
+    run: &Interpretation,
+) -> Result<(), Failure> {
     match run.interpreted.outcome {
         Outcome::Ended(Ending::Finished) if run.is_closed => Ok(()),
         Outcome::Ended(Ending::Finished) => Err(unclosed(alloc)),
-        Outcome::Device => Err(failed(alloc, program, run)),
-        Outcome::Ended(Ending::ZeroDivide) => Err(divided(alloc, program, run)),
-        Outcome::Going => Err(spent(alloc, program, run)),
-        Outcome::Wild(access) => Err(gone_wild(alloc, program, run, access)),
+        Outcome::Device => Err(device_failure(alloc, program, run)),
+        Outcome::Ended(Ending::ZeroDivide) => Err(zero_divide_failure(alloc, program, run)),
+        Outcome::Going => Err(turns_spent_failure(alloc, program, run)),
+        Outcome::Wild(access) => Err(wild_failure(alloc, program, run, access)),
     }
 }
 
-/// The lines of this message, if there was memory for it.
+/// The lines of this message on a failure, if there was memory for it.
 fn lines_of(
     alloc: Global,
     program: &Program<'_, '_>,
+    failure: &Failure,
     message: Result<Message, Memory>,
 ) -> Result<String, Memory> {
-    let message = message?;
-    told_lines(alloc, program.named, &message)
+    let code = format!(in alloc; "{failure}")?;
+    error_lines(alloc, program, code.as_str(), message?)
 }
 
 /// A failure with this explanation, or one of `Memory` if there was no memory for it.
-fn told(
+fn explained_failure(
     alloc: Global,
     program: &Program<'_, '_>,
     cause: Cause,
     message: Result<Message, Memory>,
 ) -> Failure {
-    match lines_of(alloc, program, message) {
-        Ok(lines) => Failure::new(cause).with(lines),
+    let failure = Failure::new(cause);
+    match lines_of(alloc, program, &failure, message) {
+        Ok(lines) => failure.with(lines),
         Err(_) => Failure::new(Cause::Memory),
     }
 }
 
 /// The failure of a run whose stream failed.
-fn failed(alloc: Global, program: &Program<'_, '_>, run: &Interpretation) -> Failure {
-    let message = ended(alloc, program, run, "a stream failed here");
-    told(alloc, program, Cause::Ended(End::Device), message)
+fn device_failure(alloc: Global, program: &Program<'_, '_>, run: &Interpretation) -> Failure {
+    let message = end_message(alloc, program, run, "a stream failed here");
+    explained_failure(alloc, program, Cause::Ended(End::Device), message)
 }
 
 /// The failure of a run that divided by zero.
-fn divided(alloc: Global, program: &Program<'_, '_>, run: &Interpretation) -> Failure {
-    let message = ended(alloc, program, run, "this divides by 0");
-    told(alloc, program, Cause::Ended(End::ZeroDivide), message)
+fn zero_divide_failure(alloc: Global, program: &Program<'_, '_>, run: &Interpretation) -> Failure {
+    let message = end_message(alloc, program, run, "this divides by 0");
+    explained_failure(alloc, program, Cause::Ended(End::ZeroDivide), message)
 }
 
-/// The explanation of a run that used up its turns.
-fn ended_going(
+/// The help for a run that used up its turns.
+const TURNS_SPENT: &str =
+    "--turns N allows more; make sure that the loop or the recursion ends; bcpl debug FILE.. shows the values";
+
+/// The explanation of a run that used up its turns: where it was, and the calls that led there.
+fn turns_spent_message(
     alloc: Global,
     program: &Program<'_, '_>,
     run: &Interpretation,
 ) -> Result<Message, Memory> {
-    let message = ended(
-        alloc,
-        program,
-        run,
-        "the run was here when it used up its turns",
-    )?;
-    message.helped(
-        alloc,
-        Some("--turns N allows more; make sure that the loop or the recursion ends"),
-    )
+    let sentence = "the run was here when it used up its turns";
+    let message = end_message(alloc, program, run, sentence)?;
+    message.helped(alloc, Some(TURNS_SPENT))
 }
 
 /// The failure of a run that used up its turns.
-fn spent(alloc: Global, program: &Program<'_, '_>, run: &Interpretation) -> Failure {
-    told(
+fn turns_spent_failure(alloc: Global, program: &Program<'_, '_>, run: &Interpretation) -> Failure {
+    explained_failure(
         alloc,
         program,
         Cause::TurnsSpent,
-        ended_going(alloc, program, run),
+        turns_spent_message(alloc, program, run),
     )
 }
 
 /// The failure of a run that met a wild cell.
-fn gone_wild(
+fn wild_failure(
     alloc: Global,
     program: &Program<'_, '_>,
     run: &Interpretation,
     access: Access,
 ) -> Failure {
-    let message = wild(alloc, program, run, access);
-    told(alloc, program, Cause::Wild(wild_of(access)), message)
+    let message = wild_access_message(alloc, program, run, access);
+    explained_failure(alloc, program, Cause::Wild(wild_of(access)), message)
 }
 
 /// The wild access, as a cause of a failure.
@@ -263,7 +232,7 @@ fn program_of<'p, 's>(
 }
 
 /// The explanation of a wild access: where it happened, whose cell it met, and the calls that led there.
-fn wild(
+fn wild_access_message(
     alloc: Global,
     program: &Program<'_, '_>,
     run: &Interpretation,
@@ -278,7 +247,7 @@ fn wild(
 }
 
 /// The explanation of another end of a run: this sentence, where the run was, and the calls that led there.
-fn ended(
+fn end_message(
     alloc: Global,
     program: &Program<'_, '_>,
     run: &Interpretation,

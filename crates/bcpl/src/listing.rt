@@ -2,8 +2,9 @@
 
 use crate::checking::verdict_of;
 use crate::growing_list::Growing;
-use crate::output::{of_output, print_all};
-use crate::texts::{LinkedProgram, all_contents, in_memory, linked, segments_of, texts_of};
+use crate::output::{of_listing, print_all};
+use crate::routine_names::routine_names;
+use crate::texts::{LinkedProgram, in_memory, linked, read_texts, segments_of, texts_of};
 use bc_cert::{Judged, check_against};
 use bc_core::Root;
 use bc_text_items::Segment;
@@ -34,7 +35,7 @@ fn names_of<'a>(alloc: Global, texts: &[Text<'a>]) -> Result<Vec<&'a str>, Failu
 }
 
 /// The note on an entry of a certificate.
-fn said_of(alloc: Global, entry: &Judged) -> Result<String, Memory> {
+fn note_on(alloc: Global, entry: &Judged) -> Result<String, Memory> {
     let words = entry.words;
     let unit = if words == 1 { "word" } else { "words" };
     let what = match &entry.root {
@@ -46,12 +47,12 @@ fn said_of(alloc: Global, entry: &Judged) -> Result<String, Memory> {
     Ok(format!(in alloc; "{what}, {words} {unit}, the least")?)
 }
 
-/// A note on an entry of a certificate, and the item where the entry begins.
+/// A note on an entry of a certificate or on a routine, and the item where it begins.
 #[derive(Drop)]
-struct Remark {
-    segment: usize,
-    item: usize,
-    said: String,
+pub struct Remark {
+    pub segment: usize,
+    pub item: usize,
+    pub text: String,
 }
 
 /// The note on this entry. Segment 0 is the primitives, which certificates don't count.
@@ -59,7 +60,7 @@ fn remark_on(alloc: Global, entry: &Judged) -> Result<Remark, Memory> {
     Ok(Remark {
         segment: (entry.segment as usize).saturating_add(1),
         item: entry.item as usize,
-        said: said_of(alloc, entry)?,
+        text: note_on(alloc, entry)?,
     })
 }
 
@@ -78,13 +79,28 @@ fn certified<F: Files>(
     alloc: Global,
     path: &str,
     segments: &[Segment],
-    shows: bool,
+    explains: bool,
 ) -> Result<Vec<Remark>, Failure> {
-    let verdict = verdict_of(rt, alloc, path, shows)?;
+    let verdict = verdict_of(rt, alloc, path, explains)?;
     match check_against(&verdict, segments) {
         Ok(()) => in_memory(remarks_on(alloc, verdict.entries.as_slice())),
         Err(mismatch) => Err(Failure::new(Cause::Against(mismatch))),
     }
+}
+
+/// The notes on the routines of a program, if its sources are given.
+fn named<F: Files>(
+    rt: &F,
+    alloc: Global,
+    order: &ListOrder<'_>,
+    program: &LinkedProgram,
+    explains: bool,
+) -> Result<Vec<Remark>, Failure> {
+    if order.sources.files.is_empty() {
+        return Ok(Vec::new(alloc));
+    }
+    let own = program.segments.as_slice().get(1..).unwrap_or(&[]);
+    routine_names(rt, alloc, &order.sources, own, explains)
 }
 
 /// The notes on a program, if a certificate is given.
@@ -93,28 +109,40 @@ fn remarks_of<F: Files>(
     alloc: Global,
     order: &ListOrder<'_>,
     program: &LinkedProgram,
-    shows: bool,
+    explains: bool,
 ) -> Result<Vec<Remark>, Failure> {
     match order.certificate {
         Some(path) => {
             let own = program.segments.as_slice().get(1..).unwrap_or(&[]);
-            certified(rt, alloc, path, own, shows)
+            certified(rt, alloc, path, own, explains)
         }
         None => Ok(Vec::new(alloc)),
     }
 }
 
-/// The notes, as the listing takes them.
-fn notes_of<'r>(alloc: Global, remarks: &'r [Remark]) -> Result<Vec<Note<'r>>, Memory> {
-    let mut notes = Growing::new(alloc);
+/// Adds notes, as the listing takes them.
+fn add_notes<'r>(notes: &mut Growing<Note<'r>>, remarks: &'r [Remark]) {
     for remark in remarks {
         notes.add(Note {
             segment: remark.segment,
             item: remark.item,
-            said: remark.said.as_str(),
+            said: remark.text.as_str(),
         });
     }
-    notes.whole()
+}
+
+/// The notes on routines and on entries, in the order of the code.
+fn notes_of<'r>(
+    alloc: Global,
+    routines: &'r [Remark],
+    entries: &'r [Remark],
+) -> Result<Vec<Note<'r>>, Memory> {
+    let mut notes = Growing::new(alloc);
+    add_notes(&mut notes, routines);
+    add_notes(&mut notes, entries);
+    let mut whole = notes.whole()?;
+    whole.sort_by_key(|note| (note.segment, note.item))?;
+    Ok(whole)
 }
 
 /// The listing of a program, with these names for its segments and these notes.
@@ -122,9 +150,10 @@ fn listing_of<'p>(
     alloc: Global,
     program: &'p LinkedProgram,
     names: &'p [&'p str],
-    remarks: &'p [Remark],
+    remarks: (&'p [Remark], &'p [Remark]),
 ) -> Result<String, Memory> {
-    let notes = notes_of(alloc, remarks)?;
+    let (routines, entries) = remarks;
+    let notes = notes_of(alloc, routines, entries)?;
     let program = ListedProgram {
         segments: program.segments.as_slice(),
         names,
@@ -140,12 +169,14 @@ fn listed_of<F: Files>(
     alloc: Global,
     order: &ListOrder<'_>,
     texts: &[Text<'_>],
-    shows: bool,
+    explains: bool,
 ) -> Result<String, Failure> {
-    let program = linked(alloc, texts, shows)?;
+    let program = linked(alloc, texts, explains)?;
     let names = names_of(alloc, texts)?;
-    let remarks = remarks_of(rt, alloc, order, &program, shows)?;
-    in_memory(listing_of(alloc, &program, names.as_slice(), remarks.as_slice()))
+    let entries = remarks_of(rt, alloc, order, &program, explains)?;
+    let routines = named(rt, alloc, order, &program, explains)?;
+    let remarks = (routines.as_slice(), entries.as_slice());
+    in_memory(listing_of(alloc, &program, names.as_slice(), remarks))
 }
 
 /// Reads the texts and returns their listing.
@@ -153,21 +184,21 @@ fn listed<F: Files>(
     rt: &F,
     alloc: Global,
     order: &ListOrder<'_>,
-    shows: bool,
+    explains: bool,
 ) -> Result<String, Failure> {
-    let contents = all_contents(rt, alloc, order.texts.as_slice())?;
-    let texts = texts_of(alloc, order.texts.as_slice(), contents.as_slice())?;
-    listed_of(rt, alloc, order, texts.as_slice(), shows)
+    let files = read_texts(rt, alloc, order.texts.as_slice())?;
+    let texts = texts_of(alloc, files.as_slice())?;
+    listed_of(rt, alloc, order, texts.as_slice(), explains)
 }
 
-/// Runs `list`. If `shows`, explains a refusal.
+/// Runs `list`. If `explains`, explains a refusal.
 pub fn list<F: Files, O: Write + Drop>(
     rt: &F,
     alloc: Global,
     order: &ListOrder<'_>,
-    shows: bool,
+    explains: bool,
     out: &mut O,
 ) -> Result<(), Failure> {
-    let text = listed(rt, alloc, order, shows)?;
-    of_output(alloc, print_all(text.as_bytes(), out))
+    let text = listed(rt, alloc, order, explains)?;
+    of_listing(alloc, print_all(text.as_bytes(), out))
 }

@@ -1,29 +1,63 @@
 //! The program `bcpl`: compiles and interprets BCPL, checks certificates, and assembles, links and runs INTCODE.
 #![tactic(auto)]
 
+mod assembling;
 mod checking;
 mod commands;
 mod compiling;
+mod debugging;
 mod devices;
 mod diagnostics;
 mod explain;
+mod failures;
+mod going;
 mod growing_list;
 mod hints;
+mod image_formats;
+mod interpret_line;
 mod interpreting;
 mod listing;
 mod output;
-mod protected_files;
+mod routine_names;
+mod run_output;
 mod running;
 mod showing;
 mod source_files;
+mod standard;
 mod texts;
 mod unused_gets;
 mod watched_run;
 
-use crate::commands::{Standard, Terminals, command_on};
+use crate::commands::command_on;
+use crate::standard::{Standard, Terminals};
 use std::io::{BufWriter, IsTerminal};
 use std::process::ExitCode;
 use std::{env, fs, io};
+
+/// The value of an environment variable, unless it is empty or not set.
+fn variable(rt: &HostRuntime, name: &str) -> Option<String> {
+    match env::var(rt, name) {
+        Ok(value) if !value.is_empty() => Some(value),
+        _ => None,
+    }
+}
+
+/// The setting that says how refusals are explained: `json` if `BCPL_MESSAGES` is, or else the value of `BCPL_PLACES`.
+fn setting(rt: &HostRuntime) -> Option<String> {
+    match variable(rt, "BCPL_MESSAGES") {
+        Some(value) if value.as_str() == "json" => Some(value),
+        _ => variable(rt, "BCPL_PLACES"),
+    }
+}
+
+/// Whether messages at a terminal are in colours: TERM names one that takes them, and NO_COLOR is not set.
+fn has_colours(rt: &HostRuntime) -> bool {
+    let takes_colours = match variable(rt, "TERM") {
+        Some(term) => term.as_str() != "dumb",
+        None => false,
+    };
+    takes_colours && variable(rt, "NO_COLOR").is_none()
+}
 
 /// Runs the command that the arguments ask for and returns the exit status. Fails if the arguments can't be read.
 fn status(rt: &HostRuntime) -> io::Result<u8> {
@@ -35,22 +69,26 @@ fn status(rt: &HostRuntime) -> io::Result<u8> {
     for word in &words {
         texts.push(word.as_str())?;
     }
+    let setting = setting(rt);
+    let is_terminal = rt.stderr().is_terminal();
     let terminals = Terminals {
         input: rt.stdin().is_terminal(),
         out: rt.stdout().is_terminal(),
-        err: rt.stderr().is_terminal(),
+        err: is_terminal,
+        colours: is_terminal && has_colours(rt),
     };
     let standard = Standard {
         input: rt.stdin().lock(),
         out: rt.stdout().lock(),
         err: BufWriter::new(rt.alloc(), rt.stderr().lock())?,
         terminals,
+        setting: setting.as_ref().map(|value| value.as_str()),
     };
     Ok(command_on(rt, rt.alloc(), texts.as_slice(), standard))
 }
 
 /// The exit status if the arguments can't be read, because memory ran out or one is not valid UTF-8.
-fn without_words(rt: &HostRuntime, error: &io::Error) -> u8 {
+fn unreadable_arguments_status(rt: &HostRuntime, error: &io::Error) -> u8 {
     if error.kind() == io::ErrorKind::OutOfMemory {
         let _ = rt.eprintln("bcpl: memory");
         1
@@ -64,6 +102,6 @@ fn without_words(rt: &HostRuntime, error: &io::Error) -> u8 {
 fn main(rt: HostRuntime) -> ExitCode {
     match status(&rt) {
         Ok(status) => ExitCode::from(status),
-        Err(error) => ExitCode::from(without_words(&rt, &error)),
+        Err(error) => ExitCode::from(unreadable_arguments_status(&rt, &error)),
     }
 }

@@ -2,12 +2,10 @@
 
 ghost use Rattle.std.specs.Prelude.{◌≡◌};
 
-use bc_machine_defs::Image;
-use bcpl_cli::Failure;
-use itoa::Buffer;
+use bcpl_cli::{Clean, Failure};
 use std::alloc::Global;
 use std::io;
-use std::io::{BufWriter, Write};
+use std::io::{ErrorKind, Write};
 
 /// The explanation if a run finished but an output could not be written to its end.
 const NOT_TO_ITS_END: &str = "the run finished, but an output could not be completely written\n";
@@ -17,7 +15,7 @@ pub fn unfinished(alloc: Global, failure: Failure) -> Failure
     ensures { result.cause ≡ failure.cause }
 {
     match String::from_str(alloc, NOT_TO_ITS_END) {
-        Ok(told) => failure.with(told),
+        Ok(explanation) => failure.with(explanation),
         Err(_) => failure,
     }
 }
@@ -30,26 +28,29 @@ pub fn of_output(alloc: Global, done: io::Result<()>) -> Result<(), Failure> {
     }
 }
 
+/// Like `of_output`, but standard output that was closed by its reader, as in `bcpl list hello.int | head`, is no
+/// failure.
+pub fn of_listing(alloc: Global, done: io::Result<()>) -> Result<(), Failure> {
+    match done {
+        Err(error) if error.kind() == ErrorKind::BrokenPipe => Ok(()),
+        done => of_output(alloc, done),
+    }
+}
+
 /// Writes all of a text and flushes it.
 pub fn print_all<O: Write + Drop>(text: &[u8], out: &mut O) -> io::Result<()> {
     out.write_all(text)?;
     out.flush()
 }
 
-/// Prints explanations or warnings. Errors are ignored: there is nowhere to report them.
-pub fn tell_lines<E: Write + Drop>(lines: &str, err: &mut E) {
-    let _ = err.write_all(lines.as_bytes());
+/// Prints messages, in colours if the terminal takes them. Errors are ignored: there is nowhere to report them.
+pub fn print_messages<E: Write + Drop>(lines: &str, err: &mut Clean<E>) {
+    let _ = err.write_messages(lines);
     let _ = err.flush();
 }
 
-/// Writes the words of the image up to the base of the stack, one per line, in decimal.
-pub fn print_words<O: Write + Drop>(alloc: Global, image: &Image, out: O) -> io::Result<()> {
-    let mut out = BufWriter::new(alloc, out)?;
-    let count = usize::from(image.stack_base.get());
-    for word in &image.words.as_slice()[..count] {
-        let mut digits = Buffer::new();
-        out.write_all(digits.format(word.get()).as_bytes())?;
-        out.write_all(b"\n")?;
-    }
-    out.flush()
+/// Prints a text. Errors are ignored: there is nowhere to report them.
+pub fn print_lines<E: Write + Drop>(lines: &str, err: &mut E) {
+    let _ = err.write_all(lines.as_bytes());
+    let _ = err.flush();
 }

@@ -2,23 +2,23 @@
 
 ghost use Rattle.std.specs.Prelude.{◌≡◌, ◌≢◌, Err, IfOk, IfErr, None};
 ghost use Rattle.bc_machine_defs.specs.declared.state.End.TheVariants.{Finished, Device};
-ghost use Rattle.bcpl_cli.specs.Statuses.{untold};
+ghost use Rattle.bcpl_cli.specs.Statuses.{unexplained};
 ghost use Rattle.bcpl_cli.specs.declared.failure.Cause.TheVariants as causes;
 
 use crate::devices::{Sink, Source};
-use crate::interpreting::Standards;
 use crate::output::unfinished;
-use crate::protected_files::spare_files;
+use crate::standard::RunStreams;
 use crate::texts::{
-    LinkedProgram, add, all_contents, explained, linked, program_of, standard_text, texts_of,
+    LinkedProgram, TextFile, add, explained, linked, program_of, read_texts, standard_text,
+    texts_of,
 };
-use crate::watched_run::{Last, Notes, is_watched, spare_texts, window_of};
+use crate::watched_run::{RecordFiles, Records, high_of, is_watched, window_of};
 use bc_machine::{FileStreams, Machine, Named, StreamsError};
 use bc_machine_defs::{End, Image};
 use bc_word::{Memory, Word};
-use bcpl_cli::{Binding, Cause, Failure, RunOrder, WatchOrder, Written};
+use bcpl_cli::{AtomicFile, Binding, Cause, Failure, RunOrder, WatchOrder};
 use bcpl_reports::{Stop, Text, ended_lines, stream_lines};
-use bcpl_trace::{Nowhere, Watch, profile, run_watched};
+use bcpl_trace::{High, Nowhere, Watch, profile, run_image, run_watched};
 use std::alloc::Global;
 use std::fs;
 use std::io::{BufReader, BufWriter, Read, Write};
@@ -125,10 +125,10 @@ fn outputs<F: Files, O: Write + Drop>(
 
 /// The result of a run after its streams are closed. If it finished but an output can't be flushed, that is a device
 /// failure.
-fn closed<R: Read, W: Write>(streams: &mut FileStreams<R, W>, end: End) -> Result<(), Failure>
+pub fn closed<R: Read, W: Write>(streams: &mut FileStreams<R, W>, end: End) -> Result<(), Failure>
     ensures finished { IfOk result (λ _. end ≡ Finished) }
-    ensures ended { end ≢ Finished → result ≡ Err (untold (causes.Ended end)) }
-    ensures device { IfErr result (λ f. end ≡ Finished → f ≡ untold (causes.Ended Device)) }
+    ensures ended { end ≢ Finished → result ≡ Err (unexplained (causes.Ended end)) }
+    ensures device { IfErr result (λ f. end ≡ Finished → f ≡ unexplained (causes.Ended Device)) }
 {
     let closed = streams.close();
     match end {
@@ -153,79 +153,80 @@ fn stop_of(machine: &Machine, end: End, steps: u64) -> Stop {
 /// What to run: the texts, the program linked from them, the limit on instructions, and whether a failure is
 /// explained.
 #[derive(Drop)]
-struct Manner<'t, 'p> {
+struct RunSetup<'t, 'p> {
     texts: &'t [Text<'t>],
     program: &'p LinkedProgram,
     steps: u64,
-    shows: bool,
+    explains: bool,
 }
 
 /// Explains why a run stopped.
-fn told_of_stop(alloc: Global, manner: &Manner<'_, '_>, stop: &Stop, failure: Failure) -> Failure {
+fn explain_stop(alloc: Global, setup: &RunSetup<'_, '_>, stop: &Stop, failure: Failure) -> Failure {
     let lines = ended_lines(
         alloc,
-        manner.texts,
-        manner.program.segments.as_slice(),
-        &manner.program.image,
+        setup.texts,
+        setup.program.segments.as_slice(),
+        &setup.program.image,
         stop,
     );
-    explained(failure, lines)
+    explained(alloc, failure, lines)
 }
 
 /// Explains the end of a run, or the failure of its outputs after it, if explanations are printed.
-fn told_of_end(
+fn explain_end(
     alloc: Global,
-    manner: &Manner<'_, '_>,
+    setup: &RunSetup<'_, '_>,
     machine: &Machine,
     end: &End,
     failure: Failure,
 ) -> Failure {
-    if !manner.shows {
+    if !setup.explains {
         failure
     } else if *end == End::Finished {
         unfinished(alloc, failure)
     } else {
-        told_of_stop(
-            alloc,
-            manner,
-            &stop_of(machine, *end, manner.steps),
-            failure,
-        )
+        explain_stop(alloc, setup, &stop_of(machine, *end, setup.steps), failure)
     }
 }
 
 /// The result of a run, whose streams it closes.
-fn came_to<R: Read, W: Write>(
+fn result_of<R: Read, W: Write>(
     alloc: Global,
-    manner: &Manner<'_, '_>,
+    setup: &RunSetup<'_, '_>,
     machine: &Machine,
     streams: &mut FileStreams<R, W>,
     end: &End,
 ) -> Result<(), Failure> {
     match closed(streams, *end) {
         Ok(()) => Ok(()),
-        Err(failure) => Err(told_of_end(alloc, manner, machine, end, failure)),
+        Err(failure) => Err(explain_end(alloc, setup, machine, end, failure)),
     }
 }
 
 /// Runs a program over these streams, and closes them.
 fn run_linked<R: Read, W: Write>(
     alloc: Global,
-    manner: &Manner<'_, '_>,
+    setup: &RunSetup<'_, '_>,
     streams: &mut FileStreams<R, W>,
 ) -> Result<(), Failure> {
-    let mut machine = Machine::new(alloc, &manner.program.image)?;
-    let end = machine.run(streams, manner.steps);
-    came_to(alloc, manner, &machine, streams, &end)
+    let (machine, end) = run_image(alloc, &setup.program.image, streams, setup.steps)?;
+    result_of(alloc, setup, &machine, streams, &end)
+}
+
+/// A run that took place: its result and, if that was recorded, how much of the store it used.
+#[derive(Drop)]
+pub struct Ran {
+    pub done: Result<(), Failure>,
+    pub high: Option<High>,
 }
 
 /// Runs a machine from its start and records what it does. The trace, if any, goes to its file.
-fn run_noted<R: Read, W: Write, T: Write + Drop>(
+fn run_recorded<R: Read, W: Write, T: Write + Drop>(
     machine: &mut Machine,
     watch: &mut Watch,
     streams: &mut FileStreams<R, W>,
     steps: u64,
-    trace: &mut Option<Written<T>>,
+    trace: &mut Option<AtomicFile<T>>,
 ) -> End
     requires { machine.old.ended ≡ None }
 {
@@ -237,14 +238,18 @@ fn run_noted<R: Read, W: Write, T: Write + Drop>(
 
 /// A recorded run.
 #[derive(Clone, Copy)]
-struct Noted<'n> {
+struct RecordedRun<'n> {
     watch: &'n Watch,
     machine: &'n Machine,
     image: &'n Image,
 }
 
 /// The text of the profile, if one is ordered.
-fn profile_of(alloc: Global, order: &WatchOrder<'_>, noted: Noted<'_>) -> Result<String, Memory> {
+fn profile_of(
+    alloc: Global,
+    order: &WatchOrder<'_>,
+    noted: RecordedRun<'_>,
+) -> Result<String, Memory> {
     match order.profile {
         Some(_) => profile(alloc, noted.watch, noted.machine, noted.image),
         None => Ok(String::new(alloc)),
@@ -253,16 +258,16 @@ fn profile_of(alloc: Global, order: &WatchOrder<'_>, noted: Noted<'_>) -> Result
 
 /// Completes the trace and the profile. The inner result is a failure of a file; the outer one is `Memory` if an
 /// allocation fails.
-fn end_notes<W: Write + Drop, F: Files<File = W>>(
+fn finish_records<W: Write + Drop, F: Files<File = W>>(
     rt: &F,
     alloc: Global,
     order: &WatchOrder<'_>,
-    notes: Notes<W>,
-    noted: Noted<'_>,
+    notes: RecordFiles<W>,
+    noted: RecordedRun<'_>,
 ) -> Result<Result<(), Failure>, Memory> {
     match profile_of(alloc, order, noted) {
         Ok(text) => {
-            let last = Last {
+            let last = Records {
                 is_whole: noted.watch.is_whole(),
                 profile: text.as_str(),
             };
@@ -273,7 +278,7 @@ fn end_notes<W: Write + Drop, F: Files<File = W>>(
 }
 
 /// The failure of the run or, if there is none, that of its trace and profile. `Memory` comes first.
-fn first_of(
+fn first_failure(
     done: Result<(), Failure>,
     ended: Result<Result<(), Failure>, Memory>,
 ) -> Result<(), Failure> {
@@ -286,32 +291,35 @@ fn first_of(
     }
 }
 
-/// Like `run_linked`, and records what the run does.
+/// Like `run_linked`, and records what the run does. Fails if nothing was run.
 fn watch_linked<F: Files, R: Read, W: Write>(
     rt: &F,
     alloc: Global,
-    manner: &Manner<'_, '_>,
+    setup: &RunSetup<'_, '_>,
     order: &WatchOrder<'_>,
     streams: &mut FileStreams<R, W>,
-) -> Result<(), Failure> {
-    let image = &manner.program.image;
+) -> Result<Ran, Failure> {
+    let image = &setup.program.image;
     let mut watch = Watch::new(alloc, window_of(order))?;
     let mut machine = Machine::new(alloc, image)?;
-    let mut notes: Notes<F::File> = Notes::begin(rt, alloc, order)?;
-    let end = run_noted(
+    let mut notes: RecordFiles<F::File> = RecordFiles::begin(rt, alloc, order)?;
+    let end = run_recorded(
         &mut machine,
         &mut watch,
         streams,
-        manner.steps,
+        setup.steps,
         &mut notes.trace,
     );
-    let done = came_to(alloc, manner, &machine, streams, &end);
-    let ran = Noted {
+    let done = result_of(alloc, setup, &machine, streams, &end);
+    let ran = RecordedRun {
         watch: &watch,
         machine: &machine,
         image,
     };
-    first_of(done, end_notes(rt, alloc, order, notes, ran))
+    Ok(Ran {
+        done: first_failure(done, finish_records(rt, alloc, order, notes, ran)),
+        high: high_of(order, &watch),
+    })
 }
 
 /// The streams of a run over devices.
@@ -321,16 +329,16 @@ pub type Streams<R, O, F> = FileStreams<BufReader<Source<R, F>>, BufWriter<Sink<
 pub fn streams_of<F: Files, R: Read + Drop, O: Write + Drop>(
     rt: &F,
     alloc: Global,
-    standards: Standards<Source<R, F::File>, O>,
+    streams: RunStreams<Source<R, F::File>, O>,
     inputs_of: &[Binding<'_>],
     outputs_of: &[Binding<'_>],
 ) -> Result<Streams<R, O, F::File>, Failure> {
-    let Standards {
+    let RunStreams {
         input,
         out,
         is_terminal,
-        shows: _,
-    } = standards;
+        explains: _,
+    } = streams;
     let inputs = inputs(rt, alloc, input, inputs_of)?;
     let outputs = outputs(rt, alloc, out, is_terminal, outputs_of)?;
     match FileStreams::new(alloc, inputs, outputs) {
@@ -343,46 +351,46 @@ pub fn streams_of<F: Files, R: Read + Drop, O: Write + Drop>(
 fn run_alone<F: Files, O: Write + Drop>(
     rt: &F,
     alloc: Global,
-    manner: &Manner<'_, '_>,
+    setup: &RunSetup<'_, '_>,
     out: O,
     is_terminal: bool,
 ) -> Result<(), Failure> {
     let input: Source<F::File, F::File> = Source::Empty;
-    let standards = Standards {
+    let streams = RunStreams {
         input,
         out,
         is_terminal,
-        shows: manner.shows,
+        explains: setup.explains,
     };
-    let mut streams = streams_of(rt, alloc, standards, &[], &[])?;
-    run_linked(alloc, manner, &mut streams)
+    let mut streams = streams_of(rt, alloc, streams, &[], &[])?;
+    run_linked(alloc, setup, &mut streams)
 }
 
 /// Runs the text on standard input, with an empty input.
 pub fn run_input<F: Files, R: Read + Drop, O: Write + Drop>(
     rt: &F,
     alloc: Global,
-    standards: Standards<R, O>,
+    streams: RunStreams<R, O>,
 ) -> Result<(), Failure> {
-    let Standards {
+    let RunStreams {
         input,
         out,
         is_terminal,
-        shows,
-    } = standards;
+        explains,
+    } = streams;
     let bytes = standard_text(alloc, input)?;
     let texts = [Text {
         path: "SYSIN",
         bytes: bytes.as_slice(),
     }];
-    let program = linked(alloc, &texts, shows)?;
-    let manner = Manner {
+    let program = linked(alloc, &texts, explains)?;
+    let setup = RunSetup {
         texts: &texts,
         program: &program,
         steps: DEFAULT_STEPS,
-        shows,
+        explains,
     };
-    run_alone(rt, alloc, &manner, out, is_terminal)
+    run_alone(rt, alloc, &setup, out, is_terminal)
 }
 
 /// The names of streams: this one, then those of the arguments.
@@ -407,99 +415,80 @@ fn lines_of_streams(alloc: Global, order: &RunOrder<'_>) -> Result<String, Memor
 }
 
 /// Explains a failure of the streams if it is about their names.
-fn told_of_streams(alloc: Global, order: &RunOrder<'_>, failure: Failure, shows: bool) -> Failure {
+fn explain_streams(
+    alloc: Global,
+    order: &RunOrder<'_>,
+    failure: Failure,
+    explains: bool,
+) -> Failure {
     let is_name = match &failure.cause {
         Cause::Streams(fault) => !matches!(fault, StreamsError::Memory),
         _ => false,
     };
-    if shows && is_name {
-        explained(failure, lines_of_streams(alloc, order))
+    if explains && is_name {
+        explained(alloc, failure, lines_of_streams(alloc, order))
     } else {
         failure
     }
 }
 
-/// Reads the texts of a run, after checking that the trace and the profile overwrite none of them.
-fn run_contents<F: Files>(
-    rt: &F,
-    alloc: Global,
-    order: &RunOrder<'_>,
-) -> Result<Vec<Vec<u8>>, Failure> {
-    match spare_texts(rt, alloc, order) {
-        Ok(()) => all_contents(rt, alloc, order.texts.as_slice()),
-        Err(failure) => Err(failure),
-    }
-}
-
-/// The bytes of the texts of a run, and the program linked from them.
+/// The texts of a run, and the program linked from them.
 #[derive(Drop)]
 struct LoadedTexts {
-    contents: Vec<Vec<u8>>,
+    files: Vec<TextFile>,
     program: LinkedProgram,
 }
 
-/// Reads and links the texts of a run. If `shows`, explains a refusal.
+/// Reads and links the texts of a run. If `explains`, explains a refusal.
 fn loaded<F: Files>(
     rt: &F,
     alloc: Global,
     order: &RunOrder<'_>,
-    shows: bool,
+    explains: bool,
 ) -> Result<LoadedTexts, Failure> {
-    let contents = run_contents(rt, alloc, order)?;
-    match program_of(alloc, order.texts.as_slice(), contents.as_slice(), shows) {
-        Ok(program) => Ok(LoadedTexts { contents, program }),
+    let files = read_texts(rt, alloc, order.texts.as_slice())?;
+    match program_of(alloc, files.as_slice(), explains) {
+        Ok(program) => Ok(LoadedTexts { files, program }),
         Err(failure) => Err(failure),
     }
 }
 
-/// Runs `run`.
+/// Runs `run`. Fails if nothing was run.
 pub fn run<F: Files, R: Read + Drop, O: Write + Drop>(
     rt: &F,
     alloc: Global,
     order: &RunOrder<'_>,
-    standards: Standards<R, O>,
-) -> Result<(), Failure> {
-    let shows = standards.shows;
-    let loaded = match loaded(rt, alloc, order, shows) {
+    streams: RunStreams<R, O>,
+) -> Result<Ran, Failure> {
+    let explains = streams.explains;
+    order.protect_files(rt, alloc)?;
+    let loaded = match loaded(rt, alloc, order, explains) {
         Ok(loaded) => loaded,
         Err(failure) => return Err(failure),
     };
-    match texts_of(alloc, order.texts.as_slice(), loaded.contents.as_slice()) {
+    match texts_of(alloc, loaded.files.as_slice()) {
         Ok(texts) => {
-            let manner = Manner {
+            let setup = RunSetup {
                 texts: texts.as_slice(),
                 program: &loaded.program,
                 steps: order.steps,
-                shows,
+                explains,
             };
-            run_program(rt, alloc, order, &manner, standards)
+            run_program(rt, alloc, order, &setup, streams)
         }
         Err(_) => Err(Failure::new(Cause::Memory)),
     }
 }
 
-/// Opens the streams of a run. Refuses an output whose file the run reads or another output writes.
+/// Opens the streams of a run.
 fn run_streams<F: Files, R: Read + Drop, O: Write + Drop>(
     rt: &F,
     alloc: Global,
     order: &RunOrder<'_>,
-    standards: Standards<R, O>,
+    streams: RunStreams<R, O>,
 ) -> Result<Streams<R, O, F::File>, Failure> {
-    let Standards {
-        input,
-        out,
-        is_terminal,
-        shows,
-    } = standards;
     let (inputs, outputs) = (order.inputs.as_slice(), order.outputs.as_slice());
-    spare_files(rt, alloc, order.texts.as_slice(), inputs, outputs)?;
-    let standards = Standards {
-        input: Source::Standard(input),
-        out,
-        is_terminal,
-        shows,
-    };
-    streams_of(rt, alloc, standards, inputs, outputs)
+    streams_of(rt, alloc, streams.on_source(), inputs, outputs)
 }
 
 /// Runs a linked program.
@@ -507,17 +496,20 @@ fn run_program<F: Files, R: Read + Drop, O: Write + Drop>(
     rt: &F,
     alloc: Global,
     order: &RunOrder<'_>,
-    manner: &Manner<'_, '_>,
-    standards: Standards<R, O>,
-) -> Result<(), Failure> {
-    match run_streams(rt, alloc, order, standards) {
+    setup: &RunSetup<'_, '_>,
+    streams: RunStreams<R, O>,
+) -> Result<Ran, Failure> {
+    match run_streams(rt, alloc, order, streams) {
         Ok(mut streams) => {
             if is_watched(&order.watch) {
-                watch_linked(rt, alloc, manner, &order.watch, &mut streams)
+                watch_linked(rt, alloc, setup, &order.watch, &mut streams)
             } else {
-                run_linked(alloc, manner, &mut streams)
+                Ok(Ran {
+                    done: run_linked(alloc, setup, &mut streams),
+                    high: None,
+                })
             }
         }
-        Err(failure) => Err(told_of_streams(alloc, order, failure, manner.shows)),
+        Err(failure) => Err(explain_streams(alloc, order, failure, setup.explains)),
     }
 }

@@ -8,8 +8,8 @@ ghost use Rattle.bc_parse_tree.specs.View.{section_view};
 use crate::compiling::refused;
 use crate::diagnostics::Program;
 use crate::explain::entries_of;
-use crate::output::{of_output, print_all};
-use crate::source_files::{Gathered, sources_of};
+use crate::output::{of_listing, print_all};
+use crate::source_files::Gathered;
 use crate::texts::in_memory;
 use bc_build::{BuildError, Built, build};
 use bc_lex::{Token, lex};
@@ -17,10 +17,12 @@ use bc_parse::{ParseError, Section, parse, spell};
 use bc_run::primitives;
 use bc_scope::{Core, resolve};
 use bc_text_items::{Item, Segment};
-use bcpl_cli::{Cause, Failure, Listing, ShowOrder, Sources};
+use bcpl_cli::{Cause, Failure, Listing, ShowOrder, Sources, TreeShape, load_sources};
 use bcpl_messages::Named;
-use bcpl_scopes::{Scopes, Setter, scope_listing};
-use bcpl_show::{Files, code_listing, token_listing, tree_listing};
+use bcpl_show::{
+    Files, Scopes, Setter, TreeForm, code_listing, scope_listing, source_listing, syntax_listing,
+    token_listing,
+};
 use std::alloc::Global;
 use std::io::Write;
 use std::mem::forget;
@@ -35,7 +37,9 @@ struct Shown<'a, 's> {
     /// The indexes of the mains of its program.
     mains: &'a [usize],
     /// Whether a refusal is explained.
-    shows: bool,
+    explains: bool,
+    /// Whether messages are JSON objects.
+    is_json: bool,
     ghost within: { All (λ index. index < length files.sources.now) mains.now },
 }
 
@@ -57,8 +61,10 @@ impl<'a, 's> Shown<'a, 's> {
                 paths: self.files.paths,
             },
             mains,
+            is_json: self.is_json,
+            explains_all: false,
         };
-        refused(alloc, &program, fault, self.shows)
+        refused(alloc, &program, fault, self.explains)
     }
 
     /// The tokens of the source, at most 60,000.
@@ -85,12 +91,15 @@ impl<'a, 's> Shown<'a, 's> {
         in_memory(token_listing(alloc, self.files, self.main, tokens.as_slice()))
     }
 
-    /// The listing `tree`.
-    fn tree_listing(&self, alloc: Global) -> Result<Vec<u8>, Failure> {
+    /// The listing `source`, or `tree` in this form.
+    fn parsed_listing(&self, alloc: Global, form: Option<TreeForm>) -> Result<Vec<u8>, Failure> {
         let tokens = self.tokens(alloc)?;
         match parse(alloc, tokens.as_slice()) {
             Ok(section) => {
-                let listing = self.tree_of(alloc, tokens.as_slice(), &section);
+                let listing = match form {
+                    Some(form) => self.tree_of(alloc, tokens.as_slice(), &section, form),
+                    None => self.source_of(alloc, tokens.as_slice(), &section),
+                };
                 // The process is about to end, and the system frees all its memory at once.
                 forget(section);
                 listing
@@ -99,15 +108,27 @@ impl<'a, 's> Shown<'a, 's> {
         }
     }
 
-    /// The listing `tree` of a parsed section.
-    fn tree_of(
+    /// The listing `source` of a parsed section.
+    fn source_of(
         &self,
         alloc: Global,
         tokens: &[Token<'s>],
         section: &Section<'s>,
     ) -> Result<Vec<u8>, Failure> {
         let kinds = spell(alloc, section)?;
-        in_memory(tree_listing(alloc, self.files, self.main, tokens, kinds.as_slice()))
+        in_memory(source_listing(alloc, self.files, self.main, tokens, kinds.as_slice()))
+    }
+
+    /// The listing `tree` of a parsed section, in this form.
+    fn tree_of(
+        &self,
+        alloc: Global,
+        tokens: &[Token<'s>],
+        section: &Section<'s>,
+        form: TreeForm,
+    ) -> Result<Vec<u8>, Failure> {
+        let source = (self.main, tokens);
+        in_memory(syntax_listing(alloc, self.files, source, section, form))
     }
 
     /// Builds the program of the library and the source.
@@ -254,12 +275,21 @@ fn first_of(built: &Built) -> [u64; 3] {
     ]
 }
 
-/// The listing of the last source.
+/// The form of the tree that the arguments name.
+fn form_of(shape: TreeShape) -> TreeForm {
+    match shape {
+        TreeShape::Indented => TreeForm::Lines,
+        TreeShape::Dot => TreeForm::Dot,
+        TreeShape::Json => TreeForm::Json,
+    }
+}
+
+/// The listing of the last file.
 fn listed(
     alloc: Global,
     gathered: &Gathered<'_, '_>,
     listing: Listing,
-    shows: bool,
+    explains: bool,
 ) -> Result<Vec<u8>, Failure> {
     let program = gathered.program();
     let shown = Shown {
@@ -268,13 +298,15 @@ fn listed(
             paths: program.named.paths,
             library: gathered.library,
         },
-        main: program.named.sources.len().saturating_sub(1),
+        main: gathered.last,
         mains: program.mains,
-        shows,
+        explains,
+        is_json: program.is_json,
     };
     match listing {
         Listing::Tokens => shown.token_listing(alloc),
-        Listing::Tree => shown.tree_listing(alloc),
+        Listing::Source => shown.parsed_listing(alloc, None),
+        Listing::Tree(shape) => shown.parsed_listing(alloc, Some(form_of(shape))),
         Listing::Scopes | Listing::Code => shown.built_listing(alloc, listing),
     }
 }
@@ -285,21 +317,21 @@ fn listing_of<F: Access>(
     alloc: Global,
     given: &Sources<'_>,
     listing: Listing,
-    shows: bool,
+    explains: bool,
 ) -> Result<Vec<u8>, Failure> {
-    let loaded = sources_of(rt, alloc, given)?;
+    let loaded = load_sources(rt, alloc, given)?;
     let gathered = Gathered::new(alloc, given, loaded.as_slice())?;
-    listed(alloc, &gathered, listing, shows)
+    listed(alloc, &gathered, listing, explains)
 }
 
-/// Runs `show`. If `shows`, explains a refusal.
+/// Runs `show`. If `explains`, explains a refusal.
 pub fn show<F: Access, O: Write + Drop>(
     rt: &F,
     alloc: Global,
     order: &ShowOrder<'_>,
-    shows: bool,
+    explains: bool,
     out: &mut O,
 ) -> Result<(), Failure> {
-    let text = listing_of(rt, alloc, &order.sources, order.listing, shows)?;
-    of_output(alloc, print_all(text.as_slice(), out))
+    let text = listing_of(rt, alloc, &order.sources, order.listing, explains)?;
+    of_listing(alloc, print_all(text.as_slice(), out))
 }

@@ -4,15 +4,13 @@ ghost use Rattle.std.specs.Prelude.{◌<◌, All, IfOk, length, vec_len};
 
 use crate::diagnostics::Program;
 use crate::growing_list::Growing;
-use crate::texts::add;
 use bc_lex::Source;
 use bc_library_ext::{EXTHDR, EXTLIB};
 use bc_run::{BLIB, LIBHDR};
 use bc_word::Memory;
-use bcpl_cli::{Failure, Library, Sources, contents};
+use bcpl_cli::{Library, LinkedLibrary, LoadedSource, Sources, lean_libraries};
 use bcpl_messages::Named;
 use std::alloc::Global;
-use std::rt::Files;
 
 /// The number of sources before those of the command line: LIBHDR and BLIB, of which BLIB is a main.
 const BASIC_SOURCES: usize = 2;
@@ -28,59 +26,41 @@ fn library_sources(library: Library) -> usize {
     }
 }
 
-/// A source that was read from a file.
-#[derive(Drop)]
-pub struct Loaded {
-    /// The name by which GET finds it.
-    name: Vec<u8>,
-    /// Its content.
-    text: Vec<u8>,
-}
-
-/// Reads a source from the file with this path.
-fn source_of<F: Files>(rt: &F, alloc: Global, name: &str, path: &str) -> Result<Loaded, Failure> {
-    let text = contents(rt, alloc, path)?;
-    let name = Vec::from_slice(alloc, name.as_bytes())?;
-    Ok(Loaded { name, text })
-}
-
-/// Reads the files that the arguments name, beginning with those of `--get`.
-pub fn sources_of<F: Files>(
-    rt: &F,
-    alloc: Global,
-    given: &Sources<'_>,
-) -> Result<Vec<Loaded>, Failure> {
-    let mut sources = Vec::new(alloc);
-    for binding in &given.gets {
-        add(
-            &mut sources,
-            source_of(rt, alloc, binding.name, binding.path),
-        )?;
-    }
-    for path in &given.files {
-        add(&mut sources, source_of(rt, alloc, path, path))?;
-    }
-    Ok(sources)
-}
-
-/// The indexes of the mains among `sources` sources: those of the library, and all sources after the library and the
-/// files of `--get`.
-fn mains_of(
-    alloc: Global,
+/// How the sources are ordered: those of the library, those of `--get`, the files, and those that were included.
+#[derive(Clone, Copy)]
+struct SourceOrder {
     library: usize,
+    /// Whether the library is linked.
+    is_linked: bool,
     gets: usize,
-    sources: usize,
-) -> Result<Vec<usize>, Memory>
+    files: usize,
+}
+
+impl SourceOrder {
+    /// The index of the last file.
+    fn last(self) -> usize {
+        let before = self.library.saturating_add(self.gets);
+        before.saturating_add(self.files).saturating_sub(1)
+    }
+
+    /// Whether the source with this index is a main: one of the library that is no header, or one of the files.
+    fn is_main(self, source: usize) -> bool {
+        if source < self.library {
+            self.is_linked && source % 2 == 1
+        } else {
+            let number = source - self.library;
+            number >= self.gets && number - self.gets < self.files
+        }
+    }
+}
+
+/// The indexes of the mains among `sources` sources.
+fn mains_of(alloc: Global, order: SourceOrder, sources: usize) -> Result<Vec<usize>, Memory>
     ensures { IfOk result (λ mains. All (λ main. main < sources) mains.items) }
 {
     let mut mains = Vec::new(alloc);
     for source in 1..sources {
-        let is_main = if source < library {
-            source % 2 == 1
-        } else {
-            source - library >= gets
-        };
-        if is_main {
+        if order.is_main(source) {
             mains.push(source)?;
         }
     }
@@ -97,33 +77,62 @@ fn library_name<'s>(index: usize) -> &'s str {
     }
 }
 
-/// The library source with this index.
-fn library_source<'s>(index: usize) -> Source<'s> {
+/// The text of the library source with this index. `lean` has the texts of BLIB and EXTLIB if these are cut.
+fn library_text<'s>(index: usize, lean: &'s [String]) -> &'s str {
     let text = match index {
         0 => LIBHDR,
         1 => BLIB,
         2 => EXTHDR,
         _ => EXTLIB,
     };
-    Source {
-        name: library_name(index).as_bytes(),
-        text: text.as_bytes(),
+    match lean.get(index / 2) {
+        Some(lean) if index % 2 == 1 => lean.as_str(),
+        _ => text,
     }
 }
 
-/// All sources in the compiler's order: those of the library, then these.
+/// The library source with this index, cut if `lean` has its text.
+fn library_source<'s>(index: usize, lean: &'s [String]) -> Source<'s> {
+    Source {
+        name: library_name(index).as_bytes(),
+        text: library_text(index, lean).as_bytes(),
+    }
+}
+
+/// The texts of BLIB and EXTLIB with only what these files reach by name, if that is ordered; otherwise nothing.
+pub fn lean_texts(
+    alloc: Global,
+    given: &Sources<'_>,
+    files: &[LoadedSource],
+) -> Result<Vec<String>, Memory> {
+    if given.linked != LinkedLibrary::Lean {
+        return Ok(Vec::new(alloc));
+    }
+    let mut texts = Growing::new(alloc);
+    for file in files {
+        texts.add(file.text.as_slice());
+    }
+    let texts = texts.whole()?;
+    match given.library {
+        Library::Basic => lean_libraries(alloc, &[BLIB], texts.as_slice()),
+        Library::Further => lean_libraries(alloc, &[BLIB, EXTLIB], texts.as_slice()),
+    }
+}
+
+/// All sources in the compiler's order: those of the library, cut if `lean` has their texts, then these.
 fn given_to_compiler<'s>(
     alloc: Global,
     library: usize,
-    files: &'s [Loaded],
+    files: &'s [LoadedSource],
+    lean: &'s [String],
 ) -> Result<Vec<Source<'s>>, Memory> {
     let mut sources = Growing::new(alloc);
     for index in 0..library {
-        sources.add(library_source(index));
+        sources.add(library_source(index, lean));
     }
     for file in files {
         sources.add(Source {
-            name: file.name.as_slice(),
+            name: file.name.as_bytes(),
             text: file.text.as_slice(),
         });
     }
@@ -131,20 +140,17 @@ fn given_to_compiler<'s>(
 }
 
 /// The paths to print for the sources, in the same order.
-fn paths_of<'a>(
+fn paths_of<'s>(
     alloc: Global,
     library: usize,
-    given: &Sources<'a>,
-) -> Result<Vec<&'a str>, Memory> {
+    files: &'s [LoadedSource],
+) -> Result<Vec<&'s str>, Memory> {
     let mut paths = Growing::new(alloc);
     for index in 0..library {
         paths.add(library_name(index));
     }
-    for binding in &given.gets {
-        paths.add(binding.path);
-    }
-    for path in &given.files {
-        paths.add(*path);
+    for file in files {
+        paths.add(file.shown.as_str());
     }
     paths.whole()
 }
@@ -159,28 +165,55 @@ pub struct Gathered<'a, 's> {
     mains: Vec<usize>,
     /// The number of sources that belong to the library; they come first.
     pub library: usize,
+    /// Whether messages are JSON objects.
+    is_json: bool,
+    /// Whether all errors of a file are explained.
+    explains_all: bool,
+    /// The index of the last file of the command line.
+    pub last: usize,
     ghost within: { All (λ main. main < vec_len sources) mains.items },
 }
 
-impl<'a, 's> Gathered<'a, 's> {
-    /// The program of the library and the files that the arguments name.
+impl<'s> Gathered<'s, 's> {
+    /// The program of the library and these files, which the arguments name or which were included.
     pub fn new(
         alloc: Global,
-        given: &Sources<'a>,
-        files: &'s [Loaded],
-    ) -> Result<Gathered<'a, 's>, Memory> {
+        given: &Sources<'_>,
+        files: &'s [LoadedSource],
+    ) -> Result<Gathered<'s, 's>, Memory> {
+        Gathered::with_lean_library(alloc, given, files, &[])
+    }
+
+    /// Like `new`, with these texts of BLIB and EXTLIB, unless `lean` has none.
+    pub fn with_lean_library(
+        alloc: Global,
+        given: &Sources<'_>,
+        files: &'s [LoadedSource],
+        lean: &'s [String],
+    ) -> Result<Gathered<'s, 's>, Memory> {
         let library = library_sources(given.library);
-        let sources = given_to_compiler(alloc, library, files)?;
-        let paths = paths_of(alloc, library, given)?;
-        let mains = mains_of(alloc, library, given.gets.len(), sources.len())?;
+        let sources = given_to_compiler(alloc, library, files, lean)?;
+        let paths = paths_of(alloc, library, files)?;
+        let order = SourceOrder {
+            library,
+            is_linked: given.linked != LinkedLibrary::Nothing,
+            gets: given.gets.len(),
+            files: given.files.len(),
+        };
+        let mains = mains_of(alloc, order, sources.len())?;
         Ok(Gathered {
             sources,
             paths,
             mains,
             library,
+            is_json: given.is_json,
+            explains_all: given.explains_all,
+            last: order.last(),
         })
     }
+}
 
+impl<'a, 's> Gathered<'a, 's> {
     /// The sources with their paths, and the mains.
     pub fn program(&self) -> Program<'_, 's>
         ensures { All (λ main. main < length result.named.sources.now) result.mains.now }
@@ -191,6 +224,8 @@ impl<'a, 's> Gathered<'a, 's> {
                 paths: self.paths.as_slice(),
             },
             mains: self.mains.as_slice(),
+            is_json: self.is_json,
+            explains_all: self.explains_all,
         }
     }
 }

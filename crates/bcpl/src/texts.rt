@@ -9,7 +9,7 @@ use bc_run::after_primitives;
 use bc_text::Reader;
 use bc_text_items::Segment;
 use bc_word::Memory;
-use bcpl_cli::{Cause, FILE_LIMIT, Failure, contents};
+use bcpl_cli::{Cause, FILE_LIMIT, Failure, contents, shown_path};
 use bcpl_reports::{Text, link_lines, text_lines};
 use std::alloc::Global;
 use std::io;
@@ -29,15 +29,30 @@ pub fn in_memory<T: Drop>(found: Result<T, Memory>) -> Result<T, Failure> {
     }
 }
 
-/// The contents of the files with these paths.
-pub fn all_contents<F: Files>(
+/// The content of a file with a text.
+#[derive(Drop)]
+pub struct TextFile {
+    /// The path as messages show it.
+    shown: String,
+    bytes: Vec<u8>,
+}
+
+/// Reads the file with this path.
+fn text_file<F: Files>(rt: &F, alloc: Global, path: &str) -> Result<TextFile, Failure> {
+    let bytes = contents(rt, alloc, path)?;
+    let shown = shown_path(alloc, path)?;
+    Ok(TextFile { shown, bytes })
+}
+
+/// Reads the files with these paths.
+pub fn read_texts<F: Files>(
     rt: &F,
     alloc: Global,
     paths: &[&str],
-) -> Result<Vec<Vec<u8>>, Failure> {
+) -> Result<Vec<TextFile>, Failure> {
     let mut all = Vec::new(alloc);
     for path in paths {
-        add(&mut all, contents(rt, alloc, path))?;
+        add(&mut all, text_file(rt, alloc, path))?;
     }
     Ok(all)
 }
@@ -90,27 +105,50 @@ pub fn standard_text<R: Read + Drop>(alloc: Global, input: R) -> Result<Vec<u8>,
     }
 }
 
-/// The texts with these paths and contents.
-pub fn texts_of<'a>(
-    alloc: Global,
-    paths: &[&'a str],
-    contents: &'a [Vec<u8>],
-) -> Result<Vec<Text<'a>>, Memory> {
+/// The texts in these files.
+pub fn texts_of<'a>(alloc: Global, files: &'a [TextFile]) -> Result<Vec<Text<'a>>, Memory> {
     let mut texts = Growing::new(alloc);
-    for (path, bytes) in paths.iter().zip(contents) {
+    for file in files {
         texts.add(Text {
-            path: *path,
-            bytes: bytes.as_slice(),
+            path: file.shown.as_str(),
+            bytes: file.bytes.as_slice(),
         });
     }
     texts.whole()
 }
 
+/// Whether this text, up to a `: `, is a path with a line and a column.
+fn is_place(text: &str) -> bool {
+    let Some((front, column)) = text.rsplit_once(':') else {
+        return false;
+    };
+    let line = match front.rsplit_once(':') {
+        Some((_, line)) => line,
+        None => return false,
+    };
+    !line.is_empty()
+        && line.bytes().all(|byte| byte.is_ascii_digit())
+        && column.bytes().all(|byte| byte.is_ascii_digit())
+}
+
+/// An explanation in which `error: ` follows the place with which it begins, if it begins with one.
+fn as_error(alloc: Global, lines: String) -> Result<String, Memory> {
+    match lines.as_str().split_once(": ") {
+        Some((place, sentence)) if is_place(place) => {
+            Ok(format!(in alloc; "{place}: error: {sentence}")?)
+        }
+        _ => Ok(lines),
+    }
+}
+
 /// A failure with this explanation, if there was memory for it.
-pub fn explained(failure: Failure, lines: Result<String, Memory>) -> Failure
+pub fn explained(alloc: Global, failure: Failure, lines: Result<String, Memory>) -> Failure
     ensures { result.cause ≡ failure.cause }
 {
-    match lines {
+    let Ok(lines) = lines else {
+        return failure;
+    };
+    match as_error(alloc, lines) {
         Ok(lines) => failure.with(lines),
         Err(_) => failure,
     }
@@ -127,25 +165,25 @@ fn add_segments(alloc: Global, segments: &mut Vec<Segment>, text: &[u8]) -> Resu
 }
 
 /// Explains the failure of a text.
-fn told_of_text(alloc: Global, failure: Failure, text: Text<'_>) -> Failure {
+fn explain_text(alloc: Global, failure: Failure, text: Text<'_>) -> Failure {
     let lines = match &failure.cause {
         Cause::Text(fault) => text_lines(alloc, text, *fault),
         _ => return failure,
     };
-    explained(failure, lines)
+    explained(alloc, failure, lines)
 }
 
-/// The segments of these texts, in order. If `shows`, explains a refusal.
+/// The segments of these texts, in order. If `explains`, explains a refusal.
 pub fn segments_of(
     alloc: Global,
     texts: &[Text<'_>],
-    shows: bool,
+    explains: bool,
 ) -> Result<Vec<Segment>, Failure> {
     let mut segments = Vec::new(alloc);
     for text in texts {
         if let Err(failure) = add_segments(alloc, &mut segments, text.bytes) {
-            return Err(if shows {
-                told_of_text(alloc, failure, *text)
+            return Err(if explains {
+                explain_text(alloc, failure, *text)
             } else {
                 failure
             });
@@ -167,32 +205,31 @@ fn unlinked(
     texts: &[Text<'_>],
     segments: &[Segment],
     fault: &LinkError,
-    shows: bool,
+    explains: bool,
 ) -> Failure {
     let failure = Failure::from(*fault);
-    if shows {
-        explained(failure, link_lines(alloc, texts, segments, *fault))
+    if explains {
+        explained(alloc, failure, link_lines(alloc, texts, segments, *fault))
     } else {
         failure
     }
 }
 
-/// Links these texts after the primitives. If `shows`, explains a refusal.
-pub fn linked(alloc: Global, texts: &[Text<'_>], shows: bool) -> Result<LinkedProgram, Failure> {
-    let segments = after_primitives(alloc, segments_of(alloc, texts, shows)?)?;
+/// Links these texts after the primitives. If `explains`, explains a refusal.
+pub fn linked(alloc: Global, texts: &[Text<'_>], explains: bool) -> Result<LinkedProgram, Failure> {
+    let segments = after_primitives(alloc, segments_of(alloc, texts, explains)?)?;
     match link(alloc, segments.as_slice()) {
         Ok(image) => Ok(LinkedProgram { segments, image }),
-        Err(fault) => Err(unlinked(alloc, texts, segments.as_slice(), &fault, shows)),
+        Err(fault) => Err(unlinked(alloc, texts, segments.as_slice(), &fault, explains)),
     }
 }
 
-/// Parses and links the texts with these paths and contents. If `shows`, explains a refusal.
-pub fn program_of<'a>(
+/// Parses and links the texts in these files. If `explains`, explains a refusal.
+pub fn program_of(
     alloc: Global,
-    paths: &[&'a str],
-    contents: &'a [Vec<u8>],
-    shows: bool,
+    files: &[TextFile],
+    explains: bool,
 ) -> Result<LinkedProgram, Failure> {
-    let texts = texts_of(alloc, paths, contents)?;
-    linked(alloc, texts.as_slice(), shows)
+    let texts = texts_of(alloc, files)?;
+    linked(alloc, texts.as_slice(), explains)
 }

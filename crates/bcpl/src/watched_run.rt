@@ -1,21 +1,21 @@
-//! The files for the trace and the profile of a run.
+//! What `run` records of a run: the trace, the profile, and how much of the store it used.
 
-use bcpl_cli::{Failure, RunOrder, WatchOrder, Written, is_one_file};
-use bcpl_trace::Window;
+use bcpl_cli::{AtomicFile, Failure, WatchOrder};
+use bcpl_trace::{High, Watch, Window};
 use std::alloc::Global;
 use std::io::Write;
 use std::rt::Files;
 
 /// The files for the records of a run.
 #[derive(Drop)]
-pub struct Notes<W: Write + Drop> {
-    pub trace: Option<Written<W>>,
-    profile: Option<Written<W>>,
+pub struct RecordFiles<W: Write + Drop> {
+    pub trace: Option<AtomicFile<W>>,
+    profile: Option<AtomicFile<W>>,
 }
 
 /// What there is to write after a run.
 #[derive(Clone, Copy)]
-pub struct Last<'t> {
+pub struct Records<'t> {
     /// Whether every line of the trace was written.
     pub is_whole: bool,
     /// The text of the profile.
@@ -35,48 +35,20 @@ pub fn window_of(order: &WatchOrder<'_>) -> Option<Window> {
 
 /// Whether the run is recorded in any way.
 pub fn is_watched(order: &WatchOrder<'_>) -> bool {
-    order.trace.is_some() || order.profile.is_some()
+    order.trace.is_some() || order.profile.is_some() || order.high
 }
 
-/// Refuses a file for a trace or profile that is one of the texts.
-fn spare<F: Files>(
-    rt: &F,
-    alloc: Global,
-    path: Option<&str>,
-    texts: &[&str],
-) -> Result<(), Failure> {
-    let Some(path) = path else {
-        return Ok(());
-    };
-    if texts.iter().any(|text| is_one_file(rt, path, text)) {
-        return Err(Failure::file_since(
-            alloc,
-            path,
-            "this is one of the texts, so it can't be an output too",
-        ));
-    }
-    Ok(())
+/// How much of the store a recorded run used, if that is to be reported.
+pub fn high_of(order: &WatchOrder<'_>, watch: &Watch) -> Option<High> {
+    order.high.then_some(watch.high())
 }
 
-/// Refuses a profile whose file is the trace's.
-fn spare_trace<F: Files>(rt: &F, alloc: Global, order: &WatchOrder<'_>) -> Result<(), Failure> {
-    match (order.trace, order.profile) {
-        (Some(trace), Some(profile)) if is_one_file(rt, trace, profile) => {
-            Err(Failure::file_since(
-                alloc,
-                profile,
-                "the trace and the profile can't be the same file",
-            ))
-        }
-        _ => Ok(()),
-    }
-}
-
-/// Refuses files for trace and profile that are one of the texts or the same file.
-pub fn spare_texts<F: Files>(rt: &F, alloc: Global, order: &RunOrder<'_>) -> Result<(), Failure> {
-    spare(rt, alloc, order.watch.trace, order.texts.as_slice())?;
-    spare(rt, alloc, order.watch.profile, order.texts.as_slice())?;
-    spare_trace(rt, alloc, &order.watch)
+/// Prints how much of the store a run used. Errors are ignored: there is nowhere to report them.
+pub fn print_high<E: Write + Drop>(high: High, err: &mut E) {
+    let cell = high.cell;
+    let frame = high.frame;
+    let _ = writeln!(err, "bcpl: high {cell} {frame}");
+    let _ = err.flush();
 }
 
 /// Begins a file, if there is a path.
@@ -84,9 +56,9 @@ fn begun<W: Write + Drop, F: Files<File = W>>(
     rt: &F,
     alloc: Global,
     path: Option<&str>,
-) -> Result<Option<Written<W>>, Failure> {
+) -> Result<Option<AtomicFile<W>>, Failure> {
     match path {
-        Some(path) => match Written::begin(rt, alloc, path) {
+        Some(path) => match AtomicFile::begin(rt, alloc, path) {
             Ok(written) => Ok(Some(written)),
             Err(failure) => Err(failure),
         },
@@ -95,7 +67,7 @@ fn begun<W: Write + Drop, F: Files<File = W>>(
 }
 
 /// Leaves a file that was begun as it was before.
-fn abandon<W: Write + Drop, F: Files<File = W>>(rt: &F, written: Option<Written<W>>) {
+fn abandon<W: Write + Drop, F: Files<File = W>>(rt: &F, written: Option<AtomicFile<W>>) {
     if let Some(written) = written {
         written.abandon(rt);
     }
@@ -105,7 +77,7 @@ fn abandon<W: Write + Drop, F: Files<File = W>>(rt: &F, written: Option<Written<
 fn end<W: Write + Drop, F: Files<File = W>>(
     rt: &F,
     alloc: Global,
-    written: Written<W>,
+    written: AtomicFile<W>,
     path: &str,
     failure: Option<Failure>,
 ) -> Result<(), Failure> {
@@ -122,7 +94,7 @@ fn end<W: Write + Drop, F: Files<File = W>>(
 fn end_trace<W: Write + Drop, F: Files<File = W>>(
     rt: &F,
     alloc: Global,
-    trace: Option<Written<W>>,
+    trace: Option<AtomicFile<W>>,
     order: &WatchOrder<'_>,
     is_whole: bool,
 ) -> Result<(), Failure> {
@@ -142,7 +114,7 @@ fn end_trace<W: Write + Drop, F: Files<File = W>>(
 fn end_profile<W: Write + Drop, F: Files<File = W>>(
     rt: &F,
     alloc: Global,
-    profile: Option<Written<W>>,
+    profile: Option<AtomicFile<W>>,
     order: &WatchOrder<'_>,
     text: &str,
 ) -> Result<(), Failure> {
@@ -157,16 +129,16 @@ fn end_profile<W: Write + Drop, F: Files<File = W>>(
     end(rt, alloc, written, path, failure)
 }
 
-impl<W: Write + Drop> Notes<W> {
+impl<W: Write + Drop> RecordFiles<W> {
     /// Begins the files that are ordered.
     pub fn begin<F: Files<File = W>>(
         rt: &F,
         alloc: Global,
         order: &WatchOrder<'_>,
-    ) -> Result<Notes<W>, Failure> {
+    ) -> Result<RecordFiles<W>, Failure> {
         let trace = begun(rt, alloc, order.trace)?;
         match begun(rt, alloc, order.profile) {
-            Ok(profile) => Ok(Notes { trace, profile }),
+            Ok(profile) => Ok(RecordFiles { trace, profile }),
             Err(failure) => {
                 abandon(rt, trace);
                 Err(failure)
@@ -180,9 +152,9 @@ impl<W: Write + Drop> Notes<W> {
         rt: &F,
         alloc: Global,
         order: &WatchOrder<'_>,
-        last: Last<'_>,
+        last: Records<'_>,
     ) -> Result<(), Failure> {
-        let Notes { trace, profile } = self;
+        let RecordFiles { trace, profile } = self;
         end_trace(rt, alloc, trace, order, last.is_whole)?;
         end_profile(rt, alloc, profile, order, last.profile)
     }

@@ -5,8 +5,8 @@ use Rattle.bcpl_cli.specs.declared.failure.Cause.TheVariants as causes
 use Rattle.bcpl_cli.specs.declared.failure.Failure.{Failure}
 
 -- A failure without further lines.
-abbrev pub untold : Cause → Failure
-untold cause = record { cause = cause; told = None }
+abbrev pub unexplained : Cause → Failure
+unexplained cause = record { cause = cause; explanation = None }
 
 -- 2 if a run ended in another way than by finishing, was cut off, or met a wild cell; otherwise 1.
 abbrev pub cause_status : Cause → ℕ

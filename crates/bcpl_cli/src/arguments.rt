@@ -1,11 +1,14 @@
-//! The orders that a command line can give, and the reading of its arguments into one.
+//! The orders that a command line can give, and `parse_arguments`, which reads one.
 
 ghost use Rattle.std.specs.Prelude.{◌≡◌};
-ghost use Rattle.bcpl_cli.specs.declared.arguments.BadWords.TheVariants as bad_words;
+ghost use Rattle.bcpl_cli.specs.declared.arguments.ArgumentError.TheVariants as argument_errors;
 
+use crate::argument_reader::ArgumentReader;
 use crate::commands::program;
 use crate::converting::{ConvertOrder, convert_order};
-use crate::reading::Reading;
+use crate::grammar::Numbers;
+use crate::guessing::invalid_number;
+use clap::error::ErrorKind;
 use clap::{ArgMatches, Error};
 use std::alloc::{AllocError, Global};
 
@@ -27,6 +30,8 @@ pub struct WatchOrder<'a> {
     pub count: u64,
     /// The file for the profile, if any.
     pub profile: Option<&'a str>,
+    /// Whether to report how much of the store the run uses.
+    pub high: bool,
 }
 
 /// The arguments of `run`.
@@ -41,9 +46,29 @@ pub struct RunOrder<'a> {
     pub places: Places,
 }
 
+/// How `asm` prints an image.
+#[derive(Clone, Copy, PartialEq, Eq)]
+pub enum ImageFormat {
+    /// Each word in decimal, on a line of its own.
+    Words,
+    /// The base of the stack, then each word, in hexadecimal on a line of its own.
+    Hex,
+    /// The base of the stack, then each word, low byte first.
+    LittleEndian,
+    /// The base of the stack, then each word, high byte first.
+    BigEndian,
+    /// Intel HEX records.
+    IntelHex,
+    /// C source with an array.
+    CSource,
+    /// Motorola S-records.
+    Srec,
+}
+
 /// The arguments of `asm`.
 #[derive(Drop)]
 pub struct AssembleOrder<'a> {
+    pub format: ImageFormat,
     pub texts: Vec<&'a str>,
     pub places: Places,
 }
@@ -57,6 +82,8 @@ pub enum Places {
     OnTerminal,
     /// Never.
     Never,
+    /// Always, and all messages are JSON objects.
+    Json,
 }
 
 /// Which library precedes the files of a program.
@@ -68,12 +95,41 @@ pub enum Library {
     Further,
 }
 
+impl Library {
+    /// Whether this name always means a source of the library.
+    pub fn has_source(self, name: &str) -> bool {
+        match name {
+            "LIBHDR" | "BLIB" => true,
+            "EXTHDR" | "EXTLIB" => matches!(self, Library::Further),
+            _ => false,
+        }
+    }
+}
+
+/// What of the library is linked.
+#[derive(Clone, Copy, PartialEq, Eq)]
+pub enum LinkedLibrary {
+    /// All of it.
+    Whole,
+    /// The definitions that the sources can reach by name.
+    Lean,
+    /// Nothing. Its headers can be got all the same.
+    Nothing,
+}
+
 /// The sources of a program.
 #[derive(Drop)]
 pub struct Sources<'a> {
     pub library: Library,
+    /// Whether messages are JSON objects.
+    pub is_json: bool,
+    /// Whether all errors of a file are explained, and not only the first ones.
+    pub explains_all: bool,
+    pub linked: LinkedLibrary,
     /// The files for GET, by name.
     pub gets: Vec<Binding<'a>>,
+    /// The folders in which a file for GET is looked for if no source has its name.
+    pub includes: Vec<&'a str>,
     /// The sources, each of which becomes a segment.
     pub files: Vec<&'a str>,
 }
@@ -91,11 +147,9 @@ pub struct BuildOrder<'a> {
     pub warns: bool,
 }
 
-/// The arguments of `interpret`.
+/// A program that is run from its sources, with its streams.
 #[derive(Drop)]
-pub struct InterpretOrder<'a> {
-    /// The number of turns after which the run is cut off.
-    pub turns: u64,
+pub struct ProgramOrder<'a> {
     pub sources: Sources<'a>,
     pub inputs: Vec<Binding<'a>>,
     pub outputs: Vec<Binding<'a>>,
@@ -104,13 +158,63 @@ pub struct InterpretOrder<'a> {
     pub warns: bool,
 }
 
+/// The arguments of `go`.
+#[derive(Drop)]
+pub struct GoOrder<'a> {
+    /// The limit on instructions.
+    pub steps: u64,
+    pub program: ProgramOrder<'a>,
+}
+
+/// The arguments of `interpret`.
+#[derive(Drop)]
+pub struct InterpretOrder<'a> {
+    /// The number of turns after which the run is cut off.
+    pub turns: u64,
+    pub program: ProgramOrder<'a>,
+}
+
+/// The arguments of `debug`.
+#[derive(Drop)]
+pub struct DebugOrder<'a> {
+    /// The file for the page; `None` for a session.
+    pub out: Option<&'a str>,
+    /// The file that the program reads as its standard input, if any.
+    pub input: Option<&'a str>,
+    pub inputs: Vec<Binding<'a>>,
+    pub outputs: Vec<Binding<'a>>,
+    /// The greatest number of stops that are kept.
+    pub record: u64,
+    /// The number of turns after which the run is cut off.
+    pub turns: u64,
+    /// The file with commands, if any.
+    pub script: Option<&'a str>,
+    /// Whether the session ends after these commands.
+    pub is_batch: bool,
+    pub sources: Sources<'a>,
+    pub places: Places,
+}
+
+/// The form in which `show tree` prints.
+#[derive(Clone, Copy)]
+pub enum TreeShape {
+    /// Indented lines.
+    Indented,
+    /// A graph for dot.
+    Dot,
+    /// JSON.
+    Json,
+}
+
 /// What `show` lists.
 #[derive(Clone, Copy)]
 pub enum Listing {
     /// The tokens of the source.
     Tokens,
-    /// The tree, in canonical layout.
-    Tree,
+    /// The source in its canonical spelling and layout.
+    Source,
+    /// The tree, in this form.
+    Tree(TreeShape),
     /// The meaning of names.
     Scopes,
     /// The source lines with their code.
@@ -132,6 +236,8 @@ pub struct ListOrder<'a> {
     /// The file with the certificate of the texts, if any.
     pub certificate: Option<&'a str>,
     pub texts: Vec<&'a str>,
+    /// The sources that the texts were built from, if routines are to be named.
+    pub sources: Sources<'a>,
     pub places: Places,
 }
 
@@ -157,7 +263,7 @@ pub struct CheckOrder<'a> {
 #[derive(Drop)]
 pub enum Order<'a> {
     /// Run the text on standard input: there are no arguments.
-    RunInput,
+    RunInput(Places),
     /// Build a program.
     Build(BuildOrder<'a>),
     /// List what the compiler sees in a source.
@@ -170,232 +276,476 @@ pub enum Order<'a> {
     Assemble(AssembleOrder<'a>),
     /// Run texts.
     Run(RunOrder<'a>),
+    /// Build sources and run them.
+    Go(GoOrder<'a>),
     /// Run sources by their meaning.
     Interpret(InterpretOrder<'a>),
+    /// Run sources step by step.
+    Debug(DebugOrder<'a>),
     /// Check a certificate.
     Check(CheckOrder<'a>),
     /// Convert old sources.
     Convert(ConvertOrder<'a>),
 }
 
+impl Order<'_> {
+    /// When refusals are explained.
+    pub fn places(&self) -> Places {
+        match self {
+            Order::RunInput(places) => *places,
+            Order::Build(order) => order.places,
+            Order::Show(order) => order.places,
+            Order::Explain(order) => order.places,
+            Order::List(order) => order.places,
+            Order::Assemble(order) => order.places,
+            Order::Run(order) => order.places,
+            Order::Go(order) => order.program.places,
+            Order::Interpret(order) => order.program.places,
+            Order::Debug(order) => order.places,
+            Order::Check(order) => order.places,
+            Order::Convert(order) => order.places,
+        }
+    }
+}
+
 /// Why a command line is invalid.
 #[derive(Drop)]
-pub enum BadWords<'a> {
+pub enum ArgumentError<'a> {
     /// A message of the argument parser, which may be help that was requested.
-    Said(Error),
+    Parser(Error),
     /// An option, a binding or the listing of `show` has an invalid value.
     Option {
-        word: &'a str,
+        value: &'a str,
         /// What the option accepts.
-        takes: &'static str,
+        accepts: &'static str,
     },
     /// An allocation failed.
     Memory,
 }
 
-impl From<AllocError> for BadWords<'_> {
-    ghost from_gives = { λ _ b. b ≡ bad_words.Memory };
+impl From<AllocError> for ArgumentError<'_> {
+    ghost from_gives = { λ _ b. b ≡ argument_errors.Memory };
 
     fn from(_refused: AllocError) -> Self {
-        BadWords::Memory
+        ArgumentError::Memory
     }
 }
 
 /// What the options accept whose values are checked here, and not by the argument parser.
-const PLACES_TAKES: &str = "--places takes always, never or auto, for example --places always";
+const MESSAGES_ACCEPTS: &str = "--messages takes text or json, for example --messages json";
 
-const LIBRARY_TAKES: &str =
+const ERRORS_ACCEPTS: &str =
+    "--errors takes all; without this option, the first 20 errors of each file are explained";
+
+const PLACES_ACCEPTS: &str = "--places takes always, never or auto, for example --places always";
+
+const SETTING_ACCEPTS: &str =
+    "the environment variable BCPL_PLACES takes always, never or auto, like the option --places";
+
+const FORMAT_ACCEPTS: &str =
+    "--format takes words, hex, bin-le, bin-be, ihex, c or srec, for example --format hex";
+
+const LIBRARY_ACCEPTS: &str =
     "--library takes ext, the further library EXTLIB; without this option only BLIB is linked";
 
-const LISTING_TAKES: &str =
-    "show lists tokens, tree, scopes or code, for example bcpl show code hello.bcpl";
+const LISTING_ACCEPTS: &str =
+    "show lists tokens, tree, source, scopes or code, for example bcpl show code hello.bcpl";
 
-const GET_TAKES: &str =
+const FORM_ACCEPTS: &str =
+    "--form takes tree, dot or json, and only show tree has it, for example bcpl show tree --form dot hello.bcpl";
+
+const GET_ACCEPTS: &str =
     "--get takes NAME=PATH, the name after GET and the path of the file, for example --get defs=defs.bcpl";
 
-const IN_TAKES: &str =
+const IN_ACCEPTS: &str =
     "--in takes NAME=PATH, the name of the stream and the path of the file, for example --in DATA=data.txt";
 
-const TO_TAKES: &str =
+const TO_ACCEPTS: &str =
     "--to takes NAME=PATH, the name of the stream and the path of the file, for example --to LIST=list.txt";
 
 /// The default number of instructions to trace.
 const DEFAULT_COUNT: u64 = 1_000;
 
+/// The default limit on the instructions of `go`.
+const DEFAULT_STEPS: u64 = 10_000_000_000;
+
+/// The default limit on the turns of `debug`.
+const DEFAULT_RECORDED_TURNS: u64 = 10_000_000;
+
+/// The default number of stops that `debug` keeps.
+const DEFAULT_STOPS: u64 = 1_000_000;
+
 /// The default limit on the turns of `interpret`.
 const DEFAULT_TURNS: u64 = 100_000_000;
 
-/// The value of `--places`. An invalid value is noted in `reading`.
-pub(crate) fn when_told(reading: &mut Reading<'_, '_>) -> Places {
-    match reading.word("places") {
-        None | Some("auto") => {}
-        Some("always") => return Places::Always,
-        Some("never") => return Places::Never,
-        Some(word) => reading.refuse(word, PLACES_TAKES),
+impl Places {
+    /// The value of `--places` or `BCPL_PLACES` that is written so.
+    pub fn named(value: &str) -> Option<Places> {
+        match value {
+            "always" => Some(Places::Always),
+            "auto" => Some(Places::OnTerminal),
+            "never" => Some(Places::Never),
+            _ => None,
+        }
     }
-    Places::OnTerminal
+
+    /// The value of `BCPL_PLACES`, or the default if it is not set or invalid.
+    pub fn default_of(setting: Option<&str>) -> Places {
+        match setting {
+            Some("json") => Places::Json,
+            Some(value) => Places::named(value).unwrap_or(Places::OnTerminal),
+            None => Places::OnTerminal,
+        }
+    }
 }
 
-/// The value of `--library`. An invalid value is noted in `reading`.
-fn library_of(reading: &mut Reading<'_, '_>) -> Library {
-    match reading.word("library") {
+/// Whether messages are JSON objects. An invalid value of `--messages` is noted in `reader`.
+fn is_json(reader: &mut ArgumentReader<'_, '_>) -> bool {
+    match reader.value("messages") {
+        Some("json") => true,
+        Some("text") => false,
+        Some(value) => {
+            reader.refuse(value, MESSAGES_ACCEPTS);
+            false
+        }
+        None => matches!(reader.setting, Some("json")),
+    }
+}
+
+/// Whether all errors of a file are explained. An invalid value of `--errors` is noted in `reader`.
+fn explains_all(reader: &mut ArgumentReader<'_, '_>) -> bool {
+    match reader.value("errors") {
+        None => {}
+        Some("all") => return true,
+        Some(value) => reader.refuse(value, ERRORS_ACCEPTS),
+    }
+    false
+}
+
+/// The value of `--places`, or else of `BCPL_PLACES`, unless messages are JSON objects. An invalid value is noted in
+/// `reader`.
+pub(crate) fn places_option(reader: &mut ArgumentReader<'_, '_>) -> Places {
+    if is_json(reader) {
+        return Places::Json;
+    }
+    let (given, accepts) = match (reader.value("places"), reader.setting) {
+        (Some(value), _) => (value, PLACES_ACCEPTS),
+        (None, Some("json") | None) => return Places::OnTerminal,
+        (None, Some(value)) => (value, SETTING_ACCEPTS),
+    };
+    match Places::named(given) {
+        Some(places) => places,
+        None => {
+            reader.refuse(given, accepts);
+            Places::OnTerminal
+        }
+    }
+}
+
+/// The value of `--format`. An invalid value is noted in `reader`.
+fn format_of(reader: &mut ArgumentReader<'_, '_>) -> ImageFormat {
+    match reader.value("format") {
+        None | Some("words") => {}
+        Some("hex") => return ImageFormat::Hex,
+        Some("bin-le") => return ImageFormat::LittleEndian,
+        Some("bin-be") => return ImageFormat::BigEndian,
+        Some("ihex") => return ImageFormat::IntelHex,
+        Some("c") => return ImageFormat::CSource,
+        Some("srec") => return ImageFormat::Srec,
+        Some(value) => reader.refuse(value, FORMAT_ACCEPTS),
+    }
+    ImageFormat::Words
+}
+
+/// The value of `--library`. An invalid value is noted in `reader`.
+fn library_of(reader: &mut ArgumentReader<'_, '_>) -> Library {
+    match reader.value("library") {
         None => {}
         Some("ext") => return Library::Further,
-        Some(word) => reading.refuse(word, LIBRARY_TAKES),
+        Some(value) => reader.refuse(value, LIBRARY_ACCEPTS),
     }
     Library::Basic
 }
 
-/// The listing that `show` is to print. An invalid one is noted in `reading`.
-fn listing_of(reading: &mut Reading<'_, '_>) -> Listing {
-    match reading.word("LISTING") {
+/// The form of the tree. An invalid one is noted in `reader`.
+fn shape_of(reader: &mut ArgumentReader<'_, '_>) -> TreeShape {
+    match reader.value("form") {
+        None | Some("tree") => {}
+        Some("dot") => return TreeShape::Dot,
+        Some("json") => return TreeShape::Json,
+        Some(value) => reader.refuse(value, FORM_ACCEPTS),
+    }
+    TreeShape::Indented
+}
+
+/// Refuses a form of the tree beside a listing that has none.
+fn refuse_form(reader: &mut ArgumentReader<'_, '_>, listing: Listing) {
+    if matches!(listing, Listing::Tree(_)) {
+        return;
+    }
+    if let Some(value) = reader.value("form") {
+        reader.refuse(value, FORM_ACCEPTS);
+    }
+}
+
+/// The listing that `show` is to print. An invalid one is noted in `reader`.
+fn listing_of(reader: &mut ArgumentReader<'_, '_>) -> Listing {
+    match reader.value("LISTING") {
         Some("tokens") => {}
-        Some("tree") => return Listing::Tree,
+        Some("tree") => return Listing::Tree(shape_of(reader)),
+        Some("source") => return Listing::Source,
         Some("scopes") => return Listing::Scopes,
         Some("code") => return Listing::Code,
-        word => reading.refuse(word.unwrap_or(""), LISTING_TAKES),
+        value => reader.refuse(value.unwrap_or(""), LISTING_ACCEPTS),
     }
     Listing::Tokens
 }
 
+/// The path of standard output; `-` means it too.
+pub(crate) const STANDARD_OUTPUT: &str = "/dev/stdout";
+
+/// The path of an output, which for `-` is that of standard output.
+fn output_path(path: &str) -> &str {
+    if path == "-" { STANDARD_OUTPUT } else { path }
+}
+
+/// Whether this path of an output, as `BuildOrder` has it, is that of standard output.
+pub fn is_standard_output(path: &str) -> bool {
+    output_path(path) == STANDARD_OUTPUT
+}
+
 /// The sources that the arguments name.
-fn sources_of<'a>(reading: &mut Reading<'_, 'a>) -> Sources<'a> {
+fn sources_of<'a>(reader: &mut ArgumentReader<'_, 'a>) -> Sources<'a> {
+    sources_by(reader, "FILE")
+}
+
+/// The sources that the argument with this name has.
+fn sources_by<'a>(reader: &mut ArgumentReader<'_, 'a>, name: &str) -> Sources<'a> {
     Sources {
-        library: library_of(reading),
-        gets: reading.bindings("get", GET_TAKES),
-        files: reading.words("FILE"),
+        library: library_of(reader),
+        is_json: is_json(reader),
+        explains_all: explains_all(reader),
+        linked: LinkedLibrary::Whole,
+        gets: reader.bindings("get", GET_ACCEPTS),
+        includes: reader.values("include"),
+        files: reader.values(name),
+    }
+}
+
+/// Reads the arguments of a program that is run from its sources.
+fn program_order<'a>(reader: &mut ArgumentReader<'_, 'a>) -> ProgramOrder<'a> {
+    ProgramOrder {
+        sources: sources_of(reader),
+        inputs: reader.bindings("in", IN_ACCEPTS),
+        outputs: reader.bindings("to", TO_ACCEPTS),
+        places: places_option(reader),
+        warns: !reader.flag("no-warnings"),
+    }
+}
+
+/// Reads the arguments of `go`.
+fn go_order<'a>(reader: &mut ArgumentReader<'_, 'a>) -> GoOrder<'a> {
+    GoOrder {
+        steps: reader.number("steps", DEFAULT_STEPS),
+        program: program_order(reader),
     }
 }
 
 /// Reads the arguments of `interpret`.
-fn interpret_order<'a>(reading: &mut Reading<'_, 'a>) -> InterpretOrder<'a> {
+fn interpret_order<'a>(reader: &mut ArgumentReader<'_, 'a>) -> InterpretOrder<'a> {
     InterpretOrder {
-        turns: reading.number("turns", DEFAULT_TURNS),
-        sources: sources_of(reading),
-        inputs: reading.bindings("in", IN_TAKES),
-        outputs: reading.bindings("to", TO_TAKES),
-        places: when_told(reading),
-        warns: !reading.flag("no-warnings"),
+        turns: reader.number("turns", DEFAULT_TURNS),
+        program: program_order(reader),
     }
 }
 
-/// Reads the options of `run` that ask for a trace or a profile.
-fn watch_order<'a>(reading: &Reading<'_, 'a>) -> WatchOrder<'a> {
+/// Reads the arguments of `debug`.
+fn debug_order<'a>(reader: &mut ArgumentReader<'_, 'a>) -> DebugOrder<'a> {
+    DebugOrder {
+        out: reader.value("out"),
+        input: reader.value("input"),
+        inputs: reader.bindings("in", IN_ACCEPTS),
+        outputs: reader.bindings("to", TO_ACCEPTS),
+        record: reader.number("record", DEFAULT_STOPS),
+        turns: reader.number("turns", DEFAULT_RECORDED_TURNS),
+        script: reader.value("script"),
+        is_batch: reader.flag("batch"),
+        sources: sources_of(reader),
+        places: places_option(reader),
+    }
+}
+
+/// Reads the options of `run` that record the run.
+fn watch_order<'a>(reader: &mut ArgumentReader<'_, 'a>) -> WatchOrder<'a> {
     WatchOrder {
-        trace: reading.word("trace"),
-        from: reading.number("from", 1),
-        count: reading.number("count", DEFAULT_COUNT),
-        profile: reading.word("profile"),
+        trace: reader.value("trace"),
+        from: reader.number("from", 1),
+        count: reader.number("count", DEFAULT_COUNT),
+        profile: reader.value("profile"),
+        high: reader.flag("high"),
     }
 }
 
 /// Reads the arguments of `run`.
-fn run_order<'a>(reading: &mut Reading<'_, 'a>) -> RunOrder<'a> {
+fn run_order<'a>(reader: &mut ArgumentReader<'_, 'a>) -> RunOrder<'a> {
     RunOrder {
-        steps: reading.number("steps", 0),
-        watch: watch_order(reading),
-        inputs: reading.bindings("in", IN_TAKES),
-        outputs: reading.bindings("to", TO_TAKES),
-        texts: reading.words("TEXT"),
-        places: when_told(reading),
+        steps: reader.number("steps", 0),
+        watch: watch_order(reader),
+        inputs: reader.bindings("in", IN_ACCEPTS),
+        outputs: reader.bindings("to", TO_ACCEPTS),
+        texts: reader.values("TEXT"),
+        places: places_option(reader),
     }
 }
 
 /// Reads the arguments of `asm`.
-fn assemble_order<'a>(reading: &mut Reading<'_, 'a>) -> AssembleOrder<'a> {
+fn assemble_order<'a>(reader: &mut ArgumentReader<'_, 'a>) -> AssembleOrder<'a> {
     AssembleOrder {
-        texts: reading.words("TEXT"),
-        places: when_told(reading),
+        format: format_of(reader),
+        texts: reader.values("TEXT"),
+        places: places_option(reader),
     }
 }
 
+/// What of the library `build` links.
+fn linked_library(reader: &ArgumentReader<'_, '_>) -> LinkedLibrary {
+    if reader.flag("no-library") {
+        LinkedLibrary::Nothing
+    } else if reader.flag("lean") {
+        LinkedLibrary::Lean
+    } else {
+        LinkedLibrary::Whole
+    }
+}
+
+/// The sources of `build`.
+fn build_sources<'a>(reader: &mut ArgumentReader<'_, 'a>) -> Sources<'a> {
+    let mut sources = sources_of(reader);
+    sources.linked = linked_library(reader);
+    sources
+}
+
 /// Reads the arguments of `build`.
-fn build_order<'a>(reading: &mut Reading<'_, 'a>) -> BuildOrder<'a> {
+fn build_order<'a>(reader: &mut ArgumentReader<'_, 'a>) -> BuildOrder<'a> {
     BuildOrder {
-        out: reading.word("out").unwrap_or(""),
-        certificate: reading.word("cert"),
-        sources: sources_of(reading),
-        places: when_told(reading),
-        warns: !reading.flag("no-warnings"),
+        out: output_path(reader.value("out").unwrap_or("")),
+        certificate: reader.value("cert"),
+        sources: build_sources(reader),
+        places: places_option(reader),
+        warns: !reader.flag("no-warnings"),
     }
 }
 
 /// Reads the arguments of `show`.
-fn show_order<'a>(reading: &mut Reading<'_, 'a>) -> ShowOrder<'a> {
+fn show_order<'a>(reader: &mut ArgumentReader<'_, 'a>) -> ShowOrder<'a> {
+    let listing = listing_of(reader);
+    refuse_form(reader, listing);
     ShowOrder {
-        listing: listing_of(reading),
-        sources: sources_of(reading),
-        places: when_told(reading),
+        listing,
+        sources: sources_of(reader),
+        places: places_option(reader),
     }
 }
 
 /// Reads the arguments of `explain`.
-fn explain_order<'a>(reading: &mut Reading<'_, 'a>) -> ExplainOrder<'a> {
+fn explain_order<'a>(reader: &mut ArgumentReader<'_, 'a>) -> ExplainOrder<'a> {
     ExplainOrder {
-        out: reading.word("out"),
-        sources: sources_of(reading),
-        places: when_told(reading),
+        out: reader.value("out").filter(|path| !is_standard_output(path)),
+        sources: sources_of(reader),
+        places: places_option(reader),
     }
 }
 
 /// Reads the arguments of `list`.
-fn list_order<'a>(reading: &mut Reading<'_, 'a>) -> ListOrder<'a> {
+fn list_order<'a>(reader: &mut ArgumentReader<'_, 'a>) -> ListOrder<'a> {
     ListOrder {
-        certificate: reading.word("cert"),
-        texts: reading.words("TEXT"),
-        places: when_told(reading),
+        certificate: reader.value("cert"),
+        texts: reader.values("TEXT"),
+        sources: sources_by(reader, "source"),
+        places: places_option(reader),
     }
 }
 
 /// Reads the arguments of `check`.
-fn check_order<'a>(reading: &mut Reading<'_, 'a>) -> CheckOrder<'a> {
+fn check_order<'a>(reader: &mut ArgumentReader<'_, 'a>) -> CheckOrder<'a> {
     CheckOrder {
-        certificate: reading.word("CERT").unwrap_or(""),
-        texts: reading.words("TEXT"),
-        places: when_told(reading),
+        certificate: reader.value("CERT").unwrap_or(""),
+        texts: reader.values("TEXT"),
+        places: places_option(reader),
     }
 }
 
 /// Reads the arguments of the command with this name. The last case is `build`.
-fn order_of<'a>(command: &str, reading: &mut Reading<'_, 'a>) -> Order<'a> {
+fn order_of<'a>(command: &str, reader: &mut ArgumentReader<'_, 'a>) -> Order<'a> {
     match command {
-        "asm" => Order::Assemble(assemble_order(reading)),
-        "run" => Order::Run(run_order(reading)),
-        "interpret" => Order::Interpret(interpret_order(reading)),
-        "check" => Order::Check(check_order(reading)),
-        "convert" => Order::Convert(convert_order(reading)),
-        "explain" => Order::Explain(explain_order(reading)),
-        "list" => Order::List(list_order(reading)),
-        "show" => Order::Show(show_order(reading)),
-        _ => Order::Build(build_order(reading)),
+        "asm" => Order::Assemble(assemble_order(reader)),
+        "run" => Order::Run(run_order(reader)),
+        "go" => Order::Go(go_order(reader)),
+        "interpret" => Order::Interpret(interpret_order(reader)),
+        "debug" => Order::Debug(debug_order(reader)),
+        "check" => Order::Check(check_order(reader)),
+        "convert" => Order::Convert(convert_order(reader)),
+        "explain" => Order::Explain(explain_order(reader)),
+        "list" => Order::List(list_order(reader)),
+        "show" => Order::Show(show_order(reader)),
+        _ => Order::Build(build_order(reader)),
     }
 }
 
 /// Reads a command line that the argument parser accepted.
-fn asked<'a>(alloc: Global, matches: &ArgMatches<'a>) -> Result<Order<'a>, BadWords<'a>> {
+fn order_from<'a>(
+    alloc: Global,
+    matches: &ArgMatches<'a>,
+    setting: Option<&'a str>,
+) -> Result<Order<'a>, ArgumentError<'a>> {
     let Some((command, matches)) = matches.subcommand() else {
-        return Ok(Order::RunInput);
+        return Ok(Order::RunInput(Places::default_of(setting)));
     };
-    let mut reading = Reading::new(alloc, matches);
-    let order = order_of(command, &mut reading);
-    match reading.end() {
+    let mut reader = ArgumentReader::new(alloc, matches, setting);
+    let order = order_of(command, &mut reader);
+    match reader.end() {
         Ok(()) => Ok(order),
         Err(bad) => Err(bad),
     }
 }
 
-/// Reads a command line, without the program's name.
+/// Reads a command line in which a number has more than digits. `refusal` is the argument parser's message, which
+/// stands if the number has none of the forms that options take.
+fn parse_short_numbers<'a>(
+    alloc: Global,
+    words: &'a [&'a str],
+    setting: Option<&'a str>,
+    refusal: Error,
+) -> Result<Order<'a>, ArgumentError<'a>> {
+    if invalid_number(words).is_some() {
+        return Err(ArgumentError::Parser(refusal));
+    }
+    match program(alloc, Numbers::Text)?.try_get_matches_from(words) {
+        Ok(matches) => order_from(alloc, &matches, setting),
+        Err(error) => Err(ArgumentError::Parser(error)),
+    }
+}
+
+/// Reads a command line, without the program's name. `setting` is the value of the environment variable
+/// `BCPL_PLACES`.
 ///
 /// # Errors
 ///
-/// `BadWords::Said` if the argument parser rejects it or prints help, `BadWords::Option` if an option has an invalid
-/// value, and `BadWords::Memory` if an allocation fails.
-pub fn wanted<'a>(alloc: Global, words: &'a [&'a str]) -> Result<Order<'a>, BadWords<'a>> {
+/// `ArgumentError::Parser` if the argument parser rejects it or prints help, `ArgumentError::Option` if an option or
+/// `setting` has an invalid value, and `ArgumentError::Memory` if an allocation fails.
+pub fn parse_arguments<'a>(
+    alloc: Global,
+    words: &'a [&'a str],
+    setting: Option<&'a str>,
+) -> Result<Order<'a>, ArgumentError<'a>> {
     if words.is_empty() {
-        return Ok(Order::RunInput);
+        return Ok(Order::RunInput(Places::default_of(setting)));
     }
-    match program(alloc)?.try_get_matches_from(words) {
-        Ok(matches) => asked(alloc, &matches),
-        Err(error) => Err(BadWords::Said(error)),
+    match program(alloc, Numbers::Digits)?.try_get_matches_from(words) {
+        Ok(matches) => order_from(alloc, &matches, setting),
+        Err(error) if error.kind() == ErrorKind::ValueValidation => {
+            parse_short_numbers(alloc, words, setting, error)
+        }
+        Err(error) => Err(ArgumentError::Parser(error)),
     }
 }

@@ -1,5 +1,7 @@
 //! A writer that keeps control characters from a terminal.
 
+use crate::colours::{ColouredLine, PLAIN, coloured};
+use std::alloc::Global;
 use std::io;
 use std::io::Write;
 
@@ -14,6 +16,10 @@ const HIGH: u8 = 0xC2;
 pub struct Clean<W: Write + Drop> {
     out: W,
     is_terminal: bool,
+    /// Whether messages are in colours.
+    has_colours: bool,
+    /// The allocator for JSON objects, if messages are written as such.
+    json: Option<Global>,
     /// The last byte written.
     last: u8,
 }
@@ -31,8 +37,74 @@ impl<W: Write + Drop> Clean<W> {
         Clean {
             out,
             is_terminal,
+            has_colours: false,
+            json: None,
             last: 0,
         }
+    }
+
+    /// Wraps `out`, to which messages are written as JSON objects.
+    pub fn with_json(alloc: Global, out: W) -> Clean<W> {
+        Clean {
+            out,
+            is_terminal: false,
+            has_colours: false,
+            json: Some(alloc),
+            last: 0,
+        }
+    }
+
+    /// This writer, with messages in colours if `has_colours`.
+    pub fn in_colours(self, has_colours: bool) -> Clean<W> {
+        Clean {
+            out: self.out,
+            is_terminal: self.is_terminal,
+            has_colours,
+            json: self.json,
+            last: self.last,
+        }
+    }
+
+    /// The allocator for JSON objects, if messages are written as such.
+    pub fn json(&self) -> Option<Global> {
+        self.json
+    }
+
+    /// Whether the bytes go to a terminal.
+    pub fn is_terminal(&self) -> bool {
+        self.is_terminal
+    }
+
+    /// Writes a line of a message in colours, without its line feed.
+    fn write_parts(&mut self, parts: ColouredLine<'_>) -> io::Result<()> {
+        self.write_all(parts.before.as_bytes())?;
+        self.write_all(parts.gap.as_bytes())?;
+        self.out.write_all(parts.colour)?;
+        self.write_all(parts.label.as_bytes())?;
+        self.write_all(parts.mark.as_bytes())?;
+        self.out.write_all(PLAIN)?;
+        self.write_all(parts.after.as_bytes())
+    }
+
+    /// Writes a line of a message in colours.
+    fn write_line(&mut self, line: &str) -> io::Result<()> {
+        match coloured(line) {
+            Some(parts) => self.write_parts(parts)?,
+            None => self.write_all(line.as_bytes())?,
+        }
+        self.write_all(b"\n")
+    }
+
+    /// Writes the lines of messages, each ended by a line feed, in colours if the terminal takes them. Fails if a byte
+    /// can't be written.
+    pub fn write_messages(&mut self, lines: &str) -> io::Result<()> {
+        if !self.has_colours {
+            return self.write_all(lines.as_bytes());
+        }
+        for line in lines.lines() {
+            self.write_line(line)?;
+        }
+        Ok(())
     }
 }
 

@@ -1,6 +1,6 @@
 //! The table of commands: their arguments, options and help texts.
 
-use crate::grammar::{Argument, Described, Form, Rule, with_commands};
+use crate::grammar::{Argument, CommandSpec, Constraint, Form, Numbers, with_commands};
 use crate::version::VERSION;
 use clap::Command;
 use std::alloc::{AllocError, Global};
@@ -9,15 +9,31 @@ use std::alloc::{AllocError, Global};
 const PLACES: Argument = Argument {
     name: "places",
     form: Form::Option("WHEN"),
-    rule: Rule::Free,
-    help: "Explain refusals after their first line: always, never or auto (on a terminal) [default: auto]",
+    constraint: Constraint::Free,
+    help: "Explain refusals after their first line: always, never or auto (on a terminal) [default: BCPL_PLACES, or auto]",
+};
+
+/// How messages are printed.
+const MESSAGES: Argument = Argument {
+    name: "messages",
+    form: Form::Option("FORM"),
+    constraint: Constraint::Free,
+    help: "Print messages as text, or as json: one object a line [default: BCPL_MESSAGES, or text]",
+};
+
+/// How many errors are explained.
+const ERRORS: Argument = Argument {
+    name: "errors",
+    form: Form::Option("HOW"),
+    constraint: Constraint::Free,
+    help: "Explain all errors of each file, with all, instead of the first 20",
 };
 
 /// A further library, compiled after BLIB and before the files.
 const LIBRARY: Argument = Argument {
     name: "library",
     form: Form::Option("LIBRARY"),
-    rule: Rule::Free,
+    constraint: Constraint::Free,
     help: "Also link this library: ext (EXTLIB, declared by EXTHDR)",
 };
 
@@ -25,15 +41,23 @@ const LIBRARY: Argument = Argument {
 const GET: Argument = Argument {
     name: "get",
     form: Form::Repeated("NAME=PATH"),
-    rule: Rule::Free,
+    constraint: Constraint::Free,
     help: "Use file PATH for GET \"NAME\" (LIBHDR is always the built-in header)",
+};
+
+/// A folder with files for GET.
+const INCLUDE: Argument = Argument {
+    name: "include",
+    form: Form::LetteredRepeated("DIR", 'I'),
+    constraint: Constraint::Free,
+    help: "Look in folder DIR for a GET \"NAME\" that no source has",
 };
 
 /// A further input stream.
 const IN: Argument = Argument {
     name: "in",
     form: Form::Repeated("NAME=PATH"),
-    rule: Rule::Free,
+    constraint: Constraint::Free,
     help: "Attach file PATH as the input stream NAME",
 };
 
@@ -41,7 +65,7 @@ const IN: Argument = Argument {
 const TO: Argument = Argument {
     name: "to",
     form: Form::Repeated("NAME=PATH"),
-    rule: Rule::Free,
+    constraint: Constraint::Free,
     help: "Attach file PATH as the output stream NAME",
 };
 
@@ -49,7 +73,7 @@ const TO: Argument = Argument {
 const FILES: Argument = Argument {
     name: "FILE",
     form: Form::Words("FILE", 1),
-    rule: Rule::Required,
+    constraint: Constraint::Required,
     help: "BCPL source files, one section each",
 };
 
@@ -57,7 +81,7 @@ const FILES: Argument = Argument {
 const TEXTS: Argument = Argument {
     name: "TEXT",
     form: Form::Words("TEXT", 1),
-    rule: Rule::Required,
+    constraint: Constraint::Required,
     help: "INTCODE text files, linked in this order",
 };
 
@@ -65,15 +89,17 @@ const TEXTS: Argument = Argument {
 const NO_WARNINGS: Argument = Argument {
     name: "no-warnings",
     form: Form::Flag,
-    rule: Rule::Free,
+    constraint: Constraint::Free,
     help: "Don't warn about valid code that is probably a mistake",
 };
 
-const BUILD: Described = Described {
+const BUILD: CommandSpec = CommandSpec {
     name: "build",
     about: "Compiles BCPL sources to INTCODE text and certifies that the code is as short as possible",
     more: "Each FILE is one section and becomes one segment. The library BLIB is compiled first, as the first segment;\n\
-           sources declare it with GET \"LIBHDR\". With --library ext, EXTLIB follows it; GET \"EXTHDR\" declares both.\n\n\
+           sources declare it with GET \"LIBHDR\". With --library ext, EXTLIB follows it; GET \"EXTHDR\" declares both.\n\
+           With --lean, its source is cut before it is compiled: a program that calls a routine of the library by the\n\
+           number of its global, and not by its name, must not be built so.\n\n\
            On success, prints `ok`, the number of segments, the number of certificate entries, and the address at which\n\
            the stack begins.\n\n\
            Exit status: 0 success, 1 refused, 3 invalid arguments.\n\n\
@@ -82,115 +108,171 @@ const BUILD: Described = Described {
         Argument {
             name: "out",
             form: Form::Lettered("OUT", 'o'),
-            rule: Rule::Required,
-            help: "Write the INTCODE text to this file",
+            constraint: Constraint::Required,
+            help: "Write the INTCODE text to this file; - is standard output",
         },
         Argument {
             name: "cert",
             form: Form::Option("CERT"),
-            rule: Rule::Free,
+            constraint: Constraint::Free,
             help: "Write the certificate to this file",
         },
         Argument {
             name: "get",
             form: Form::Repeated("NAME=PATH"),
-            rule: Rule::Free,
+            constraint: Constraint::Free,
             help: "Use file PATH for GET \"NAME\" (the first source of a name counts, and LIBHDR is always the built-in header)",
         },
+        INCLUDE,
         LIBRARY,
+        Argument {
+            name: "lean",
+            form: Form::Flag,
+            constraint: Constraint::Free,
+            help: "Link only those routines of the library whose names occur in the sources, and what these need",
+        },
+        Argument {
+            name: "no-library",
+            form: Form::Flag,
+            constraint: Constraint::Without(&["lean"]),
+            help: "Write a text without the library, to be linked with a text that has it",
+        },
         PLACES,
+        MESSAGES,
+        ERRORS,
         NO_WARNINGS,
         FILES,
     ],
 };
 
-const SHOW: Described = Described {
+const SHOW: CommandSpec = CommandSpec {
     name: "show",
-    about: "Lists the tokens, the syntax tree, the scopes or the code of a source",
+    about: "Lists the tokens, the syntax tree, the canonical spelling, the scopes or the code of a source",
     more: "tokens: each token with its line and column, and the line breaks that count as semicolons\n\
-           tree:   the section in canonical layout, which compiles to the same code\n\
+           tree:   the syntax tree, a node per line with its place; as a graph or as JSON with --form\n\
+           source: the same tree as BCPL, in canonical spelling and layout, which compiles to the same code\n\
            scopes: the frame of each routine; statics, tables and strings; globals and what sets them\n\
-           code:   each source line followed by its INTCODE, with the size and rules of each expression; without its\n\
-           \x20       comments, the listing is the file's segment\n\n\
+           code:   each source line followed by its INTCODE, with the size and rules of each expression, and what\n\
+           \x20       these rules mean; without its comments, the listing is the file's segment\n\n\
            Exit status: 0 success, 1 refused, 3 invalid arguments.\n\n\
-           Example:\n  bcpl show code hello.bcpl",
+           Examples:\n  bcpl show code hello.bcpl\n  bcpl show tree --form dot hello.bcpl | dot -Tsvg > hello.svg",
     arguments: &[
         Argument {
             name: "LISTING",
             form: Form::Word("LISTING"),
-            rule: Rule::Required,
-            help: "What to list: tokens, tree, scopes or code",
+            constraint: Constraint::Required,
+            help: "What to list: tokens, tree, source, scopes or code",
+        },
+        Argument {
+            name: "form",
+            form: Form::Option("FORM"),
+            constraint: Constraint::Free,
+            help: "Print the tree as indented lines (tree), as a graph for dot (dot) or as JSON (json) [default: tree]",
         },
         GET,
+        INCLUDE,
         LIBRARY,
         PLACES,
+        MESSAGES,
         Argument {
             name: "FILE",
             form: Form::Word("FILE"),
-            rule: Rule::Required,
+            constraint: Constraint::Required,
             help: "The BCPL source file",
         },
     ],
 };
 
-const EXPLAIN: Described = Described {
+const EXPLAIN: CommandSpec = CommandSpec {
     name: "explain",
     about: "Writes an HTML page that explains why no expression of a source has shorter code",
-    more: "The page shows each source line next to its code. Click an expression, a test or an assignment to see its tree,\n\
-           with the fewest words of each node as a value, as a second operand, and as a jump on false or on true; the\n\
-           rules that produced its code; and every rule that applies, with the size it would lead to. Tables of sizes by\n\
-           routine, of rules, and of what is proved and checked follow. The page is self-contained.\n\n\
+    more: "The page shows each source line next to its code. Open an expression, a test or an assignment to see its tree, and a\n\
+           node to see, for each use of it, every rule that applies, with the code it would give and its words, the least\n\
+           first, and why the others don't apply. An index of routines with their words, a search, the rules, and what is\n\
+           proved and checked are there too. The page is one file; its script requests nothing.\n\n\
            Exit status: 0 success, 1 refused, 3 invalid arguments.\n\n\
            Example:\n  bcpl explain --out hello.html hello.bcpl",
     arguments: &[
         Argument {
             name: "out",
             form: Form::Lettered("REPORT", 'o'),
-            rule: Rule::Free,
+            constraint: Constraint::Free,
             help: "Write the page to this file [default: standard output, unless that is a terminal]",
         },
         GET,
+        INCLUDE,
         LIBRARY,
         PLACES,
+        MESSAGES,
         FILES,
     ],
 };
 
-const LIST: Described = Described {
+const LIST: CommandSpec = CommandSpec {
     name: "list",
     about: "Links INTCODE texts after the primitives and lists the image word by word",
     more: "Lists each word, beginning with the boot code: its address, its value, and its INTCODE item. Each label has a\n\
            separate line with its global and the jumps to it; strings and tables are shown as such. With --cert, the\n\
-           listing marks where each expression, test and assignment of the certificate begins.\n\n\
+           listing marks where each expression, test and assignment of the certificate begins. With --source, it names\n\
+           each routine before its label, with its file and line.\n\n\
            Exit status: 0 success, 1 refused, 3 invalid arguments.\n\n\
            Example:\n  bcpl list --cert hello.cert hello.int",
     arguments: &[
         Argument {
             name: "cert",
             form: Form::Option("CERT"),
-            rule: Rule::Free,
+            constraint: Constraint::Free,
             help: "Check this certificate of the texts first, and mark its entries",
         },
+        Argument {
+            name: "source",
+            form: Form::Repeated("FILE"),
+            constraint: Constraint::Free,
+            help: "Name the routines of this source file, from which build wrote the texts, with their lines",
+        },
+        GET,
+        LIBRARY,
         PLACES,
+        MESSAGES,
         TEXTS,
     ],
 };
 
-const ASSEMBLE: Described = Described {
+const ASSEMBLE: CommandSpec = CommandSpec {
     name: "asm",
     about: "Links INTCODE texts after the primitives and prints the words of the store",
     more: "Prints the words from address 0 up to the base of the stack, one per line, in decimal.\n\n\
+           With --format hex, bin-le, bin-be, c and srec, the base of the stack comes first:\n\
+           words:  a decimal number per line, without the base of the stack\n\
+           hex:    four hexadecimal digits per line\n\
+           bin-le: two bytes per word, low byte first\n\
+           bin-be: two bytes per word, high byte first\n\
+           ihex:   Intel HEX, low byte first, at twice the word's address; the base of the stack is the number of words\n\
+           c:      C source with a constant and an array\n\
+           srec:   Motorola S-records, high byte first, at twice the word's address\n\n\
            Exit status: 0 success, 1 refused, 3 invalid arguments.\n\n\
-           Example:\n  bcpl asm hello.int",
-    arguments: &[PLACES, TEXTS],
+           Examples:\n  bcpl asm hello.int\n  bcpl asm --format bin-le hello.int > hello.img",
+    arguments: &[
+        Argument {
+            name: "format",
+            form: Form::Option("FORMAT"),
+            constraint: Constraint::Free,
+            help: "How to print: words, hex, bin-le, bin-be, ihex, c or srec [default: words]",
+        },
+        PLACES,
+        MESSAGES,
+        TEXTS,
+    ],
 };
 
-const RUN: Described = Described {
+const RUN: CommandSpec = CommandSpec {
     name: "run",
     about: "Links INTCODE texts after the primitives and runs them",
     more: "Input 1 is standard input, named SYSIN; output 1 is standard output, named SYSPRINT.\n\n\
-           With --trace or --profile the run does the same, only slower; these files are written even if the run does\n\
-           not finish.\n\n\
+           With --trace, --profile or --high the run does the same, only slower; the files are written even if the run\n\
+           does not finish. CELL is the highest cell in which an instruction was executed, or that an instruction read\n\
+           or wrote; FRAME is the highest address at which a frame began.\n\n\
+           A program gets no arguments and no environment, and has no exit status of its own.\n\n\
            Exit status: 0 the program finished, 1 refused, 2 the run ended in another way (reported on standard error),\n\
            3 invalid arguments.\n\n\
            Examples:\n  bcpl run --steps 1000000 --in DATA=data.txt hello.int\n\
@@ -199,41 +281,77 @@ const RUN: Described = Described {
         Argument {
             name: "steps",
             form: Form::Number("N"),
-            rule: Rule::Required,
-            help: "Stop after N instructions",
+            constraint: Constraint::Required,
+            help: "Stop after N instructions: a number such as 1000000, 1_000_000, 1e6, 10M or 2k",
         },
         IN,
         TO,
         PLACES,
+        MESSAGES,
         TEXTS,
         Argument {
             name: "trace",
             form: Form::Option("FILE"),
-            rule: Rule::Free,
+            constraint: Constraint::Free,
             help: "Write a line for each instruction to this file: the registers after it, and what it wrote",
         },
         Argument {
             name: "from",
             form: Form::Number("N"),
-            rule: Rule::With("trace"),
+            constraint: Constraint::With("trace"),
             help: "Start the trace at instruction N, counted from 1 [default: 1]",
         },
         Argument {
             name: "count",
             form: Form::Number("M"),
-            rule: Rule::With("trace"),
+            constraint: Constraint::With("trace"),
             help: "Trace M instructions [default: 1000]",
         },
         Argument {
             name: "profile",
             form: Form::Option("FILE"),
-            rule: Rule::Free,
+            constraint: Constraint::Free,
             help: "Write to this file how often each instruction ran, and the ten hottest routines",
+        },
+        Argument {
+            name: "high",
+            form: Form::Flag,
+            constraint: Constraint::Free,
+            help: "Print on standard error how much of the store the run used: `bcpl: high CELL FRAME`",
         },
     ],
 };
 
-const INTERPRET: Described = Described {
+const GO: CommandSpec = CommandSpec {
+    name: "go",
+    about: "Builds BCPL sources and runs them, without writing files",
+    more: "Compiles the sources as `build` does, prints the warnings, and runs the image as `run` does. Input 1 is\n\
+           standard input, named SYSIN; output 1 is standard output, named SYSPRINT. A program gets no arguments and no\n\
+           environment, and has no exit status of its own.\n\n\
+           Exit status: 0 the program finished, 1 refused, 2 the run ended in another way (reported on standard error,\n\
+           with the command that shows where), 3 invalid arguments.\n\n\
+           Examples:\n  bcpl go hello.bcpl\n  bcpl go --steps 10M --in DATA=data.txt main.bcpl tables.bcpl",
+    arguments: &[
+        Argument {
+            name: "steps",
+            form: Form::Number("N"),
+            constraint: Constraint::Free,
+            help: "Stop after N instructions, such as 1e6 or 10M [default: 10000000000]",
+        },
+        LIBRARY,
+        GET,
+        INCLUDE,
+        IN,
+        TO,
+        PLACES,
+        MESSAGES,
+        ERRORS,
+        NO_WARNINGS,
+        FILES,
+    ],
+};
+
+const INTERPRET: CommandSpec = CommandSpec {
     name: "interpret",
     about: "Runs BCPL sources by their meaning and reports the first wild cell",
     more: "Compiles the sources as `build` does, then runs their meaning instead of their code. If this run ends, `run` does\n\
@@ -241,26 +359,89 @@ const INTERPRET: Described = Described {
            cell that was never set, reading or writing a cell that does not exist, or calling something that is not a\n\
            routine. What happened and where is printed unless --places never is given, on a terminal or not.\n\n\
            A turn is a call, a GOTO, or one jump back in a loop. Streams work as in `run`.\n\n\
+           A program gets no arguments and no environment, and has no exit status of its own.\n\n\
            Exit status: 0 the program finished, 1 refused, 2 the run ended in another way, 3 invalid arguments.\n\n\
            Example:\n  bcpl interpret hello.bcpl",
     arguments: &[
         Argument {
             name: "turns",
             form: Form::Number("N"),
-            rule: Rule::Free,
+            constraint: Constraint::Free,
             help: "Stop after N turns [default: 100000000]",
         },
         LIBRARY,
         GET,
+        INCLUDE,
         IN,
         TO,
         PLACES,
+        MESSAGES,
+        ERRORS,
         NO_WARNINGS,
         FILES,
     ],
 };
 
-const CHECK: Described = Described {
+const DEBUG: CommandSpec = CommandSpec {
+    name: "debug",
+    about: "Runs BCPL sources step by step, forwards and backwards",
+    more: "Compiles the sources as `build` does, runs their meaning as `interpret` does, and records the run. The commands\n\
+           have the words of gdb: step, next, finish, break, print and so on, and reverse-step and its like go back;\n\
+           `last NAME` finds the command that changed a variable last. `help` lists them. They are read from the\n\
+           terminal or a pipe.\n\n\
+           With --out, writes the recording as a page for a browser instead. The page is self-contained.\n\n\
+           The program's standard input is the file that --input names, or empty. --in and --to attach further streams, as\n\
+           in `interpret`; the files of --to are written when the session ends.\n\n\
+           Exit status: 0 done, 1 refused, 3 invalid arguments.\n\n\
+           Examples:\n  bcpl debug hello.bcpl\n  bcpl debug --out run.html hello.bcpl",
+    arguments: &[
+        Argument {
+            name: "out",
+            form: Form::Lettered("PAGE", 'o'),
+            constraint: Constraint::Without(&["script"]),
+            help: "Write the run as a page to this file",
+        },
+        Argument {
+            name: "input",
+            form: Form::Option("FILE"),
+            constraint: Constraint::Free,
+            help: "Let the program read this file as its standard input",
+        },
+        Argument {
+            name: "record",
+            form: Form::Number("N"),
+            constraint: Constraint::Free,
+            help: "Keep the last N stops of the run [default: 1000000]",
+        },
+        Argument {
+            name: "turns",
+            form: Form::Number("N"),
+            constraint: Constraint::Free,
+            help: "Stop the run after N turns [default: 10000000]",
+        },
+        Argument {
+            name: "script",
+            form: Form::Lettered("FILE", 'x'),
+            constraint: Constraint::Free,
+            help: "Run the commands in this file first",
+        },
+        Argument {
+            name: "batch",
+            form: Form::Flag,
+            constraint: Constraint::With("script"),
+            help: "End after the commands in the file",
+        },
+        LIBRARY,
+        GET,
+        INCLUDE,
+        IN,
+        TO,
+        PLACES,
+        FILES,
+    ],
+};
+
+const CHECK: CommandSpec = CommandSpec {
     name: "check",
     about: "Checks a certificate of least size, and compares it with INTCODE texts",
     more: "If the certificate is accepted, no derivation from the rule table needs fewer words, for any expression, test\n\
@@ -269,22 +450,23 @@ const CHECK: Described = Described {
            Example:\n  bcpl check hello.cert hello.int",
     arguments: &[
         PLACES,
+        MESSAGES,
         Argument {
             name: "CERT",
             form: Form::Word("CERT"),
-            rule: Rule::Required,
+            constraint: Constraint::Required,
             help: "The certificate file",
         },
         Argument {
             name: "TEXT",
             form: Form::Words("TEXT", 0),
-            rule: Rule::Free,
+            constraint: Constraint::Free,
             help: "INTCODE text files that must contain the certified code",
         },
     ],
 };
 
-const CONVERT: Described = Described {
+const CONVERT: CommandSpec = CommandSpec {
     name: "convert",
     about: "Converts sources from an older dialect of BCPL to this one",
     more: "Replaces only what differs: comments and layout stay, and a source in this dialect is unchanged. Reports\n\
@@ -299,89 +481,105 @@ const CONVERT: Described = Described {
         Argument {
             name: "FILE",
             form: Form::Word("FILE"),
-            rule: Rule::Required,
+            constraint: Constraint::Required,
             help: "The source file to convert",
         },
         Argument {
             name: "FURTHER",
             form: Form::Words("FILE", 0),
-            rule: Rule::With("PLACE"),
+            constraint: Constraint::With("PLACE"),
             help: "Further files of the same program; requires --in-place or --out-dir",
         },
         Argument {
             name: "out",
             form: Form::Lettered("OUT", 'o'),
-            rule: Rule::Without(&["in-place", "out-dir"]),
+            constraint: Constraint::Without(&["in-place", "out-dir"]),
             help: "Write the result to this file instead of standard output",
         },
         Argument {
             name: "in-place",
             form: Form::Flag,
-            rule: Rule::OneOf("PLACE"),
+            constraint: Constraint::OneOf("PLACE"),
             help: "Overwrite each FILE with its result, and keep the original as FILE.old",
         },
         Argument {
             name: "out-dir",
             form: Form::Option("FOLDER"),
-            rule: Rule::OneOf("PLACE"),
+            constraint: Constraint::OneOf("PLACE"),
             help: "Write the result of each FILE to this folder, under the same name",
         },
         Argument {
             name: "header",
             form: Form::Option("HEADER"),
-            rule: Rule::Free,
+            constraint: Constraint::Free,
             help: "Make sources get this header: libhdr or exthdr [default: the one they need]",
         },
         Argument {
             name: "library",
             form: Form::Option("OLD"),
-            rule: Rule::Free,
+            constraint: Constraint::Free,
             help: "A file that maps names of an old library to names of this one",
         },
         PLACES,
+        MESSAGES,
     ],
 };
 
 /// The commands on sources. Help lists the three tables in this order.
-const ON_SOURCES: [Described; 3] = [BUILD, SHOW, EXPLAIN];
+const ON_SOURCES: [CommandSpec; 3] = [BUILD, SHOW, EXPLAIN];
 
 /// The commands on texts.
-const ON_TEXTS: [Described; 3] = [LIST, ASSEMBLE, RUN];
+const ON_TEXTS: [CommandSpec; 3] = [LIST, ASSEMBLE, RUN];
 
 /// The other commands.
-const OTHERS: [Described; 3] = [INTERPRET, CHECK, CONVERT];
+const OTHERS: [CommandSpec; 5] = [GO, INTERPRET, DEBUG, CHECK, CONVERT];
 
 /// Adds the commands on sources.
-fn on_sources<'a>(alloc: Global, program: Command<'a>) -> Result<Command<'a>, AllocError> {
-    with_commands(alloc, program, &ON_SOURCES)
+fn with_source_commands<'a>(
+    alloc: Global,
+    program: Command<'a>,
+    numbers: Numbers,
+) -> Result<Command<'a>, AllocError> {
+    with_commands(alloc, program, &ON_SOURCES, numbers)
 }
 
 /// Adds the commands on texts.
-fn on_texts<'a>(alloc: Global, program: Command<'a>) -> Result<Command<'a>, AllocError> {
-    with_commands(alloc, program, &ON_TEXTS)
+fn with_text_commands<'a>(
+    alloc: Global,
+    program: Command<'a>,
+    numbers: Numbers,
+) -> Result<Command<'a>, AllocError> {
+    with_commands(alloc, program, &ON_TEXTS, numbers)
 }
 
 /// Adds the other commands.
-fn others<'a>(alloc: Global, program: Command<'a>) -> Result<Command<'a>, AllocError> {
-    with_commands(alloc, program, &OTHERS)
+fn with_other_commands<'a>(
+    alloc: Global,
+    program: Command<'a>,
+    numbers: Numbers,
+) -> Result<Command<'a>, AllocError> {
+    with_commands(alloc, program, &OTHERS, numbers)
 }
 
 /// The command-line parser for the program. Fails only if an allocation fails.
-pub fn program<'a>(alloc: Global) -> Result<Command<'a>, AllocError> {
+pub fn program<'a>(alloc: Global, numbers: Numbers) -> Result<Command<'a>, AllocError> {
     let program = Command::new(alloc, "bcpl")
         .about("Compiles BCPL to INTCODE; assembles, links and runs INTCODE")
         .after_help(
             "Without arguments, runs the INTCODE text on standard input for at most 1,000,000 instructions, with an empty\n\
              input. `bcpl COMMAND --help` describes a command.\n\n\
+             The environment variable BCPL_MESSAGES=json prints messages as JSON, one object a line, like --messages json.\n\
+             The environment variable BCPL_PLACES says when refusals are explained after their first line: always, never\n\
+             or auto (on a terminal). The option --places takes precedence.\n\n\
              Exit status: 0 success, 1 refused (with a line on standard error), 2 a run that ended in another way than\n\
              by finishing, 3 invalid arguments.\n\n\
-             Example:\n  bcpl build --out hello.int hello.bcpl\n  bcpl run --steps 1000000 hello.int",
+             Examples:\n  bcpl go hello.bcpl\n  bcpl build --out hello.int hello.bcpl\n  bcpl run --steps 1000000 hello.int",
         )
         .version(VERSION)
         .no_binary_name(true)
         .subcommand_required(true)
         .bin_name("bcpl")?;
-    let program = on_sources(alloc, program)?;
-    let program = on_texts(alloc, program)?;
-    others(alloc, program)
+    let program = with_source_commands(alloc, program, numbers)?;
+    let program = with_text_commands(alloc, program, numbers)?;
+    with_other_commands(alloc, program, numbers)
 }

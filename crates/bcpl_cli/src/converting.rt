@@ -1,7 +1,7 @@
 //! The arguments of `convert`.
 
-use crate::arguments::{Places, when_told};
-use crate::reading::Reading;
+use crate::argument_reader::ArgumentReader;
+use crate::arguments::{Places, is_standard_output, places_option};
 
 /// Where the results of `convert` go.
 #[derive(Clone, Copy)]
@@ -40,43 +40,44 @@ pub struct ConvertOrder<'a> {
 }
 
 /// What `--header` accepts.
-const HEADER_TAKES: &str = "--header takes libhdr or exthdr, for example --header exthdr";
+const HEADER_ACCEPTS: &str = "--header takes libhdr or exthdr, for example --header exthdr";
 
-/// The value of `--header`. An invalid value is noted in `reading`.
-fn header_of(reading: &mut Reading<'_, '_>) -> ConvertHeader {
-    match reading.word("header") {
+/// The value of `--header`. An invalid value is noted in `reader`.
+fn header_of(reader: &mut ArgumentReader<'_, '_>) -> ConvertHeader {
+    match reader.value("header") {
         None => {}
         Some("libhdr") => return ConvertHeader::Basic,
         Some("exthdr") => return ConvertHeader::Further,
-        Some(word) => reading.refuse(word, HEADER_TAKES),
+        Some(value) => reader.refuse(value, HEADER_ACCEPTS),
     }
     ConvertHeader::Needed
 }
 
 /// Where the results go.
-fn place_of<'a>(reading: &Reading<'_, 'a>) -> ConvertTo<'a> {
-    match (reading.word("out"), reading.word("out-dir")) {
+fn destination<'a>(reader: &ArgumentReader<'_, 'a>) -> ConvertTo<'a> {
+    match (reader.value("out"), reader.value("out-dir")) {
+        (Some(path), _) if is_standard_output(path) => ConvertTo::Standard,
         (Some(path), _) => ConvertTo::File(path),
         (None, Some(path)) => ConvertTo::Folder(path),
-        (None, None) if reading.flag("in-place") => ConvertTo::Source,
+        (None, None) if reader.flag("in-place") => ConvertTo::Source,
         (None, None) => ConvertTo::Standard,
     }
 }
 
 /// All source files, the first one and the others.
-fn files_of<'a>(reading: &mut Reading<'_, 'a>) -> Vec<&'a str> {
-    let mut files = reading.words("FILE");
-    reading.add_words(&mut files, "FURTHER");
+fn files_of<'a>(reader: &mut ArgumentReader<'_, 'a>) -> Vec<&'a str> {
+    let mut files = reader.values("FILE");
+    reader.add_values(&mut files, "FURTHER");
     files
 }
 
 /// Reads the arguments of `convert`.
-pub fn convert_order<'a>(reading: &mut Reading<'_, 'a>) -> ConvertOrder<'a> {
+pub fn convert_order<'a>(reader: &mut ArgumentReader<'_, 'a>) -> ConvertOrder<'a> {
     ConvertOrder {
-        files: files_of(reading),
-        to: place_of(reading),
-        library: reading.word("library"),
-        header: header_of(reading),
-        places: when_told(reading),
+        files: files_of(reader),
+        to: destination(reader),
+        library: reader.value("library"),
+        header: header_of(reader),
+        places: places_option(reader),
     }
 }

@@ -1,9 +1,10 @@
 //! Why a command failed: the first line of the message, further lines, and the exit status.
 
 ghost use Rattle.std.specs.Prelude.{◌≡◌};
-ghost use Rattle.bcpl_cli.specs.Statuses.{cause_status, untold};
+ghost use Rattle.bcpl_cli.specs.Statuses.{cause_status, unexplained};
 ghost use Rattle.bcpl_cli.specs.declared.failure.Cause.TheVariants as causes;
 
+use crate::escaped::Escaped;
 use crate::refusals::{
     write_against, write_build, write_check, write_link, write_streams, write_text,
 };
@@ -37,7 +38,7 @@ pub enum Wild {
 pub struct Failure {
     pub cause: Cause,
     /// Further lines of explanation, each ended by a line feed.
-    pub told: Option<String>,
+    pub explanation: Option<String>,
 }
 
 /// The cause of a failure.
@@ -78,18 +79,21 @@ const NO_PATH: &str =
 impl Failure {
     /// A failure without further lines.
     pub fn new(cause: Cause) -> Failure
-        ensures { result ≡ untold cause }
+        ensures { result ≡ unexplained cause }
     {
-        Failure { cause, told: None }
+        Failure {
+            cause,
+            explanation: None,
+        }
     }
 
     /// This failure with further lines.
-    pub fn with(self, told: String) -> Failure
+    pub fn with(self, explanation: String) -> Failure
         ensures { result.cause ≡ self.cause }
     {
         Failure {
             cause: self.cause,
-            told: Some(told),
+            explanation: Some(explanation),
         }
     }
 
@@ -103,13 +107,14 @@ impl Failure {
 
     /// The failure of the file with this path, for this reason.
     pub fn file_since(alloc: Global, path: &str, reason: &str) -> Failure {
-        let told = if path.is_empty() {
+        let shown = Escaped(path);
+        let explanation = if path.is_empty() {
             format!(in alloc; "{NO_PATH}")
         } else {
-            format!(in alloc; "{path}: {reason}\n")
+            format!(in alloc; "{shown}: {reason}\n")
         };
-        match told {
-            Ok(told) => Failure::file(alloc, path).with(told),
+        match explanation {
+            Ok(explanation) => Failure::file(alloc, path).with(explanation),
             Err(_) => Failure::new(Cause::Memory),
         }
     }
@@ -138,7 +143,7 @@ impl Failure {
 
     /// Whether the further lines are always printed, even if standard error is no terminal: for these causes the
     /// first line alone says too little.
-    pub fn is_told_always(&self) -> bool {
+    pub fn is_always_explained(&self) -> bool {
         matches!(
             &self.cause,
             Cause::ByHand(_) | Cause::Wild(_) | Cause::TurnsSpent | Cause::Ended(_)
@@ -146,16 +151,16 @@ impl Failure {
     }
 
     /// The further lines, each ended by a line feed, or an empty string.
-    pub fn told(&self) -> &str {
-        match &self.told {
-            Some(told) => told.as_str(),
+    pub fn explanation(&self) -> &str {
+        match &self.explanation {
+            Some(explanation) => explanation.as_str(),
             None => "",
         }
     }
 }
 
 impl From<Memory> for Failure {
-    ghost from_gives = { λ _ f. f ≡ untold causes.Memory };
+    ghost from_gives = { λ _ f. f ≡ unexplained causes.Memory };
 
     fn from(_refused: Memory) -> Self {
         Failure::new(Cause::Memory)
@@ -163,7 +168,7 @@ impl From<Memory> for Failure {
 }
 
 impl From<AllocError> for Failure {
-    ghost from_gives = { λ _ f. f ≡ untold causes.Memory };
+    ghost from_gives = { λ _ f. f ≡ unexplained causes.Memory };
 
     fn from(_refused: AllocError) -> Self {
         Failure::new(Cause::Memory)
@@ -171,7 +176,7 @@ impl From<AllocError> for Failure {
 }
 
 impl<T: Drop> From<AllocFailed<T>> for Failure {
-    ghost from_gives = { λ _ f. f ≡ untold causes.Memory };
+    ghost from_gives = { λ _ f. f ≡ unexplained causes.Memory };
 
     fn from(_refused: AllocFailed<T>) -> Self {
         Failure::new(Cause::Memory)
@@ -179,7 +184,7 @@ impl<T: Drop> From<AllocFailed<T>> for Failure {
 }
 
 impl From<TextError> for Failure {
-    ghost from_gives = { λ fault f. f ≡ untold (causes.Text fault) };
+    ghost from_gives = { λ fault f. f ≡ unexplained (causes.Text fault) };
 
     fn from(fault: TextError) -> Self {
         Failure::new(Cause::Text(fault))
@@ -187,7 +192,7 @@ impl From<TextError> for Failure {
 }
 
 impl From<LinkError> for Failure {
-    ghost from_gives = { λ fault f. f ≡ untold (causes.Link fault) };
+    ghost from_gives = { λ fault f. f ≡ unexplained (causes.Link fault) };
 
     fn from(fault: LinkError) -> Self {
         Failure::new(Cause::Link(fault))
@@ -195,7 +200,7 @@ impl From<LinkError> for Failure {
 }
 
 impl From<StreamsError> for Failure {
-    ghost from_gives = { λ fault f. f ≡ untold (causes.Streams fault) };
+    ghost from_gives = { λ fault f. f ≡ unexplained (causes.Streams fault) };
 
     fn from(fault: StreamsError) -> Self {
         Failure::new(Cause::Streams(fault))
@@ -224,6 +229,16 @@ fn write_wild<W: fmt::Write>(f: &mut fmt::Formatter<W>, wild: Wild) -> fmt::Resu
         Wild::NoCell(address) => write!(f, "wild 3 NoCell {address}"),
         Wild::NotRoutine(value) => write!(f, "wild 4 NotRoutine {value}"),
         Wild::FrameTooLarge(cell) => write!(f, "wild 5 FrameTooLarge {cell}"),
+    }
+}
+
+/// The first line of a refused build, without `bcpl: `.
+#[derive(Clone, Copy)]
+pub struct BuildLine<'a>(pub &'a BuildError);
+
+impl fmt::Display for BuildLine<'_> {
+    fn fmt<W: fmt::Write>(&self, f: &mut fmt::Formatter<W>) -> fmt::Result {
+        write_build(f, self.0)
     }
 }
 

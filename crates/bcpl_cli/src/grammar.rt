@@ -18,13 +18,15 @@ pub enum Form {
     Lettered(&'static str, char),
     /// An option with a value that may be repeated.
     Repeated(&'static str),
+    /// Such an option with a one-letter form.
+    LetteredRepeated(&'static str, char),
     /// An option with a number.
     Number(&'static str),
 }
 
 /// How an argument depends on others.
 #[derive(Clone, Copy)]
-pub enum Rule {
+pub enum Constraint {
     /// It is optional.
     Free,
     /// It is required.
@@ -43,13 +45,22 @@ pub struct Argument {
     /// The name under which it is read.
     pub name: &'static str,
     pub form: Form,
-    pub rule: Rule,
+    pub constraint: Constraint,
     pub help: &'static str,
+}
+
+/// How the argument parser reads the numbers of options.
+#[derive(Clone, Copy, PartialEq, Eq)]
+pub enum Numbers {
+    /// As decimal digits.
+    Digits,
+    /// As text, so that `number_of` can read them.
+    Text,
 }
 
 /// A command.
 #[derive(Clone, Copy)]
-pub struct Described {
+pub struct CommandSpec {
     pub name: &'static str,
     pub about: &'static str,
     /// The help after the list of arguments.
@@ -63,19 +74,24 @@ fn appending<'a>(arg: Arg<'a>, value: &'a str) -> Arg<'a> {
 }
 
 /// An argument whose value is a number.
-fn numbered<'a>(arg: Arg<'a>, value: &'a str) -> Arg<'a> {
-    arg.value_name(value).value_parser(value_parser!(u64))
+fn numeric<'a>(arg: Arg<'a>, value: &'a str, numbers: Numbers) -> Arg<'a> {
+    let arg = arg.value_name(value);
+    match numbers {
+        Numbers::Digits => arg.value_parser(value_parser!(u64)),
+        Numbers::Text => arg,
+    }
 }
 
 /// Gives an argument its form.
-fn formed<'a>(form: Form, arg: Arg<'a>) -> Arg<'a> {
+fn with_form<'a>(form: Form, arg: Arg<'a>, numbers: Numbers) -> Arg<'a> {
     match form {
         Form::Word(value) | Form::Option(value) => arg.value_name(value),
         Form::Words(value, least) => appending(arg, value).num_args(least..),
         Form::Flag => arg.action(ArgAction::SetTrue),
         Form::Lettered(value, letter) => arg.value_name(value).short(letter),
         Form::Repeated(value) => appending(arg, value),
-        Form::Number(value) => numbered(arg, value),
+        Form::LetteredRepeated(value, letter) => appending(arg, value).short(letter),
+        Form::Number(value) => numeric(arg, value, numbers),
     }
 }
 
@@ -85,7 +101,7 @@ fn is_option(form: Form) -> bool {
 }
 
 /// An argument with its name and help.
-fn named<'a>(alloc: Global, argument: &Argument) -> Arg<'a> {
+fn new_arg<'a>(alloc: Global, argument: &Argument) -> Arg<'a> {
     let arg = Arg::new(alloc, argument.name).help(argument.help);
     if is_option(argument.form) {
         arg.long(argument.name)
@@ -94,47 +110,52 @@ fn named<'a>(alloc: Global, argument: &Argument) -> Arg<'a> {
     }
 }
 
-/// Gives an argument its rule.
-fn ruled<'a>(rule: Rule, arg: Arg<'a>) -> Result<Arg<'a>, AllocError> {
-    match rule {
-        Rule::Free => Ok(arg),
-        Rule::Required => Ok(arg.required(true)),
-        Rule::With(other) => arg.requires_arg(other),
-        Rule::Without(others) => arg.conflicts_with_all(others),
-        Rule::OneOf(group) => arg.group(group),
+/// Gives an argument its constraint.
+fn with_constraint<'a>(constraint: Constraint, arg: Arg<'a>) -> Result<Arg<'a>, AllocError> {
+    match constraint {
+        Constraint::Free => Ok(arg),
+        Constraint::Required => Ok(arg.required(true)),
+        Constraint::With(other) => arg.requires_arg(other),
+        Constraint::Without(others) => arg.conflicts_with_all(others),
+        Constraint::OneOf(group) => arg.group(group),
     }
 }
 
 /// Translates an argument for the parser.
-fn arg_of<'a>(alloc: Global, argument: &Argument) -> Result<Arg<'a>, AllocError> {
-    let arg = formed(argument.form, named(alloc, argument));
-    ruled(argument.rule, arg)
+fn arg_of<'a>(alloc: Global, argument: &Argument, numbers: Numbers) -> Result<Arg<'a>, AllocError> {
+    let arg = with_form(argument.form, new_arg(alloc, argument), numbers);
+    with_constraint(argument.constraint, arg)
 }
 
 /// Translates a command for the parser.
-fn command_of<'a>(alloc: Global, described: &Described) -> Result<Command<'a>, AllocError> {
+fn command_of<'a>(
+    alloc: Global,
+    spec: &CommandSpec,
+    numbers: Numbers,
+) -> Result<Command<'a>, AllocError> {
     let mut args = Vec::new(alloc);
-    for argument in described.arguments {
-        args.push(arg_of(alloc, argument)?)
+    for argument in spec.arguments {
+        args.push(arg_of(alloc, argument, numbers)?)
             .map_err(AllocError::from)?;
     }
-    Command::new(alloc, described.name)
-        .about(described.about)
-        .after_help(described.more)
+    Command::new(alloc, spec.name)
+        .about(spec.about)
+        .after_help(spec.more)
         .args(args)
 }
 
-/// Adds the commands to `above`. Fails only if an allocation fails.
+/// Adds the commands to `program`. Fails only if an allocation fails.
 pub fn with_commands<'a>(
     alloc: Global,
-    above: Command<'a>,
-    commands: &[Described],
+    program: Command<'a>,
+    commands: &[CommandSpec],
+    numbers: Numbers,
 ) -> Result<Command<'a>, AllocError> {
-    let mut below = Vec::new(alloc);
-    for described in commands {
-        below
-            .push(command_of(alloc, described)?)
+    let mut subcommands = Vec::new(alloc);
+    for spec in commands {
+        subcommands
+            .push(command_of(alloc, spec, numbers)?)
             .map_err(AllocError::from)?;
     }
-    above.subcommands(below)
+    program.subcommands(subcommands)
 }

@@ -1,6 +1,7 @@
 //! Guesses what an invalid command line was meant to say.
 
-use crate::arguments::{BadWords, Places};
+use crate::arguments::{ArgumentError, Places};
+use crate::numbers::number_of;
 use clap::error::ErrorKind;
 
 /// What is probably missing from an invalid command line.
@@ -14,14 +15,14 @@ pub enum Guess<'a> {
     Out(&'a str),
     /// `--out` before this text, which follows a source.
     OutOf { text: &'a str, source: &'a str },
-    /// Decimal digits as the number of this option.
-    Digits(&'a str),
+    /// A valid number for this option.
+    Number(&'a str),
     /// A second dash before this option.
     Dash(&'a str),
 }
 
 /// The options that take a number.
-const NUMBERED: [&str; 4] = ["--steps", "--turns", "--from", "--count"];
+const NUMBERED: [&str; 5] = ["--steps", "--turns", "--from", "--count", "--record"];
 
 /// The usual ending of a source's file name.
 const SOURCE: &str = ".bcpl";
@@ -57,7 +58,7 @@ fn out_for<'a>(words: &[&'a str], file: &'a str) -> Guess<'a> {
 }
 
 /// What a command is missing whose required argument was not given.
-fn lacking<'a>(words: &[&'a str], first: &str) -> Option<Guess<'a>> {
+fn missing<'a>(words: &[&'a str], first: &str) -> Option<Guess<'a>> {
     let file = last_file(words)?;
     match first {
         "run" if !has_option(words, "--steps") => Some(Guess::Steps(file)),
@@ -68,29 +69,24 @@ fn lacking<'a>(words: &[&'a str], first: &str) -> Option<Guess<'a>> {
     }
 }
 
-/// Whether an argument consists of digits.
-fn is_of_digits(word: &str) -> bool {
-    !word.is_empty() && word.bytes().all(|byte| byte.is_ascii_digit())
-}
-
-/// The option in an argument `OPTION=NUMBER` whose number has anything but digits.
-fn unnumbered_within<'a>(word: &'a str) -> Option<&'a str> {
+/// The option in an argument `OPTION=NUMBER` whose number is invalid.
+fn invalid_within<'a>(word: &'a str) -> Option<&'a str> {
     match word.split_once('=') {
-        Some((option, number)) if NUMBERED.contains(&option) && !is_of_digits(number) => {
+        Some((option, number)) if NUMBERED.contains(&option) && number_of(number).is_none() => {
             Some(option)
         }
         _ => None,
     }
 }
 
-/// The first option whose number, given after it or after a `=`, has anything but digits.
-fn unnumbered<'a>(words: &[&'a str]) -> Option<&'a str> {
+/// The first option whose number, given after it or after a `=`, is invalid.
+pub(crate) fn invalid_number<'a>(words: &[&'a str]) -> Option<&'a str> {
     let mut before = "";
     for word in words {
-        if NUMBERED.contains(&before) && !is_of_digits(word) {
+        if NUMBERED.contains(&before) && number_of(word).is_none() {
             return Some(before);
         }
-        let within = unnumbered_within(word);
+        let within = invalid_within(word);
         if within.is_some() {
             return within;
         }
@@ -109,46 +105,45 @@ fn with_one_dash<'a>(words: &[&'a str]) -> Option<&'a str> {
     None
 }
 
-/// What is missing from a command line with an unknown option: digits in a number (a negative number looks like an
+/// What is missing from a command line with an unknown option: a valid number (a negative number looks like an
 /// option), or a second dash.
-fn unknown<'a>(words: &[&'a str]) -> Option<Guess<'a>> {
-    match unnumbered(words) {
-        Some(option) => Some(Guess::Digits(option)),
+fn unknown_option<'a>(words: &[&'a str]) -> Option<Guess<'a>> {
+    match invalid_number(words) {
+        Some(option) => Some(Guess::Number(option)),
         None => with_one_dash(words).map(Guess::Dash),
     }
 }
 
 /// What is probably missing from these arguments, which are invalid for the reason `bad`; `None` if that can't be
 /// guessed.
-pub fn guess_of<'a>(words: &[&'a str], bad: &BadWords<'_>) -> Option<Guess<'a>> {
+pub fn guess_of<'a>(words: &[&'a str], bad: &ArgumentError<'_>) -> Option<Guess<'a>> {
     let kind = match bad {
-        BadWords::Said(error) => error.kind(),
-        BadWords::Option { .. } | BadWords::Memory => return None,
+        ArgumentError::Parser(error) => error.kind(),
+        ArgumentError::Option { .. } | ArgumentError::Memory => return None,
     };
     let first = words.first()?;
     match kind {
         ErrorKind::InvalidSubcommand => Some(Guess::Command(first)),
-        ErrorKind::MissingRequiredArgument => lacking(words, first),
-        ErrorKind::ValueValidation => unnumbered(words).map(Guess::Digits),
-        ErrorKind::UnknownArgument => unknown(words),
+        ErrorKind::MissingRequiredArgument => missing(words, first),
+        ErrorKind::ValueValidation => invalid_number(words).map(Guess::Number),
+        ErrorKind::UnknownArgument => unknown_option(words),
         _ => None,
     }
 }
 
-/// When to explain, for an invalid command line: the last valid value of `--places`, or the default.
-pub fn places_of(words: &[&str]) -> Places {
-    let mut places = Places::OnTerminal;
+/// When to explain, for an invalid command line: the last valid value of `--places`, or else what `setting`, the value
+/// of `BCPL_PLACES`, says.
+pub fn places_in(words: &[&str], setting: Option<&str>) -> Places {
+    let mut places = Places::default_of(setting);
     let mut is_next = false;
     for word in words {
-        let said = if is_next {
+        let value = if is_next {
             Some(*word)
         } else {
             word.strip_prefix("--places=")
         };
-        match said {
-            Some("always") => places = Places::Always,
-            Some("never") => places = Places::Never,
-            _ => {}
+        if let Some(value) = value {
+            places = Places::named(value).unwrap_or(places);
         }
         is_next = *word == "--places";
     }

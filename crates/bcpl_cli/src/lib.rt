@@ -1,36 +1,55 @@
 //! The command line of the program: its arguments, its failures and its files.
 //!
-//! - Reading arguments: `wanted` turns them into an `Order`; `guess_of` and `hint` guess what an invalid one was
-//!   meant to be.
-//! - Failing: a `Failure` has the first line of the message, further lines, and the exit status.
-//! - Files: `contents` reads one up to a limit, `Written` writes one completely or not at all, `kind_of` guesses what
-//!   one is.
+//! - Arguments: `parse_arguments` turns them into an `Order`; `guess_of` and `hint` guess what an invalid one was meant
+//!   to be.
+//! - Failing: a `Failure` has the first line of the message, an explanation, and the exit status.
+//! - Files: `contents` reads one up to a limit, `AtomicFile` writes one completely or not at all, `file_kind` guesses
+//!   what one is.
+//! - `lean_libraries` cuts the sources of the library to the definitions that a program can reach by name, for
+//!   `bcpl build --lean`.
 #![tactic(auto)]
 
+mod argument_reader;
 mod arguments;
+mod atomic_file;
 mod clean;
+mod colours;
+mod command_files;
 mod commands;
 mod converting;
+mod escaped;
 mod failure;
+mod file_identity;
+mod file_kinds;
+mod get_hints;
+mod got_names;
 mod grammar;
 mod guessing;
 mod hints;
-mod kinds;
+mod library_cutting;
+mod library_definitions;
+mod library_words;
+mod loaded_sources;
+mod numbers;
 mod read_file;
-mod reading;
 mod refusals;
 mod version;
-mod writing;
 
 pub use arguments::{
-    AssembleOrder, BadWords, Binding, BuildOrder, CheckOrder, ExplainOrder, InterpretOrder,
-    Library, ListOrder, Listing, Order, Places, RunOrder, ShowOrder, Sources, WatchOrder, wanted,
+    ArgumentError, AssembleOrder, Binding, BuildOrder, CheckOrder, DebugOrder, ExplainOrder,
+    GoOrder, ImageFormat, InterpretOrder, Library, LinkedLibrary, ListOrder, Listing, Order,
+    Places, ProgramOrder, RunOrder, ShowOrder, Sources, TreeShape, WatchOrder, is_standard_output,
+    parse_arguments,
 };
+pub use atomic_file::{AtomicFile, is_one_file, named_twice};
 pub use clean::Clean;
 pub use converting::{ConvertHeader, ConvertOrder, ConvertTo};
-pub use failure::{Cause, Failure, Wild};
-pub use guessing::{Guess, guess_of, places_of};
-pub use hints::{Wanted, bare, hint};
-pub use kinds::{Kind, kind_of};
+pub use escaped::{Escaped, shown_path};
+pub use failure::{BuildLine, Cause, Failure, Wild};
+pub use file_kinds::{FileKind, file_kind};
+pub use get_hints::get_hint;
+pub use guessing::{Guess, guess_of, places_in};
+pub use hints::{Expected, hint, without_extension};
+pub use library_cutting::lean_libraries;
+pub use loaded_sources::{LoadedSource, load_sources};
 pub use read_file::{FILE_LIMIT, contents};
-pub use writing::{Written, is_one_file, named_twice, would_lose};

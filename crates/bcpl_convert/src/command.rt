@@ -15,7 +15,7 @@ fn by_hand(order: &ConvertOrder<'_>, count: usize, told: String) -> Failure {
     let failure = Failure::new(Cause::ByHand(count));
     match order.places {
         Places::Never => failure,
-        Places::Always | Places::OnTerminal => failure.with(told),
+        Places::Always | Places::OnTerminal | Places::Json => failure.with(told),
     }
 }
 

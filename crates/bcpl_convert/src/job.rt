@@ -1,7 +1,7 @@
 //! One source of the command: its conversion, and where that goes.
 
 use bc_convert::Conversion;
-use bcpl_cli::{ConvertTo, Failure, Written};
+use bcpl_cli::{AtomicFile, ConvertTo, Failure};
 use std::alloc::{AllocError, Global};
 use std::io::Write;
 use std::rt::Files;
@@ -71,7 +71,7 @@ impl Job<'_> {
 
 /// Writes a file. If that fails, the file keeps its content.
 fn write_file<F: Files>(rt: &F, alloc: Global, path: &str, bytes: &[u8]) -> Result<(), Failure> {
-    let mut written = Written::begin(rt, alloc, path)?;
+    let mut written = AtomicFile::begin(rt, alloc, path)?;
     match written.out().write_all(bytes) {
         Ok(()) => written.finish(rt, alloc, path),
         Err(error) => {

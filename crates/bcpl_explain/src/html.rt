@@ -1,23 +1,21 @@
-//! A page of HTML while it is written.
+//! A page of HTML while it is written, with its data as JSON.
 use bc_rules_defs::Rule;
 use bc_word::Memory;
-use bcpl_show::unit;
+use itoa::Buffer;
 use std::alloc::Global;
 use std::str;
 
 /// A part of a page.
 #[derive(Clone, Copy)]
 pub enum Fragment<'a> {
-    /// Markup.
+    /// Markup, JSON or a script, as it is.
     Mark(&'a str),
-    /// Text, which is escaped.
+    /// Text, which is escaped for HTML.
     Tell(&'a str),
-    /// Bytes of text, which are escaped.
-    Say(&'a [u8]),
+    /// Bytes as a JSON string, with its quotes.
+    Quoted(&'a [u8]),
     /// A number.
     Number(u64),
-    /// A number of words.
-    Words(u64),
     /// The name of a rule.
     Rule(Rule),
 }
@@ -61,64 +59,65 @@ impl Html {
         }
     }
 
+    /// Adds bytes as they are.
+    fn put(&mut self, bytes: &[u8]) {
+        if self.text.extend_from_slice(bytes).is_err() {
+            self.refuse();
+        }
+    }
+
     /// Adds markup as it is.
     pub fn mark(&mut self, markup: &str) {
-        if self.text.extend_from_slice(markup.as_bytes()).is_err() {
-            self.refuse();
+        self.put(markup.as_bytes());
+    }
+
+    /// Adds text, with the signs of markup escaped.
+    pub fn tell(&mut self, text: &str) {
+        for byte in text.as_bytes() {
+            match *byte {
+                b'<' => self.mark("&lt;"),
+                b'>' => self.mark("&gt;"),
+                b'&' => self.mark("&amp;"),
+                b'"' => self.mark("&quot;"),
+                byte => self.put(&[byte]),
+            }
         }
     }
 
-    /// Adds a byte as it is.
-    fn push(&mut self, byte: u8) {
-        if self.text.push(byte).is_err() {
-            self.refuse();
-        }
-    }
-
-    /// Adds bytes as text. Escapes the signs of markup. Writes a question mark for each control character, and for
-    /// each byte from 128 on if the text is not valid UTF-8.
-    pub fn say(&mut self, bytes: &[u8]) {
+    /// Adds bytes as a JSON string. Escapes what could end the string or the script around it. Writes a question mark
+    /// for each control character, and for each byte from 128 on if the bytes are not valid UTF-8.
+    pub fn quoted(&mut self, bytes: &[u8]) {
         let is_text = str::from_utf8(bytes).is_ok();
+        self.mark("\"");
         for byte in bytes {
             self.sign(*byte, is_text);
         }
+        self.mark("\"");
     }
 
-    /// Adds a byte of a text, which is valid UTF-8 or not.
+    /// Adds a byte of a JSON string, whose bytes are valid UTF-8 or not.
     fn sign(&mut self, byte: u8, is_text: bool) {
         match byte {
-            b'<' => self.mark("&lt;"),
-            b'>' => self.mark("&gt;"),
-            b'&' => self.mark("&amp;"),
-            b'"' => self.mark("&quot;"),
-            _ if is_shown(byte, is_text) => self.push(byte),
+            b'"' => self.mark("\\\""),
+            b'\\' => self.mark("\\\\"),
+            b'<' => self.mark("\\u003c"),
+            b'>' => self.mark("\\u003e"),
+            b'&' => self.mark("\\u0026"),
+            b'\t' => self.mark("\\t"),
+            _ if is_shown(byte, is_text) => self.put(&[byte]),
             _ => self.mark("?"),
         }
     }
 
-    /// Adds text, escaped.
-    pub fn tell(&mut self, text: &str) {
-        self.say(text.as_bytes());
-    }
-
     /// Adds a number.
     pub fn number(&mut self, number: u64) {
-        let Ok(digits) = format!(in self.alloc; "{number}") else {
-            return self.refuse();
-        };
-        self.mark(digits.as_str());
-    }
-
-    /// Adds a number of words, with the unit.
-    pub fn words(&mut self, words: u64) {
-        self.number(words);
-        self.mark(" ");
-        self.mark(unit(words));
+        let mut buffer = Buffer::new();
+        self.put(buffer.format(number).as_bytes());
     }
 
     /// Adds the name of a rule.
     fn rule(&mut self, rule: Rule) {
-        self.push(rule.letter());
+        self.put(&[rule.letter()]);
         self.number(u64::from(rule.number()));
     }
 
@@ -127,9 +126,8 @@ impl Html {
         match part {
             Fragment::Mark(markup) => self.mark(markup),
             Fragment::Tell(text) => self.tell(text),
-            Fragment::Say(bytes) => self.say(bytes),
+            Fragment::Quoted(bytes) => self.quoted(bytes),
             Fragment::Number(number) => self.number(number),
-            Fragment::Words(words) => self.words(words),
             Fragment::Rule(rule) => self.rule(rule),
         }
     }
@@ -141,17 +139,21 @@ impl Html {
         }
     }
 
-    /// Adds an element with this tag and text.
-    pub fn element<'t>(&mut self, tag: &'t str, text: &'t str) {
-        self.all(&[
-            Fragment::Mark("<"),
-            Fragment::Mark(tag),
-            Fragment::Mark(">"),
-            Fragment::Tell(text),
-            Fragment::Mark("</"),
-            Fragment::Mark(tag),
-            Fragment::Mark(">"),
-        ]);
+    /// Adds a list of numbers as JSON, with its brackets.
+    pub fn numbers(&mut self, list: &[usize]) {
+        self.mark("[");
+        for (index, number) in list.iter().enumerate() {
+            self.separate(index);
+            self.number(*number as u64);
+        }
+        self.mark("]");
+    }
+
+    /// Adds the comma before the element of a list with this index.
+    pub fn separate(&mut self, index: usize) {
+        if index > 0 {
+            self.mark(",");
+        }
     }
 
     /// The text of the page, or `Memory` if an allocation failed.
@@ -166,7 +168,7 @@ impl Html {
 /// Whether a byte of a text is written as it is. `is_text` is whether the text is valid UTF-8.
 fn is_shown(byte: u8, is_text: bool) -> bool {
     match byte {
-        b'\t' | 32..=126 => true,
+        32..=126 => true,
         128..=255 => is_text,
         _ => false,
     }

@@ -1,21 +1,15 @@
 //! The page of HTML that `bcpl explain` writes: each source line with its code, and for each root why no derivation
 //! has fewer words.
+//!
+//! The page has its data once, as JSON, and a script that draws what the reader asks for.
 #![tactic(auto)]
 
-mod chosen;
 mod file;
 mod html;
-mod items;
-mod locals;
-mod names;
-mod node;
-mod parts;
-mod placed;
+mod nodes;
 mod report;
-mod root;
-mod rules;
 mod runs;
+mod script;
 mod style;
-mod totals;
 
 pub use report::{Checked, explanation};

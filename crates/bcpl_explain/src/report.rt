@@ -1,8 +1,8 @@
-//! The page as a whole: how to read it, the files, the rules, and what is proved.
+//! The page as a whole: its text, its data, and its script.
 
-use crate::file::{Basis, File};
+use crate::file::{add_file, add_sources, lines_of};
 use crate::html::{Fragment, Html};
-use crate::rules::add_table;
+use crate::script::SCRIPT;
 use crate::style::STYLE;
 use bc_word::Memory;
 use bcpl_show::CodeListing;
@@ -17,51 +17,19 @@ pub struct Checked {
     pub words: u64,
 }
 
-/// The text at the top of the page.
-const OPENING: &str =
-    "<p>Each line of the source is shown with its code. Click an expression, a test or an assignment to open it: you see its tree, the \
-    fewest words that each part of it needs, and all rules that could produce its code. Code that doesn't open belongs to a command itself: \
-    a label, a jump or a return.</p>\n\
-    <p class=\"screen\"><label><input type=\"checkbox\" id=\"all\"> Show all trees, also when printing</label></p>\n\
-    <details class=\"legend\"><summary>How to read this page</summary>\n<dl>\n";
+/// The beginning of the page. The policy forbids every request, so that the page can only show its own data.
+const HEAD: &str = "<!DOCTYPE html>\n<html lang=\"en\">\n<head>\n<meta charset=\"utf-8\">\n\
+    <meta http-equiv=\"Content-Security-Policy\" content=\"default-src 'none'; style-src 'unsafe-inline'; script-src 'unsafe-inline'\">\n\
+    <meta name=\"viewport\" content=\"width=device-width, initial-scale=1\">\n<title>";
 
-/// The explanation of the code.
-const CODE: &str =
-    "<dt id=\"code\">Code</dt><dd>INTCODE, as in the text of the segment. A bold number is a label. The machine works with two registers, A and B. \
-    In this table, n is what follows the first letter of an instruction: 5 is the number 5, P5 the address of the cell at offset 5 of the frame, \
-    G5 the address of global 5, L5 the address of label 5. With an I before it, it is the contents of the cell at that address, as in LIP5.\n\
-    <table>\n\
-    <tr><th>L n</th><td>copies A to B, and sets A to n</td></tr>\n\
-    <tr><th>S n</th><td>stores A in the cell at n</td></tr>\n\
-    <tr><th>A n</th><td>adds n to A</td></tr>\n\
-    <tr><th>J n, T n, F n</th><td>jumps to n: always, if A isn't 0, if A is 0</td></tr>\n\
-    <tr><th>K n</th><td>calls the routine at A, with a frame that begins n cells after this one</td></tr>\n\
-    <tr><th>X1, X2, X3</th><td>sets A to !A, -A, NOT A</td></tr>\n\
-    <tr><th>X4</th><td>returns</td></tr>\n\
-    <tr><th>X5 to X21</th><td>sets A to B op A: X5 *, X6 /, X7 REM, X8 +, X9 -, X10 =, X11 NE, X12 &lt;, X13 GE, X14 &gt;, X15 LE, X16 &lt;&lt;, \
-    X17 &gt;&gt;, X18 &amp;, X19 |, X20 NEQV, X21 EQV</td></tr>\n\
-    <tr><th>X22, X23</th><td>ends the run; jumps as the list after it says for A, for a SWITCHON</td></tr>\n\
-    <tr><th>D n, C n, Gn Lm</th><td>data: a word; a byte of a string; global n is set to the address of label m</td></tr>\n\
-    </table></dd>\n";
+/// The top of the page's body. The script fills in the rest.
+const OPENING: &str = "</style>\n</head>\n<body>\n<h1>Why this code is not shorter</h1>\n\
+    <noscript><p class=\"warning\">This page draws itself by a script that is part of this file and requests nothing. Allow scripts for this \
+    file to see it. Without a script, <code>bcpl show code FILE</code> prints the code beside the source, and \
+    <code>bcpl build --cert FILE.cert FILE</code> writes the certificate, which has the words of each node.</p></noscript>\n\
+    <main id=\"page\"></main>\n";
 
-/// The explanation of the trees.
-const TREES: &str =
-    "<dt id=\"node\">Node</dt><dd>A part of the tree, below the part that contains it. A number means itself. P2 is the address of the cell at \
-    offset 2 of the frame, G14 that of global 14, L3 that of place 3: a routine, a static, a table or a string. Globals, places, parameters and \
-    variables are shown with their names. ! is the contents of the cell at an address, and NEG the negative. The other signs are those of the \
-    source; NOT of a relation appears as the opposite relation.</dd>\n\
-    <dt id=\"level\">Level</dt><dd>The first offset of the frame after everything that is in use when work on the node begins.</dd>\n\
-    <dt id=\"least\">Fewest words, and the words with each rule</dt><dd>The fewest words that code of the node can have in each of four uses: as a \
-    value; as a second operand, which leaves in B what was in A; to jump if it is false; and to jump if it is true. A dash means that there is no \
-    such code. The number is followed by each rule with which code for this use can begin, and the fewest words of code that begins with it. \
-    No other rule applies, and the size of a whole is that of its parts plus a few words, so nothing has fewer words than the least of them. \
-    The body of a VALOF counts as no words here, since it has expressions, tests and assignments of its own.</dd>\n\
-    <dt id=\"chosen\">&#9670;</dt><dd>The code on this page uses the node in this way, by this rule.</dd>\n\
-    <dt id=\"chain\">Rules of this code</dt><dd>The rules that the code uses at the node, the outermost first. Each links to its line of the table \
-    below. A node has no code of its own if a rule above it takes it as an operand or a number, or drops it as a 0.</dd>\n\
-    </dl>\n</details>\n";
-
-/// The theorem.
+/// The theorem, and where the rules and numbers of the page come from.
 const THEOREM: &str = "<h2 id=\"proved\">What is proved, and what was checked</h2>\n\
     <p class=\"theorem\">For every accepted program, a run of its source that meets no wild cell in n turns has the same output and \
     ending as its linked image's run; and each expression, test and assignment has in the image the code of a derivation from the \
@@ -69,8 +37,9 @@ const THEOREM: &str = "<h2 id=\"proved\">What is proved, and what was checked</h
 
 /// Where the rules and numbers of the page come from.
 const NUMBERS: &str =
-    "<p>The rules that apply are the result of a proved call: for each node and each use it returns exactly the rules with which a derivation \
-    can begin, and the fewest words of the derivations that begin with them. How this page lays out that result is tested, not proved.</p>\n";
+    "<p>The rules that apply, and their words, are the result of a proved call: for each node and each use it returns exactly the rules with \
+    which a derivation can begin, and the fewest words of the derivations that begin with them. The code that another rule would give, the \
+    reasons and the layout come from the script of this page. They are tested, not proved.</p>\n";
 
 /// Adds what is proved and what was checked.
 fn add_claims(html: &mut Html, checked: Checked) {
@@ -81,8 +50,8 @@ fn add_claims(html: &mut Html, checked: Checked) {
         ),
         Fragment::Number(checked.entries),
         Fragment::Mark(" expressions, tests and assignments, of "),
-        Fragment::Words(checked.words),
-        Fragment::Mark(" in all. None of them has a derivation with fewer words.</p>\n"),
+        Fragment::Number(checked.words),
+        Fragment::Mark(" words in all. None of them has a derivation with fewer words.</p>\n"),
         Fragment::Mark(NUMBERS),
     ]);
 }
@@ -90,30 +59,12 @@ fn add_claims(html: &mut Html, checked: Checked) {
 /// Adds the head of the page. Its title begins with this path.
 fn begin(html: &mut Html, path: &str) {
     html.all(&[
-        Fragment::Mark("<!DOCTYPE html>\n<html lang=\"en\">\n<head>\n<meta charset=\"utf-8\">\n"),
-        Fragment::Mark(
-            "<meta name=\"viewport\" content=\"width=device-width, initial-scale=1\">\n<title>",
-        ),
+        Fragment::Mark(HEAD),
         Fragment::Tell(path),
         Fragment::Mark(": why its code is not shorter</title>\n<style>"),
         Fragment::Mark(STYLE),
-        Fragment::Mark("</style>\n</head>\n<body>\n<h1>Why this code is not shorter</h1>\n"),
+        Fragment::Mark(OPENING),
     ]);
-}
-
-/// Adds links to the parts of the page.
-fn add_ways(html: &mut Html, programs: &[CodeListing<'_, '_>]) {
-    html.mark("<nav>");
-    for (number, program) in programs.iter().enumerate() {
-        html.all(&[
-            Fragment::Mark("<a href=\"#file"),
-            Fragment::Number(number as u64),
-            Fragment::Mark("\">"),
-            Fragment::Tell(program.files.path(program.main)),
-            Fragment::Mark("</a> "),
-        ]);
-    }
-    html.mark("<a href=\"#rules\">The rules</a> <a href=\"#proved\">What is proved</a></nav>\n");
 }
 
 /// The path of the first file.
@@ -122,6 +73,24 @@ fn path_of<'a>(programs: &[CodeListing<'a, '_>]) -> &'a str {
         Some(program) => program.files.path(program.main),
         None => "",
     }
+}
+
+/// Adds the sources and the files of a program as JSON.
+fn add_files(html: &mut Html, programs: &[CodeListing<'_, '_>]) {
+    let Some(first) = programs.first() else {
+        return html.mark("{\"sources\":[],\"files\":[]}");
+    };
+    let Ok(lines) = lines_of(html.alloc(), first.files) else {
+        return html.refuse();
+    };
+    html.mark("{\"sources\":");
+    add_sources(html, first.files, lines.as_slice());
+    html.mark(",\"files\":[");
+    for (index, program) in programs.iter().enumerate() {
+        html.separate(index);
+        add_file(html, *program, lines.as_slice());
+    }
+    html.mark("]}");
 }
 
 /// The page on these files of one program, whose certificate was accepted: each source line with its code, the tree
@@ -137,39 +106,13 @@ pub fn explanation(
     html.into_text()
 }
 
-/// Adds the part of a file with this index. Adds its uses of each rule to `used`.
-fn add_file(html: &mut Html, number: usize, program: CodeListing<'_, '_>, used: &mut [u64; 34]) {
-    let Ok(basis) = Basis::new(html.alloc(), program) else {
-        return html.refuse();
-    };
-    let Ok(file) = File::new(html.alloc(), program, &basis) else {
-        return html.refuse();
-    };
-    file.add(html, number);
-    let totals = file.totals(html);
-    totals.add_routines(html);
-    totals.add_uses(used);
-}
-
-/// Adds the parts of all files, and the rule table.
-fn add_files(html: &mut Html, programs: &[CodeListing<'_, '_>]) {
-    let mut used = [0u64; 34];
-    for (number, program) in programs.iter().enumerate() {
-        add_file(html, number, *program, &mut used);
-    }
-    add_table(html, &used);
-}
-
 /// Adds the whole page.
 fn add_page(html: &mut Html, programs: &[CodeListing<'_, '_>], checked: Checked) {
     begin(html, path_of(programs));
-    add_ways(html, programs);
-    html.all(&[
-        Fragment::Mark(OPENING),
-        Fragment::Mark(CODE),
-        Fragment::Mark(TREES),
-    ]);
-    add_files(html, programs);
     add_claims(html, checked);
-    html.mark("</body>\n</html>\n");
+    html.mark("<script type=\"application/json\" id=\"data\">");
+    add_files(html, programs);
+    html.mark("</script>\n<script>");
+    html.mark(SCRIPT);
+    html.mark("</script>\n</body>\n</html>\n");
 }

@@ -6,7 +6,7 @@ use crate::strings::{run_after, say_bytes};
 use bc_machine_defs::Image;
 use bc_text_items::{Base, Function, Item, Segment};
 use bc_word::{Memory, Word};
-use bcpl_segments::{addresses, instruction, is_long, library_name};
+use bcpl_places::{addresses, instruction, is_long, library_name};
 use std::alloc::Global;
 
 /// A note on the code that begins at an item.

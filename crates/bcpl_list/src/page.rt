@@ -1,8 +1,8 @@
 //! The text of a listing while it is written, with its columns.
 
-use bc_show::ShownItem;
 use bc_text_items::Item;
 use bc_word::Memory;
+use bcpl_show::ShownItem;
 use std::alloc::Global;
 
 /// The smallest number of columns of an item that has a description.

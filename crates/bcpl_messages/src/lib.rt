@@ -22,6 +22,7 @@ mod trial_parse;
 mod words;
 
 pub use draft::{Draft, Fill};
+pub use likeness::library_like;
 pub use message::{Message, Note, message_of};
 pub use report::{Named, told_lines};
 pub use syntax::span_of;

@@ -1,6 +1,10 @@
 //! Names that resemble a name that isn't in scope.
 
+use crate::words::shown;
+use bc_lex::{Source, lex};
 use bc_lex_tokens::{Symbol, Token, TokenKind};
+use bc_library::is_of_library;
+use bc_library_ext::is_of_further_library;
 use bc_word::Memory;
 use std::alloc::Global;
 use strsim::osa_distance;
@@ -72,4 +76,55 @@ pub fn nearest<'s>(
         }
     }
     Ok(best)
+}
+
+/// The tokens that are names of the library.
+fn library_names<'s>(alloc: Global, tokens: &[Token<'s>]) -> Result<Vec<Token<'s>>, Memory> {
+    let mut found = Vec::new(alloc);
+    for token in tokens {
+        if let TokenKind::Name(name) = token.kind
+            && (is_of_library(name) || is_of_further_library(name))
+        {
+            found.push(*token)?;
+        }
+    }
+    Ok(found)
+}
+
+/// The header that declares a name of the library; `None` if it isn't one.
+fn header_of(name: &[u8]) -> Option<&'static str> {
+    if is_of_library(name) {
+        Some("; GET \"LIBHDR\" declares it")
+    } else if is_of_further_library(name) {
+        Some("; GET \"EXTHDR\" declares it")
+    } else {
+        None
+    }
+}
+
+/// What the library has for a name that a main uses and nothing declares: the header, or a similar name. It is the end
+/// of a sentence, and empty if the library has nothing. Returns `Memory` if an allocation fails.
+pub fn library_like(
+    alloc: Global,
+    sources: &[Source<'_>],
+    main: usize,
+    name: &[u8],
+) -> Result<String, Memory> {
+    if let Some(header) = header_of(name) {
+        return Ok(String::from_str(alloc, header)?);
+    }
+    if main >= sources.len() {
+        return Ok(String::new(alloc));
+    }
+    let Ok(tokens) = lex(alloc, sources, main) else {
+        return Ok(String::new(alloc));
+    };
+    let known = library_names(alloc, tokens.as_slice())?;
+    Ok(match nearest(alloc, known.as_slice(), name, &[])? {
+        Some(near) => {
+            let near = shown(alloc, near)?;
+            format!(in alloc; "; the library has {near}")?
+        }
+        None => String::new(alloc),
+    })
 }

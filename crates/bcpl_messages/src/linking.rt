@@ -12,8 +12,7 @@ use bc_link::LinkError;
 use bc_parse::parse;
 use bc_scope::resolve;
 use bc_word::Memory;
-use bcpl_places::Span;
-use bcpl_segments::{SegmentSize, segment_words, too_large};
+use bcpl_places::{SegmentSize, Span, segment_words, too_large};
 use std::alloc::Global;
 
 /// A routine that sets a global.

@@ -1,16 +1,24 @@
 //! Places in the sources in human terms: file, line and column, the line itself with a mark below it, and the GETs that
-//! led to the file.
+//! led to the file. Also facts on segments: sizes of items and segments, words decoded as instructions, and the library's
+//! names of globals.
 #![tactic(auto)]
 
+mod decoded;
 mod excerpt;
 mod gets;
+mod items;
 mod line;
 mod signs;
+mod sizes;
 
+pub use bc_library::library_name;
+pub use decoded::{FUNCTIONS, instruction};
 pub use excerpt::Excerpt;
 pub use gets::{Get, gets_of, way_to};
+pub use items::{addresses, is_long};
 pub use line::{Line, line_at};
 pub use signs::column_at;
+pub use sizes::{SegmentSize, segment_words, too_large};
 
 /// A stretch of a source: the bytes from `start` up to `end`, excluding `end`.
 #[derive(Clone, Copy, PartialEq, Eq)]

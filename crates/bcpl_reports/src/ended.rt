@@ -7,7 +7,7 @@ use crate::text_items::item_at;
 use bc_machine_defs::{End, Image};
 use bc_text_items::{Item, Segment};
 use bc_word::Memory;
-use bcpl_segments::{addresses, library_name};
+use bcpl_places::{addresses, library_name};
 use std::alloc::Global;
 
 /// The global that a run calls first, START.
@@ -206,17 +206,23 @@ fn add_bad_instruction(report: &mut Report, stop: &Stop, address: &str) -> Resul
 /// What to do about the end of a run.
 fn help_for(stop: &Stop, is_code: bool) -> Option<&'static str> {
     match stop.end {
+        End::BudgetSpent if is_code => Some(
+            "allow more with --steps, or look for an endless loop or endless calls; bcpl interpret FILE.. shows the line",
+        ),
         End::BudgetSpent => Some(
-            "allow more with --steps, or look for an endless loop or endless calls",
+            "no source has code there: a return address or a routine's cell was overwritten; bcpl interpret FILE.. shows where",
         ),
         End::BadInstruction(_) if is_code => Some(
-            "code was overwritten through an index outside its vector, or a jump went into a table, a string or the middle of an instruction",
+            "code was overwritten through an index outside its vector, or a jump went to where no instruction begins; bcpl interpret FILE.. shows the line",
         ),
         End::BadInstruction(_) => Some(
-            "something was called or jumped to that is not a routine, perhaps a global or a variable that was never set",
+            "something was called or jumped to that is not a routine, perhaps a global or a variable that was never set; bcpl interpret FILE.. shows the line",
         ),
-        End::ZeroDivide => Some("test the divisor before the division"),
-        End::Device | End::Finished => None,
+        End::ZeroDivide => Some(
+            "test the divisor before the division; bcpl interpret FILE.. shows the line",
+        ),
+        End::Device => Some("bcpl interpret FILE.. shows the line"),
+        End::Finished => None,
     }
 }
 

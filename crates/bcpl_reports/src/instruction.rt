@@ -1,7 +1,7 @@
 //! Decodes a machine word as an instruction, in the letters of INTCODE.
 
 use crate::report::Fill;
-use bcpl_segments::FUNCTIONS;
+use bcpl_places::FUNCTIONS;
 
 /// The letters that follow the function's, in the order of the next three bits.
 const MODES: [&str; 8] = ["", "G", "P", "PG", "I", "IG", "IP", "IPG"];

@@ -6,7 +6,7 @@ use crate::text_items::item_at;
 use bc_link::LinkError;
 use bc_text_items::{Base, Item, Segment};
 use bc_word::Memory;
-use bcpl_segments::{SegmentSize, library_name, segment_words, too_large};
+use bcpl_places::{SegmentSize, library_name, segment_words, too_large};
 use std::alloc::Global;
 
 /// Whether an item refers to a label.

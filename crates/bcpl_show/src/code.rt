@@ -3,13 +3,15 @@ use crate::lines::{Files, Lines};
 use crate::marks::{Marks, Owner};
 use crate::outline::Outline;
 use crate::page::{Field, Page, WIDTH};
+use crate::rule_legend::NamedRules;
+use crate::shown_code::ShownItem;
+use crate::shown_derivation::ShownDerivation;
 use crate::sizes::{words_of_items, words_of_pieces};
 use bc_core::{Core, Place};
 use bc_lex_tokens::Token;
 use bc_parse_tree::{Section, leaves_of};
 use bc_rules::code_of;
 use bc_rules_defs::Entry;
-use bc_show::{ShownDerivation, ShownItem};
 use bc_text_items::Item;
 use bc_word::Memory;
 use std::alloc::Global;
@@ -92,6 +94,8 @@ struct Listing<'p, 's> {
     /// The line that was listed last.
     last: Option<Line>,
     sizes: Sizes,
+    /// The rules of the derivations that were listed.
+    rules: NamedRules,
 }
 
 impl<'p, 's> Listing<'p, 's> {
@@ -298,6 +302,7 @@ impl<'p, 's> Listing<'p, 's> {
         let words = words_of_entry(alloc, entry);
         let words = self.counted(words);
         self.sizes.roots = self.sizes.roots.saturating_add(words);
+        self.rules.note_all(&entry.derivation);
         let rules = ShownDerivation(&entry.derivation);
         let unit = unit(words);
         match format!(in alloc; "{words} {unit} by {rules}") {
@@ -465,6 +470,7 @@ impl<'p, 's> Listing<'p, 's> {
         }
         self.page.add_line(&[Field::Text("Z")]);
         self.add_sizes();
+        self.rules.add(&mut self.page);
     }
 
     /// Adds a line with a size.
@@ -551,6 +557,7 @@ fn listed<'p, 's>(
             commands: 0,
             data: 0,
         },
+        rules: NamedRules::new(),
     };
     listing.add_all();
     listing.page.into_text()

@@ -24,6 +24,14 @@ impl<'a, 's> Files<'a, 's> {
         }
     }
 
+    /// The name by which a GET finds a source.
+    pub fn name(&self, file: usize) -> &'s [u8] {
+        match self.sources.get(file) {
+            Some(source) => source.name,
+            None => b"",
+        }
+    }
+
     /// Whether a source belongs to the library.
     pub fn is_of_library(&self, file: usize) -> bool {
         file < self.library
@@ -89,6 +97,11 @@ impl Lines {
         let line = &text[from..to.max(from)];
         let line = line.strip_suffix(b"\n").unwrap_or(line);
         line.strip_suffix(b"\r").unwrap_or(line)
+    }
+
+    /// The number of bytes that precede the byte at this offset in its line.
+    pub fn bytes_before(&self, text: &[u8], at: usize) -> usize {
+        at.saturating_sub(self.start(text, self.number_at(at)))
     }
 
     /// The column of the byte at this offset, counted from 1 as a terminal shows it.

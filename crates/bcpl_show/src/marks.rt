@@ -1,6 +1,6 @@
 //! The owner of each item of a segment: a root, a command or the section.
 
-use crate::outline::{Outline, Purpose, Step, Work};
+use crate::outline::{Outline, Purpose, RootLeaves, Step, Work};
 use bc_rules::code_of;
 use bc_rules_defs::{Entry, Piece};
 use bc_word::Memory;
@@ -35,6 +35,8 @@ pub struct Marks {
     pub owners: Vec<Owner>,
     /// The leaf of each entry.
     pub leaves: Vec<usize>,
+    /// The leaves that each entry's root is translated from.
+    pub readings: Vec<RootLeaves>,
     /// The runs of items that belong to commands, in the order of the code.
     pub own: Vec<Own>,
 }
@@ -246,7 +248,7 @@ impl Marks {
     /// The numbers of the VALOFs of the next root, if the step is a root.
     fn inside<'i>(&self, step: Step, insides: &'i [Inside]) -> &'i [u64] {
         match (step.work, insides.get(self.leaves.len())) {
-            (Work::Root, Some(inside)) => inside.valofs.as_slice(),
+            (Work::Root(_), Some(inside)) => inside.valofs.as_slice(),
             _ => &[],
         }
     }
@@ -261,7 +263,10 @@ impl Marks {
                     what,
                 })?,
             ),
-            Work::Root => Ok(self.leaves.push(step.leaf)?),
+            Work::Root(reading) => {
+                self.readings.push(reading)?;
+                Ok(self.leaves.push(step.leaf)?)
+            }
         }
     }
 
@@ -277,6 +282,7 @@ impl Marks {
         let mut marks = Marks {
             owners,
             leaves: Vec::new(alloc),
+            readings: Vec::new(alloc),
             own: Vec::new(alloc),
         };
         marks.follow(alloc, outline, insides.as_slice())?;

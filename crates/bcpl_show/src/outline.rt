@@ -16,11 +16,23 @@ pub struct Step {
     pub work: Work,
 }
 
+/// Which leaves a root is translated from, for a reader who wants to know which text a node comes from.
+#[derive(Clone, Copy)]
+pub struct RootLeaves {
+    /// The leaf at which the value of an assignment, or any other root as a whole, begins.
+    pub value: usize,
+    /// The leaf at which the address of an assignment begins, if the source has it.
+    pub address: Option<usize>,
+    /// Whether the source spells the value. It doesn't for a vector and for the test and the step of a FOR loop; then
+    /// only the loop's variable is in the source.
+    pub is_written: bool,
+}
+
 /// A root, or items of a command itself.
 #[derive(Clone, Copy)]
 pub enum Work {
     /// The code of a root.
-    Root,
+    Root(RootLeaves),
     /// This many items for this purpose.
     Own(usize, Purpose),
 }
@@ -112,6 +124,8 @@ pub struct Outline {
     pub valofs: Vec<usize>,
     /// The leaf of each place: the name of a routine or static, the word TABLE, or a string.
     pub places: Vec<usize>,
+    /// For each TABLE and VALOF, its first leaf and the leaf after it, in the order in which they end.
+    pub extents: Vec<(usize, usize)>,
     /// Whether an allocation failed. Then the outline is void.
     is_refused: bool,
 }
@@ -139,6 +153,7 @@ impl Outline {
             routines: Vec::new(alloc),
             valofs: Vec::new(alloc),
             places: Vec::new(alloc),
+            extents: Vec::new(alloc),
             is_refused: false,
         };
         let outside = outline.body();
@@ -172,9 +187,62 @@ impl Outline {
         }
     }
 
-    /// Adds a root that begins at the next leaf.
-    fn root(&mut self, body: usize) {
-        self.step(body, self.leaves, Work::Root);
+    /// Adds a root at this leaf.
+    fn read_root(&mut self, body: usize, leaf: usize, reading: RootLeaves) {
+        self.step(body, leaf, Work::Root(reading));
+    }
+
+    /// Adds a root that begins at the next leaf and isn't an assignment, or assigns to the cell of the name at `address`.
+    fn root(&mut self, body: usize, address: Option<usize>) {
+        let value = self.leaves;
+        let is_written = true;
+        let reading = RootLeaves {
+            value,
+            address,
+            is_written,
+        };
+        self.read_root(body, value, reading);
+    }
+
+    /// Adds a root at this leaf that the source doesn't spell. `value` is the leaf of what its value is about.
+    fn hidden_root(&mut self, body: usize, leaf: usize, value: usize) {
+        let address = Some(leaf);
+        let is_written = false;
+        let reading = RootLeaves {
+            value,
+            address,
+            is_written,
+        };
+        self.read_root(body, leaf, reading);
+    }
+
+    /// Sets where the value of a body's step begins, if that is the root of an assignment: at the next leaf.
+    fn value_begins(&mut self, body: usize, index: usize) {
+        let value = self.leaves;
+        let Some(steps) = self.bodies.get_mut(body) else {
+            return;
+        };
+        if let Some(step) = steps.get_mut(index) {
+            if let Work::Root(reading) = &mut step.work {
+                reading.value = value;
+            }
+        }
+    }
+
+    /// The number of steps in a body.
+    fn count_steps(&self, body: usize) -> usize {
+        match self.bodies.get(body) {
+            Some(steps) => steps.len(),
+            None => 0,
+        }
+    }
+
+    /// Records that a TABLE or VALOF that began at this leaf ends before the next one.
+    fn extent(&mut self, from: usize) {
+        let to = self.leaves;
+        if self.extents.push((from, to)).is_err() {
+            self.is_refused = true;
+        }
     }
 
     /// Adds items of a command that is at the last leaf.
@@ -203,8 +271,10 @@ impl Outline {
             }
             Exp::String(_) => self.placed(),
             Exp::Table(values) => {
+                let from = self.leaves;
                 self.placed();
                 self.expressions(values);
+                self.extent(from);
             }
             Exp::Valof(block) => self.valof(block),
             Exp::Monadic(_, operand) => self.expression(operand),
@@ -233,6 +303,7 @@ impl Outline {
 
     #[cycle(walking)]
     fn valof(&mut self, block: &Block<'_>) {
+        let from = self.leaves;
         self.leaf();
         let body = self.body();
         if self.valofs.push(body).is_err() {
@@ -240,20 +311,44 @@ impl Outline {
         }
         self.block(body, block);
         self.own(body, 1, Purpose::Valof);
+        self.extent(from);
     }
 
     /// Adds a root that consists of this expression.
     #[cycle(walking)]
     fn root_of(&mut self, body: usize, e: &Exp<'_>) {
-        self.root(body);
+        self.root(body, None);
         self.expression(e);
     }
 
-    /// Adds a root for each of these expressions.
+    /// Adds a root for each of these values of variables. `first` is the leaf of the first variable's name.
     #[cycle(walking)]
-    fn roots_of(&mut self, body: usize, list: &[Exp<'_>]) {
+    fn values(&mut self, body: usize, first: usize, list: &[Exp<'_>]) {
+        let mut name = first;
         for e in list {
-            self.root_of(body, e);
+            self.root(body, Some(name));
+            name = name.saturating_add(1);
+            self.expression(e);
+        }
+    }
+
+    /// Adds a root for each of these addresses of an assignment.
+    #[cycle(walking)]
+    fn addresses(&mut self, body: usize, list: &[Exp<'_>]) {
+        for e in list {
+            self.root(body, Some(self.leaves));
+            self.expression(e);
+        }
+    }
+
+    /// Passes the values of an assignment, whose roots are the steps from `first` on.
+    #[cycle(walking)]
+    fn assigned(&mut self, body: usize, first: usize, list: &[Exp<'_>]) {
+        let mut step = first;
+        for e in list {
+            self.value_begins(body, step);
+            step = step.saturating_add(1);
+            self.expression(e);
         }
     }
 
@@ -313,11 +408,13 @@ impl Outline {
     fn definition(&mut self, body: usize, definition: &Definition<'_>) {
         match definition {
             Definition::Variables(names, values) => {
+                let first = self.leaves;
                 self.names(names);
-                self.roots_of(body, values);
+                self.values(body, first, values);
             }
             Definition::Vector(_, last) => {
-                self.root(body);
+                let name = self.leaves;
+                self.hidden_root(body, name, name.saturating_add(1));
                 self.leaf();
                 self.leaf();
                 self.expression(last);
@@ -374,7 +471,7 @@ impl Outline {
     /// Adds the end of a FOR loop. `variable` is the leaf of its variable.
     fn turned(&mut self, body: usize, variable: usize) {
         self.step(body, variable, Work::Own(1, Purpose::Onward));
-        self.step(body, variable, Work::Root);
+        self.hidden_root(body, variable, variable);
         self.step(body, variable, Work::Own(2, Purpose::Back));
     }
 
@@ -383,8 +480,9 @@ impl Outline {
     fn single(&mut self, body: usize, command: &Command<'_>) {
         match command {
             Command::Assign(places, values) => {
-                self.roots_of(body, places);
-                self.expressions(values);
+                let first = self.count_steps(body);
+                self.addresses(body, places);
+                self.assigned(body, first, values);
             }
             Command::Call(called, values) => {
                 self.root_of(body, called);
@@ -456,12 +554,20 @@ impl Outline {
             return self.guarded(body, command);
         };
         let variable = self.leaves;
-        self.root(body);
+        self.read_root(
+            body,
+            variable,
+            RootLeaves {
+                value: variable.saturating_add(1),
+                address: Some(variable),
+                is_written: true,
+            },
+        );
         self.leaf();
         self.expression(start);
         self.root_of(body, limit);
         self.own(body, 1, Purpose::Turn);
-        self.step(body, variable, Work::Root);
+        self.hidden_root(body, variable, variable);
         if let Some(by) = step {
             self.expression(by);
         }

@@ -1,8 +1,11 @@
-//! Recorded runs: the trace of what each instruction did, and the profile of how often each was executed.
+//! Runs of an image, and recorded runs: the trace of what each instruction did, the profile of how often each was executed, and how much of
+//! the store the run used.
 #![tactic(auto)]
 
 mod change;
 mod counts;
+mod high;
+mod image_run;
 mod names;
 mod nowhere;
 mod profiling;
@@ -10,6 +13,8 @@ mod running;
 mod watch;
 
 pub use change::Change;
+pub use high::High;
+pub use image_run::run_image;
 pub use nowhere::Nowhere;
 pub use profiling::profile;
 pub use running::run_watched;

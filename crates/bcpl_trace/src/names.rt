@@ -2,7 +2,7 @@
 
 use bc_machine_defs::Image;
 use bc_word::Memory;
-use bcpl_segments::library_name;
+use bcpl_places::library_name;
 use std::alloc::Global;
 
 /// The address of global 0.

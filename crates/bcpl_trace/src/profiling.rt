@@ -7,7 +7,7 @@ use crate::watch::Watch;
 use bc_machine::Machine;
 use bc_machine_defs::Image;
 use bc_word::{Memory, Word};
-use bcpl_segments::instruction;
+use bcpl_places::instruction;
 use std::alloc::Global;
 
 /// The number of routines in the profile.
@@ -114,8 +114,8 @@ fn add_times(
         if times > 0 {
             let word = Word::new(cell(machine, address));
             let following = Word::new(cell(machine, address.wrapping_add(1)));
-            let told = instruction(alloc, word, following)?;
-            writeln!(text, "{address:>6} {times:>12}  {told}")?;
+            let label = instruction(alloc, word, following)?;
+            writeln!(text, "{address:>6} {times:>12}  {label}")?;
         }
     }
     Ok(())

@@ -2,10 +2,11 @@
 
 use crate::change::{Change, cell, change_of};
 use crate::counts::Counts;
+use crate::high::{High, highest_of};
 use bc_machine::Machine;
 use bc_machine_defs::End;
 use bc_word::{Memory, Word};
-use bcpl_segments::instruction;
+use bcpl_places::instruction;
 use std::alloc::Global;
 use std::io;
 use std::io::Write;
@@ -37,9 +38,12 @@ pub struct Seen {
     word: Word,
     following: Word,
     change: Change,
+    /// The highest cell of its words and of the cells that it reads.
+    highest: u16,
 }
 
-/// The records of a run: the trace, which is written as the run goes on, and the count of each instruction.
+/// The records of a run: the trace, which is written as the run goes on, the count of each instruction, and how much of
+/// the store was used.
 #[derive(Drop)]
 pub struct Watch {
     alloc: Global,
@@ -47,6 +51,7 @@ pub struct Watch {
     /// The number of executed instructions.
     number: u64,
     counts: Counts,
+    high: High,
     /// Whether every line of the trace was written.
     is_whole: bool,
 }
@@ -90,6 +95,7 @@ impl Seen {
             word: machine.word(address),
             following: machine.word(following),
             change: change_of(machine),
+            highest: highest_of(machine),
         }
     }
 }
@@ -102,6 +108,7 @@ impl Watch {
             window,
             number: 0,
             counts: Counts::new(alloc)?,
+            high: High::new(),
             is_whole: true,
         })
     }
@@ -114,6 +121,11 @@ impl Watch {
     /// The counts of instructions and calls.
     pub fn counts(&self) -> &Counts {
         &self.counts
+    }
+
+    /// How much of the store was used.
+    pub fn high(&self) -> High {
+        self.high
     }
 
     /// Whether every line of the trace was written.
@@ -172,6 +184,8 @@ impl Watch {
     pub fn note<W: Write>(&mut self, seen: &Seen, machine: &Machine, end: &End, out: &mut W) {
         self.number = self.number.saturating_add(1);
         self.counts.add_time(seen.address);
+        let frame = machine.registers().p;
+        self.high = self.high.with(seen.highest, seen.change, frame);
         if seen.word.get() / OF_A_FUNCTION == CALL {
             self.counts.add_call(machine.address().get());
         }

@@ -90,17 +90,39 @@ pub fn is_library_assigned(
     is_of_library && !NO_ROUTINES.contains(&name)
 }
 
+/// The name that a global with this number has in the library, or in a header of the library that these declarations
+/// are from. The first `library` sources are the library's.
+fn known_name<'s>(
+    declarations: &Declarations<'s>,
+    library: usize,
+    number: u16,
+) -> Option<&'s [u8]> {
+    if let Some(name) = library_name(number) {
+        return Some(name.as_bytes());
+    }
+    for file in 0..library {
+        if let Some(name) = declarations.first_name(file, number) {
+            return Some(name);
+        }
+    }
+    None
+}
+
 /// If the token with this index declares a global whose number has another name in the library: the number, and that
-/// name.
-pub fn library_global(
-    tokens: &[Token<'_>],
-    declarations: &Declarations<'_>,
+/// name. The first `library` sources are the library's.
+pub fn library_global<'s>(
+    tokens: &[Token<'s>],
+    declarations: &Declarations<'s>,
+    library: usize,
     index: usize,
-) -> Option<(u16, &'static str)> {
+) -> Option<(u16, &'s [u8])> {
     let name = name_at(tokens, index)?;
+    if tokens.get(index)?.file < library {
+        return None;
+    }
     let number = declared_number(tokens, declarations, index)?;
-    let known = library_name(number)?;
-    if known.as_bytes() == name {
+    let known = known_name(declarations, library, number)?;
+    if known == name {
         None
     } else {
         Some((number, known))

@@ -1,5 +1,5 @@
-//! Warnings: what is legal in a source, but probably wrong. A warning is not a refusal, and claims nothing about what
-//! the program does.
+//! Warnings: what is legal in a source, but probably wrong, as its tokens show it.
+//! A warning is not a refusal, and claims nothing about what the program does.
 #![tactic(auto)]
 
 mod arguments;
@@ -8,6 +8,8 @@ mod declared;
 mod formats;
 mod globals;
 mod labels;
+mod main_warnings;
+mod mixed;
 mod results;
 mod routines;
 mod separated;
@@ -21,4 +23,5 @@ mod values;
 mod vectors;
 mod warning;
 
-pub use warning::{likely_starts, warnings};
+pub use main_warnings::{all_warnings, warning_lines};
+pub use warning::likely_starts;

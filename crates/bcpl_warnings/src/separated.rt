@@ -49,6 +49,14 @@ fn first_after_bracket(tokens: &[Token<'_>], index: usize) -> usize {
     }
 }
 
+/// Whether the line of the token with this index begins with an operator, so that it continues the line before.
+fn is_continued(tokens: &[Token<'_>], index: usize) -> bool {
+    matches!(
+        symbol_at(tokens, line_start(tokens, index)),
+        Some(Symbol::Plus | Symbol::Minus | Symbol::Multiply | Symbol::Divide)
+    )
+}
+
 /// How the line that begins at this index looks, if it is read otherwise.
 pub fn misread(sources: &[Source<'_>], tokens: &[Token<'_>], index: usize) -> Option<Looks> {
     if index == 0 || !is_line_start(tokens, index) || !can_end(tokens, index - 1) {
@@ -63,7 +71,7 @@ pub fn misread(sources: &[Source<'_>], tokens: &[Token<'_>], index: usize) -> Op
     let before = indented(sources, tokens, first_after_bracket(tokens, index - 1));
     let own = indented(sources, tokens, index);
     if is_minus {
-        if own <= before {
+        if own <= before && !is_continued(tokens, index - 1) {
             Some(Looks::Apart)
         } else {
             None

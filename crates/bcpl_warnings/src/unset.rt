@@ -2,6 +2,7 @@
 
 use crate::arguments::is_called;
 use crate::declared::{Declarations, Meaning};
+use crate::mixed::gets_further;
 use crate::tokens::name_at;
 use bc_lex::{Source, lex};
 use bc_lex_tokens::Token;
@@ -17,30 +18,45 @@ pub struct Settings {
     numbers: IndexSet<u16>,
     /// Whether any global may be set, because a number isn't known or an address is taken.
     is_open: bool,
+    /// Whether a main that isn't the library's gets EXTHDR.
+    pub gets_further: bool,
 }
 
 impl Settings {
-    /// The globals that these mains may set. Returns `Memory` if an allocation fails.
-    pub fn of(alloc: Global, sources: &[Source<'_>], mains: &[usize]) -> Result<Settings, Memory> {
+    /// The globals that these mains may set. The first `library` sources are the library's. Returns `Memory` if an
+    /// allocation fails.
+    pub fn of(
+        alloc: Global,
+        sources: &[Source<'_>],
+        library: usize,
+        mains: &[usize],
+    ) -> Result<Settings, Memory> {
         let mut settings = Settings {
             numbers: IndexSet::new(alloc),
             is_open: false,
+            gets_further: false,
         };
         for main in mains {
             if *main >= sources.len() {
                 return Ok(settings);
             }
             match lex(alloc, sources, *main) {
-                Ok(tokens) => settings.add_main(alloc, tokens.as_slice())?,
+                Ok(tokens) => settings.add_main(alloc, tokens.as_slice(), *main >= library)?,
                 Err(_) => settings.is_open = true,
             }
         }
         Ok(settings)
     }
 
-    /// Adds the globals that the main with these tokens may set.
-    fn add_main(&mut self, alloc: Global, tokens: &[Token<'_>]) -> Result<(), Memory> {
+    /// Adds the globals that the main with these tokens may set. It is the library's unless `is_own`.
+    fn add_main(
+        &mut self,
+        alloc: Global,
+        tokens: &[Token<'_>],
+        is_own: bool,
+    ) -> Result<(), Memory> {
         let declarations = Declarations::of(alloc, tokens)?;
+        self.gets_further = self.gets_further || is_own && gets_further(&declarations);
         for declared in &declarations.all {
             if let Meaning::Global(number) = declared.meaning {
                 self.add_global(&declarations, declared.name, number)?;

@@ -6,6 +6,7 @@ use crate::declared::Declarations;
 use crate::formats::{Lacking, lacking_arguments, unknown_format};
 use crate::globals::{is_library_assigned, library_global, number_twice};
 use crate::labels::{Idle, idle_label};
+use crate::mixed::is_mixed;
 use crate::results::has_no_result;
 use crate::routines::Routines;
 use crate::separated::{Looks, is_repeat_in_front, misread, seeming_head};
@@ -19,19 +20,22 @@ use bc_lex::{Source, lex};
 use bc_lex_tokens::Token;
 use bc_library::is_of_library;
 use bc_word::Memory;
-use bcpl_messages::{Draft, Fill, Message, Named, told_lines};
+use bcpl_messages::{Draft, Fill, Message, Named};
 use bcpl_places::Span;
 use indexmap::IndexSet;
 use std::alloc::Global;
-
-/// At most this many warnings are printed.
-const MOST: usize = 10;
 
 /// For an assignment to a routine of the library. This and the next constants have a sentence and a help each, in which
 /// `{}` is the token.
 const ASSIGNMENT: (&str, &str) = (
     "{} is a routine of the library, and this assignment replaces it",
     "all calls of it are changed, also those in the library; declare a variable of your own with LET",
+);
+
+/// For a call of a routine of LIBHDR in a program of which another file gets EXTHDR.
+const MIXED: (&str, &str) = (
+    "this {} is LIBHDR's, but another file of the program gets EXTHDR, whose routine remembers what LIBHDR's doesn't",
+    "write GET \"EXTHDR\" in all files of the program",
 );
 
 /// For a routine without a value that is called for its value.
@@ -125,7 +129,8 @@ fn begin(draft: &mut Draft, tokens: &[Token<'_>], at: usize) {
 
 /// Warns if the token with this index declares a library's global under another name. Returns whether it does.
 fn warns_of_library_global(draft: &mut Draft, main: &Main<'_, '_, '_>, at: usize) -> bool {
-    let Some((number, name)) = library_global(main.tokens, main.declarations, at) else {
+    let Some((number, name)) = library_global(main.tokens, main.declarations, main.library, at)
+    else {
         return false;
     };
     begin(draft, main.tokens, at);
@@ -133,7 +138,7 @@ fn warns_of_library_global(draft: &mut Draft, main: &Main<'_, '_, '_>, at: usize
         "the global {} is {} of the library, but here it is named {}",
         &[
             Fill::Number(u64::from(number)),
-            Fill::Text(name),
+            Fill::Shown(name),
             Fill::Shown(main.text(at)),
         ],
     );
@@ -328,6 +333,13 @@ fn oddity(main: &Main<'_, '_, '_>, at: usize) -> Option<(&'static str, &'static 
         Some(NO_RESULT)
     } else if is_vector_called(main.tokens, main.declarations, at) {
         Some(VECTOR)
+    } else if is_mixed(
+        main.tokens,
+        main.declarations,
+        main.settings.gets_further,
+        at,
+    ) {
+        Some(MIXED)
     } else {
         None
     }
@@ -395,8 +407,8 @@ struct Telling<'p, 's> {
     library: usize,
     /// The places that have a warning: the file, the offset of the first byte, and the offset after the last one.
     told: IndexSet<(usize, usize, usize)>,
-    /// The lines of the warnings.
-    lines: String,
+    /// The warnings.
+    messages: Vec<Message>,
 }
 
 impl<'p, 's> Telling<'p, 's> {
@@ -407,25 +419,19 @@ impl<'p, 's> Telling<'p, 's> {
             named,
             library,
             told: IndexSet::new(alloc),
-            lines: String::new(alloc),
+            messages: Vec::new(alloc),
         }
     }
 
-    /// Appends the lines of a warning.
-    fn add_lines(&mut self, message: &Message) -> Result<(), Memory> {
-        let lines = told_lines(self.alloc, self.named, message)?;
-        Ok(self.lines.push_str(lines.as_str())?)
-    }
-
-    /// Adds a warning, unless it is in the library, its place already has one, or `MOST` are printed.
-    fn add(&mut self, message: &Message) -> Result<(), Memory> {
+    /// Adds a warning, unless it is in the library, or its place already has one.
+    fn add(&mut self, message: Message) -> Result<(), Memory> {
         let Some(span) = message.span else {
             return Ok(());
         };
         let is_new = span.file >= self.library
             && self.told.insert((span.file, span.start, span.end))?;
-        if is_new && self.told.len() <= MOST {
-            self.add_lines(message)?;
+        if is_new {
+            self.messages.push(message)?;
         }
         Ok(())
     }
@@ -440,7 +446,7 @@ impl<'p, 's> Telling<'p, 's> {
         let mut draft = Draft::new(self.alloc, main);
         warn_at(&mut draft, known, at);
         match draft.end()? {
-            Some(message) => self.add(&message),
+            Some(message) => self.add(message),
             None => Ok(()),
         }
     }
@@ -485,21 +491,12 @@ impl<'p, 's> Telling<'p, 's> {
         }
     }
 
-    /// Appends the number of warnings, if not all are printed.
-    fn add_count(&mut self) -> Result<(), Memory> {
-        let count = self.told.len();
-        if count > MOST {
-            writeln!(self.lines, "{count} warnings")?;
-        }
-        Ok(())
-    }
-
     /// Adds a warning if the routine at the token with this index is probably meant to be START.
     fn add_start(&mut self, main: usize, tokens: &[Token<'_>], at: usize) -> Result<(), Memory> {
         let mut draft = Draft::new(self.alloc, main);
         warn_of_start(&mut draft, tokens, at);
         match draft.end()? {
-            Some(message) => self.add_lines(&message),
+            Some(message) => Ok(self.messages.push(message)?),
             None => Ok(()),
         }
     }
@@ -516,21 +513,20 @@ impl<'p, 's> Telling<'p, 's> {
     }
 }
 
-/// The lines of the warnings on the mains of an accepted program: ten at most, followed by their number if there are
-/// more. The first `library` sources are the library's, and get no warnings. Returns `Memory` if an allocation fails.
-pub fn warnings(
+/// The warnings on the mains of an accepted program that their tokens show, main by main in text order. The first
+/// `library` sources are the library's, and get no warnings. Returns `Memory` if an allocation fails.
+pub(crate) fn warnings(
     alloc: Global,
     named: Named<'_, '_>,
     library: usize,
     mains: &[usize],
-) -> Result<String, Memory> {
-    let settings = Settings::of(alloc, named.sources, mains)?;
+) -> Result<Vec<Message>, Memory> {
+    let settings = Settings::of(alloc, named.sources, library, mains)?;
     let mut warnings = Telling::new(alloc, named, library);
     for main in mains {
         warnings.add_main(&settings, *main)?;
     }
-    warnings.add_count()?;
-    Ok(warnings.lines)
+    Ok(warnings.messages)
 }
 
 /// Warns if the routine defined at the token with this index is probably meant to be START.
@@ -551,7 +547,7 @@ fn warn_of_start(draft: &mut Draft, tokens: &[Token<'_>], at: usize) {
     draft.help(help, &[]);
 }
 
-/// The lines of the warnings on routines that are probably meant to be START, for an accepted program in which no
+/// The warnings on routines that are probably meant to be START, for an accepted program in which no
 /// routine sets START. The first `library` sources are the library's, and get no warnings. Returns `Memory` if an
 /// allocation fails.
 pub fn likely_starts(
@@ -559,10 +555,10 @@ pub fn likely_starts(
     named: Named<'_, '_>,
     library: usize,
     mains: &[usize],
-) -> Result<String, Memory> {
+) -> Result<Vec<Message>, Memory> {
     let mut warnings = Telling::new(alloc, named, library);
     for main in mains {
         warnings.add_starts(*main)?;
     }
-    Ok(warnings.lines)
+    Ok(warnings.messages)
 }

@@ -12,4 +12,6 @@ mod sentence;
 pub use bc_interpret_pure::Cause;
 pub use bc_interpret_trace::Standing;
 pub use bcpl_messages::Message;
+pub use extent::Extent;
 pub use message::{Met, Stand, WildProgram, placed_message, wild_message};
+pub use placed::{ReadMain, read};

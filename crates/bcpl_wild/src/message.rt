@@ -299,6 +299,17 @@ fn owner_met(draft: &mut Draft, program: &WildProgram<'_, '_>, met: &Met<'_>) ->
     owner_of(draft, program, met.standings, address_of(met.cause)?)
 }
 
+/// Whether the newest call is one of PUTBYTE.
+fn is_in_putbyte(draft: &mut Draft, program: &WildProgram<'_, '_>, standings: &[Standing]) -> bool {
+    let Some(standing) = standings.first() else {
+        return false;
+    };
+    match place_of(draft, program, standing) {
+        Some(place) => place.name().unwrap_or(b"") == b"PUTBYTE".as_slice(),
+        None => false,
+    }
+}
+
 /// Describes a wild access of a program's run.
 fn tell(draft: &mut Draft, program: &WildProgram<'_, '_>, met: &Met<'_>) {
     let stand = stand_of(met);
@@ -309,6 +320,7 @@ fn tell(draft: &mut Draft, program: &WildProgram<'_, '_>, met: &Met<'_>) {
         owner: owner.as_ref(),
         is_not_handed: not_handed.is_some(),
         is_exact: spot.is_exact,
+        is_in_putbyte: is_in_putbyte(draft, program, stand.standings),
     };
     say(draft, met, known);
     if let Some(help) = help(met, known) {

@@ -193,10 +193,15 @@ struct Begun<'m> {
     offset: usize,
 }
 
-/// The innermost call whose frame begins at or before an address.
+/// How many cells of a frame link it to the caller. They are before the parameters, and follow the caller's variables.
+const LINK: usize = 2;
+
+/// The innermost call whose variables begin at or before an address.
 fn begun_before(standings: &[Standing], address: u16) -> Option<Begun<'_>> {
     for (back, standing) in standings.iter().enumerate() {
-        if let Some(offset) = usize::from(address).checked_sub(standing.frame) {
+        if let Some(offset) = usize::from(address).checked_sub(standing.frame)
+            && (offset >= LINK || back.saturating_add(1) == standings.len())
+        {
             return Some(Begun {
                 standing,
                 back,
@@ -207,7 +212,7 @@ fn begun_before(standings: &[Standing], address: u16) -> Option<Begun<'_>> {
     None
 }
 
-/// A variable in the frame of the innermost call that begins at or before an address.
+/// A variable in the frame of the innermost call whose variables begin at or before an address.
 fn of_frames(
     draft: &mut Draft,
     program: &WildProgram<'_, '_>,

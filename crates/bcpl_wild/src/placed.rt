@@ -93,7 +93,7 @@ impl<'s> ReadMain<'s> {
     }
 
     /// The root at which a call is whose routine has this label.
-    pub fn root(&self, label: u64, standing: &Standing) -> Option<usize> {
+    pub(crate) fn root(&self, label: u64, standing: &Standing) -> Option<usize> {
         let body = match standing.valof {
             Some(number) => BodyOf::Valof(number as u64),
             None => BodyOf::Routine(label),
@@ -125,12 +125,12 @@ impl<'s> ReadMain<'s> {
     }
 
     /// The only call in an extent of the routine with this name.
-    pub fn only_call(&self, extent: Extent, name: &[u8]) -> Option<Call> {
+    pub(crate) fn only_call(&self, extent: Extent, name: &[u8]) -> Option<Call> {
         only_call(self.tokens.as_slice(), extent, name)
     }
 
     /// Which parameter of the routine with this label the name at a leaf is; `None` if it isn't one.
-    pub fn parameter(&self, label: u64, leaf: u64) -> Option<Parameter> {
+    pub(crate) fn parameter(&self, label: u64, leaf: u64) -> Option<Parameter> {
         let tokens = self.tokens.as_slice();
         let name = token_at(tokens, self.sites.label(label)?)?;
         parameter_at(tokens, name, token_at(tokens, leaf)?)

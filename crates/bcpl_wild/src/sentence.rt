@@ -14,6 +14,8 @@ pub struct WildContext<'k> {
     pub is_not_handed: bool,
     /// Whether the reported place is the access itself, rather than the whole expression.
     pub is_exact: bool,
+    /// Whether the run is in PUTBYTE.
+    pub is_in_putbyte: bool,
 }
 
 impl WildContext<'_> {
@@ -169,6 +171,9 @@ pub fn help(met: &Met<'_>, known: WildContext<'_>) -> Option<&'static str> {
     match met.cause {
         Cause::Unset(_) if known.is_not_handed => Some(
             "a parameter has a value only if the call passes an argument for it",
+        ),
+        Cause::Unset(_) if known.is_in_putbyte => Some(
+            "PUTBYTE keeps the other byte of its word, so set the word before, as in V!0 := 0",
         ),
         Cause::Unset(_) => Some(
             "assign a value to a variable, or to a cell of a vector, before you read it",

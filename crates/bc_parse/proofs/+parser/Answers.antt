@@ -1,11 +1,10 @@
-use Rattle.std.proofs.Common.{◌∙◌, ◌+◌, ◌-◌, length, arith, ap, Ok, Err, refl}
+use Rattle.std.proofs.Common.{◌+◌, ◌-◌, length, arith, Ok, refl}
 use Rattle.std.proofs.lemmas.Result.{err_from_is_err_and}
 use Rattle.std.proofs.lemmas.Bool.{lt-ltb}
 use Rattle.bc_parse_tree.specs.View.{exp_view, exps_view, command_view, labels_view, entries_view, definitions_view}
 use Rattle.bc_parse_defs.specs.Reading.{exp_of, command_of, definition_of, exps_turn, grow_turn, repeat_turn, label_read, label_start, entry_turn, definition_turn, place_turn, exps_read, grow_read, repeats_read, labels_read, entries_read, definitions_read, places_read, test_read, for_read, switch_read, routine_read}
-use Rattle.bc_parse_defs.specs.Reading as reading
-use Rattle.bc_parse.specs.Seen.{seen, read_view, box_view, list_view, levelled_view, parts_view}
-use Rattle.bc_parse.proofs.Turns.{turns_more, turns_last, turns_fails, turns_spent, fails_then, more_low, repeats_none, ok_is, choice_is}
+use Rattle.bc_parse.specs.Seen.{seen, read_view, list_view, levelled_view, parts_view}
+use Rattle.bc_parse.proofs.Turns.{turns_more, turns_last, turns_fails, turns_spent, fails_then, more_low, ok_is, choice_is, while_is, until_is}
 use Rattle.bc_parse.proofs.Lists.{length_seen}
 use Rattle.bc_parse.proofs.Ties.{exp_runs, command_runs, definition_runs}
 use Rattle.bc_parse.proofs.+parser.Goals as goal
@@ -86,34 +85,34 @@ expressions::exps-returns-clause-read t c = λ n h.
     let a = c.args in
     rw c.no_turn_left.ensures (turns_spent (exps_turn (exp_of n) a.room.nest a.room.round a.level a.limit) (length (seen a.rest) + 1) c.loop.counter _ _ (c.loop.invariant.read n h) (omega arith))
 
-pub commands::repeats_of_box-returns-in_err-found-clause-read : goal.commands::repeats_of_box-returns-in_err-found-clause-read
+pub commands::repeats-returns-in_err-found-clause-read : goal.commands::repeats-returns-in_err-found-clause-read
 unfolding repeats_read
-commands::repeats_of_box-returns-in_err-found-clause-read t c = λ n h.
+commands::repeats-returns-in_err-found-clause-read t c = λ n h.
     let a = c.args in
     let p = err_from_is_err_and c.from_residual.result c.from_residual.ensures.1 in
     rw (p.1, p.2) (turns_fails (repeat_turn (exp_of n) a.room.nest a.room.round) (length (seen a.first.rest) + 1) c.loop.counter _ _ (c.loop.invariant.read n h) c.in_err-found.field-0.0 (omega arith) (c.in_err-found.ensures.read n h))
 
-pub commands::repeats_of_box-returns-in-Last-clause-read : goal.commands::repeats_of_box-returns-in-Last-clause-read
+pub commands::repeats-returns-in-Last-clause-read : goal.commands::repeats-returns-in-Last-clause-read
 unfolding repeats_read
-commands::repeats_of_box-returns-in-Last-clause-read t c = λ n h.
+commands::repeats-returns-in-Last-clause-read t c = λ n h.
     let a = c.args in
-    let whole = turns_last (repeat_turn (exp_of n) a.room.nest a.room.round) (length (seen a.first.rest) + 1) c.loop.counter _ _ (c.loop.invariant.read n h) (box_view command_view) _ _ (omega arith) (c.in_ok-found.ensures.read n h) c.in-Last.is in
+    let whole = turns_last (repeat_turn (exp_of n) a.room.nest a.room.round) (length (seen a.first.rest) + 1) c.loop.counter _ _ (c.loop.invariant.read n h) command_view _ _ (omega arith) (c.in_ok-found.ensures.read n h) c.in-Last.is in
     whole
 
-pub commands::repeats_of_box-loop-preserved : goal.commands::repeats_of_box-loop-preserved
-commands::repeats_of_box-loop-preserved t c =
+pub commands::repeats-loop-preserved : goal.commands::repeats-loop-preserved
+commands::repeats-loop-preserved t c =
     let a = c.args in
     record {
       total = c.loop.invariant.total;
       low = more_low _ _ _ c.in-More.is c.in_ok-found.ensures.low;
-      read = λ n h. turns_more (repeat_turn (exp_of n) a.room.nest a.room.round) (length (seen a.first.rest) + 1) c.loop.counter _ _ (c.loop.invariant.read n h) (box_view command_view) _ _ (omega arith) (c.in_ok-found.ensures.read n h) c.in-More.is;
+      read = λ n h. turns_more (repeat_turn (exp_of n) a.room.nest a.room.round) (length (seen a.first.rest) + 1) c.loop.counter _ _ (c.loop.invariant.read n h) command_view _ _ (omega arith) (c.in_ok-found.ensures.read n h) c.in-More.is;
     }
 
-pub commands::repeats_of_box-returns-clause-read : goal.commands::repeats_of_box-returns-clause-read
+pub commands::repeats-returns-clause-read : goal.commands::repeats-returns-clause-read
 unfolding repeats_read
-commands::repeats_of_box-returns-clause-read t c = λ n h.
+commands::repeats-returns-clause-read t c = λ n h.
     let a = c.args in
-    turns_spent (repeat_turn (exp_of n) a.room.nest a.room.round) (length (seen a.first.rest) + 1) c.loop.counter _ _ (c.loop.invariant.read n h) (omega arith) ∙ ap (λ m. Err (reading.Expected m)) (length_seen c.loop.whole.rest)
+    rw c.no_turn_left.ensures (turns_spent (repeat_turn (exp_of n) a.room.nest a.room.round) (length (seen a.first.rest) + 1) c.loop.counter _ _ (c.loop.invariant.read n h) (omega arith))
 
 pub blocks::labels-returns-in_err-list-clause-read : goal.blocks::labels-returns-in_err-list-clause-read
 unfolding labels_read
@@ -232,9 +231,6 @@ blocks::places-returns-clause-read t c = λ n h.
     let a = c.args in
     rw c.no_turn_left.ensures (turns_spent (place_turn (exp_of n) (command_of n) (definition_of n) a.mode a.room.nest a.room.round) (length (seen a.rest) + 1) c.loop.counter _ _ (c.loop.invariant.read n h) (omega arith))
 
-pub commands::repeats-returns-in-None-clause-read : goal.commands::repeats-returns-in-None-clause-read
-commands::repeats-returns-in-None-clause-read t c = λ n h. let a = c.args in repeats_none (exp_of n) a.room.nest a.room.round (read_view command_view a.first) c.in-None.ensures
-
 pub expressions::chosen-returns-clause-read : goal.expressions::chosen-returns-clause-read
 expressions::chosen-returns-clause-read t c = λ n h place.
     let a = c.args in
@@ -266,5 +262,18 @@ pub declarations::routine-returns-in-None-clause-read : goal.declarations::routi
 unfolding routine_read
 declarations::routine-returns-in-None-clause-read t c = λ n h. rw (lt-ltb 0 c.args.room.round (omega arith), c.in_ok-found.ensures, ← c.in-None.ensures) (c.procedure.ensures.read n h)
 
-pub commands::repeat_by-returns-in-Repeat-clause-read : goal.commands::repeat_by-returns-in-Repeat-clause-read
-commands::repeat_by-returns-in-Repeat-clause-read t c = λ n h. rw c.in-Repeat.is (c.repeat_always.ensures.read n)
+pub commands::repeat_step-returns-in-While-clause-read : goal.commands::repeat_step-returns-in-While-clause-read
+commands::repeat_step-returns-in-While-clause-read t c = λ n h.
+    let a = c.args in
+    let body = command_view c.in_ok-body-in-Some.body.value in
+    let same = ok_is (command_view a.whole.tree) body (Ok (command_view a.whole.tree)) refl c.in_ok-body-in-Some.ensures in
+    rw (while_is (exp_of n) a.room.nest a.room.round (read_view command_view a.whole) body c.in-Some.word (seen c.in-Some.rest) c.in-Some.ensures (omega arith) same c.in-While.is)
+    (c.repeated_while.ensures.read _ (c.exp.ensures.read n (omega arith)))
+
+pub commands::repeat_step-returns-in-Until-clause-read : goal.commands::repeat_step-returns-in-Until-clause-read
+commands::repeat_step-returns-in-Until-clause-read t c = λ n h.
+    let a = c.args in
+    let body = command_view c.in_ok-body-in-Some.body.value in
+    let same = ok_is (command_view a.whole.tree) body (Ok (command_view a.whole.tree)) refl c.in_ok-body-in-Some.ensures in
+    rw (until_is (exp_of n) a.room.nest a.room.round (read_view command_view a.whole) body c.in-Some.word (seen c.in-Some.rest) c.in-Some.ensures (omega arith) same c.in-Until.is)
+    (c.repeated_until.ensures.read _ (c.exp-in-Until.ensures.read n (omega arith)))

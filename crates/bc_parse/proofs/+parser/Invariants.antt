@@ -2,7 +2,7 @@ use Rattle.std.proofs.Common.{◌≡◌, ◌-◌, ◌+◌, ◌*◌, ◌≤◌, �
 use Rattle.bc_parse_tree.specs.Tree.{none, no_labels, no_entries, no_declarations, no_items, no_definitions}
 use Rattle.bc_parse_tree.specs.View.{exps_view, command_view, definitions_view, labels_view, entries_view}
 use Rattle.bc_parse_defs.specs.Reading.{piece, turns, exp_of, command_of, definition_of, exps_turn, grow_turn, repeat_turn, label_read, label_start, entry_turn, definition_turn, place_turn}
-use Rattle.bc_parse.specs.Seen.{seen, read_view, box_view, list_view, levelled_view, parts_view}
+use Rattle.bc_parse.specs.Seen.{seen, read_view, list_view, levelled_view, parts_view}
 use Rattle.bc_parse.proofs.+parser.Given as goal
 
 abbrev pub decreases-expressions::exp : goal.decreases-expressions::exp
@@ -74,20 +74,11 @@ decreases-commands::assigned l = 64 * (l.room.nest + l.room.round) + 28
 abbrev pub decreases-commands::repeats : goal.decreases-commands::repeats
 decreases-commands::repeats l = 64 * (l.room.nest + l.room.round) + 29
 
-abbrev pub decreases-commands::repeats_boxed : goal.decreases-commands::repeats_boxed
-decreases-commands::repeats_boxed l = 64 * (l.room.nest + l.room.round) + 28
-
 abbrev pub decreases-commands::step : goal.decreases-commands::step
 decreases-commands::step l = 64 * (l.room.nest + l.room.round) + 22
 
-abbrev pub decreases-commands::repeats_of_box : goal.decreases-commands::repeats_of_box
-decreases-commands::repeats_of_box l = 64 * (l.room.nest + l.room.round) + 27
-
 abbrev pub decreases-commands::repeat_step : goal.decreases-commands::repeat_step
 decreases-commands::repeat_step l = 64 * (l.room.nest + l.room.round) + 26
-
-abbrev pub decreases-commands::repeat_by : goal.decreases-commands::repeat_by
-decreases-commands::repeat_by l = 64 * (l.room.nest + l.room.round) + 25
 
 abbrev pub decreases-blocks::labels : goal.decreases-blocks::labels
 decreases-blocks::labels l = 64 * (l.room.nest + l.room.round) + 25
@@ -184,11 +175,11 @@ invariant-expressions::suffixes-loop l = record {
   read : (n : ℕ) → l.room.nest + l.room.round ≤ n + 1 → turns (grow_turn (exp_of n) l.room.nest l.room.round l.begin l.level) (length (seen l.fn.first.rest) + 1 - l.counter) (read_view levelled_view l.left) ≡ turns (grow_turn (exp_of n) l.room.nest l.room.round l.begin l.level) (length (seen l.fn.first.rest) + 1) (read_view levelled_view l.fn.first);
 }
 
-abbrev pub invariant-commands::repeats_of_box-loop : goal.invariant-commands::repeats_of_box-loop
-invariant-commands::repeats_of_box-loop l = record {
+abbrev pub invariant-commands::repeats-loop : goal.invariant-commands::repeats-loop
+invariant-commands::repeats-loop l = record {
   total : l.turns ≡ length (seen l.fn.first.rest) + 1;
   low : l.whole.height ≤ l.room.nest;
-  read : (n : ℕ) → l.room.nest + l.room.round ≤ n + 1 → turns (repeat_turn (exp_of n) l.room.nest l.room.round) (length (seen l.fn.first.rest) + 1 - l.counter) (read_view (box_view command_view) l.whole) ≡ turns (repeat_turn (exp_of n) l.room.nest l.room.round) (length (seen l.fn.first.rest) + 1) (read_view (box_view command_view) l.fn.first);
+  read : (n : ℕ) → l.room.nest + l.room.round ≤ n + 1 → turns (repeat_turn (exp_of n) l.room.nest l.room.round) (length (seen l.fn.first.rest) + 1 - l.counter) (read_view command_view l.whole) ≡ turns (repeat_turn (exp_of n) l.room.nest l.room.round) (length (seen l.fn.first.rest) + 1) (read_view command_view l.fn.first);
 }
 
 abbrev pub invariant-blocks::labels-loop : goal.invariant-blocks::labels-loop

@@ -1,0 +1,4 @@
+pub mod Converted
+pub mod Examples
+pub mod Settled
+pub mod Spans

@@ -1,3 +1,0 @@
-pub mod Converted
-pub mod Examples
-pub mod Settled

@@ -1,0 +1,5 @@
+pub mod Changes
+pub mod Stops
+pub mod Replay
+pub mod Recorded
+pub mod Examples

@@ -1,0 +1,343 @@
+//! The observer that records a run.
+
+ghost use Rattle.bc_interpret_record.specs.Replay.{IsReplayable};
+
+use crate::history::History;
+use crate::recording::{Frame, Move, NO_SITE, Recording, Stop};
+use crate::tagging::site_of;
+use bc_core::Command;
+use bc_interpret::{Observer, Stacks, State};
+use bc_interpret_steps::{Primitive, Progress, Rest, Site, TruthRest, Work};
+use bc_interpret_store::Cell;
+use bc_machine_defs::Side;
+use bc_word::Memory;
+use std::alloc::Global;
+
+/// A call, and the least number of continuations while the run is in it.
+#[derive(Clone, Copy)]
+struct Call {
+    least: usize,
+    frame: Frame,
+}
+
+/// A command that was begun, and the least number of continuations while the run is in it.
+#[derive(Clone, Copy)]
+struct Mark {
+    least: usize,
+    site: u32,
+    /// Whether it is a FOR that has begun its first round.
+    is_begun: bool,
+}
+
+/// How much is kept.
+#[derive(Clone, Copy)]
+pub struct Bounds {
+    /// The greatest number of stops.
+    pub stops: usize,
+    /// The greatest number of changes of cells.
+    pub changes: usize,
+}
+
+/// Records a run.
+#[derive(Drop)]
+pub(crate) struct Recorder {
+    alloc: Global,
+    /// What has been recorded, without the cells.
+    pub recording: Recording,
+    /// The cells and their changes.
+    history: History,
+    bounds: Bounds,
+    /// The cells above this address were dead at the last stop.
+    top: usize,
+    calls: Vec<Call>,
+    marks: Vec<Mark>,
+    /// For each address the number of the site of the expression that is the body of a routine there, plus 1.
+    bodies: Vec<u32>,
+    /// Whether the output that is selected is the first one.
+    writes: bool,
+    /// Whether a byte is being read.
+    reads: bool,
+    taken: usize,
+}
+
+impl Recorder {
+    /// A recorder of a run that hasn't begun. `bodies` has for each address the number of the site of the expression that is the body of the
+    /// routine there, plus 1.
+    pub fn new(alloc: Global, bounds: Bounds, bodies: Vec<u32>) -> Recorder {
+        Recorder {
+            alloc,
+            recording: Recording::new(alloc),
+            history: History::new(alloc),
+            bounds,
+            top: 0,
+            calls: Vec::new(alloc),
+            marks: Vec::new(alloc),
+            bodies,
+            writes: true,
+            reads: false,
+            taken: 0,
+        }
+    }
+
+    /// Leaves the commands and calls that are over, given the number of continuations.
+    fn leave(&mut self, depth: usize) -> Result<(), Memory> {
+        self.leave_commands(depth);
+        for _each in 0..self.calls.len() {
+            match self.calls.last().copied() {
+                Some(call) if call.least > depth => {
+                    self.recording.moves.push(Move::Leave(call.frame))?;
+                    let _over = self.calls.pop();
+                }
+                _ => return Ok(()),
+            }
+        }
+        Ok(())
+    }
+
+    /// Leaves the commands that are over, given the number of continuations.
+    fn leave_commands(&mut self, depth: usize) {
+        for _each in 0..self.marks.len() {
+            if self.marks.last().map_or(0, |mark| mark.least) <= depth {
+                return;
+            }
+            let _over = self.marks.pop();
+        }
+    }
+
+    /// Notes that a command is begun.
+    fn begin(&mut self, depth: usize, site: u32) -> Result<(), Memory> {
+        self.leave_commands(depth.saturating_sub(1));
+        self.marks.push(Mark {
+            least: depth,
+            site,
+            is_begun: false,
+        })?;
+        Ok(())
+    }
+
+    /// The site of the expression that is the body of the newest call.
+    fn body(&self) -> Option<u32> {
+        let call = self.calls.last()?;
+        let site = self.bodies.get(usize::from(call.frame.routine))?;
+        site.checked_sub(1)
+    }
+
+    /// The site of the innermost command that was begun, or of the newest call's expression.
+    fn innermost(&self) -> u32 {
+        let depth = self.calls.last().map_or(0, |call| call.least);
+        match self.marks.last() {
+            Some(mark) if mark.least >= depth => mark.site,
+            _ => self.body().unwrap_or(NO_SITE),
+        }
+    }
+
+    /// The calls at the first stop.
+    fn copy_frames(&mut self) -> Result<(), Memory> {
+        for call in &self.calls {
+            self.recording.frames.push(call.frame)?;
+        }
+        self.recording.moves.clear();
+        Ok(())
+    }
+
+    /// Stops before what is at this site. The cells from address `top` on are dead.
+    fn stop(&mut self, site: u32, is_end: bool, top: usize, state: &State) -> Result<(), Memory> {
+        if let Some(call) = self.calls.last_mut() {
+            call.frame.site = site;
+        }
+        if self.recording.stops.is_empty() {
+            self.history = History::of(self.alloc, &state.store)?;
+            self.copy_frames()?;
+        } else {
+            self.history.follow(&state.store, top.max(self.top))?;
+        }
+        self.top = top;
+        let changes = self.history.count();
+        self.recording.stops.push(Stop {
+            site,
+            is_end,
+            changes,
+            moves: self.recording.moves.len(),
+            output: self.recording.output.len(),
+            taken: self.taken,
+        })?;
+        if self.recording.stops.len() > self.bounds.stops || changes > self.bounds.changes {
+            self.drop_half()?;
+        }
+        Ok(())
+    }
+
+    /// Drops the first half of the stops.
+    fn drop_half(&mut self) -> Result<(), Memory> {
+        let count = self.recording.stops.len() / 2;
+        let Some(first) = self.recording.stops.get(count).copied() else {
+            return Ok(());
+        };
+        self.history.drop_first(self.alloc, first.changes)?;
+        self.recording.drop_stops(self.alloc, count, first)
+    }
+
+    /// Stops at a test of the loop that is the innermost command.
+    fn stop_again(&mut self, at: &Site<'_>, state: &State) -> Result<(), Memory> {
+        let site = self.innermost();
+        self.stop(site, false, top_of(at), state)
+    }
+
+    /// Begins a round of a FOR. The first one belongs to its start.
+    fn round(&mut self, at: &Site<'_>, state: &State) -> Result<(), Memory> {
+        let was_begun = match self.marks.last_mut() {
+            Some(mark) => {
+                let was = mark.is_begun;
+                mark.is_begun = true;
+                was
+            }
+            None => false,
+        };
+        if was_begun {
+            let site = self.innermost();
+            self.stop(site, false, top_of(at).saturating_add(2), state)?;
+        }
+        Ok(())
+    }
+
+    /// Sees the work of a step.
+    fn see(&mut self, work: &Work<'_>, stacks: &Stacks<'_>, state: &State) -> Result<(), Memory> {
+        let depth = stacks.rests.len();
+        match work {
+            Work::Perform(at, Command::Nested(block)) => match site_of(block) {
+                Some(site) => {
+                    self.begin(depth, site)?;
+                    if self.is_looped(site) {
+                        return Ok(());
+                    }
+                    self.stop(site, false, top_of(at), state)
+                }
+                None => Ok(()),
+            },
+            Work::While(at, _, _) => self.stop_again(at, state),
+            Work::Round(at, _) => self.round(at, state),
+            Work::Decide(at, _) => match stacks.rests.last() {
+                Some(Rest::Truth(TruthRest::RepeatWhiles(_, _, _))) => self.stop_again(at, state),
+                _ => Ok(()),
+            },
+            Work::Number(value) => {
+                if self.reads && *value != u16::MAX {
+                    self.taken = self.taken.saturating_add(1);
+                }
+                self.reads = false;
+                Ok(())
+            }
+            _ => Ok(()),
+        }
+    }
+
+    /// Whether a site is the test of a loop that tests after its body.
+    fn is_looped(&self, site: u32) -> bool {
+        self.recording.is_repeat(site)
+    }
+
+    /// Sees a call of a primitive.
+    fn serve(&mut self, primitive: Primitive, frame: u32, state: &State) -> Result<(), Memory> {
+        let argument = match u16::try_from(frame.saturating_add(2)) {
+            Ok(address) => state.store.at(address),
+            Err(_) => Cell::Dead,
+        };
+        match (primitive, argument) {
+            (Primitive::WriteByte, Cell::Set(word)) => {
+                if self.writes {
+                    self.recording.output.push((word % 256) as u8)?;
+                }
+            }
+            (Primitive::ReadByte, _) => self.reads = true,
+            (Primitive::Select(Side::Output), Cell::Set(word)) => self.writes = word == 1,
+            (Primitive::EndStream(Side::Output), _) => self.writes = false,
+            _ => {}
+        }
+        Ok(())
+    }
+
+    /// Sees a call of a routine, and stops if its body is an expression.
+    fn enter(&mut self, stacks: &Stacks<'_>, state: &State) -> Result<(), Memory> {
+        let called = stacks.called;
+        self.leave(called.least.saturating_sub(1))?;
+        let frame = Frame {
+            routine: called.routine,
+            base: called.frame,
+            site: NO_SITE,
+            caller: self.innermost(),
+        };
+        self.calls.push(Call {
+            least: called.least,
+            frame,
+        })?;
+        self.recording.moves.push(Move::Enter(frame))?;
+        if let Progress::On(Work::Evaluate(at, _)) = &stacks.next
+            && let Some(site) = self.body()
+        {
+            self.stop(site, false, top_of(at), state)?;
+        }
+        Ok(())
+    }
+
+    /// Stops at the end of the run.
+    fn end(&mut self, state: &State) -> Result<(), Memory> {
+        let site = self.innermost();
+        self.stop(site, true, 65536, state)
+    }
+
+    /// What was recorded.
+    pub fn into_recording(self) -> Recording
+        ensures { IsReplayable result }
+    {
+        let Recorder {
+            recording,
+            history,
+            ..
+        } = self;
+        history.into_recording(recording)
+    }
+
+    /// Stops at the end of a run whose end was not seen, as its last stop.
+    pub fn finish(&mut self) {
+        let moves = self.recording.moves.len();
+        let output = self.recording.output.len();
+        if let Some(stop) = self.recording.stops.last_mut() {
+            if !stop.is_end {
+                stop.is_end = true;
+                stop.moves = moves;
+                stop.output = output;
+            }
+        }
+    }
+}
+
+/// The first address after the cells that are live at this level of a frame.
+fn top_of(at: &Site<'_>) -> usize {
+    at.frame.saturating_add(at.level) as usize
+}
+
+impl Observer for Recorder {
+    fn before(&mut self, stacks: &Stacks<'_>, state: &State) -> Result<(), Memory> {
+        self.leave(stacks.rests.len())?;
+        match &stacks.next {
+            Progress::On(work) => self.see(work, stacks, state),
+            _ => Ok(()),
+        }
+    }
+
+    fn after(&mut self, stacks: &Stacks<'_>, state: &State) -> Result<(), Memory> {
+        match stacks.next {
+            Progress::On(_) => {
+                if stacks.called.least == 0 {
+                    Ok(())
+                } else {
+                    self.enter(stacks, state)
+                }
+            }
+            Progress::Serve(primitive, frame) => self.serve(primitive, frame, state),
+            Progress::Answered | Progress::Ended(_) | Progress::Going | Progress::Wild(_) => {
+                self.end(state)
+            }
+        }
+    }
+}

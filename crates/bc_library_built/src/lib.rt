@@ -1,4 +1,0 @@
-//! The library in a built program: its routines do what their laws say.
-#![tactic(auto)]
-
-pub mod laws;

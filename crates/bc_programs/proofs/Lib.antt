@@ -1,0 +1,4 @@
+pub mod law_lemmas
+pub mod source_lemmas
+pub mod built_lemmas
+pub mod library_lemmas

@@ -1,0 +1,4 @@
+pub mod laws
+pub mod source
+pub mod built
+pub mod library

@@ -1,0 +1,2 @@
+-- What a machine prints that runs an image of one of the programs.
+pub mod Laws

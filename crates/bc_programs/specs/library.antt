@@ -1,0 +1,2 @@
+-- What the library's routines do in a built program.
+pub mod Laws

@@ -1,3 +1,0 @@
-pub mod Gcd
-pub mod Double
-pub mod Laws

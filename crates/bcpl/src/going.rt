@@ -1,0 +1,63 @@
+//! The command `go`.
+
+use crate::compiling::refused;
+use crate::interpret_line::with_interpret_line;
+use crate::interpreting::{print_warnings, program_streams};
+use crate::output::unfinished;
+use crate::running::closed;
+use crate::source_files::Gathered;
+use crate::standard::RunStreams;
+use bc_build::build;
+use bc_machine_defs::{End, Image};
+use bcpl_cli::{Clean, Failure, GoOrder, load_sources};
+use bcpl_trace::run_image;
+use std::alloc::Global;
+use std::io::{Read, Write};
+use std::rt::Files;
+
+/// Runs an image over the streams of the order, and closes them.
+fn run_built<F: Files, R: Read + Drop, O: Write + Drop>(
+    rt: &F,
+    alloc: Global,
+    order: &GoOrder<'_>,
+    image: &Image,
+    streams: RunStreams<R, O>,
+) -> Result<(), Failure> {
+    let mut streams = program_streams(rt, alloc, &order.program, streams)?;
+    let (_machine, end) = run_image(alloc, image, &mut streams, order.steps)?;
+    match closed(&mut streams, end) {
+        Ok(()) => Ok(()),
+        Err(failure) if end == End::Finished => Err(unfinished(alloc, failure)),
+        Err(failure) => Err(with_interpret_line(alloc, failure, order)),
+    }
+}
+
+/// Runs `go`: builds a program, prints its warnings, and runs it. Refusals are explained and warnings printed if
+/// `streams.explains`; a run that doesn't finish gets the command that shows where.
+pub fn go<F: Files, R: Read + Drop, O: Write + Drop, E: Write + Drop>(
+    rt: &F,
+    alloc: Global,
+    order: &GoOrder<'_>,
+    streams: RunStreams<R, O>,
+    err: &mut Clean<E>,
+) -> Result<(), Failure> {
+    let given = &order.program.sources;
+    let files = load_sources(rt, alloc, given)?;
+    order.program.protect_files(rt, alloc, files.as_slice())?;
+    let gathered = Gathered::new(alloc, given, files.as_slice())?;
+    let program = gathered.program();
+    let built = match build(alloc, program.named.sources, program.mains) {
+        Ok(built) => built,
+        Err(fault) => return Err(refused(alloc, &program, fault, streams.explains)),
+    };
+    if streams.explains {
+        print_warnings(
+            alloc,
+            &order.program,
+            &gathered,
+            built.segments.as_slice(),
+            err,
+        )?;
+    }
+    run_built(rt, alloc, order, &built.image, streams)
+}

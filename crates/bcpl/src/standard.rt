@@ -1,0 +1,120 @@
+//! The standard streams as commands see them.
+
+use crate::devices::Source;
+use crate::run_output::RunOutput;
+use bcpl_cli::{Clean, Places};
+use std::alloc::Global;
+use std::io::{Read, Write};
+
+/// Which of the standard streams are terminals.
+#[derive(Clone, Copy)]
+pub struct Terminals {
+    pub input: bool,
+    pub out: bool,
+    pub err: bool,
+    /// Whether messages on standard error are in colours.
+    pub colours: bool,
+}
+
+/// The standard streams, and what the program's surroundings say about them.
+pub struct Standard<'a, R: Read + Drop, O: Write + Drop, E: Write + Drop> {
+    pub input: R,
+    pub out: O,
+    pub err: E,
+    pub terminals: Terminals,
+    /// The value of the environment variable `BCPL_PLACES`, if it is set.
+    pub setting: Option<&'a str>,
+}
+
+/// The standard streams of a command.
+#[derive(Drop)]
+pub struct Console<R: Read + Drop, O: Write + Drop, E: Write + Drop> {
+    pub input: R,
+    pub out: O,
+    pub err: Clean<E>,
+    pub terminals: Terminals,
+    /// Whether refusals are explained after their first line.
+    pub explains: bool,
+}
+
+/// Standard input and output for a run, whether the output is a terminal, and whether refusals are explained.
+#[derive(Drop)]
+pub struct RunStreams<R: Read + Drop, O: Write + Drop> {
+    pub input: R,
+    pub out: O,
+    pub is_terminal: bool,
+    pub explains: bool,
+}
+
+/// The standard streams of a run from sources, and the stream for warnings.
+#[derive(Drop)]
+pub struct RunConsole<'e, R: Read + Drop, O: Write + Drop, E: Write + Drop> {
+    pub streams: RunStreams<R, O>,
+    pub err: &'e mut Clean<E>,
+}
+
+/// Whether to explain refusals, if standard error is a terminal or not.
+pub fn explains_at(places: Places, is_terminal: bool) -> bool {
+    match places {
+        Places::Always | Places::Json => true,
+        Places::OnTerminal => is_terminal,
+        Places::Never => false,
+    }
+}
+
+impl<R: Read + Drop, O: Write + Drop, E: Write + Drop> Console<R, O, E> {
+    /// The streams of a command that explains refusals as `places` says.
+    pub fn new(alloc: Global, standard: Standard<'_, R, O, E>, places: Places) -> Console<R, O, E> {
+        let Standard {
+            input,
+            out,
+            err,
+            terminals,
+            setting: _,
+        } = standard;
+        Console {
+            input,
+            out,
+            err: match places {
+                Places::Json => Clean::with_json(alloc, err),
+                _ => Clean::new(err, terminals.err).in_colours(terminals.colours),
+            },
+            terminals,
+            explains: explains_at(places, terminals.err),
+        }
+    }
+
+    /// Splits the streams into standard input, standard output as a run sees it, and standard error.
+    pub fn split(self) -> (R, RunOutput<O>, Clean<E>) {
+        let Console {
+            input,
+            out,
+            err,
+            terminals,
+            explains: _,
+        } = self;
+        (
+            input,
+            RunOutput::new(out, terminals.out && terminals.err),
+            err,
+        )
+    }
+}
+
+impl<R: Read + Drop, O: Write + Drop> RunStreams<R, O> {
+    /// These streams, with standard input as a device of a run.
+    pub fn on_source<F: Read + Drop>(self) -> RunStreams<Source<R, F>, O> {
+        let RunStreams {
+            input,
+            out,
+            is_terminal,
+            explains,
+        } = self;
+        RunStreams {
+            input: Source::Standard(input),
+            out,
+            is_terminal,
+            explains,
+        }
+    }
+}

@@ -1,0 +1,16 @@
+//! Advice on refusals by the situation: what the author of the statement probably knows from another language, and what
+//! is written in BCPL instead. Also further faults of a refused main: what else is wrong, apart from what follows from the
+//! first fault.
+#![tactic(auto)]
+
+mod advice;
+mod blanking;
+mod characters;
+mod further;
+mod names;
+mod statements;
+mod words;
+
+pub use advice::advised;
+pub use further::{FurtherFault, further_faults};
+pub use names::likely_meaning;

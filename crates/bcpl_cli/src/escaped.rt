@@ -1,0 +1,39 @@
+//! Text with its control characters shown.
+
+use bc_word::Memory;
+use std::alloc::Global;
+use std::fmt;
+
+/// A text whose `Display` shows control characters as `\n`, `\r`, `\t` or `\xHH`, so that a path takes one line and
+/// can't control a terminal.
+#[derive(Clone, Copy)]
+pub struct Escaped<'a>(pub &'a str);
+
+/// Writes a character, or the escape for a control character.
+fn write_escaped<W: fmt::Write>(f: &mut fmt::Formatter<W>, character: char) -> fmt::Result {
+    match character {
+        '\n' => f.write_str("\\n"),
+        '\r' => f.write_str("\\r"),
+        '\t' => f.write_str("\\t"),
+        _ if character.is_control() => {
+            let code = u32::from(character);
+            write!(f, "\\x{code:02x}")
+        }
+        _ => f.write_char(character),
+    }
+}
+
+impl fmt::Display for Escaped<'_> {
+    fn fmt<W: fmt::Write>(&self, f: &mut fmt::Formatter<W>) -> fmt::Result {
+        for character in self.0.chars() {
+            write_escaped(f, character)?;
+        }
+        Ok(())
+    }
+}
+
+/// A path as messages show it, without control characters. `Memory` if an allocation fails.
+pub fn shown_path(alloc: Global, path: &str) -> Result<String, Memory> {
+    let path = Escaped(path);
+    Ok(format!(in alloc; "{path}")?)
+}

@@ -1,0 +1,272 @@
+//! Values of expressions of BCPL over the names in scope, without calls.
+
+use crate::manifests::{Manifest, Part};
+use crate::scope::{DebugScope, Meaning};
+use bc_interpret_record::Cell;
+use bc_lex::{Source, lex};
+use bc_parse::parse;
+use bc_parse_tree::{Declaration, Definition, Dyadic, Exp, Monadic};
+use bc_word::{Memory, Op, Word, apply};
+use std::alloc::Global;
+
+/// Why an expression has no value.
+#[derive(Debug, Drop)]
+pub enum EvaluationError {
+    /// It isn't an expression.
+    Syntax,
+    /// No name in scope is this one.
+    NoName(String),
+    /// The cell at this address was never set.
+    Unset(u16),
+    /// No cell is at this address.
+    Dead(u16),
+    /// It divides by 0.
+    ZeroDivide,
+    /// It has a call, a VALOF, a TABLE or a string.
+    Calls,
+    /// `@` is before something that has no cell.
+    NoCell,
+    /// An allocation failed.
+    Memory,
+}
+
+impl From<Memory> for EvaluationError {
+    fn from(_refused: Memory) -> EvaluationError {
+        EvaluationError::Memory
+    }
+}
+
+/// The operator of a dyadic operator; `None` for `!`.
+fn op_of(dyadic: &Dyadic) -> Option<Op> {
+    Some(match dyadic {
+        Dyadic::Equivalent => Op::Equivalent,
+        Dyadic::NotEquivalent => Op::NotEquivalent,
+        Dyadic::Or => Op::Or,
+        Dyadic::And => Op::And,
+        Dyadic::ShiftLeft => Op::ShiftLeft,
+        Dyadic::ShiftRight => Op::ShiftRight,
+        Dyadic::Equal => Op::Equal,
+        Dyadic::NotEqual => Op::NotEqual,
+        Dyadic::Less => Op::Less,
+        Dyadic::GreaterEqual => Op::GreaterEqual,
+        Dyadic::Greater => Op::Greater,
+        Dyadic::LessEqual => Op::LessEqual,
+        Dyadic::Add => Op::Add,
+        Dyadic::Subtract => Op::Subtract,
+        Dyadic::Multiply => Op::Multiply,
+        Dyadic::Divide => Op::Divide,
+        Dyadic::Remainder => Op::Remainder,
+        Dyadic::Index => return None,
+    })
+}
+
+/// Computes values.
+#[derive(Clone, Copy)]
+struct Evaluation<'e, 's> {
+    alloc: Global,
+    scope: &'e DebugScope<'e, 's>,
+}
+
+/// The content of a cell.
+fn content(scope: &DebugScope<'_, '_>, address: u16) -> Result<u16, EvaluationError> {
+    match scope.cell(address) {
+        Cell::Set(word) => Ok(word),
+        Cell::Unset => Err(EvaluationError::Unset(address)),
+        Cell::Dead => Err(EvaluationError::Dead(address)),
+    }
+}
+
+impl Evaluation<'_, '_> {
+    /// What a name means.
+    fn name(&self, name: &[u8]) -> Result<Meaning, EvaluationError> {
+        match self.scope.meaning(name) {
+            Some(meaning) => Ok(meaning),
+            None => Err(EvaluationError::NoName(bcpl_messages::shown(self.alloc, name)?)),
+        }
+    }
+
+    /// The value of an expression.
+    #[cycle(evaluating)]
+    fn value(&self, e: &Exp<'_>) -> Result<u16, EvaluationError> {
+        match e {
+            Exp::Name(name) => match self.name(name)? {
+                Meaning::Cell(address) => content(self.scope, address),
+                Meaning::Value(value) => Ok(value),
+            },
+            Exp::Number(word) | Exp::Character(word) => Ok(word.get()),
+            Exp::True => Ok(65535),
+            Exp::False => Ok(0),
+            Exp::Monadic(operator, operand) => self.monadic(*operator, operand),
+            Exp::Dyadic(operator, left, right) => {
+                let left = self.value(left)?;
+                let right = self.value(right)?;
+                self.dyadic(operator, left, right)
+            }
+            Exp::Condition { test, this, that } => {
+                if self.value(test)? != 0 {
+                    self.value(this)
+                } else {
+                    self.value(that)
+                }
+            }
+            Exp::String(_) | Exp::Table(_) | Exp::Valof(_) | Exp::Call(_, _) => {
+                Err(EvaluationError::Calls)
+            }
+        }
+    }
+
+    /// The value of a dyadic operator.
+    fn dyadic(&self, operator: &Dyadic, left: u16, right: u16) -> Result<u16, EvaluationError> {
+        match op_of(operator) {
+            Some(op) => match apply(op, Word::new(left), Word::new(right)) {
+                Some(word) => Ok(word.get()),
+                None => Err(EvaluationError::ZeroDivide),
+            },
+            None => content(self.scope, left.wrapping_add(right)),
+        }
+    }
+
+    /// The value of a monadic operator.
+    #[cycle(evaluating)]
+    fn monadic(&self, operator: Monadic, operand: &Exp<'_>) -> Result<u16, EvaluationError> {
+        match operator {
+            Monadic::Address => self.address(operand),
+            Monadic::Not => Ok(Word::new(self.value(operand)?).complemented().get()),
+            Monadic::Negate => Ok(self.value(operand)?.wrapping_neg()),
+            Monadic::Load => {
+                let address = self.value(operand)?;
+                content(self.scope, address)
+            }
+        }
+    }
+
+    /// The address of the cell that an expression denotes.
+    #[cycle(evaluating)]
+    fn address(&self, e: &Exp<'_>) -> Result<u16, EvaluationError> {
+        match e {
+            Exp::Name(name) => match self.name(name)? {
+                Meaning::Cell(address) => Ok(address),
+                Meaning::Value(_) => Err(EvaluationError::NoCell),
+            },
+            Exp::Monadic(Monadic::Load, operand) => self.value(operand),
+            Exp::Dyadic(Dyadic::Index, left, right) => {
+                let left = self.value(left)?;
+                Ok(left.wrapping_add(self.value(right)?))
+            }
+            _ => Err(EvaluationError::NoCell),
+        }
+    }
+}
+
+/// The value of a constant expression over the manifests that a part of the program knows, the newest of which come last; `None` if it has
+/// none.
+pub(crate) fn constant_value(
+    manifests: &[Manifest<'_>],
+    part: Part<'_>,
+    e: &Exp<'_>,
+) -> Option<u16> {
+    match e {
+        Exp::Number(word) | Exp::Character(word) => Some(word.get()),
+        Exp::True => Some(65535),
+        Exp::False => Some(0),
+        Exp::Name(name) => {
+            for manifest in manifests.iter().rev() {
+                if manifest.name == *name && part.knows(manifest) {
+                    return Some(manifest.value);
+                }
+            }
+            None
+        }
+        Exp::Monadic(Monadic::Negate, operand) => {
+            Some(constant_value(manifests, part, operand)?.wrapping_neg())
+        }
+        Exp::Monadic(Monadic::Not, operand) => {
+            let value = constant_value(manifests, part, operand)?;
+            Some(Word::new(value).complemented().get())
+        }
+        Exp::Dyadic(operator, left, right) => {
+            let left = constant_value(manifests, part, left)?;
+            let right = constant_value(manifests, part, right)?;
+            let op = op_of(operator)?;
+            Some(apply(op, Word::new(left), Word::new(right))?.get())
+        }
+        _ => None,
+    }
+}
+
+/// What is computed of an expression.
+#[derive(Clone, Copy)]
+enum Wanted {
+    Value,
+    Address,
+}
+
+/// Computes the value of the expression that is the only definition of a section.
+fn of_section(
+    evaluation: Evaluation<'_, '_>,
+    declarations: &[Declaration<'_>],
+    wanted: Wanted,
+) -> Result<u16, EvaluationError> {
+    let [declaration] = declarations else {
+        return Err(EvaluationError::Syntax);
+    };
+    let Declaration::Let(list) = declaration else {
+        return Err(EvaluationError::Syntax);
+    };
+    let [definition] = list.as_slice() else {
+        return Err(EvaluationError::Syntax);
+    };
+    let Definition::Function(_, _, e) = definition else {
+        return Err(EvaluationError::Syntax);
+    };
+    match wanted {
+        Wanted::Value => evaluation.value(e),
+        Wanted::Address => evaluation.address(e),
+    }
+}
+
+/// Reads an expression, and computes its value or its address.
+fn computed(
+    alloc: Global,
+    scope: &DebugScope<'_, '_>,
+    text: &str,
+    wanted: Wanted,
+) -> Result<u16, EvaluationError> {
+    let mut section = Vec::new(alloc);
+    section
+        .extend_from_slice(b"LET START()=")
+        .map_err(|_| EvaluationError::Memory)?;
+    section
+        .extend_from_slice(text.as_bytes())
+        .map_err(|_| EvaluationError::Memory)?;
+    let source = Source {
+        name: b"",
+        text: section.as_slice(),
+    };
+    let sources = [source];
+    let Ok(tokens) = lex(alloc, &sources, 0) else {
+        return Err(EvaluationError::Syntax);
+    };
+    let Ok(tree) = parse(alloc, tokens.as_slice()) else {
+        return Err(EvaluationError::Syntax);
+    };
+    of_section(Evaluation { alloc, scope }, &tree.declarations, wanted)
+}
+
+/// The value of an expression over the names in scope.
+pub fn value_of(
+    alloc: Global,
+    scope: &DebugScope<'_, '_>,
+    text: &str,
+) -> Result<u16, EvaluationError> {
+    computed(alloc, scope, text, Wanted::Value)
+}
+
+/// The address of the cell that an expression denotes.
+pub fn address_of(
+    alloc: Global,
+    scope: &DebugScope<'_, '_>,
+    text: &str,
+) -> Result<u16, EvaluationError> {
+    computed(alloc, scope, text, Wanted::Address)
+}

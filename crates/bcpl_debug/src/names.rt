@@ -1,0 +1,288 @@
+//! The names of a program: its routines with their variables, globals, statics, and constant data.
+
+use crate::manifests::{Manifest, manifests_of};
+use crate::places::{SitePlace, places_of, read_all};
+use crate::program::DebugProgram;
+use bc_core::{Core, Place};
+use bc_interpret::{after_first, all_addresses};
+use bc_interpret_record::StopSite;
+use bc_word::Memory;
+use bcpl_places::Span;
+use bcpl_wild::ReadMain;
+use std::alloc::Global as Alloc;
+
+/// A variable or parameter of a routine.
+#[derive(Clone, Copy)]
+pub struct Variable<'s> {
+    /// Its name.
+    pub name: &'s [u8],
+    /// Its offset in the frame.
+    pub offset: u64,
+    /// The number of its cells: 1, and for a vector 1 more than its elements.
+    pub cells: u64,
+    /// Whether it is a parameter.
+    pub is_parameter: bool,
+    /// Where it is declared.
+    pub span: Option<Span>,
+    /// The index of the first root in its scope.
+    pub from: usize,
+    /// The index after the last root in its scope.
+    pub to: usize,
+}
+
+/// A routine.
+#[derive(Drop)]
+pub struct Routine<'s> {
+    /// Its name.
+    pub name: &'s [u8],
+    /// The index of its section.
+    pub section: usize,
+    /// Its address.
+    pub address: u16,
+    /// Where it is declared.
+    pub span: Option<Span>,
+    /// The global that it sets.
+    pub global: Option<u16>,
+    /// Its parameters and variables, in the order of their declarations.
+    pub variables: Vec<Variable<'s>>,
+}
+
+/// A name of a global.
+#[derive(Clone, Copy)]
+pub struct GlobalName<'s> {
+    /// Its number.
+    pub number: u16,
+    /// Its name.
+    pub name: &'s [u8],
+    /// Where it is declared.
+    pub span: Option<Span>,
+    /// The index of the section that declares it.
+    pub section: usize,
+}
+
+impl GlobalName<'_> {
+    /// Whether the program's own sources declare it.
+    pub fn is_own(&self, program: &DebugProgram<'_, '_>) -> bool {
+        let is_in_library = match self.span {
+            Some(span) => span.file < program.library,
+            None => true,
+        };
+        !is_in_library && !program.is_library(self.section)
+    }
+}
+
+/// A static.
+#[derive(Clone, Copy)]
+pub struct StaticName<'s> {
+    /// Its name.
+    pub name: &'s [u8],
+    /// Its address.
+    pub address: u16,
+    /// Where it is declared.
+    pub span: Option<Span>,
+    /// The index of its section.
+    pub section: usize,
+}
+
+/// A string or a table.
+#[derive(Clone, Copy)]
+pub struct Datum {
+    /// Whether it is a string.
+    pub is_string: bool,
+    /// Its address.
+    pub address: u16,
+    /// The number of its words.
+    pub cells: usize,
+    /// Where it is written.
+    pub span: Option<Span>,
+}
+
+/// The names of a program, and the places of its stops.
+#[derive(Drop)]
+pub struct Names<'s> {
+    /// The places of the sites, by their numbers.
+    pub places: Vec<SitePlace>,
+    /// The routines.
+    pub routines: Vec<Routine<'s>>,
+    /// The names of globals.
+    pub globals: Vec<GlobalName<'s>>,
+    /// The statics.
+    pub statics: Vec<StaticName<'s>>,
+    /// The strings and tables.
+    pub data: Vec<Datum>,
+    /// The manifests, in the order of the text.
+    pub manifests: Vec<Manifest<'s>>,
+}
+
+/// A section, for gathering its names.
+#[derive(Clone, Copy)]
+struct Gathering<'g, 's> {
+    program: &'g DebugProgram<'g, 's>,
+    read: &'g ReadMain<'s>,
+    core: &'g Core,
+    addresses: &'g [u16],
+    section: usize,
+}
+
+impl<'s> Gathering<'_, 's> {
+    /// The span of a leaf.
+    fn span(&self, leaf: u64) -> Option<Span> {
+        let program = self.program;
+        let sources = program.named.sources;
+        self.read.span(sources, leaf)
+    }
+
+    /// The text of a leaf; empty if there is none.
+    fn text(&self, leaf: u64) -> &'s [u8] {
+        self.read.text(leaf).unwrap_or(b"")
+    }
+
+    /// The address of a label; 0 if there is none.
+    fn address(&self, label: u64) -> u16 {
+        self.addresses.get(label as usize).copied().unwrap_or(0)
+    }
+
+    /// The variables of the routine with this label and this number of parameters.
+    fn variables(
+        &self,
+        alloc: Alloc,
+        label: u64,
+        parameters: u16,
+    ) -> Result<Vec<Variable<'s>>, Memory> {
+        let mut variables = Vec::new(alloc);
+        let above = u64::from(parameters).saturating_add(2);
+        for site in &self.read.sites.variables {
+            if site.routine == label {
+                variables.push(Variable {
+                    name: self.text(site.leaf),
+                    offset: site.offset,
+                    cells: site.cells,
+                    is_parameter: site.offset < above,
+                    span: self.span(site.leaf),
+                    from: site.from,
+                    to: site.to,
+                })?;
+            }
+        }
+        Ok(variables)
+    }
+}
+
+impl<'s> Names<'s> {
+    /// No names.
+    fn none(alloc: Alloc) -> Names<'s> {
+        Names {
+            places: Vec::new(alloc),
+            routines: Vec::new(alloc),
+            globals: Vec::new(alloc),
+            statics: Vec::new(alloc),
+            data: Vec::new(alloc),
+            manifests: Vec::new(alloc),
+        }
+    }
+
+    /// Adds the place with this label.
+    fn add_place(
+        &mut self,
+        alloc: Alloc,
+        from: &Gathering<'_, 's>,
+        label: u64,
+        place: &Place,
+    ) -> Result<(), Memory> {
+        let Some(leaf) = from.read.sites.label(label) else {
+            return Ok(());
+        };
+        let (name, span) = (from.text(leaf), from.span(leaf));
+        let address = from.address(label);
+        let section = from.section;
+        match place {
+            Place::Routine(routine) => self.routines.push(Routine {
+                name,
+                section,
+                address,
+                span,
+                global: routine.global,
+                variables: from.variables(alloc, label, routine.parameters)?,
+            })?,
+            Place::Static(_) => self.statics.push(StaticName {
+                name,
+                address,
+                span,
+                section,
+            })?,
+            Place::Table(words) => self.data.push(Datum {
+                is_string: false,
+                address,
+                cells: words.len(),
+                span,
+            })?,
+            Place::Text(bytes) => self.data.push(Datum {
+                is_string: true,
+                address,
+                cells: (bytes.len() / 2).saturating_add(1),
+                span,
+            })?,
+        }
+        Ok(())
+    }
+
+    /// Adds the names of a section.
+    fn add_section(&mut self, alloc: Alloc, from: &Gathering<'_, 's>) -> Result<(), Memory> {
+        let mut label = 1u64;
+        for place in from.core.places() {
+            self.add_place(alloc, from, label, place)?;
+            label = label.saturating_add(1);
+        }
+        for site in &from.read.sites.globals {
+            self.globals.push(GlobalName {
+                number: site.number,
+                name: from.text(site.leaf),
+                span: from.span(site.leaf),
+                section: from.section,
+            })?;
+        }
+        Ok(())
+    }
+
+    /// The names of a program, and the places of these sites. `Memory` if an allocation fails.
+    pub fn new(
+        alloc: Alloc,
+        program: &DebugProgram<'_, 's>,
+        sites: &[StopSite],
+    ) -> Result<Names<'s>, Memory> {
+        let mut names = Names::none(alloc);
+        let Some(reads) = read_all(alloc, program)? else {
+            return Ok(names);
+        };
+        let addresses = all_addresses(alloc, after_first(program.image.places.as_slice()))?;
+        for (section, read) in reads.iter().enumerate() {
+            if let Some(core) = program.cores.get(section)
+                && let Some(labels) = addresses.get(section)
+            {
+                let from = Gathering {
+                    program: &*program,
+                    read,
+                    core,
+                    addresses: labels.as_slice(),
+                    section,
+                };
+                names.add_section(alloc, &from)?;
+            }
+        }
+        names.manifests = manifests_of(alloc, reads.as_slice())?;
+        names.places = places_of(alloc, reads.as_slice(), sites)?;
+        Ok(names)
+    }
+
+    /// The index of the routine at this address.
+    pub fn routine_at(&self, address: u16) -> Option<usize> {
+        self.routines
+            .iter()
+            .position(|routine| routine.address == address)
+    }
+
+    /// The place of a site.
+    pub fn place(&self, site: u32) -> Option<SitePlace> {
+        self.places.get(site as usize).copied()
+    }
+}

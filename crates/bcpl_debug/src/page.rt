@@ -1,0 +1,414 @@
+//! The page of a recorded run: the template with the recording as JSON.
+
+use crate::json::Json;
+use crate::names::{Names, Routine, Variable};
+use crate::parts::{AFTER, BEFORE};
+use crate::places::SitePlace;
+use crate::program::DebugProgram;
+use crate::session::RecordedRun;
+use crate::stream::{bytes_of, state_of};
+use base64::engine::general_purpose::STANDARD;
+use bc_interpret_record::{Cause, Cell, Ending, NO_SITE, Outcome, Recording, StopKind};
+use bc_word::Memory;
+use bcpl_places::Span;
+use std::alloc::Global;
+
+/// A recorded run of a program with this input.
+#[derive(Clone, Copy)]
+pub struct PageOf<'p, 's> {
+    /// The program.
+    pub program: &'p DebugProgram<'p, 's>,
+    /// The run.
+    pub run: &'p RecordedRun<'s>,
+    /// Its input.
+    pub input: &'p [u8],
+}
+
+/// The name of a kind of places.
+fn kind_of(kind: StopKind) -> &'static str {
+    match kind {
+        StopKind::Assign => "assign",
+        StopKind::Call => "call",
+        StopKind::If => "if",
+        StopKind::Test => "test",
+        StopKind::While => "while",
+        StopKind::Repeat => "repeat",
+        StopKind::For => "for",
+        StopKind::Switch => "switch",
+        StopKind::ResultIs => "resultis",
+        StopKind::Break => "break",
+        StopKind::Loop => "loop",
+        StopKind::EndCase => "endcase",
+        StopKind::Return => "return",
+        StopKind::Goto => "goto",
+        StopKind::Finish => "finish",
+        StopKind::Let => "let",
+        StopKind::Body => "body",
+        StopKind::End => "end",
+    }
+}
+
+/// Appends a file, a start and an end of a span, or -1, 0 and 0.
+fn add_span(json: &mut Json, span: Option<Span>) -> Result<(), Memory> {
+    match span {
+        Some(span) => {
+            json.number(span.file as u64)?;
+            json.number(span.start as u64)?;
+            json.number(span.end as u64)
+        }
+        None => {
+            json.word("-1")?;
+            json.number(0)?;
+            json.number(0)
+        }
+    }
+}
+
+/// Appends a place.
+fn add_place(json: &mut Json, place: &SitePlace) -> Result<(), Memory> {
+    json.open("[")?;
+    add_span(json, place.span)?;
+    json.ascii(kind_of(place.kind))?;
+    if place.root == usize::MAX {
+        json.word("-1")?;
+    } else {
+        json.number(place.root as u64)?;
+    }
+    json.close("]")
+}
+
+/// Appends the fields of a span.
+fn add_span_fields(json: &mut Json, span: Option<Span>) -> Result<(), Memory> {
+    json.key("file")?;
+    match span {
+        Some(span) => json.number(span.file as u64)?,
+        None => json.word("-1")?,
+    }
+    json.field("start", span.map_or(0, |span| span.start as u64))?;
+    json.field("end", span.map_or(0, |span| span.end as u64))
+}
+
+impl PageOf<'_, '_> {
+    /// The names of the program.
+    fn names(&self) -> &Names<'_> {
+        &self.run.names
+    }
+
+    /// The recording.
+    fn recording(&self) -> &Recording {
+        &self.run.recording
+    }
+
+    /// Appends the sources.
+    fn add_files(&self, json: &mut Json) -> Result<(), Memory> {
+        json.key("files")?;
+        json.open("[")?;
+        let program = self.program;
+        let sources = program.named.sources;
+        for (index, source) in sources.iter().enumerate() {
+            json.open("{")?;
+            json.key("name")?;
+            json.ascii(program.path(index))?;
+            json.key("text")?;
+            json.bytes(source.text)?;
+            json.key("library")?;
+            json.truth(index < program.library)?;
+            json.close("}")?;
+        }
+        json.close("]")
+    }
+
+    /// Appends the places; the one that isn't known comes last.
+    fn add_places(&self, json: &mut Json) -> Result<(), Memory> {
+        json.key("places")?;
+        json.open("[")?;
+        for place in &self.names().places {
+            add_place(json, place)?;
+        }
+        let unknown = SitePlace {
+            span: None,
+            kind: StopKind::End,
+            section: 0,
+            root: usize::MAX,
+        };
+        add_place(json, &unknown)?;
+        json.close("]")
+    }
+
+    /// Appends a variable of a routine.
+    fn add_variable(&self, json: &mut Json, variable: &Variable<'_>) -> Result<(), Memory> {
+        json.open("{")?;
+        json.key("name")?;
+        json.bytes(variable.name)?;
+        json.field("offset", variable.offset)?;
+        json.field("cells", variable.cells)?;
+        json.key("parameter")?;
+        json.truth(variable.is_parameter)?;
+        let (start, end) = match variable.span {
+            Some(span) => (span.start, span.end),
+            None => (0, 0),
+        };
+        json.field("start", start as u64)?;
+        json.field("end", end as u64)?;
+        json.field("from", variable.from as u64)?;
+        json.field("to", variable.to as u64)?;
+        json.close("}")
+    }
+
+    /// Appends a routine.
+    fn add_routine(&self, json: &mut Json, routine: &Routine<'_>) -> Result<(), Memory> {
+        json.open("{")?;
+        json.key("name")?;
+        json.bytes(routine.name)?;
+        add_span_fields(json, routine.span)?;
+        json.field("address", u64::from(routine.address))?;
+        json.key("global")?;
+        match routine.global {
+            Some(number) => json.number(u64::from(number))?,
+            None => json.word("null")?,
+        }
+        json.key("library")?;
+        json.truth(self.program.is_library(routine.section))?;
+        json.key("variables")?;
+        json.open("[")?;
+        for variable in &routine.variables {
+            self.add_variable(json, variable)?;
+        }
+        json.close("]")?;
+        json.close("}")
+    }
+
+    /// Appends the routines.
+    fn add_routines(&self, json: &mut Json) -> Result<(), Memory> {
+        json.key("routines")?;
+        json.open("[")?;
+        for routine in &self.names().routines {
+            self.add_routine(json, routine)?;
+        }
+        json.close("]")
+    }
+
+    /// Appends globals, statics and data.
+    fn add_outside(&self, json: &mut Json) -> Result<(), Memory> {
+        json.key("globals")?;
+        json.open("[")?;
+        for global in &self.names().globals {
+            json.open("{")?;
+            json.field("number", u64::from(global.number))?;
+            json.key("name")?;
+            json.bytes(global.name)?;
+            json.key("library")?;
+            json.truth(!global.is_own(self.program))?;
+            json.close("}")?;
+        }
+        json.close("]")?;
+        json.key("statics")?;
+        json.open("[")?;
+        for found in &self.names().statics {
+            json.open("{")?;
+            json.key("name")?;
+            json.bytes(found.name)?;
+            json.field("address", u64::from(found.address))?;
+            add_span_fields(json, found.span)?;
+            json.key("library")?;
+            json.truth(self.program.is_library(found.section))?;
+            json.close("}")?;
+        }
+        json.close("]")
+    }
+
+    /// Appends strings and tables.
+    fn add_data(&self, json: &mut Json) -> Result<(), Memory> {
+        json.key("data")?;
+        json.open("[")?;
+        for datum in &self.names().data {
+            json.open("{")?;
+            json.key("kind")?;
+            json.ascii(if datum.is_string { "string" } else { "table" })?;
+            json.field("address", u64::from(datum.address))?;
+            json.field("cells", datum.cells as u64)?;
+            add_span_fields(json, datum.span)?;
+            json.close("}")?;
+        }
+        json.close("]")
+    }
+
+    /// Appends the cells at the first stop, in runs.
+    fn add_cells(&self, json: &mut Json) -> Result<(), Memory> {
+        json.key("cells")?;
+        json.open("[")?;
+        let mut is_open = false;
+        for (address, cell) in self.recording().first.iter().enumerate() {
+            if *cell == Cell::Dead {
+                if is_open {
+                    json.close("]")?;
+                }
+                is_open = false;
+            } else {
+                if !is_open {
+                    json.open("[")?;
+                    json.number(address as u64)?;
+                }
+                is_open = true;
+                json.number(state_of(*cell))?;
+            }
+        }
+        if is_open {
+            json.close("]")?;
+        }
+        json.close("]")
+    }
+
+    /// The number of the place of a site.
+    fn place_number(&self, site: u32) -> u32 {
+        if site == NO_SITE {
+            self.unknown()
+        } else {
+            site
+        }
+    }
+
+    /// The number of the place that isn't known.
+    fn unknown(&self) -> u32 {
+        u32::try_from(self.names().places.len()).unwrap_or(0)
+    }
+
+    /// Appends the state at the first stop.
+    fn add_before(&self, json: &mut Json) -> Result<(), Memory> {
+        json.field("dropped", self.recording().dropped as u64)?;
+        json.key("before")?;
+        json.open("{")?;
+        self.add_cells(json)?;
+        json.key("frames")?;
+        json.open("[")?;
+        for frame in &self.recording().frames {
+            json.open("[")?;
+            let routine = self.names().routine_at(frame.routine).unwrap_or(0);
+            json.number(routine as u64)?;
+            json.number(u64::from(frame.base))?;
+            json.number(u64::from(self.place_number(frame.caller)))?;
+            json.close("]")?;
+        }
+        json.close("]")?;
+        let (output, taken) = match self.recording().stops.first() {
+            Some(stop) => (stop.output, stop.taken),
+            None => (0, 0),
+        };
+        json.key("output")?;
+        json.bytes(self.recording().output.get(..output).unwrap_or(&[]))?;
+        json.field("taken", taken as u64)?;
+        json.close("}")
+    }
+
+    /// For each address the number of the routine there, plus 1.
+    fn routine_numbers(&self, alloc: Global) -> Result<Vec<u32>, Memory> {
+        let mut numbers = Vec::new(alloc);
+        numbers.resize(65536, 0u32)?;
+        let mut number = 1u32;
+        for routine in &self.names().routines {
+            if let Some(at) = numbers.get_mut(usize::from(routine.address)) {
+                *at = number;
+            }
+            number = number.saturating_add(1);
+        }
+        Ok(numbers)
+    }
+
+    /// Appends the stops.
+    fn add_stops(&self, alloc: Global, json: &mut Json) -> Result<(), Memory> {
+        json.field("count", self.recording().stops.len() as u64)?;
+        let routines = self.routine_numbers(alloc)?;
+        let bytes = bytes_of(alloc, self.recording(), routines.as_slice(), self.unknown())?;
+        let text = STANDARD.encode(alloc, bytes.as_slice())?;
+        json.key("stops")?;
+        json.ascii(text.as_str())
+    }
+
+    /// Appends how the run ended.
+    fn add_end(&self, json: &mut Json) -> Result<(), Memory> {
+        let outcome = self.run.interpreted.outcome;
+        let (kind, text) = match outcome {
+            Outcome::Ended(Ending::Finished) => ("finished", ""),
+            Outcome::Ended(Ending::ZeroDivide) => ("zero", "The run divided by 0."),
+            Outcome::Going => ("turns", "The run used up its turns."),
+            Outcome::Wild(_) => ("wild", "The run met a wild access."),
+            Outcome::Device => ("device", "The run wrote more than the debugger keeps."),
+        };
+        json.key("end")?;
+        json.open("{")?;
+        json.key("kind")?;
+        json.ascii(kind)?;
+        json.key("text")?;
+        json.ascii(text)?;
+        json.key("lines")?;
+        json.ascii(self.run.end_lines.as_str())?;
+        json.key("place")?;
+        match self.recording().stops.last() {
+            Some(stop) => json.number(u64::from(self.place_number(stop.site)))?,
+            None => json.word("null")?,
+        }
+        json.key("address")?;
+        match address_of(outcome) {
+            Some(address) => json.number(u64::from(address))?,
+            None => json.word("null")?,
+        }
+        json.close("}")
+    }
+
+    /// Appends the names of the mains.
+    fn add_program(&self, alloc: Global, json: &mut Json) -> Result<(), Memory> {
+        let mut names = String::new(alloc);
+        for main in self.program.mains {
+            if *main >= self.program.library {
+                if !names.is_empty() {
+                    names.push_str(" ")?;
+                }
+                names.push_str(self.program.path(*main))?;
+            }
+        }
+        json.key("program")?;
+        json.ascii(names.as_str())
+    }
+}
+
+/// The address of a wild access.
+fn address_of(outcome: Outcome) -> Option<u16> {
+    match outcome {
+        Outcome::Wild(Cause::Unset(address) | Cause::Dead(address) | Cause::NoCell(address)) => {
+            Some(address)
+        }
+        _ => None,
+    }
+}
+
+/// The recording of a run as JSON. `Memory` if an allocation fails.
+pub fn recording_of(alloc: Global, page: &PageOf<'_, '_>) -> Result<String, Memory> {
+    let mut json = Json::new(alloc);
+    json.open("{")?;
+    json.field("version", 1)?;
+    page.add_program(alloc, &mut json)?;
+    page.add_files(&mut json)?;
+    page.add_places(&mut json)?;
+    page.add_routines(&mut json)?;
+    page.add_outside(&mut json)?;
+    page.add_data(&mut json)?;
+    json.field("stack", u64::from(page.program.image.stack_base.get()))?;
+    json.key("input")?;
+    json.bytes(page.input)?;
+    page.add_before(&mut json)?;
+    page.add_stops(alloc, &mut json)?;
+    page.add_end(&mut json)?;
+    json.close("}")?;
+    let Json { text, .. } = json;
+    Ok(text)
+}
+
+/// The page of a run. `Memory` if an allocation fails.
+pub fn page_of(alloc: Global, page: &PageOf<'_, '_>) -> Result<String, Memory> {
+    let recording = recording_of(alloc, page)?;
+    let mut text = String::new(alloc);
+    text.push_str(BEFORE)?;
+    text.push_str(recording.as_str())?;
+    text.push_str(AFTER)?;
+    Ok(text)
+}

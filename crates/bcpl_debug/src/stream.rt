@@ -1,0 +1,252 @@
+//! The stops of a recording as a stream of bytes, as debugger/FORMAT.md has it.
+
+use bc_interpret_record::{Cell, Change, Move, NO_SITE, Recording, Stop};
+use bc_word::Memory;
+use std::alloc::Global;
+
+/// The stops of a recording as bytes, while they are written.
+#[derive(Drop)]
+struct Stream<'r> {
+    alloc: Global,
+    bytes: Vec<u8>,
+    recording: &'r Recording,
+    /// For each address the number of the routine there, plus 1.
+    routines: &'r [u32],
+    /// The number of the place that isn't known.
+    unknown: u32,
+}
+
+/// The state of a cell as a number.
+pub fn state_of(cell: Cell) -> u64 {
+    match cell {
+        Cell::Dead => 0,
+        Cell::Unset => 1,
+        Cell::Set(word) => u64::from(word).saturating_add(2),
+    }
+}
+
+/// A difference of addresses as a number.
+fn signed(from: u16, to: u16) -> u64 {
+    if to >= from {
+        u64::from(to - from).saturating_mul(2)
+    } else {
+        u64::from(from - to).saturating_mul(2).saturating_sub(1)
+    }
+}
+
+impl Stream<'_> {
+    /// Appends a number.
+    fn number(&mut self, number: u64) -> Result<(), Memory> {
+        let mut left = number;
+        for _each in 0..10u8 {
+            let low = (left % 128) as u8;
+            left /= 128;
+            if left == 0 {
+                return Ok(self.bytes.push(low)?);
+            }
+            self.bytes.push(low + 128)?;
+        }
+        Ok(())
+    }
+
+    /// The number of the place of this site.
+    fn place(&self, site: u32) -> u64 {
+        u64::from(if site == NO_SITE { self.unknown } else { site })
+    }
+
+    /// The number of the routine at this address.
+    fn routine(&self, address: u16) -> u64 {
+        let number = self
+            .routines
+            .get(usize::from(address))
+            .copied()
+            .unwrap_or(0);
+        u64::from(number.saturating_sub(1))
+    }
+
+    /// Appends which calls were left and entered. A call that was entered and left in between isn't mentioned.
+    fn moves(&mut self, moves: &[Move]) -> Result<(), Memory> {
+        let mut left = 0usize;
+        let mut entered = 0usize;
+        for step in moves {
+            match step {
+                Move::Enter(_) => entered = entered.saturating_add(1),
+                Move::Leave(_) => {
+                    if entered > 0 {
+                        entered -= 1;
+                    } else {
+                        left = left.saturating_add(1);
+                    }
+                }
+            }
+        }
+        let (left, count) = (left as u64, entered as u64);
+        self.number(left.saturating_mul(4).saturating_add(count.min(3)))?;
+        if let Some(more) = count.checked_sub(3) {
+            self.number(more)?;
+        }
+        self.entered(moves, entered)
+    }
+
+    /// Appends the last `count` calls that were entered and not left.
+    fn entered(&mut self, moves: &[Move], count: usize) -> Result<(), Memory> {
+        let mut depth = 0usize;
+        let mut wanted = Vec::new(self.alloc);
+        for step in moves.iter().rev() {
+            match step {
+                Move::Leave(_) => depth = depth.saturating_add(1),
+                Move::Enter(frame) => {
+                    if depth > 0 {
+                        depth -= 1;
+                    } else if wanted.len() < count {
+                        wanted.push(*frame)?;
+                    }
+                }
+            }
+        }
+        for frame in wanted.iter().rev() {
+            let routine = self.routine(frame.routine);
+            self.number(routine)?;
+            self.number(u64::from(frame.base))?;
+            self.number(self.place(frame.caller))?;
+        }
+        Ok(())
+    }
+
+    /// Appends changes of cells; neighbours with the same new state are one change.
+    fn changes(&mut self, changes: &[Change]) -> Result<(), Memory> {
+        self.number(count_runs(changes))?;
+        let mut last = 0u16;
+        let mut skipped = 0usize;
+        for (index, first) in changes.iter().enumerate() {
+            if skipped > 0 {
+                skipped -= 1;
+            } else {
+                let following = changes.get(index.saturating_add(1)..).unwrap_or(&[]);
+                skipped = run_of(*first, following);
+                last = self.change(last, *first, following.get(..skipped).unwrap_or(&[]))?;
+            }
+        }
+        Ok(())
+    }
+
+    /// Appends a change of a cell and of its neighbours, after one whose last address is `last`. Returns its own last address.
+    fn change(&mut self, last: u16, first: Change, others: &[Change]) -> Result<u16, Memory> {
+        let is_run = !others.is_empty();
+        self.number(
+            signed(last, first.address)
+                .saturating_mul(2)
+                .saturating_add(flag(is_run, 1)),
+        )?;
+        if is_run {
+            self.number((others.len() as u64).saturating_sub(1))?;
+        }
+        self.number(state_of(first.new))?;
+        Ok(others.last().map_or(first.address, |end| end.address))
+    }
+
+    /// Appends a stop; the one before it is `before`.
+    fn stop(&mut self, index: usize, before: Stop, stop: Stop) -> Result<(), Memory> {
+        let recording = self.recording;
+        let is_first = index == 0;
+        let moves: &[Move] = if is_first {
+            &[]
+        } else {
+            recording.moves_of(index)
+        };
+        let changes: &[Change] = if is_first {
+            &[]
+        } else {
+            recording.changes_of(index)
+        };
+        let output = recording
+            .output
+            .get(before.output..stop.output)
+            .unwrap_or(&[]);
+        let taken = stop.taken.saturating_sub(before.taken);
+        let flags = flag(!moves.is_empty(), 1)
+            .saturating_add(flag(!changes.is_empty(), 2))
+            .saturating_add(flag(!output.is_empty(), 4))
+            .saturating_add(flag(taken > 0, 8));
+        let place = self.place(stop.site);
+        self.number(place.saturating_mul(16).saturating_add(flags))?;
+        if !moves.is_empty() {
+            self.moves(moves)?;
+        }
+        if !changes.is_empty() {
+            self.changes(changes)?;
+        }
+        if !output.is_empty() {
+            self.number(output.len() as u64)?;
+            self.bytes.extend_from_slice(output)?;
+        }
+        if taken > 0 {
+            self.number(taken as u64)?;
+        }
+        Ok(())
+    }
+}
+
+/// This value if `is`, else 0.
+fn flag(is: bool, value: u64) -> u64 {
+    if is { value } else { 0 }
+}
+
+/// How many runs changes have.
+fn count_runs(changes: &[Change]) -> u64 {
+    let mut runs = 0u64;
+    let mut skipped = 0usize;
+    for (index, first) in changes.iter().enumerate() {
+        if skipped > 0 {
+            skipped -= 1;
+        } else {
+            runs = runs.saturating_add(1);
+            skipped = run_of(
+                *first,
+                changes.get(index.saturating_add(1)..).unwrap_or(&[]),
+            );
+        }
+    }
+    runs
+}
+
+/// How many of the following changes continue a run: at the next addresses, with the same new state.
+fn run_of(first: Change, following: &[Change]) -> usize {
+    let mut length = 0usize;
+    let mut address = first.address;
+    for change in following {
+        address = address.wrapping_add(1);
+        if change.address != address || change.new != first.new {
+            return length;
+        }
+        length = length.saturating_add(1);
+    }
+    length
+}
+
+/// The stops of a recording as bytes. `routines` has for each address the number of the routine there, plus 1; `unknown` is the number of a
+/// place that isn't known.
+pub fn bytes_of(
+    alloc: Global,
+    recording: &Recording,
+    routines: &[u32],
+    unknown: u32,
+) -> Result<Vec<u8>, Memory> {
+    let mut stream = Stream {
+        alloc,
+        bytes: Vec::new(alloc),
+        recording,
+        routines,
+        unknown,
+    };
+    let Some(first) = recording.stops.first().copied() else {
+        return Ok(Vec::new(alloc));
+    };
+    let mut before = first;
+    for (index, stop) in recording.stops.iter().enumerate() {
+        stream.stop(index, before, *stop)?;
+        before = *stop;
+    }
+    let Stream { bytes, .. } = stream;
+    Ok(bytes)
+}

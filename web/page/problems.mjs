@@ -1,0 +1,147 @@
+// Checks the sources while one types, and shows what is wrong: in the editor, on the tabs and in a list.
+import { counted, delayed, element, made, textOf } from "./dom.mjs";
+import { readDiagnostics, spanInLine } from "./diagnostics.mjs";
+
+/** So many milliseconds after the last change the sources are checked. */
+const PAUSE = 150;
+
+const BUILT = /^ok (\d+) (\d+) (\d+)$/m;
+
+/** What is said of a diagnostic, in words. */
+function about(diagnostic) {
+  const helps = diagnostic.helps.map((help) => `Help: ${help}`);
+  return [`${diagnostic.severity === "error" ? "Error" : "Warning"}: ${diagnostic.sentence}`, ...helps].join("\n");
+}
+
+export class Problems {
+  constructor(app) {
+    this.app = app;
+    this.diagnostics = [];
+    /** What the last check built: `{ text, certificate, segments, entries, base }`, or null where it was refused. */
+    this.built = null;
+    this.isWanted = false;
+    this.work = null;
+    this.later = delayed(() => this.check(), PAUSE);
+    document.addEventListener("keydown", (event) => this.key(event));
+  }
+
+  /** Checks soon, once the user pauses. */
+  changed() {
+    this.built = null;
+    this.later();
+  }
+
+  /** Checks now, and returns when the newest sources are checked. While a check is at work only the newest further one is kept. */
+  check() {
+    if (!this.app.mayCompile()) return Promise.resolve();
+    this.isWanted = true;
+    this.work ??= this.checkAll().finally(() => (this.work = null));
+    return this.work;
+  }
+
+  async checkAll() {
+    while (this.isWanted) {
+      this.isWanted = false;
+      await this.checkOnce();
+    }
+    this.app.refresh();
+  }
+
+  async checkOnce() {
+    const { project, compiler } = this.app;
+    const names = project.sectionNames();
+    if (names.length === 0) {
+      this.take({ diagnostics: [], refusal: "" }, null, "No file is a section, so there is nothing to build.");
+      return;
+    }
+    const began = performance.now();
+    const words = ["build", "--messages", "json", "--out", "out.int", "--cert", "out.cert", ...project.getWords(), "--", ...names];
+    const answer = await compiler.ask(words, project.content());
+    this.milliseconds = performance.now() - began;
+    if (answer.stopped || answer.failure) {
+      this.take({ diagnostics: [], refusal: "" }, null, `The check ended early: ${answer.failure ?? "it was stopped"}.`);
+      return;
+    }
+    const numbers = textOf(answer.out).match(BUILT)?.slice(1).map(Number);
+    const [segments, entries, base] = numbers ?? [];
+    const built = numbers ? { text: answer.files.get("out.int"), certificate: answer.files.get("out.cert"), segments, entries, base } : null;
+    this.take(readDiagnostics(textOf(answer.errors)), built, null);
+  }
+
+  take({ diagnostics, refusal }, built, sentence) {
+    this.diagnostics = diagnostics;
+    this.built = built;
+    this.show(sentence ?? this.summary(refusal));
+  }
+
+  summary(refusal) {
+    const count = (severity) => this.diagnostics.filter((it) => it.severity === severity).length;
+    const warnings = count("warning");
+    if (this.built) {
+      const { base } = this.built;
+      return `Builds, to ${counted(base, "word")}.${warnings ? ` ${counted(warnings, "warning")}.` : ""}`;
+    }
+    const errors = count("error");
+    return errors > 0 ? `${counted(errors, "error")}${warnings ? `, ${counted(warnings, "warning")}` : ""}.` : `Refused: ${refusal}`;
+  }
+
+  show(sentence) {
+    element("checked").textContent = sentence;
+    element("problem-list").replaceChildren(...this.diagnostics.map((diagnostic) => made("li", {}, this.button(diagnostic))));
+    this.showMarks();
+    this.app.tabs.showSeverities(this.diagnostics);
+  }
+
+  /** A diagnostic as a button that leads to its place. */
+  button(diagnostic) {
+    const { severity, file, line, column, sentence, helps, notes } = diagnostic;
+    const button = made("button", { type: "button", className: `problem ${severity}` },
+      made("span", { className: "kind", textContent: severity === "error" ? "✕ Error " : "! Warning " }),
+      made("span", { className: "where", textContent: `${file}:${line}:${column} ` }), sentence,
+      ...notes.map((note) => made("span", { className: "help", textContent: `${note.file}:${note.line}: ${note.sentence}` })),
+      ...helps.map((help) => made("span", { className: "help", textContent: `Help: ${help}` })));
+    button.addEventListener("click", () => this.goTo(diagnostic));
+    return button;
+  }
+
+  /** Underlines the current file's diagnostics, and those of the last run. */
+  showMarks(further = []) {
+    const { project, editor } = this.app;
+    if (project.current === null || this.app.tabs.library) {
+      editor.mark([]);
+      return;
+    }
+    const lines = editor.text.split("\n");
+    const here = [...this.diagnostics, ...further].filter(({ file }) => file === project.current.name);
+    editor.mark(here.map((diagnostic) => ({ ...placeIn(lines, diagnostic), kind: diagnostic.severity, about: about(diagnostic) })));
+  }
+
+  /** Leads to the place of a diagnostic, in whatever file it is. */
+  goTo({ file, line, column, width }) {
+    const { project, editor, tabs } = this.app;
+    const found = project.find(file);
+    const library = this.app.texts[file];
+    if (found) tabs.choose(found);
+    else if (library) tabs.read(file, library);
+    else return;
+    const { start, end } = placeIn(editor.text.split("\n"), { line, column, width });
+    editor.goTo(start, end);
+  }
+
+  /** F8: the next problem after the cursor, or with Shift the one before. */
+  key(event) {
+    if (event.key !== "F8" || this.diagnostics.length === 0) return;
+    event.preventDefault();
+    const step = event.shiftKey ? -1 : 1;
+    this.at = ((this.at ?? (event.shiftKey ? 0 : -1)) + step + this.diagnostics.length) % this.diagnostics.length;
+    this.goTo(this.diagnostics[this.at]);
+  }
+}
+
+/** Where a diagnostic is in the text of these lines. */
+function placeIn(lines, { line, column, width }) {
+  const number = Math.min(line, lines.length) - 1;
+  const [from, to] = spanInLine(lines[number], column, width);
+  const before = lines.slice(0, number).reduce((sum, text) => sum + text.length + 1, 0);
+  return { start: before + from, end: before + to };
+}
