@@ -1,6 +1,7 @@
 """A headless Chromium that is driven by the DevTools protocol over two pipes. Needs nothing but Python and Debian's package chromium."""
 import atexit
 import base64
+import contextlib
 import json
 import os
 import shutil
@@ -84,6 +85,13 @@ class Browser:
             while not any(event.get("method") == "Page.loadEventFired" for event in self.events):
                 self.events.append(self.message())
 
+    @contextlib.contextmanager
+    def preloaded(self, script):
+        """Within this context each page that is opened runs a script before its own."""
+        added = self.send("Page.addScriptToEvaluateOnNewDocument", source=script)["identifier"]
+        yield
+        self.send("Page.removeScriptToEvaluateOnNewDocument", identifier=added)
+
     def value(self, expression):
         """The value of an expression of the page, which may be a promise."""
         answer = self.send("Runtime.evaluate", expression=expression, returnByValue=True, awaitPromise=True)
@@ -113,12 +121,20 @@ class Browser:
         with open(path, "wb") as file:
             file.write(base64.b64decode(data))
 
+    def collect(self):
+        """Frees what the page no longer uses."""
+        self.send("HeapProfiler.collectGarbage")
+
     def key(self, key, code="", modifiers=0, text=None):
         """Presses and releases a key. Modifiers: 1 Alt, 2 Control, 8 Shift."""
         named = {"Tab": 9, "Enter": 13, "Escape": 27, "F8": 119}
         base = {"key": key, "code": code or key, "modifiers": modifiers, "windowsVirtualKeyCode": named.get(key, ord(key.upper()) if key.isalnum() and len(key) == 1 else 0)}
         self.send("Input.dispatchKeyEvent", type="keyDown", **base, **({"text": text} if text else {}))
         self.send("Input.dispatchKeyEvent", type="keyUp", **base)
+
+    def click(self, x, y):
+        for kind in ("mousePressed", "mouseReleased"):
+            self.send("Input.dispatchMouseEvent", type=kind, x=x, y=y, button="left", clickCount=1)
 
     def complaints(self):
         """Errors that the page wrote to the console, and what its policy refused."""
