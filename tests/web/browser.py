@@ -103,6 +103,19 @@ class Browser:
         """Calls a function of the page with values."""
         return self.value(f"({function})({', '.join(json.dumps(argument) for argument in arguments)})")
 
+    def in_frame(self, expression):
+        """The value of an expression in the page's first frame, also where that frame has another origin."""
+        targets = [it for it in self.send("Target.getTargets")["targetInfos"] if it["type"] == "iframe"]
+        if targets:
+            page, self.session = self.session, self.send("Target.attachToTarget", targetId=targets[0]["targetId"], flatten=True)["sessionId"]
+            try:
+                return self.value(expression)
+            finally:
+                self.session = page
+        frame = self.send("Page.getFrameTree")["frameTree"]["childFrames"][0]["frame"]["id"]
+        world = self.send("Page.createIsolatedWorld", frameId=frame)["executionContextId"]
+        return self.send("Runtime.evaluate", expression=expression, contextId=world, returnByValue=True)["result"].get("value")
+
     def until(self, expression, seconds=30):
         """Waits until an expression is true, and returns how many seconds that took."""
         began = time.time()
@@ -115,6 +128,11 @@ class Browser:
     def window(self, width, scheme="light", height=900):
         self.send("Emulation.setDeviceMetricsOverride", width=width, height=height, deviceScaleFactor=1, mobile=width < 600)
         self.send("Emulation.setEmulatedMedia", media="screen", features=[{"name": "prefers-color-scheme", "value": scheme}])
+
+    def paper(self):
+        """Shows the page as on paper, until the next call of window."""
+        self.window(794, height=1123)
+        self.send("Emulation.setEmulatedMedia", media="print", features=[])
 
     def picture(self, path, whole=False):
         data = self.send("Page.captureScreenshot", format="png", captureBeyondViewport=whole)["data"]

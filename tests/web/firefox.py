@@ -153,9 +153,15 @@ class Browser:
         yield
         self.send("script.removePreloadScript", script=added)
 
-    def value(self, expression):
-        """The value of an expression of the page, which may be a promise."""
-        answer = self.send("script.evaluate", expression=expression, target={"context": self.context}, awaitPromise=True, userActivation=True)
+    def in_frame(self, expression):
+        """The value of an expression in the page's first frame, also where that frame has another origin."""
+        tree = self.send("browsingContext.getTree", root=self.context)["contexts"][0]
+        return self.value(expression, tree["children"][0]["context"])
+
+    def value(self, expression, context=None):
+        """The value of an expression of the page, or of the context of a frame, which may be a promise."""
+        target = {"context": context or self.context}
+        answer = self.send("script.evaluate", expression=expression, target=target, awaitPromise=True, userActivation=True)
         if answer["type"] == "exception":
             raise RuntimeError(answer["exceptionDetails"]["text"])
         return plain(answer["result"])

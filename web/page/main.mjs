@@ -269,6 +269,7 @@ class App {
     tabKeys(element("panel-tabs"), (tab) => this.showPanel(tab.id.replace("tab-", "")));
     element("go-examples").addEventListener("click", () => this.showPanel("start"));
     element("go-tutorial").addEventListener("click", () => this.goTo("docs/tutorial.md"));
+    element("go-proved").addEventListener("click", () => this.goTo("docs/PROVED.md"));
     element("go-language").addEventListener("click", () => this.goTo("docs/language.md"));
     element("show-keys").addEventListener("click", () => element("keys").showModal());
     element("share").addEventListener("click", () => this.share());

@@ -128,13 +128,24 @@ export class Problems {
     editor.goTo(start, end);
   }
 
-  /** F8: the next problem after the cursor, or with Shift the one before. */
+  /** F8: the next problem after the cursor, or with Shift the one before. After the last one of the file come those of other files. */
   key(event) {
     if (event.key !== "F8" || this.diagnostics.length === 0) return;
     event.preventDefault();
-    const step = event.shiftKey ? -1 : 1;
-    this.at = ((this.at ?? (event.shiftKey ? 0 : -1)) + step + this.diagnostics.length) % this.diagnostics.length;
-    this.goTo(this.diagnostics[this.at]);
+    this.goTo(this.diagnostics[this.next(event.shiftKey)]);
+  }
+
+  /** The number of the diagnostic after the cursor, or before it. */
+  next(isBackwards) {
+    const { editor, project } = this.app;
+    const cursor = editor.area.selectionStart;
+    const lines = editor.text.split("\n");
+    const places = this.diagnostics.map((it) => (it.file === project.current.name ? placeIn(lines, it) : null));
+    const count = places.length;
+    const here = places.findIndex((it) => it !== null && it.start <= cursor && cursor <= it.end);
+    if (here >= 0) return (here + (isBackwards ? count - 1 : 1)) % count;
+    const after = places.findIndex((it) => it !== null && it.start > cursor);
+    return isBackwards ? ((after < 0 ? count : after) + count - 1) % count : Math.max(after, 0);
   }
 }
 
