@@ -254,7 +254,8 @@ class App {
     if (what === "source") save(current.name, current.text, "text/plain");
     else if (what === "sources") for (const file of files) save(file.name, file.text, "text/plain");
     else if (what === "report") this.saveIf("explanation.html", await this.inside.explain(), "text/html");
-    else this.saveIf(what === "text" ? "program.int" : "program.cert", what === "text" ? built?.text : built?.certificate);
+    else if (what === "text") this.saveIf("program.int", built?.text);
+    else this.saveIf("program.cert", await this.problems.certificate());
   }
 
   saveIf(name, content, type) {
