@@ -105,13 +105,14 @@ class Browser:
 
     def in_frame(self, expression):
         """The value of an expression in the page's first frame, also where that frame has another origin."""
-        targets = [it for it in self.send("Target.getTargets")["targetInfos"] if it["type"] == "iframe"]
-        if targets:
-            page, self.session = self.session, self.send("Target.attachToTarget", targetId=targets[0]["targetId"], flatten=True)["sessionId"]
-            try:
+        page, self.session = self.session, None
+        try:
+            frames = [it for it in self.send("Target.getTargets")["targetInfos"] if it["type"] == "iframe"]
+            if frames:
+                self.session = self.send("Target.attachToTarget", targetId=frames[0]["targetId"], flatten=True)["sessionId"]
                 return self.value(expression)
-            finally:
-                self.session = page
+        finally:
+            self.session = page
         frame = self.send("Page.getFrameTree")["frameTree"]["childFrames"][0]["frame"]["id"]
         world = self.send("Page.createIsolatedWorld", frameId=frame)["executionContextId"]
         return self.send("Runtime.evaluate", expression=expression, contextId=world, returnByValue=True)["result"].get("value")
