@@ -1,6 +1,7 @@
 """A headless Chromium that is driven by the DevTools protocol over two pipes. Needs nothing but Python and Debian's package chromium."""
 import atexit
 import base64
+import contextlib
 import json
 import os
 import shutil
@@ -84,6 +85,13 @@ class Browser:
             while not any(event.get("method") == "Page.loadEventFired" for event in self.events):
                 self.events.append(self.message())
 
+    @contextlib.contextmanager
+    def preloaded(self, script):
+        """Within this context each page that is opened runs a script before its own."""
+        added = self.send("Page.addScriptToEvaluateOnNewDocument", source=script)["identifier"]
+        yield
+        self.send("Page.removeScriptToEvaluateOnNewDocument", identifier=added)
+
     def value(self, expression):
         """The value of an expression of the page, which may be a promise."""
         answer = self.send("Runtime.evaluate", expression=expression, returnByValue=True, awaitPromise=True)
@@ -94,6 +102,20 @@ class Browser:
     def call(self, function, *arguments):
         """Calls a function of the page with values."""
         return self.value(f"({function})({', '.join(json.dumps(argument) for argument in arguments)})")
+
+    def in_frame(self, expression):
+        """The value of an expression in the page's first frame, also where that frame has another origin."""
+        page, self.session = self.session, None
+        try:
+            frames = [it for it in self.send("Target.getTargets")["targetInfos"] if it["type"] == "iframe"]
+            if frames:
+                self.session = self.send("Target.attachToTarget", targetId=frames[0]["targetId"], flatten=True)["sessionId"]
+                return self.value(expression)
+        finally:
+            self.session = page
+        frame = self.send("Page.getFrameTree")["frameTree"]["childFrames"][0]["frame"]["id"]
+        world = self.send("Page.createIsolatedWorld", frameId=frame)["executionContextId"]
+        return self.send("Runtime.evaluate", expression=expression, contextId=world, returnByValue=True)["result"].get("value")
 
     def until(self, expression, seconds=30):
         """Waits until an expression is true, and returns how many seconds that took."""
@@ -108,10 +130,19 @@ class Browser:
         self.send("Emulation.setDeviceMetricsOverride", width=width, height=height, deviceScaleFactor=1, mobile=width < 600)
         self.send("Emulation.setEmulatedMedia", media="screen", features=[{"name": "prefers-color-scheme", "value": scheme}])
 
+    def paper(self):
+        """Shows the page as on paper, until the next call of window."""
+        self.window(794, height=1123)
+        self.send("Emulation.setEmulatedMedia", media="print", features=[])
+
     def picture(self, path, whole=False):
         data = self.send("Page.captureScreenshot", format="png", captureBeyondViewport=whole)["data"]
         with open(path, "wb") as file:
             file.write(base64.b64decode(data))
+
+    def collect(self):
+        """Frees what the page no longer uses."""
+        self.send("HeapProfiler.collectGarbage")
 
     def key(self, key, code="", modifiers=0, text=None):
         """Presses and releases a key. Modifiers: 1 Alt, 2 Control, 8 Shift."""
@@ -119,6 +150,10 @@ class Browser:
         base = {"key": key, "code": code or key, "modifiers": modifiers, "windowsVirtualKeyCode": named.get(key, ord(key.upper()) if key.isalnum() and len(key) == 1 else 0)}
         self.send("Input.dispatchKeyEvent", type="keyDown", **base, **({"text": text} if text else {}))
         self.send("Input.dispatchKeyEvent", type="keyUp", **base)
+
+    def click(self, x, y):
+        for kind in ("mousePressed", "mouseReleased"):
+            self.send("Input.dispatchMouseEvent", type=kind, x=x, y=y, button="left", clickCount=1)
 
     def complaints(self):
         """Errors that the page wrote to the console, and what its policy refused."""

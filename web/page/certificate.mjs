@@ -16,7 +16,7 @@ export class Certificate {
       node.replaceChildren(made("p", { className: "hint", textContent: "There is no certificate while the sources are refused." }));
       return;
     }
-    const files = [["out.int", built.text], ["out.cert", built.certificate]];
+    const files = [["out.int", built.text], ["out.cert", (await this.app.problems.certificate()) ?? new Uint8Array(0)]];
     const check = await this.app.compiler.ask(["check", "out.cert", "out.int"], files, 60);
     const list = await this.app.compiler.ask(["list", "out.int"], files, 60);
     const routines = await this.routines();

@@ -101,9 +101,16 @@ export class Inside {
     const report = await this.explain();
     hint.textContent = report ? REPORT_HINT : "There is nothing to explain while the source is refused.";
     frame.hidden = report === null;
-    const text = report ? textOf(report) : "";
+    const text = report ? inColours(textOf(report), document.documentElement.dataset.theme) : "";
     if (report && frame.srcdoc !== text) frame.srcdoc = text;
   }
+}
+
+/** A report in the colours that the user has chosen for the page. By itself it follows the system's. */
+function inColours(report, theme) {
+  if (!theme) return report;
+  const condition = theme === "dark" ? "screen" : "not all";
+  return report.replace("color-scheme: light dark", `color-scheme: ${theme}`).replace("@media (prefers-color-scheme: dark)", `@media ${condition}`);
 }
 
 /** The rows of a listing, each with the line of the source that it belongs to. */

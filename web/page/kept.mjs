@@ -48,6 +48,7 @@ export class Kept {
     choice.addEventListener("change", () => {
       choose();
       write(THEME, choice.value);
+      this.app.refresh();
     });
   }
 

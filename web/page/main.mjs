@@ -254,7 +254,8 @@ class App {
     if (what === "source") save(current.name, current.text, "text/plain");
     else if (what === "sources") for (const file of files) save(file.name, file.text, "text/plain");
     else if (what === "report") this.saveIf("explanation.html", await this.inside.explain(), "text/html");
-    else this.saveIf(what === "text" ? "program.int" : "program.cert", what === "text" ? built?.text : built?.certificate);
+    else if (what === "text") this.saveIf("program.int", built?.text);
+    else this.saveIf("program.cert", await this.problems.certificate());
   }
 
   saveIf(name, content, type) {
@@ -269,6 +270,7 @@ class App {
     tabKeys(element("panel-tabs"), (tab) => this.showPanel(tab.id.replace("tab-", "")));
     element("go-examples").addEventListener("click", () => this.showPanel("start"));
     element("go-tutorial").addEventListener("click", () => this.goTo("docs/tutorial.md"));
+    element("go-proved").addEventListener("click", () => this.goTo("docs/PROVED.md"));
     element("go-language").addEventListener("click", () => this.goTo("docs/language.md"));
     element("show-keys").addEventListener("click", () => element("keys").showModal());
     element("share").addEventListener("click", () => this.share());

@@ -17,7 +17,7 @@ export class Problems {
   constructor(app) {
     this.app = app;
     this.diagnostics = [];
-    /** What the last check built: `{ text, certificate, segments, entries, base }`, or null where it was refused. */
+    /** What the last check built: `{ text, segments, entries, base }` with what it was built from, or null where it was refused. */
     this.built = null;
     this.isWanted = false;
     this.work = null;
@@ -55,8 +55,9 @@ export class Problems {
       return;
     }
     const began = performance.now();
-    const words = ["build", "--messages", "json", "--out", "out.int", "--cert", "out.cert", ...project.getWords(), "--", ...names];
-    const answer = await compiler.ask(words, project.content());
+    const words = [...project.getWords(), "--", ...names];
+    const content = project.content();
+    const answer = await compiler.ask(["build", "--messages", "json", "--out", "out.int", ...words], content);
     this.milliseconds = performance.now() - began;
     if (answer.stopped || answer.failure) {
       this.take({ diagnostics: [], refusal: "" }, null, `The check ended early: ${answer.failure ?? "it was stopped"}.`);
@@ -64,8 +65,17 @@ export class Problems {
     }
     const numbers = textOf(answer.out).match(BUILT)?.slice(1).map(Number);
     const [segments, entries, base] = numbers ?? [];
-    const built = numbers ? { text: answer.files.get("out.int"), certificate: answer.files.get("out.cert"), segments, entries, base } : null;
+    const built = numbers ? { text: answer.files.get("out.int"), segments, entries, base, words, content, certificate: null } : null;
     this.take(readDiagnostics(textOf(answer.errors)), built, null);
+  }
+
+  /** The certificate of what was built, or null. It is written when it is first needed: checks while one types are quicker without it. */
+  async certificate() {
+    const { built } = this;
+    if (built === null) return null;
+    const words = ["build", "--no-warnings", "--out", "out.int", "--cert", "out.cert", ...built.words];
+    built.certificate ??= this.app.compiler.ask(words, built.content).then(({ files }) => files.get("out.cert") ?? null);
+    return built.certificate;
   }
 
   take({ diagnostics, refusal }, built, sentence) {
@@ -128,13 +138,24 @@ export class Problems {
     editor.goTo(start, end);
   }
 
-  /** F8: the next problem after the cursor, or with Shift the one before. */
+  /** F8: the next problem after the cursor, or with Shift the one before. After the last one of the file come those of other files. */
   key(event) {
     if (event.key !== "F8" || this.diagnostics.length === 0) return;
     event.preventDefault();
-    const step = event.shiftKey ? -1 : 1;
-    this.at = ((this.at ?? (event.shiftKey ? 0 : -1)) + step + this.diagnostics.length) % this.diagnostics.length;
-    this.goTo(this.diagnostics[this.at]);
+    this.goTo(this.diagnostics[this.next(event.shiftKey)]);
+  }
+
+  /** The number of the diagnostic after the cursor, or before it. */
+  next(isBackwards) {
+    const { editor, project } = this.app;
+    const cursor = editor.area.selectionStart;
+    const lines = editor.text.split("\n");
+    const places = this.diagnostics.map((it) => (it.file === project.current.name ? placeIn(lines, it) : null));
+    const count = places.length;
+    const here = places.findIndex((it) => it !== null && it.start <= cursor && cursor <= it.end);
+    if (here >= 0) return (here + (isBackwards ? count - 1 : 1)) % count;
+    const after = places.findIndex((it) => it !== null && it.start > cursor);
+    return isBackwards ? ((after < 0 ? count : after) + count - 1) % count : Math.max(after, 0);
   }
 }
 

@@ -14,9 +14,8 @@ static unsigned long top, end;
 
 /* The class of the smallest block that has room for so many bytes. */
 static int class_for(size_t size) {
-  int class = LEAST_CLASS;
-  while (((size_t)1 << class) < size + HEAD) class++;
-  return class;
+  int class = 64 - __builtin_clzl(size + HEAD - 1);
+  return class < LEAST_CLASS ? LEAST_CLASS : class;
 }
 
 static unsigned long class_of(const void *block) { return *(const unsigned long *)((const char *)block - HEAD); }
