@@ -19,6 +19,8 @@ export class Problems {
     this.diagnostics = [];
     /** What the last check built: `{ text, segments, entries, base }` with what it was built from, or null where it was refused. */
     this.built = null;
+    /** How many changes there were: a check of sources that have changed since says nothing. */
+    this.changes = 0;
     this.isWanted = false;
     this.work = null;
     this.later = delayed(() => this.check(), PAUSE);
@@ -27,6 +29,7 @@ export class Problems {
 
   /** Checks soon, once the user pauses. */
   changed() {
+    this.changes += 1;
     this.built = null;
     this.later();
   }
@@ -54,11 +57,13 @@ export class Problems {
       this.take({ diagnostics: [], refusal: "" }, null, "No file is a section, so there is nothing to build.");
       return;
     }
+    const { changes } = this;
     const began = performance.now();
     const words = [...project.getWords(), "--", ...names];
     const content = project.content();
     const answer = await compiler.ask(["build", "--messages", "json", "--out", "out.int", ...words], content);
     this.milliseconds = performance.now() - began;
+    if (changes !== this.changes) return;
     if (answer.stopped || answer.failure) {
       this.take({ diagnostics: [], refusal: "" }, null, `The check ended early: ${answer.failure ?? "it was stopped"}.`);
       return;
