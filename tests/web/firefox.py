@@ -17,12 +17,13 @@ import time
 from browser import PATIENCE
 
 USUAL = ("firefox-esr", "firefox")
-# Nothing is updated, reported or asked for at the start. Pages may use the clipboard, and the confirmations that they ask for are the test's.
+# Nothing is updated, reported or asked for at the start. The preferences that Firefox has for tests are off: among others they let a page
+# that is opened from disk read its neighbours.
 PREFERENCES = {
     "app.normandy.enabled": False, "app.update.disabledForTesting": True, "browser.safebrowsing.downloads.enabled": False,
     "browser.safebrowsing.malware.enabled": False, "browser.safebrowsing.phishing.enabled": False, "browser.shell.checkDefaultBrowser": False,
     "browser.startup.page": 0, "datareporting.policy.dataSubmissionEnabled": False, "dom.disable_beforeunload": True,
-    "extensions.update.enabled": False, "network.captive-portal-service.enabled": False, "network.connectivity-service.enabled": False,
+    "extensions.update.enabled": False, "remote.prefs.recommended": False, "network.captive-portal-service.enabled": False, "network.connectivity-service.enabled": False,
     "services.settings.server": "data:,", "toolkit.telemetry.enabled": False, "ui.prefersReducedMotion": 1,
 }
 MOST_IN_HEAD = 1 << 16
