@@ -23,8 +23,8 @@ PREFERENCES = {
     "app.normandy.enabled": False, "app.update.disabledForTesting": True, "browser.safebrowsing.downloads.enabled": False,
     "browser.safebrowsing.malware.enabled": False, "browser.safebrowsing.phishing.enabled": False, "browser.shell.checkDefaultBrowser": False,
     "browser.startup.page": 0, "datareporting.policy.dataSubmissionEnabled": False, "dom.disable_beforeunload": True,
-    "extensions.update.enabled": False, "remote.prefs.recommended": False, "network.captive-portal-service.enabled": False, "network.connectivity-service.enabled": False,
-    "services.settings.server": "data:,", "toolkit.telemetry.enabled": False, "ui.prefersReducedMotion": 1,
+    "extensions.update.enabled": False, "network.captive-portal-service.enabled": False, "network.connectivity-service.enabled": False,
+    "remote.prefs.recommended": False, "services.settings.server": "data:,", "toolkit.telemetry.enabled": False, "ui.prefersReducedMotion": 1,
 }
 MOST_IN_HEAD = 1 << 16
 # Keys that WebDriver names by a character of Unicode's private area.

@@ -67,6 +67,10 @@ function typedInput(shared, ask) {
   };
 }
 
+/** What browsers say where their stack is too small, and what is said instead. */
+const TOO_DEEP = /call stack|too much recursion/i;
+const NO_ROOM = "the source is nested too deeply for this browser's stack; the program on the command line has more room";
+
 let module = null;
 
 async function run({ id, words, files, input, shared, terminals }) {
@@ -81,7 +85,8 @@ async function run({ id, words, files, input, shared, terminals }) {
   try {
     answer = { status: await runProgram(module, ["bcpl", ...words], system) };
   } catch (error) {
-    answer = { failure: String(error?.message ?? error) };
+    const said = String(error?.message ?? error);
+    answer = { failure: TOO_DEEP.test(said) ? NO_ROOM : said };
   }
   gathered.send();
   postMessage({ id, ...answer, files: system.changed() });
