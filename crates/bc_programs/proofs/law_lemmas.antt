@@ -7,3 +7,7 @@ pub mod Reading
 pub mod Divisors
 pub mod Gcd
 pub mod Double
+pub mod Ordering
+pub mod Vectors
+pub mod Inserting
+pub mod Sorting
