@@ -74,6 +74,8 @@ long lseek(int file, long offset, int origin) { return answer(host_lseek(file, o
 int isatty(int file) { return host_isatty(file); }
 int rename(const char *from, const char *to) { return (int)answer(host_rename(from, to)); }
 int unlink(const char *path) { return (int)answer(host_unlink(path)); }
+/* No host makes hard links; the program does without. */
+int link(const char *from, const char *to) { return (int)answer(-1); }
 int chmod(const char *path, unsigned mode) { return (int)answer(host_chmod(path, mode)); }
 long readlink(const char *path, void *to, size_t room) { return answer(host_readlink(path, to, room)); }
 

@@ -2,8 +2,8 @@
 use Rattle.std.proofs.Common.{ℕ, ◌+◌, ◌*◌, ◌≤◌, Option, Some, None, arith}
 use Rattle.std.specs.Prelude.{max}
 use Rattle.bc_word.specs.declared.operator.Op.{Op}
-use Rattle.bc_parse_tree.specs.declared.tree.Monadic.{Monadic}
-use Rattle.bc_parse_tree.specs.declared.tree.Monadic.TheVariants as monadic
+use Rattle.bc_parse_tree.specs.declared.tree.UnaryOp.{UnaryOp}
+use Rattle.bc_parse_tree.specs.declared.tree.UnaryOp.TheVariants as unary
 use Rattle.bc_parse_tree.specs.Tree as tree
 use Rattle.bc_parse_tree.specs.Height.{exp_height, exps_height}
 use Rattle.bc_core.specs.Tree.{Exp, Num, Frame, Glob, Place, Load, Neg, Not, Bin, Cond, Call, Valof}
@@ -11,7 +11,7 @@ use Rattle.bc_scope_defs.specs.Scope.{Meant, Constant, Pending, Static, Global, 
 use Rattle.bc_scope_defs.specs.Scope as scope
 use Rattle.bc_scope_defs.specs.Numbering.{following}
 use Rattle.bc_scope_defs.specs.Scoping.{operator}
-use Rattle.bc_scope_defs.specs.Translation.{Forms, form_of_name, form_of_monadic, form_of_dyadic, negation, opposite, or_not, forms, core_arguments}
+use Rattle.bc_scope_defs.specs.Translation.{Forms, form_of_name, form_of_unary, form_of_binary, negation, opposite, or_not, forms, core_arguments}
 use Rattle.bc_cert_laws.specs.Entries.{nested, all_nested}
 
 abbrev pub AreNested : Forms → ℕ → Type 0
@@ -48,30 +48,30 @@ negation_nested (Cond c x y) = omega arith
 negation_nested (Call es f) = omega arith
 negation_nested (Valof n) = omega arith
 
-monadic_nested : (m : Monadic) (f : Forms) (n : ℕ) → AreNested f (2 * n) → AreNested (form_of_monadic m f) (2 * (n + 1))
-monadic_nested monadic.Load f n h = let a = h.1 in (omega arith, omega arith)
-monadic_nested monadic.Address f n h = let a = h.0 in (omega arith, omega arith)
-monadic_nested monadic.Not f n h = let a = h.1 in let b = negation_nested f.content in (omega arith, omega arith)
-monadic_nested monadic.Negate f n h = let a = h.1 in (omega arith, omega arith)
+unary_nested : (m : UnaryOp) (f : Forms) (n : ℕ) → AreNested f (2 * n) → AreNested (form_of_unary m f) (2 * (n + 1))
+unary_nested unary.Load f n h = let a = h.1 in (omega arith, omega arith)
+unary_nested unary.Address f n h = let a = h.0 in (omega arith, omega arith)
+unary_nested unary.Not f n h = let a = h.1 in let b = negation_nested f.content in (omega arith, omega arith)
+unary_nested unary.Neg f n h = let a = h.1 in (omega arith, omega arith)
 
-dyadic_nested : (o : Option Op) (l r : Exp) (m n : ℕ) → nested l ≤ 2 * m → nested r ≤ 2 * n → AreNested (form_of_dyadic o l r) (2 * (max m n + 1))
-dyadic_nested None l r m n h k = (omega arith, omega arith)
-dyadic_nested (Some op) l r m n h k = (omega arith, omega arith)
+binary_nested : (o : Option Op) (l r : Exp) (m n : ℕ) → nested l ≤ 2 * m → nested r ≤ 2 * n → AreNested (form_of_binary o l r) (2 * (max m n + 1))
+binary_nested None l r m n h k = (omega arith, omega arith)
+binary_nested (Some op) l r m n h k = (omega arith, omega arith)
 
 mutual
   -- the address and the content
   pub forms_nested : (E : Env) (at : Numbers) (e : tree.Exp) → AreNested (forms E at e) (2 * exp_height e)
   forms_nested E at (tree.Name n) = name_nested (meant_by E n)
-  forms_nested E at (tree.Number w) = (omega arith, omega arith)
+  forms_nested E at (tree.Num w) = (omega arith, omega arith)
   forms_nested E at (tree.Character w) = (omega arith, omega arith)
   forms_nested E at tree.True = (omega arith, omega arith)
   forms_nested E at tree.False = (omega arith, omega arith)
   forms_nested E at (tree.Text bytes) = (omega arith, omega arith)
   forms_nested E at (tree.Table ks) = (omega arith, omega arith)
   forms_nested E at (tree.Valof b) = (omega arith, omega arith)
-  forms_nested E at (tree.Monadic m e) = monadic_nested m (forms E at e) (exp_height e) (forms_nested E at e)
-  forms_nested E at (tree.Dyadic o l r) = dyadic_nested (operator o) _ _ (exp_height l) (exp_height r) (forms_nested E at l).1 (forms_nested E (following at l) r).1
-  forms_nested E at (tree.Condition c x y) =
+  forms_nested E at (tree.Unary m e) = unary_nested m (forms E at e) (exp_height e) (forms_nested E at e)
+  forms_nested E at (tree.Bin o l r) = binary_nested (operator o) _ _ (exp_height l) (exp_height r) (forms_nested E at l).1 (forms_nested E (following at l) r).1
+  forms_nested E at (tree.Cond c x y) =
       let hc = (forms_nested E at c).1 in
       let hx = (forms_nested E (following at c) x).1 in
       let hy = (forms_nested E (following (following at c) x) y).1 in

@@ -36,7 +36,7 @@ entries_low storage.Global at (tree.entry n k es) E = entries_low storage.Global
 mutual
   found_low : (E : Env) (at : Numbers) (e : tree.Exp) (s : ℕ) → exp_height e ≤ 200 → ThingsLow (found E at e s)
   found_low E at (tree.Name n) s h = tt
-  found_low E at (tree.Number n) s h = tt
+  found_low E at (tree.Num n) s h = tt
   found_low E at (tree.Character n) s h = tt
   found_low E at tree.True s h = tt
   found_low E at tree.False s h = tt
@@ -44,11 +44,11 @@ mutual
   found_low E at (tree.Table ks) s h = (tt, tt)
   found_low E at (tree.Valof b) s h =
       (block_low (in_valof E) (after_valof at) b s (omega arith), in_block_low (in_valof E) (after_valof at) b s (omega arith))
-  found_low E at (tree.Monadic m e) s h = found_low E at e s (omega arith)
-  found_low E at (tree.Dyadic o l r) s h =
+  found_low E at (tree.Unary m e) s h = found_low E at e s (omega arith)
+  found_low E at (tree.Bin o l r) s h =
       let s1 = operand_level s in
       joined (found E at l s1) (found E (following at l) r s1) (found_low E at l s1 (omega arith)) (found_low E (following at l) r s1 (omega arith))
-  found_low E at (tree.Condition c x y) s h =
+  found_low E at (tree.Cond c x y) s h =
       let bc = following at c in
       let bx = following bc x in
       joined (found E at c s) (found E bc x s ++ found E bx y s) (found_low E at c s (omega arith))

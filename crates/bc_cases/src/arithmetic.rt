@@ -6,7 +6,7 @@ use bc_lex_tokens::Symbol;
 use bc_word::{Op, Rel, Word, apply, complement, mirror};
 use bcpl_show::sign;
 
-/// The dyadic operator with this sign.
+/// The binary operator with this sign.
 pub fn operator(text: &str) -> Option<Op> {
     for number in 5..22u16 {
         if let Ok(op) = Op::try_from(Word::new(number)) {

@@ -12,8 +12,8 @@ enum Head {
     Call,
     Neg,
     Not,
-    Dyadic(Op),
-    Condition,
+    Bin(Op),
+    Cond,
 }
 
 /// An open parenthesis: what it makes, the number of `!` before it, and the number of expressions that were complete before it.
@@ -31,8 +31,8 @@ fn head_of(word: &str) -> Head {
         "NEG" => Head::Neg,
         "NOT" => Head::Not,
         _ => match operator(word) {
-            Some(op) => Head::Dyadic(op),
-            None => Head::Condition,
+            Some(op) => Head::Bin(op),
+            None => Head::Cond,
         },
     }
 }
@@ -122,8 +122,8 @@ fn pair(
     growth.boxed_pair(left, right)
 }
 
-/// A dyadic operator with the last two parts.
-fn dyadic(growth: &mut Growth, done: &mut Vec<CoreExp>, first: usize, op: Op) {
+/// A binary operator with the last two parts.
+fn binary(growth: &mut Growth, done: &mut Vec<CoreExp>, first: usize, op: Op) {
     if let Some((left, right)) = pair(growth, done, first) {
         put(growth, done, first, CoreExp::Bin(op, left, right));
     }
@@ -144,8 +144,8 @@ fn make(growth: &mut Growth, done: &mut Vec<CoreExp>, open: Open) {
         Head::Call => call(growth, done, open.first),
         Head::Neg => negation(growth, done, open.first),
         Head::Not => opposite(growth, done, open.first),
-        Head::Dyadic(op) => dyadic(growth, done, open.first, op),
-        Head::Condition => condition(growth, done, open.first),
+        Head::Bin(op) => binary(growth, done, open.first, op),
+        Head::Cond => condition(growth, done, open.first),
     }
 }
 

@@ -64,6 +64,12 @@ left_of program n w rests st streams = left_from program n (at_of w rests) st st
 abbrev pub next_of : Run → Work
 next_of run = work_next run.stacks.next
 
+-- the outcome of a step of a run
+abbrev pub StepsTo : List Callable → Run → Run → Type 0
+StepsTo table old new =
+    (program : List Placed) → IsTable program table
+    → RanIs program (next_of old) old.stacks.rests.items old.state new.stacks.next new.stacks.rests.items new.state
+
 -- how the result of a primitive continues or ends a run
 abbrev pub MovesBy : Served → Moved → (after : Stacks) → (before : Stacks) → Type 0
 MovesBy (forms.Number v) moved after before = (moved ≡ On) × (after ≡ record before { next = progress.On (works.Number v) })

@@ -1,8 +1,8 @@
 //! A run: one step with a primitive's work (`advance`), steps up to the next turn (`stretch`), and steps to the end (`to_end`). There are
 //! two loops because each has its own measure: the weight decreases within a stretch, and the remaining turns from stretch to stretch.
 
-ghost use Rattle.std.specs.Prelude.{IfOk};
-ghost use Rattle.bc_interpret.specs.Moving.{HasProgram, MovesBy, next_of, AdvancedOn, StretchedOn, CompletedOn};
+ghost use Rattle.std.specs.Prelude.{◌≡◌, IfOk};
+ghost use Rattle.bc_interpret.specs.Moving.{HasProgram, StepsTo, MovesBy, next_of, AdvancedOn, StretchedOn, CompletedOn};
 
 use crate::observer::Observer;
 use crate::serve::{Served, serve};
@@ -97,6 +97,42 @@ fn moved_by(served: Served, stacks: &mut Stacks<'_>) -> Moved
     }
 }
 
+/// Lets an observer see a run before a step.
+#[inline(always)]
+fn see_before<O: Observer>(run: &mut Run<'_>, observer: &mut O) -> Result<(), Memory>
+    ensures { run.new ≡ run.old }
+{
+    observer.before(&run.stacks, &mut run.state.store)
+}
+
+/// Lets an observer see a run after a step.
+#[inline(always)]
+fn see_after<O: Observer>(run: &mut Run<'_>, observer: &mut O) -> Result<(), Memory>
+    ensures { run.new ≡ run.old }
+{
+    observer.after(&run.stacks, &mut run.state.store)
+}
+
+/// One call of `step`, which an observer sees.
+///
+/// `Memory` if an allocation fails.
+#[inline(always)]
+fn seen_step<'c, O: Observer>(
+    table: &[Callable<'c>],
+    run: &mut Run<'c>,
+    observer: &mut O,
+) -> Result<(), Memory>
+    requires { HasProgram table.now }
+    ensures { IfOk result (λ unit. StepsTo table.now run.old run.new) }
+{
+    see_before(run, observer)?;
+    run.trace.follow(&run.stacks)?;
+    step(table, &mut run.stacks, &mut run.state)?;
+    run.trace.enter(&run.stacks)?;
+    see_after(run, observer)?;
+    Ok(())
+}
+
 /// One call of `step`, with the work of the primitive that it calls, if any.
 ///
 /// `Memory` if an allocation fails.
@@ -110,11 +146,7 @@ fn advance<'c, S: Streams, O: Observer>(
     requires { HasProgram table.now }
     ensures { IfOk result (λ moved. AdvancedOn S.known S.content S.failures table.now (next_of run.old) run.old run.new streams.old streams.new moved) }
 {
-    observer.before(&run.stacks, &run.state)?;
-    run.trace.follow(&run.stacks)?;
-    step(table, &mut run.stacks, &mut run.state)?;
-    run.trace.enter(&run.stacks)?;
-    observer.after(&run.stacks, &run.state)?;
+    seen_step(table, run, observer)?;
     match run.stacks.next {
         Progress::On(_) => Ok(Moved::On),
         Progress::Serve(primitive, frame) => {

@@ -82,6 +82,7 @@ pub fn observe<S: Streams, O: Observer>(
     push(Rest::Number(NumberRest::Loads), &mut run.stacks.rests)?;
     let outcome = to_end(table.as_slice(), &mut run, streams, observer)?;
     let trail = run.trail(alloc)?;
+    observer.over(&mut run.state.store);
     Ok(Interpreted { outcome, trail })
 }
 

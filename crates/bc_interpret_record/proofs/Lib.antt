@@ -1,3 +1,1 @@
-pub mod Deltas
-pub mod Following
 pub mod Stops

@@ -5,7 +5,7 @@ use Rattle.bc_interpret_store.specs.declared.cell.Cell.{Cell}
 use Rattle.bc_interpret_record.specs.declared.recording.Stop.{Stop}
 use Rattle.bc_interpret_record.specs.declared.recording.Recording.{Recording}
 use Rattle.bc_interpret_record.specs.declared.moment.Moment.{Moment}
-use Rattle.bc_interpret_record.specs.Changes.{cells_after, Walks}
+use Rattle.bc_interpret_store.specs.Changes.{cells_after, Walks}
 use Rattle.bc_interpret_record.specs.Stops.{changes_until, changes_before}
 use Rattle.bc_interpret_record.specs.Replay.{IsReplayable, IsAt}
 

@@ -3,7 +3,7 @@ use Rattle.std.specs.Prelude.{ℕ, ◌≡◌, List}
 use Rattle.bc_interpret_store.specs.declared.cell.Cell.{Cell}
 use Rattle.bc_interpret_record.specs.declared.recording.Recording.{Recording}
 use Rattle.bc_interpret_record.specs.declared.moment.Moment.{Moment}
-use Rattle.bc_interpret_record.specs.Changes.{Fits, cells_after}
+use Rattle.bc_interpret_store.specs.Changes.{Fits, cells_after}
 use Rattle.bc_interpret_record.specs.Stops.{changes_until}
 
 -- the cells at the stop with this index

@@ -2,8 +2,6 @@
 //! forwards and backwards.
 #![tactic(auto)]
 
-mod change;
-mod history;
 mod moment;
 mod recorder;
 mod recording;
@@ -12,8 +10,7 @@ mod tagging;
 mod two_runs;
 
 pub use bc_interpret::{Cause, Ending, Interpreted, Outcome};
-pub use bc_interpret_store::Cell;
-pub use change::Change;
+pub use bc_interpret_store::{Cell, Change};
 pub use moment::Moment;
 pub use recorder::Bounds;
 pub use recording::{Frame, Move, NO_SITE, Recording, Stop, is_finished};

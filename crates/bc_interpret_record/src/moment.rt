@@ -4,9 +4,8 @@ ghost use Rattle.std.specs.Prelude.{◌≡◌, ◌+◌, slice_index_or, if◌the
 ghost use Rattle.bc_interpret_store.specs.declared.cell.Cell.TheVariants.{Dead};
 ghost use Rattle.bc_interpret_record.specs.Replay.{IsReplayable, IsAt};
 
-use crate::change::{cell_at, copy_of};
 use crate::recording::{Frame, Move, NO_SITE, Recording};
-use bc_interpret_store::Cell;
+use bc_interpret_store::{Cell, cell_at, copy_of};
 use bc_word::Memory;
 use std::alloc::Global;
 

@@ -1,14 +1,15 @@
 //! The observer that records a run.
 
+ghost use Rattle.std.specs.Prelude.{◌≡◌};
+ghost use Rattle.bc_interpret_store.specs.Changes.{Fits};
 ghost use Rattle.bc_interpret_record.specs.Replay.{IsReplayable};
 
-use crate::history::History;
 use crate::recording::{Frame, Move, NO_SITE, Recording, Stop};
 use crate::tagging::site_of;
 use bc_core::Command;
-use bc_interpret::{Observer, Stacks, State};
-use bc_interpret_steps::{Primitive, Progress, Rest, Site, TruthRest, Work};
-use bc_interpret_store::Cell;
+use bc_interpret::{Observer, Stacks};
+use bc_interpret_steps::{Primitive, Progress, Rest, TruthRest, Work};
+use bc_interpret_store::{Cell, History, Past, Store};
 use bc_machine_defs::Side;
 use bc_word::Memory;
 use std::alloc::Global;
@@ -44,11 +45,9 @@ pub(crate) struct Recorder {
     alloc: Global,
     /// What has been recorded, without the cells.
     pub recording: Recording,
-    /// The cells and their changes.
+    /// The cells at the first stop and their changes, once the run is over.
     history: History,
     bounds: Bounds,
-    /// The cells above this address were dead at the last stop.
-    top: usize,
     calls: Vec<Call>,
     marks: Vec<Mark>,
     /// For each address the number of the site of the expression that is the body of a routine there, plus 1.
@@ -69,7 +68,6 @@ impl Recorder {
             recording: Recording::new(alloc),
             history: History::new(alloc),
             bounds,
-            top: 0,
             calls: Vec::new(alloc),
             marks: Vec::new(alloc),
             bodies,
@@ -140,19 +138,26 @@ impl Recorder {
         Ok(())
     }
 
-    /// Stops before what is at this site. The cells from address `top` on are dead.
-    fn stop(&mut self, site: u32, is_end: bool, top: usize, state: &State) -> Result<(), Memory> {
+    /// The number of changes up to this stop. The first stop begins to keep the past.
+    fn count(&mut self, store: &mut Store) -> Result<usize, Memory>
+        ensures { store.new ≡ store.old }
+    {
+        if self.recording.stops.is_empty() {
+            store.watch(self.alloc)?;
+            self.copy_frames()?;
+            return Ok(0);
+        }
+        store.follow()
+    }
+
+    /// Stops before what is at this site.
+    fn stop(&mut self, site: u32, is_end: bool, store: &mut Store) -> Result<(), Memory>
+        ensures { store.new ≡ store.old }
+    {
         if let Some(call) = self.calls.last_mut() {
             call.frame.site = site;
         }
-        if self.recording.stops.is_empty() {
-            self.history = History::of(self.alloc, &state.store)?;
-            self.copy_frames()?;
-        } else {
-            self.history.follow(&state.store, top.max(self.top))?;
-        }
-        self.top = top;
-        let changes = self.history.count();
+        let changes = self.count(store)?;
         self.recording.stops.push(Stop {
             site,
             is_end,
@@ -162,29 +167,35 @@ impl Recorder {
             taken: self.taken,
         })?;
         if self.recording.stops.len() > self.bounds.stops || changes > self.bounds.changes {
-            self.drop_half()?;
+            return self.drop_half(store);
         }
         Ok(())
     }
 
     /// Drops the first half of the stops.
-    fn drop_half(&mut self) -> Result<(), Memory> {
+    fn drop_half(&mut self, store: &mut Store) -> Result<(), Memory>
+        ensures { store.new ≡ store.old }
+    {
         let count = self.recording.stops.len() / 2;
         let Some(first) = self.recording.stops.get(count).copied() else {
             return Ok(());
         };
-        self.history.drop_first(self.alloc, first.changes)?;
+        store.drop_changes(self.alloc, first.changes)?;
         self.recording.drop_stops(self.alloc, count, first)
     }
 
     /// Stops at a test of the loop that is the innermost command.
-    fn stop_again(&mut self, at: &Site<'_>, state: &State) -> Result<(), Memory> {
+    fn stop_again(&mut self, store: &mut Store) -> Result<(), Memory>
+        ensures { store.new ≡ store.old }
+    {
         let site = self.innermost();
-        self.stop(site, false, top_of(at), state)
+        self.stop(site, false, store)
     }
 
     /// Begins a round of a FOR. The first one belongs to its start.
-    fn round(&mut self, at: &Site<'_>, state: &State) -> Result<(), Memory> {
+    fn round(&mut self, store: &mut Store) -> Result<(), Memory>
+        ensures { store.new ≡ store.old }
+    {
         let was_begun = match self.marks.last_mut() {
             Some(mark) => {
                 let was = mark.is_begun;
@@ -194,30 +205,31 @@ impl Recorder {
             None => false,
         };
         if was_begun {
-            let site = self.innermost();
-            self.stop(site, false, top_of(at).saturating_add(2), state)?;
+            return self.stop_again(store);
         }
         Ok(())
     }
 
     /// Sees the work of a step.
-    fn see(&mut self, work: &Work<'_>, stacks: &Stacks<'_>, state: &State) -> Result<(), Memory> {
+    fn see(&mut self, work: &Work<'_>, stacks: &Stacks<'_>, store: &mut Store) -> Result<(), Memory>
+        ensures { store.new ≡ store.old }
+    {
         let depth = stacks.rests.len();
         match work {
-            Work::Perform(at, Command::Nested(block)) => match site_of(block) {
+            Work::Perform(_, Command::Nested(block)) => match site_of(block) {
                 Some(site) => {
                     self.begin(depth, site)?;
                     if self.is_looped(site) {
                         return Ok(());
                     }
-                    self.stop(site, false, top_of(at), state)
+                    self.stop(site, false, store)
                 }
                 None => Ok(()),
             },
-            Work::While(at, _, _) => self.stop_again(at, state),
-            Work::Round(at, _) => self.round(at, state),
-            Work::Decide(at, _) => match stacks.rests.last() {
-                Some(Rest::Truth(TruthRest::RepeatWhiles(_, _, _))) => self.stop_again(at, state),
+            Work::While(_, _, _) => self.stop_again(store),
+            Work::Round(_, _) => self.round(store),
+            Work::Decide(_, _) => match stacks.rests.last() {
+                Some(Rest::Truth(TruthRest::RepeatWhiles(_, _, _))) => self.stop_again(store),
                 _ => Ok(()),
             },
             Work::Number(value) => {
@@ -237,9 +249,9 @@ impl Recorder {
     }
 
     /// Sees a call of a primitive.
-    fn serve(&mut self, primitive: Primitive, frame: u32, state: &State) -> Result<(), Memory> {
+    fn serve(&mut self, primitive: Primitive, frame: u32, store: &Store) -> Result<(), Memory> {
         let argument = match u16::try_from(frame.saturating_add(2)) {
-            Ok(address) => state.store.at(address),
+            Ok(address) => store.at(address),
             Err(_) => Cell::Dead,
         };
         match (primitive, argument) {
@@ -257,7 +269,9 @@ impl Recorder {
     }
 
     /// Sees a call of a routine, and stops if its body is an expression.
-    fn enter(&mut self, stacks: &Stacks<'_>, state: &State) -> Result<(), Memory> {
+    fn enter(&mut self, stacks: &Stacks<'_>, store: &mut Store) -> Result<(), Memory>
+        ensures { store.new ≡ store.old }
+    {
         let called = stacks.called;
         self.leave(called.least.saturating_sub(1))?;
         let frame = Frame {
@@ -271,18 +285,20 @@ impl Recorder {
             frame,
         })?;
         self.recording.moves.push(Move::Enter(frame))?;
-        if let Progress::On(Work::Evaluate(at, _)) = &stacks.next
+        if let Progress::On(Work::Evaluate(_, _)) = &stacks.next
             && let Some(site) = self.body()
         {
-            self.stop(site, false, top_of(at), state)?;
+            return self.stop(site, false, store);
         }
         Ok(())
     }
 
     /// Stops at the end of the run.
-    fn end(&mut self, state: &State) -> Result<(), Memory> {
+    fn end(&mut self, store: &mut Store) -> Result<(), Memory>
+        ensures { store.new ≡ store.old }
+    {
         let site = self.innermost();
-        self.stop(site, true, 65536, state)
+        self.stop(site, true, store)
     }
 
     /// What was recorded.
@@ -294,11 +310,11 @@ impl Recorder {
             history,
             ..
         } = self;
-        history.into_recording(recording)
+        with_past(recording, history.into_past())
     }
 
     /// Stops at the end of a run whose end was not seen, as its last stop.
-    pub fn finish(&mut self) {
+    fn finish(&mut self) {
         let moves = self.recording.moves.len();
         let output = self.recording.output.len();
         if let Some(stop) = self.recording.stops.last_mut() {
@@ -311,33 +327,47 @@ impl Recorder {
     }
 }
 
-/// The first address after the cells that are live at this level of a frame.
-fn top_of(at: &Site<'_>) -> usize {
-    at.frame.saturating_add(at.level) as usize
+/// This recording with the first cells and the changes of a past.
+fn with_past(recording: Recording, past: Past) -> Recording
+    requires { Fits past.changes.items past.first.items }
+    ensures { IsReplayable result }
+{
+    let Past { first, changes } = past;
+    let mut whole = recording;
+    whole.first = first;
+    whole.changes = changes;
+    whole
 }
 
 impl Observer for Recorder {
-    fn before(&mut self, stacks: &Stacks<'_>, state: &State) -> Result<(), Memory> {
+    fn before(&mut self, stacks: &Stacks<'_>, store: &mut Store) -> Result<(), Memory> {
         self.leave(stacks.rests.len())?;
         match &stacks.next {
-            Progress::On(work) => self.see(work, stacks, state),
+            Progress::On(work) => self.see(work, stacks, store),
             _ => Ok(()),
         }
     }
 
-    fn after(&mut self, stacks: &Stacks<'_>, state: &State) -> Result<(), Memory> {
+    fn after(&mut self, stacks: &Stacks<'_>, store: &mut Store) -> Result<(), Memory> {
         match stacks.next {
             Progress::On(_) => {
                 if stacks.called.least == 0 {
                     Ok(())
                 } else {
-                    self.enter(stacks, state)
+                    self.enter(stacks, store)
                 }
             }
-            Progress::Serve(primitive, frame) => self.serve(primitive, frame, state),
+            Progress::Serve(primitive, frame) => self.serve(primitive, frame, store),
             Progress::Answered | Progress::Ended(_) | Progress::Going | Progress::Wild(_) => {
-                self.end(state)
+                self.end(store)
             }
         }
+    }
+
+    fn over(&mut self, store: &mut Store) {
+        if let Some(past) = store.take_past() {
+            self.history = past;
+        }
+        self.finish();
     }
 }

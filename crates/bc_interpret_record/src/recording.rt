@@ -1,14 +1,13 @@
 //! A recorded run: its stops, and what changed from each to the next.
 
 ghost use Rattle.std.specs.Prelude.{◌≡◌, slice_range};
-ghost use Rattle.bc_interpret_record.specs.Changes.{Walks};
+ghost use Rattle.bc_interpret_store.specs.Changes.{Walks};
 ghost use Rattle.bc_interpret_record.specs.Stops.{changes_until, changes_before};
 
-use crate::change::{Change, between, walk};
 use crate::moment::{make_moves, settle};
 use crate::site::{StopKind, StopSite};
 use bc_interpret::{Ending, Outcome};
-use bc_interpret_store::Cell;
+use bc_interpret_store::{Cell, Change, between, walk};
 use bc_word::Memory;
 use std::alloc::Global;
 

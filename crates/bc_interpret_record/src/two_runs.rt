@@ -143,7 +143,6 @@ fn second_run(
         limits.turns,
         &mut recorder,
     )?;
-    recorder.finish();
     Ok(Observed {
         recording: recorder.into_recording(),
         outcome: interpreted.outcome,

@@ -1,1 +1,4 @@
 pub mod Cells
+pub mod Deltas
+pub mod Following
+pub mod Watching

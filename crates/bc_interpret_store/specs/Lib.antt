@@ -1,1 +1,5 @@
 pub mod Cells
+pub mod Changes
+pub mod Recorded
+pub mod Watched
+pub mod Examples

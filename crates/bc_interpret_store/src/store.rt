@@ -6,24 +6,32 @@ ghost use Rattle.bc_core.specs.Meaning.{passed};
 ghost use Rattle.bc_interpret_store.specs.Cells.{cell_view, IsNext};
 
 use crate::cell::Cell;
+use crate::history::History;
+use crate::watch::{Watch, note_in};
+use bc_word::Memory;
+use std::alloc::Global;
 use std::marker::Model;
 
 /// The cells, by address. Every address past the last cell is dead, and writing there has no effect.
 ///
-/// In contracts a store is the list of its cells.
+/// A store that is watched keeps its past. In contracts a store is the list of its cells, whether it is watched or not.
 #[derive(Drop)]
 pub struct Store {
     cells: Vec<Cell>,
+    kept: Option<Watch>,
 }
 
 impl Model for Store {
     ghost use Rattle.std.specs.Prelude.{List, map};
     ghost use Rattle.bc_core.specs.Store as store;
     ghost use Rattle.bc_interpret_store.specs.Cells.{cell_view};
+    ghost use Rattle.bc_interpret_store.specs.Watched.{IsWatched};
 
     ghost Value = { List store.Cell };
 
     ghost view = { λ s. map cell_view s.cells.items };
+
+    ghost invariant = { λ s. IsWatched s.cells.items s.kept };
 }
 
 /// Pops the next argument and returns its cell: unset where there are no more arguments. The arguments are in reverse order.
@@ -42,7 +50,7 @@ impl Store {
     pub fn new(cells: Vec<Cell>) -> Store
         ensures { result ≡ map cell_view cells.items }
     {
-        Store { cells }
+        Store { cells, kept: None }
     }
 
     /// The number of cells.
@@ -68,7 +76,7 @@ impl Store {
 
     /// Replaces the cell at this address. Does nothing past the last cell.
     #[inline(always)]
-    #[tactic(auto, using(crate::proofs::Cells::cell_put, crate::proofs::Cells::beyond))]
+    #[tactic(auto, using(crate::proofs::Cells::cell_put, crate::proofs::Cells::beyond, crate::proofs::Watching::put_differs))]
     fn put(&mut self, address: usize, cell: Cell)
         ensures { self.new ≡ slice_set self.old address (cell_view cell) }
     {
@@ -76,6 +84,7 @@ impl Store {
             return;
         }
         self.cells[address] = cell;
+        note_in(&mut self.kept, address);
     }
 
     /// Writes a word to the cell at this address and returns true. If the cell is dead, returns false and changes nothing.
@@ -134,5 +143,49 @@ impl Store {
             address += 1;
             left -= 1;
         }
+    }
+
+    /// Begins to keep the past, whose first cells are the present ones.
+    ///
+    /// `Memory` if an allocation fails; then nothing has changed.
+    pub fn watch(&mut self, alloc: Global) -> Result<(), Memory>
+        ensures { self.new ≡ self.old }
+    {
+        let watch = Watch::of(alloc, &self.cells)?;
+        self.kept = Some(watch);
+        Ok(())
+    }
+
+    /// Follows the present cells in the past: appends the changes since the last call, after which the cells of the past are those of the
+    /// store. Returns the number of all changes; 0 if the store isn't watched.
+    ///
+    /// `Memory` if an allocation fails. Then some of the changes may be missing until the next call.
+    pub fn follow(&mut self) -> Result<usize, Memory>
+        ensures { self.new ≡ self.old }
+    {
+        match &mut self.kept {
+            Some(watch) => watch.follow(&self.cells),
+            None => Ok(0),
+        }
+    }
+
+    /// Drops the first `count` changes of the past, which become part of its first cells.
+    ///
+    /// `Memory` if an allocation fails; then nothing has changed.
+    pub fn drop_changes(&mut self, alloc: Global, count: usize) -> Result<(), Memory>
+        ensures { self.new ≡ self.old }
+    {
+        match &mut self.kept {
+            Some(watch) => watch.drop_first(alloc, count),
+            None => Ok(()),
+        }
+    }
+
+    /// The past, which is no longer kept; `None` if the store isn't watched.
+    pub fn take_past(&mut self) -> Option<History>
+        ensures { self.new ≡ self.old }
+    {
+        let Watch { history, .. } = self.kept.take()?;
+        Some(history)
     }
 }

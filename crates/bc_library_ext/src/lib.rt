@@ -25,10 +25,10 @@ MANIFEST $( FIRSTFREEGLOBAL=100; BYTESPERWORD=2; MAXINT=32767; MININT=#X8000 $)
 
 /// The routines of the extension library, which are compiled after those of BLIB.
 pub const EXTLIB: &str =
-    r#"// A further library, behind BLIB. A program that gets EXTHDR calls these routines; each is described in docs/library.md.
+    r#"// A further library, after BLIB. A program that gets EXTHDR calls these routines; each is described in docs/library.md.
 GET "EXTHDR"
 
-// The primitives that routines of this file stand in front of.
+// The primitives that routines of this file replace, under the names by which these call them.
 GLOBAL $( PRIMITIVE.SELECTINPUT:11; PRIMITIVE.SELECTOUTPUT:12; PRIMITIVE.RDCH:13
 PRIMITIVE.FINDINPUT:15; PRIMITIVE.ENDREAD:17; PRIMITIVE.ENDWRITE:18 $)
 
@@ -213,14 +213,14 @@ $( LET N = V!0 & 255
 
 AND UNPACKSTRING(S, V) BE FOR I = 0 TO GETBYTE(S,0) DO V!I := GETBYTE(S,I)
 
-// The width that a letter or a digit of a format stands for.
+// The width that a letter or a digit of a format means.
 AND WIDTHOF(C) = VALOF
 $( LET CAPITAL = CAPITALCH(C)
    IF '0'<=C & C<='9' RESULTIS C-'0'
    IF 'A'<=CAPITAL & CAPITAL<='Z' RESULTIS CAPITAL-'A'+10
    RESULTIS 0 $)
 
-// Writes the part of a format from I on, up to the sign that closes it, where it is wanted. Gives the place behind that sign.
+// Writes the part of a format from I on, up to the sign that closes it, where it is wanted. Gives the place after that sign.
 AND PUTPART(F, I, CLOSE, ISWANTED) = VALOF
 $( UNTIL I>GETBYTE(F,0) DO
    $( LET C = GETBYTE(F,I)
@@ -367,7 +367,7 @@ $( LET COUNT, FREE = PUTKEYS(KEYS, V, UPB), 0
    RESULTIS FREE $)
 
 // ---- Vectors
-// A pool is a row of blocks, and behind the last one a 0. The first word of a block has its size, an even number of words, and one
+// A pool is a row of blocks, and after the last one a 0. The first word of a block has its size, an even number of words, and one
 // more where the block is in use.
 
 AND INITVEC(V, UPB) BE

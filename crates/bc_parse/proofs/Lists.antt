@@ -82,16 +82,16 @@ no_call none h = refl
 no_call (more (tree.Call f es) none) h = absurd (h refl)
 no_call (more (tree.Call f es) (more d ds)) h = refl
 no_call (more (tree.Name s) ds) h = refl
-no_call (more (tree.Number n) ds) h = refl
+no_call (more (tree.Num n) ds) h = refl
 no_call (more (tree.Character n) ds) h = refl
 no_call (more (tree.Text s) ds) h = refl
 no_call (more tree.True ds) h = refl
 no_call (more tree.False ds) h = refl
 no_call (more (tree.Table ks) ds) h = refl
 no_call (more (tree.Valof b) ds) h = refl
-no_call (more (tree.Monadic m x) ds) h = refl
-no_call (more (tree.Dyadic o l r) ds) h = refl
-no_call (more (tree.Condition x y z) ds) h = refl
+no_call (more (tree.Unary m x) ds) h = refl
+no_call (more (tree.Bin o l r) ds) h = refl
+no_call (more (tree.Cond x y z) ds) h = refl
 
 pub length_names_view : (ns : List (Bor (List ℕ))) → length (names_view ns) ≡ length ns
 length_names_view ns = length-map ns _

@@ -54,7 +54,7 @@ ok_is x y r is_x is_y = cc
 
 -- a choice whose test and first value are read
 pub choice_is : (E : Reader) (nest round begin height high place most : ℕ) (left test this : Exp) (ts rest : List Part) → height < nest → E (nest - 1) round 1 ts ≡ Ok (piece this high rest) → left ≡ test → most ≡ max height high
-    → suffix_read E nest round begin (Choice ts) left height place ≡ ((expect_of sign.Comma rest >>= λ remaining. E (nest - 1) round 1 remaining >>= λ that. Ok (piece (tree.Condition test this that.tree) (max most that.height + 1) that.rest)) >>= λ p. Ok (piece (p.tree, 1) p.height p.rest))
+    → suffix_read E nest round begin (Choice ts) left height place ≡ ((expect_of sign.Comma rest >>= λ remaining. E (nest - 1) round 1 remaining >>= λ that. Ok (piece (tree.Cond test this that.tree) (max most that.height + 1) that.rest)) >>= λ p. Ok (piece (p.tree, 1) p.height p.rest))
 unfolding suffix_read with_choice
 choice_is E nest round begin height high place most left test this ts rest lt is same top = rw (lt-ltb height nest lt, is, same, top) refl
 

@@ -57,7 +57,7 @@ goto_rest ts = name_of ts ~> λ n. Ok (piece (tree.Goto n.0) 1 n.1)
 -- the comma of a choice and its second value, where the test and the first value nest so deep
 abbrev pub choice_rest : Reader → (nest round height : ℕ) → (test this : Exp) → List Part → Result (Piece (Exp × ℕ)) Fault
 choice_rest E nest round height test this ts =
-    (expect_of sign.Comma ts ~> λ remaining. E (nest - 1) round 1 remaining ~> joined height (tree.Condition test this)) ~> levelled 1
+    (expect_of sign.Comma ts ~> λ remaining. E (nest - 1) round 1 remaining ~> joined height (tree.Cond test this)) ~> levelled 1
 
 module _ (E : Reader) (C : CommandReader) (D : DefinitionReader) (nest round : ℕ) where
   -- a command that REPEAT can follow, without its repetitions

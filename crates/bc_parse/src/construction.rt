@@ -29,7 +29,7 @@ use bc_lex_tokens::Symbol;
 use bc_parse_defs::words;
 use bc_parse_defs::words::Tested;
 use bc_parse_tree::{
-    Block, Command, Constant, Declaration, Definition, Dyadic, Exp, Label, Monadic, Storage,
+    BinaryOp, Block, Command, Constant, Declaration, Definition, Exp, Label, Storage, UnaryOp,
 };
 
 /// Puts an expression into a box.
@@ -102,20 +102,20 @@ pub fn valof_of<'s, 't>(
     ))
 }
 
-/// A monadic operator and its operand.
-pub fn monadic_of<'s, 't>(
+/// A unary operator and its operand.
+pub fn unary_of<'s, 't>(
     room: Limits,
-    op: Monadic,
+    op: UnaryOp,
     found: ReadResult<'s, 't, Box<Exp<'s>>>,
 ) -> ReadResult<'s, 't, Levelled<'s>>
     requires room { 0 < room.nest }
     requires found { Nests found (room.nest - 1) }
-    ensures read { MadeOperand (box_view exp_view) found.entry result (around (tree.Monadic op)) (own_level op) }
+    ensures read { MadeOperand (box_view exp_view) found.entry result (around (tree.Unary op)) (own_level op) }
     ensures low { Nests result room.nest }
 {
     let found = found?;
-    let exp = Exp::Monadic(op, found.tree);
-    Ok(operand(exp, words::monadic_level(op), found.height + 1, found.rest))
+    let exp = Exp::Unary(op, found.tree);
+    Ok(operand(exp, words::unary_level(op), found.height + 1, found.rest))
 }
 
 /// An expression in parentheses, whose `)` is read here.
@@ -132,10 +132,10 @@ pub fn bracket_of<'s, 't>(
     Ok(operand(found.tree, PRIMARY, found.height, found.rest))
 }
 
-/// A dyadic operator and its operands. `height` is how deep the left one nests.
-pub fn dyadic_of<'s, 't>(
+/// A binary operator and its operands. `height` is how deep the left one nests.
+pub fn binary_of<'s, 't>(
     room: Limits,
-    op: Dyadic,
+    op: BinaryOp,
     height: usize,
     left: Box<Exp<'s>>,
     right: ReadResult<'s, 't, Box<Exp<'s>>>,
@@ -143,11 +143,11 @@ pub fn dyadic_of<'s, 't>(
     requires room { height < room.nest }
     requires right { Nests right (room.nest - 1) }
     ensures read { MadeOperand (box_view exp_view) right.entry result
-        (joined height (tree.Dyadic op (exp_view left.entry.value))) (level_of op) }
+        (joined height (tree.Bin op (exp_view left.entry.value))) (level_of op) }
     ensures low { Nests result room.nest }
 {
     let right = right?;
-    let exp = Exp::Dyadic(op, left, right.tree);
+    let exp = Exp::Bin(op, left, right.tree);
     Ok(operand(
         exp,
         words::level(op),
@@ -185,12 +185,12 @@ pub fn condition_of<'s, 't>(
     requires room { height < room.nest }
     requires that { Nests that (room.nest - 1) }
     ensures read { MadeOperand (box_view exp_view) that.entry result
-        (joined height (tree.Condition (exp_view test.entry.value) (exp_view this.entry.value))) 1 }
+        (joined height (tree.Cond (exp_view test.entry.value) (exp_view this.entry.value))) 1 }
     ensures low { Nests result room.nest }
 {
     let found = that?;
     let that = found.tree;
-    let exp = Exp::Condition { test, this, that };
+    let exp = Exp::Cond { test, this, that };
     Ok(operand(exp, CHOICE, height.max(found.height) + 1, found.rest))
 }
 

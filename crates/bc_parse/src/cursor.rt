@@ -12,7 +12,7 @@ use crate::levels::{CHOICE, CONSTANT, PRIMARY};
 use bc_lex_tokens::Symbol;
 use bc_parse_defs::words;
 use bc_parse_defs::words::{CommandWord, DeclarationWord, Places, RepeatWord, SimpleWord, Start};
-use bc_parse_tree::{Dyadic, Exp, Part};
+use bc_parse_tree::{BinaryOp, Exp, Part};
 use bc_word::Word;
 
 /// The remaining parts.
@@ -90,7 +90,7 @@ pub fn leaf<'s, 't>(rest: Rest<'s, 't>) -> Option<(Exp<'s>, Rest<'s, 't>)>
 {
     match first(rest) {
         Some((Part::Name(name), remaining)) => Some((Exp::Name(*name), remaining)),
-        Some((Part::Number(word), remaining)) => Some((Exp::Number(Word::new(*word)), remaining)),
+        Some((Part::Number(word), remaining)) => Some((Exp::Num(Word::new(*word)), remaining)),
         Some((Part::Character(word), remaining)) => Some((
             Exp::Character(Word::new(*word)),
             remaining,
@@ -147,8 +147,8 @@ pub fn declaration_word<'s, 't>(rest: Rest<'s, 't>) -> Option<(DeclarationWord, 
 pub enum FollowingPart<'s, 't> {
     /// Nothing that belongs to the expression.
     Ends,
-    /// A dyadic operator; the remaining parts begin with its right operand.
-    Operator(Dyadic, Rest<'s, 't>),
+    /// A binary operator; the remaining parts begin with its right operand.
+    Operator(BinaryOp, Rest<'s, 't>),
     /// `(`; the remaining parts begin with the arguments of a call.
     Arguments(Rest<'s, 't>),
     /// `->`; the remaining parts begin with the value for a true test.
@@ -174,7 +174,7 @@ pub fn following_at<'s, 't>(level: usize, top: usize, rest: Rest<'s, 't>) -> Fol
                 FollowingPart::Choice(remaining)
             }
         }
-        Some((Part::Symbol(symbol), remaining)) => match words::dyadic(*symbol) {
+        Some((Part::Symbol(symbol), remaining)) => match words::binary(*symbol) {
             Some(op) => operator(level, top, op, remaining),
             None => FollowingPart::Ends,
         },
@@ -186,7 +186,7 @@ pub fn following_at<'s, 't>(level: usize, top: usize, rest: Rest<'s, 't>) -> Fol
 fn operator<'s, 't>(
     level: usize,
     top: usize,
-    op: Dyadic,
+    op: BinaryOp,
     rest: Rest<'s, 't>,
 ) -> FollowingPart<'s, 't>
     ensures { follow_view result ≡ operator_of level top (seen rest.entry) (Some op) }

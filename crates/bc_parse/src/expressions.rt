@@ -20,7 +20,7 @@ use crate::{boxes, construction, cursor};
 use bc_lex_tokens::Symbol;
 use bc_parse_defs::words;
 use bc_parse_defs::words::Start;
-use bc_parse_tree::{Dyadic, Exp, Monadic};
+use bc_parse_tree::{BinaryOp, Exp, UnaryOp};
 
 /// An expression as far as it was read, with its level.
 #[derive(Drop)]
@@ -86,7 +86,7 @@ fn operand<'s, 't>(room: Limits, rest: Rest<'s, 't>) -> ReadResult<'s, 't, Level
 
 /// An operand, after its first part, whose place is `place`.
 #[cycle(parser)]
-#[tactic(auto, unfolding(bc_parse_defs::specs::Reading::started_read, bc_parse_defs::specs::Reading::table_read, bc_parse_defs::specs::Reading::valof_read, bc_parse_defs::specs::Reading::monadic_read))]
+#[tactic(auto, unfolding(bc_parse_defs::specs::Reading::started_read, bc_parse_defs::specs::Reading::table_read, bc_parse_defs::specs::Reading::valof_read, bc_parse_defs::specs::Reading::unary_read))]
 fn operand_rest<'s, 't>(
     room: Limits,
     place: usize,
@@ -109,8 +109,8 @@ fn operand_rest<'s, 't>(
             exps(inner, CONSTANT, rest.parts.len() + 1, rest),
         ),
         Start::Valof => construction::valof_of(room, body(inner, rest)),
-        Start::Monadic(op) => {
-            construction::monadic_of(room, op, boxed_exp(inner, words::level_after(op), rest))
+        Start::Unary(op) => {
+            construction::unary_of(room, op, boxed_exp(inner, words::level_after(op), rest))
         }
     }
 }
@@ -197,12 +197,12 @@ fn suffix_step<'s, 't>(
     }
 }
 
-/// The operand `left`, with a dyadic operator and its right operand.
+/// The operand `left`, with a binary operator and its right operand.
 #[cycle(parser)]
 #[tactic(auto, unfolding(bc_parse_defs::specs::Reading::suffix_read, bc_parse_defs::specs::Reading::with_operator))]
 fn operated<'s, 't>(
     room: Limits,
-    op: Dyadic,
+    op: BinaryOp,
     left: Read<'s, 't, Levelled<'s>>,
     rest: Rest<'s, 't>,
 ) -> ReadResult<'s, 't, Levelled<'s>>
@@ -221,7 +221,7 @@ fn operated<'s, 't>(
     let level = words::level(op);
     let height = left.height;
     let left = boxes::exp(room.alloc, left.tree.exp)?;
-    construction::dyadic_of(room, op, height, left, boxed_exp(inner, level + 1, rest))
+    construction::binary_of(room, op, height, left, boxed_exp(inner, level + 1, rest))
 }
 
 /// A call of the routine `left`.

@@ -17,8 +17,8 @@ mod read;
 mod section;
 
 pub use bc_parse_tree::{
-    Block, Command, Constant, Declaration, Definition, Dyadic, Exp, Item, Label, Monadic, Section,
-    Storage, render, spell,
+    BinaryOp, Block, Command, Constant, Declaration, Definition, Exp, Item, Label, Section,
+    Storage, UnaryOp, render, spell,
 };
 pub use error::ParseError;
 pub use section::parse;

@@ -4,16 +4,16 @@ use Rattle.std.proofs.lemmas.Bool.{eqb-true, ltb-false}
 use Rattle.bc_lex_tokens.specs.declared.symbol.Symbol.{Symbol}
 use Rattle.bc_lex_tokens.specs.declared.symbol.Symbol.TheVariants as sign
 use Rattle.bc_lex_tokens.specs.Numbers.{number_of}
-use Rattle.bc_parse_tree.specs.declared.tree.Dyadic as code_dyadic
-use Rattle.bc_parse_tree.specs.declared.tree.Dyadic.TheVariants as dyadic
-use Rattle.bc_parse_tree.specs.declared.tree.Monadic as code_monadic
-use Rattle.bc_parse_tree.specs.declared.tree.Monadic.TheVariants as monadic
+use Rattle.bc_parse_tree.specs.declared.tree.BinaryOp as code_binary
+use Rattle.bc_parse_tree.specs.declared.tree.BinaryOp.TheVariants as binary
+use Rattle.bc_parse_tree.specs.declared.tree.UnaryOp as code_unary
+use Rattle.bc_parse_tree.specs.declared.tree.UnaryOp.TheVariants as unary
 use Rattle.bc_parse_tree.specs.declared.tree.Storage.{Storage}
 use Rattle.bc_parse_tree.specs.declared.tree.Storage.TheVariants as storage
 use Rattle.bc_parse_tree.specs.Parts.{Part, A, Name, Number, Character, String, NewLine}
 use Rattle.bc_parse_tree.specs.Tree.{Exp}
 use Rattle.bc_parse_tree.specs.Tree as tree
-use Rattle.bc_parse_tree.specs.Operators.{level_of, left_level, dyadic_sign, monadic_sign, storage_sign}
+use Rattle.bc_parse_tree.specs.Operators.{level_of, left_level, binary_sign, unary_sign, storage_sign}
 use Rattle.bc_parse_tree.specs.Spelling.{IsOfLevel, IsSeparator, semicolon, new_line, IsConstantSign, optional}
 use Rattle.bc_parse_tree.specs.Spelling as spell
 use Rattle.bc_parse_defs.specs.declared.words.Start.{Start}
@@ -228,19 +228,19 @@ abbrev pub start_sign : Start → Symbol
 start_sign start.Bracket = sign.OpenBracket
 start_sign start.Table = sign.Table
 start_sign start.Valof = sign.ValueOf
-start_sign (start.Monadic monadic.Not) = sign.Not
-start_sign (start.Monadic monadic.Negate) = sign.Minus
-start_sign (start.Monadic monadic.Load) = sign.Indirection
-start_sign (start.Monadic monadic.Address) = sign.AddressOf
+start_sign (start.Unary unary.Not) = sign.Not
+start_sign (start.Unary unary.Neg) = sign.Minus
+start_sign (start.Unary unary.Load) = sign.Indirection
+start_sign (start.Unary unary.Address) = sign.AddressOf
 
 pub start_is : (s : Symbol) (w : Start) → start_of s ≡ Some w → s ≡ start_sign w
 start_is sign.OpenBracket w e = let h : start.Bracket ≡ w = cc in ap start_sign h
 start_is sign.Table w e = let h : start.Table ≡ w = cc in ap start_sign h
 start_is sign.ValueOf w e = let h : start.Valof ≡ w = cc in ap start_sign h
-start_is sign.Not w e = let h : start.Monadic monadic.Not ≡ w = cc in ap start_sign h
-start_is sign.Minus w e = let h : start.Monadic monadic.Negate ≡ w = cc in ap start_sign h
-start_is sign.Indirection w e = let h : start.Monadic monadic.Load ≡ w = cc in ap start_sign h
-start_is sign.AddressOf w e = let h : start.Monadic monadic.Address ≡ w = cc in ap start_sign h
+start_is sign.Not w e = let h : start.Unary unary.Not ≡ w = cc in ap start_sign h
+start_is sign.Minus w e = let h : start.Unary unary.Neg ≡ w = cc in ap start_sign h
+start_is sign.Indirection w e = let h : start.Unary unary.Load ≡ w = cc in ap start_sign h
+start_is sign.AddressOf w e = let h : start.Unary unary.Address ≡ w = cc in ap start_sign h
 start_is _ w e = absurd cc
 
 abbrev pub declaration_sign : DeclarationWord → Symbol
@@ -256,11 +256,11 @@ declaration_is sign.Static w e = let h : declaration_word.Constants storage.Stat
 declaration_is sign.Global w e = let h : declaration_word.Constants storage.Global ≡ w = cc in ap declaration_sign h
 declaration_is _ w e = absurd cc
 
-pub start_monadic : (m : code_monadic.Monadic) → start_sign (start.Monadic m) ≡ monadic_sign m
-start_monadic monadic.Not = refl
-start_monadic monadic.Negate = refl
-start_monadic monadic.Load = refl
-start_monadic monadic.Address = refl
+pub start_unary : (m : code_unary.UnaryOp) → start_sign (start.Unary m) ≡ unary_sign m
+start_unary unary.Not = refl
+start_unary unary.Neg = refl
+start_unary unary.Load = refl
+start_unary unary.Address = refl
 
 pub declaration_constants : (s : Storage) → declaration_sign (declaration_word.Constants s) ≡ storage_sign s
 declaration_constants storage.Manifest = refl
@@ -276,7 +276,7 @@ pub record Leaf (ts : List Part) (e : Exp) (rest : List Part) : Type 0 where
 pub leaf_is : (ts : List Part) (x : Exp × List Part) → leaf_of ts ≡ Some x → Leaf ts x.0 x.1
 leaf_is [] x e = absurd cc
 leaf_is (Name n ∷ ts) x e = let h : (tree.Name n, ts) ≡ x = cc in subst (λ (y : Exp × List Part). Leaf (Name n ∷ ts) y.0 y.1) h (record { front = Name n; split = refl; spelled = λ k. spell.name })
-leaf_is (Number n ∷ ts) x e = let h : (tree.Number n, ts) ≡ x = cc in subst (λ (y : Exp × List Part). Leaf (Number n ∷ ts) y.0 y.1) h (record { front = Number n; split = refl; spelled = λ k. spell.number })
+leaf_is (Number n ∷ ts) x e = let h : (tree.Num n, ts) ≡ x = cc in subst (λ (y : Exp × List Part). Leaf (Number n ∷ ts) y.0 y.1) h (record { front = Number n; split = refl; spelled = λ k. spell.number })
 leaf_is (Character n ∷ ts) x e = let h : (tree.Character n, ts) ≡ x = cc in subst (λ (y : Exp × List Part). Leaf (Character n ∷ ts) y.0 y.1) h (record { front = Character n; split = refl; spelled = λ k. spell.character })
 leaf_is (String n ∷ ts) x e = let h : (tree.Text n, ts) ≡ x = cc in subst (λ (y : Exp × List Part). Leaf (String n ∷ ts) y.0 y.1) h (record { front = String n; split = refl; spelled = λ k. spell.text })
 leaf_is (NewLine ∷ ts) x e = absurd cc
@@ -287,11 +287,11 @@ leaf_is (A _ ∷ ts) x e = absurd cc
 -- what follows an operand, and its levels
 abbrev pub IsFollowing : ℕ → ℕ → List Part → Following → Type 0
 IsFollowing level top ts Ends = Unit {0}
-IsFollowing level top ts (Operator o us) = (ts ≡ A (dyadic_sign o) ∷ us) × (level ≤ level_of o) × (left_level o ≤ top)
+IsFollowing level top ts (Operator o us) = (ts ≡ A (binary_sign o) ∷ us) × (level ≤ level_of o) × (left_level o ≤ top)
 IsFollowing level top ts (Arguments us) = (ts ≡ A sign.OpenBracket ∷ us) × (12 ≤ top)
 IsFollowing level top ts (Choice us) = (ts ≡ A sign.Arrow ∷ us) × (level ≤ 1) × (2 ≤ top)
 
-op_follows : (level top : ℕ) (ts : List Part) (s : Symbol) (o : code_dyadic.Dyadic) → s ≡ dyadic_sign o → IsFollowing level top (A s ∷ ts) (operator_of level top ts (Some o))
+op_follows : (level top : ℕ) (ts : List Part) (s : Symbol) (o : code_binary.BinaryOp) → s ≡ binary_sign o → IsFollowing level top (A s ∷ ts) (operator_of level top ts (Some o))
 op_follows level top ts s o e = go (ltb (level_of o) level) (ltb top (left_level o)) refl refl
   where
     go : (a b : Bool) → ltb (level_of o) level ≡ a → ltb top (left_level o) ≡ b → IsFollowing level top (A s ∷ ts) (cond (a || b) Ends (Operator o ts))
@@ -323,24 +323,24 @@ follows level top (String n ∷ ts) = tt
 follows level top (NewLine ∷ ts) = tt
 follows level top (A sign.OpenBracket ∷ ts) = arguments_follow level top ts
 follows level top (A sign.Arrow ∷ ts) = choice_follows level top ts
-follows level top (A sign.Equivalent ∷ ts) = op_follows level top ts sign.Equivalent dyadic.Equivalent refl
-follows level top (A sign.NotEquivalent ∷ ts) = op_follows level top ts sign.NotEquivalent dyadic.NotEquivalent refl
-follows level top (A sign.LogicalOr ∷ ts) = op_follows level top ts sign.LogicalOr dyadic.Or refl
-follows level top (A sign.LogicalAnd ∷ ts) = op_follows level top ts sign.LogicalAnd dyadic.And refl
-follows level top (A sign.ShiftLeft ∷ ts) = op_follows level top ts sign.ShiftLeft dyadic.ShiftLeft refl
-follows level top (A sign.ShiftRight ∷ ts) = op_follows level top ts sign.ShiftRight dyadic.ShiftRight refl
-follows level top (A sign.Equal ∷ ts) = op_follows level top ts sign.Equal dyadic.Equal refl
-follows level top (A sign.NotEqual ∷ ts) = op_follows level top ts sign.NotEqual dyadic.NotEqual refl
-follows level top (A sign.Less ∷ ts) = op_follows level top ts sign.Less dyadic.Less refl
-follows level top (A sign.GreaterEqual ∷ ts) = op_follows level top ts sign.GreaterEqual dyadic.GreaterEqual refl
-follows level top (A sign.Greater ∷ ts) = op_follows level top ts sign.Greater dyadic.Greater refl
-follows level top (A sign.LessEqual ∷ ts) = op_follows level top ts sign.LessEqual dyadic.LessEqual refl
-follows level top (A sign.Plus ∷ ts) = op_follows level top ts sign.Plus dyadic.Add refl
-follows level top (A sign.Minus ∷ ts) = op_follows level top ts sign.Minus dyadic.Subtract refl
-follows level top (A sign.Multiply ∷ ts) = op_follows level top ts sign.Multiply dyadic.Multiply refl
-follows level top (A sign.Divide ∷ ts) = op_follows level top ts sign.Divide dyadic.Divide refl
-follows level top (A sign.Remainder ∷ ts) = op_follows level top ts sign.Remainder dyadic.Remainder refl
-follows level top (A sign.Indirection ∷ ts) = op_follows level top ts sign.Indirection dyadic.Index refl
+follows level top (A sign.Equivalent ∷ ts) = op_follows level top ts sign.Equivalent binary.Equivalent refl
+follows level top (A sign.NotEquivalent ∷ ts) = op_follows level top ts sign.NotEquivalent binary.NotEquivalent refl
+follows level top (A sign.LogicalOr ∷ ts) = op_follows level top ts sign.LogicalOr binary.Or refl
+follows level top (A sign.LogicalAnd ∷ ts) = op_follows level top ts sign.LogicalAnd binary.And refl
+follows level top (A sign.ShiftLeft ∷ ts) = op_follows level top ts sign.ShiftLeft binary.ShiftLeft refl
+follows level top (A sign.ShiftRight ∷ ts) = op_follows level top ts sign.ShiftRight binary.ShiftRight refl
+follows level top (A sign.Equal ∷ ts) = op_follows level top ts sign.Equal binary.Equal refl
+follows level top (A sign.NotEqual ∷ ts) = op_follows level top ts sign.NotEqual binary.NotEqual refl
+follows level top (A sign.Less ∷ ts) = op_follows level top ts sign.Less binary.Less refl
+follows level top (A sign.GreaterEqual ∷ ts) = op_follows level top ts sign.GreaterEqual binary.GreaterEqual refl
+follows level top (A sign.Greater ∷ ts) = op_follows level top ts sign.Greater binary.Greater refl
+follows level top (A sign.LessEqual ∷ ts) = op_follows level top ts sign.LessEqual binary.LessEqual refl
+follows level top (A sign.Plus ∷ ts) = op_follows level top ts sign.Plus binary.Add refl
+follows level top (A sign.Minus ∷ ts) = op_follows level top ts sign.Minus binary.Subtract refl
+follows level top (A sign.Multiply ∷ ts) = op_follows level top ts sign.Multiply binary.Multiply refl
+follows level top (A sign.Divide ∷ ts) = op_follows level top ts sign.Divide binary.Divide refl
+follows level top (A sign.Remainder ∷ ts) = op_follows level top ts sign.Remainder binary.Remainder refl
+follows level top (A sign.Indirection ∷ ts) = op_follows level top ts sign.Indirection binary.Index refl
 follows level top (A _ ∷ ts) = tt
 
 -- what begins a label

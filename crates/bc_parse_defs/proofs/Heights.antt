@@ -3,8 +3,8 @@
 use Rattle.std.proofs.Common.{◌≡◌, ℕ, zero, suc, ◌-◌, ◌+◌, ◌<◌, ◌≤◌, Bool, true, false, ◌&&◌, cond, ltb, eqb, List, [], ◌∷◌, length, max, Option, Some, None, Result, Ok, Err, refl, sym, ap, subst, arith}
 use Rattle.std.proofs.lemmas.Bool.{ltb-true}
 use Rattle.bc_lex_tokens.specs.declared.symbol.Symbol.TheVariants as sign
-use Rattle.bc_parse_tree.specs.declared.tree.Dyadic as code_dyadic
-use Rattle.bc_parse_tree.specs.declared.tree.Monadic as code_monadic
+use Rattle.bc_parse_tree.specs.declared.tree.BinaryOp as code_binary
+use Rattle.bc_parse_tree.specs.declared.tree.UnaryOp as code_unary
 use Rattle.bc_parse_tree.specs.Parts.{Part}
 use Rattle.bc_parse_tree.specs.Parts as Parts
 use Rattle.bc_parse_tree.specs.Tree.{Exp, Exps, none, more, Block, block, Declaration, Declarations, no_declarations, declaration, Entries, no_entries, entry, Definition, Definitions, no_definitions, definition, Item, Labelled, Labels_alone, Items, no_items, item, Label, Labels, no_labels, label, Command}
@@ -27,7 +27,7 @@ use Rattle.bc_parse_defs.specs.declared.words.DeclarationWord.{DeclarationWord}
 use Rattle.bc_parse_defs.specs.declared.words.DeclarationWord.TheVariants as declaration_word
 use Rattle.bc_parse_defs.specs.declared.words.Places.{Places}
 use Rattle.bc_parse_defs.specs.declared.words.Places.TheVariants as places
-use Rattle.bc_parse_defs.specs.Reading.{Fault, ◌>>=◌, Piece, piece, turns, on, expect_of, after_of, separator_of, name_of, word_in, leaf_of, start_of, command_word_of, simple_word_of, repeat_word_of, constant_sign_of, Following, Ends, Operator, Arguments, Choice, ends, following, LabelStart, NoLabel, CaseLabel, DefaultLabel, NameLabel, label_start, Shape, Parameters, Size, Values, shape_of, past_do, end_of, place_end, names_read, parameters_read, Reader, CommandReader, DefinitionReader, next_exp, call_in, exps_turn, exps_read, arguments_read, with_operator, with_arguments, with_choice, suffix_read, grow_turn, grow_read, bracket_read, table_read, monadic_read, tested_command, as_body, some_label, is_place_end, no_item_yet, may_command, declares, repeated, repeat_turn, repeats_read, label_read, labels_read, entry_read, entry_turn, entries_read, item_read, definition_turn, definitions_read, declaration_read, part_read, place_turn, places_read, block_read, body_of_block, body_read, do_read, valof_read, started_read, operand_read, assigned_read, simple_read, tested_read, test_read, step_read, for_read, switch_read, compound_read, repeatable_read, command_read, variables_read, vector_read, routine_read, shaped_read, defined_read, exp_of, command_of, definition_of, section_of}
+use Rattle.bc_parse_defs.specs.Reading.{Fault, ◌>>=◌, Piece, piece, turns, on, expect_of, after_of, separator_of, name_of, word_in, leaf_of, start_of, command_word_of, simple_word_of, repeat_word_of, constant_sign_of, Following, Ends, Operator, Arguments, Choice, ends, following, LabelStart, NoLabel, CaseLabel, DefaultLabel, NameLabel, label_start, Shape, Parameters, Size, Values, shape_of, past_do, end_of, place_end, names_read, parameters_read, Reader, CommandReader, DefinitionReader, next_exp, call_in, exps_turn, exps_read, arguments_read, with_operator, with_arguments, with_choice, suffix_read, grow_turn, grow_read, bracket_read, table_read, unary_read, tested_command, as_body, some_label, is_place_end, no_item_yet, may_command, declares, repeated, repeat_turn, repeats_read, label_read, labels_read, entry_read, entry_turn, entries_read, item_read, definition_turn, definitions_read, declaration_read, part_read, place_turn, places_read, block_read, body_of_block, body_read, do_read, valof_read, started_read, operand_read, assigned_read, simple_read, tested_read, test_read, step_read, for_read, switch_read, compound_read, repeatable_read, command_read, variables_read, vector_read, routine_read, shaped_read, defined_read, exp_of, command_of, definition_of, section_of}
 use Rattle.bc_parse_defs.proofs.Yields.{Yields, then, guard, branch, choice, from_yields, looped}
 
 height_add_exp : (es : Exps) (e : Exp) → exps_height (add_exp es e) ≡ max (exps_height es) (exp_height e)
@@ -113,11 +113,11 @@ module _ (E : Reader) (exp_high : (nest round level : ℕ) (ts : List Part) → 
   unfolding table_read
   table_high nest round ts pos = then (exps_read E (nest - 1) round 2 (length ts + 1) ts) _ _ _ (exps_high (nest - 1) round 2 (length ts + 1) ts) (λ (ks : Piece Exps) h. record { is = omega arith; low = omega arith })
 
-  monadic_high : (nest round : ℕ) (m : code_monadic.Monadic) (ts : List Part) → 0 < nest → Yields (monadic_read E nest round m ts) (HighExp nest)
-  unfolding monadic_read
-  monadic_high nest round m ts pos = then (E (nest - 1) round (operand_level m) ts) _ _ _ (exp_high (nest - 1) round (operand_level m) ts) (λ (e : Piece Exp) h. record { is = omega arith; low = omega arith })
+  unary_high : (nest round : ℕ) (m : code_unary.UnaryOp) (ts : List Part) → 0 < nest → Yields (unary_read E nest round m ts) (HighExp nest)
+  unfolding unary_read
+  unary_high nest round m ts pos = then (E (nest - 1) round (operand_level m) ts) _ _ _ (exp_high (nest - 1) round (operand_level m) ts) (λ (e : Piece Exp) h. record { is = omega arith; low = omega arith })
 
-  operator_high : (nest round : ℕ) (o : code_dyadic.Dyadic) (left : Exp) (height place : ℕ) (ts : List Part) → height ≡ exp_height left → Yields (with_operator E nest round o left height place ts) (HighExp nest)
+  operator_high : (nest round : ℕ) (o : code_binary.BinaryOp) (left : Exp) (height place : ℕ) (ts : List Part) → height ≡ exp_height left → Yields (with_operator E nest round o left height place ts) (HighExp nest)
   unfolding with_operator
   operator_high nest round o left height place ts is =
       guard (ltb height nest) _ _ _ (λ room. let below = ltb-true height nest room in
@@ -333,7 +333,7 @@ module _ (E : Reader) (C : CommandReader) (D : DefinitionReader)
   started_high nest round place start.Bracket ts pos = then (bracket_read E nest round place ts) _ _ _ (bracket_high E exp_high nest round place ts) (λ (e : Piece Exp) h. h)
   started_high nest round place start.Table ts pos = then (table_read E nest round ts) _ _ _ (table_high E exp_high nest round ts pos) (λ (e : Piece Exp) h. h)
   started_high nest round place start.Valof ts pos = then (valof_read E C D nest round ts) _ _ _ (valof_high nest round ts pos) (λ (e : Piece Exp) h. h)
-  started_high nest round place (start.Monadic m) ts pos = then (monadic_read E nest round m ts) _ _ _ (monadic_high E exp_high nest round m ts pos) (λ (e : Piece Exp) h. h)
+  started_high nest round place (start.Unary m) ts pos = then (unary_read E nest round m ts) _ _ _ (unary_high E exp_high nest round m ts pos) (λ (e : Piece Exp) h. h)
 
   leaf_high : (ts : List Part) (x : Exp × List Part) → leaf_of ts ≡ Some x → exp_height x.0 ≡ 1
   leaf_high ts x is = from_leaf (leaf_of ts) (all_one ts) x is
@@ -365,16 +365,16 @@ module _ (E : Reader) (C : CommandReader) (D : DefinitionReader)
   call_in_high (more (tree.Call f es) (more d ds)) c e = absurd cc
   call_in_high none c e = absurd cc
   call_in_high (more (tree.Name s) ds) c e = absurd cc
-  call_in_high (more (tree.Number n) ds) c e = absurd cc
+  call_in_high (more (tree.Num n) ds) c e = absurd cc
   call_in_high (more (tree.Character n) ds) c e = absurd cc
   call_in_high (more (tree.Text s) ds) c e = absurd cc
   call_in_high (more tree.True ds) c e = absurd cc
   call_in_high (more tree.False ds) c e = absurd cc
   call_in_high (more (tree.Table ks) ds) c e = absurd cc
   call_in_high (more (tree.Valof b) ds) c e = absurd cc
-  call_in_high (more (tree.Monadic m x) ds) c e = absurd cc
-  call_in_high (more (tree.Dyadic o l r) ds) c e = absurd cc
-  call_in_high (more (tree.Condition x y z) ds) c e = absurd cc
+  call_in_high (more (tree.Unary m x) ds) c e = absurd cc
+  call_in_high (more (tree.Bin o l r) ds) c e = absurd cc
+  call_in_high (more (tree.Cond x y z) ds) c e = absurd cc
 
   assigned_high : (nest round : ℕ) (ts : List Part) → 0 < nest → Yields (assigned_read E C D nest round ts) (HighCommand nest)
   unfolding assigned_read

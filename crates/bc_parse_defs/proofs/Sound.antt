@@ -4,13 +4,13 @@ use Rattle.std.proofs.lemmas.List.{append-nil, length-append}
 use Rattle.std.proofs.lemmas.Bool.{eqb-true}
 use Rattle.bc_lex_tokens.specs.declared.symbol.Symbol.{Symbol}
 use Rattle.bc_lex_tokens.specs.declared.symbol.Symbol.TheVariants as sign
-use Rattle.bc_parse_tree.specs.declared.tree.Dyadic as code_dyadic
-use Rattle.bc_parse_tree.specs.declared.tree.Monadic as code_monadic
+use Rattle.bc_parse_tree.specs.declared.tree.BinaryOp as code_binary
+use Rattle.bc_parse_tree.specs.declared.tree.UnaryOp as code_unary
 use Rattle.bc_parse_tree.specs.Parts.{Part, A, Name, NewLine}
 use Rattle.bc_parse_tree.specs.Tree.{Exp, Exps, none, more, Block, block, Declaration, Declarations, no_declarations, declaration, Entries, no_entries, entry, Definition, Definitions, no_definitions, definition, Item, Labelled, Labels_alone, Items, no_items, item, Label, Labels, no_labels, label, Command}
 use Rattle.bc_parse_tree.specs.Tree as tree
 use Rattle.bc_parse_tree.specs.View.{for_from}
-use Rattle.bc_parse_tree.specs.Operators.{level_of, left_level, own_level, operand_level, dyadic_sign, monadic_sign, storage_sign}
+use Rattle.bc_parse_tree.specs.Operators.{level_of, left_level, own_level, operand_level, binary_sign, unary_sign, storage_sign}
 use Rattle.bc_parse_tree.specs.Spelling.{Spells, of_level, prefixed, IsOfLevel, SpellsExps, one, next, SpellsArguments, no_arguments, arguments, SpellsSection, section, SpellsBlock, block_brackets, SpellsPlaces, ended, last_declaration, last_item, SpellsEnded, nothing, gap, declared, placed, SpellsDeclaration, SpellsEntries, all_entries_ended, last_entry, EndedEntries, no_entry, entry_gap, entered, SpellsDefinitions, one_definition, next_definition, SpellsDefinition, SpellsItem, labelled, labels_alone, SpellsLabels, no_more, SpellsBody, body_command, SpellsDo, do_body, SpellsSimple, SpellsCommand, simple, IsSeparator, IsConstantSign, in_round, named, optional, body, count, add_exp, add_entry, add_definition, add_declaration, add_label, add_item}
 use Rattle.bc_parse_tree.specs.Spelling as spell
 use Rattle.bc_parse_defs.specs.declared.words.Start.{Start}
@@ -27,9 +27,9 @@ use Rattle.bc_parse_defs.specs.declared.words.DeclarationWord.{DeclarationWord}
 use Rattle.bc_parse_defs.specs.declared.words.DeclarationWord.TheVariants as declaration_word
 use Rattle.bc_parse_defs.specs.declared.words.Places.{Places}
 use Rattle.bc_parse_defs.specs.declared.words.Places.TheVariants as places
-use Rattle.bc_parse_defs.specs.Reading.{Fault, Piece, piece, moved, turns, on, expect_of, after_of, separator_of, name_of, word_in, leaf_of, start_of, command_word_of, simple_word_of, repeat_word_of, declaration_word_of, constant_sign_of, Following, Ends, Operator, Arguments, Choice, ends, following, LabelStart, NoLabel, CaseLabel, DefaultLabel, NameLabel, label_start, Shape, Parameters, Size, Values, shape_of, past_do, end_of, no_parts, place_end, name_turn, names_read, parameters_read, Reader, CommandReader, DefinitionReader, next_exp, call_in, exps_turn, exps_read, arguments_read, with_operator, with_arguments, with_choice, suffix_read, grow_turn, grow_read, bracket_read, table_read, monadic_read, tested_command, as_body, some_label, is_place_end, no_item_yet, may_command, declares, repeated, repeat_turn, repeats_read, label_read, labels_read, entry_read, entry_turn, entries_read, item_read, definition_turn, definitions_read, declaration_read, part_read, place_turn, places_read, block_read, body_of_block, body_read, do_read, valof_read, started_read, operand_read, assigned_read, simple_read, tested_read, test_read, step_read, for_read, switch_read, compound_read, repeatable_read, command_read, variables_read, vector_read, routine_read, shaped_read, defined_read, exp_of, command_of, definition_of, section_of}
+use Rattle.bc_parse_defs.specs.Reading.{Fault, Piece, piece, moved, turns, on, expect_of, after_of, separator_of, name_of, word_in, leaf_of, start_of, command_word_of, simple_word_of, repeat_word_of, declaration_word_of, constant_sign_of, Following, Ends, Operator, Arguments, Choice, ends, following, LabelStart, NoLabel, CaseLabel, DefaultLabel, NameLabel, label_start, Shape, Parameters, Size, Values, shape_of, past_do, end_of, no_parts, place_end, name_turn, names_read, parameters_read, Reader, CommandReader, DefinitionReader, next_exp, call_in, exps_turn, exps_read, arguments_read, with_operator, with_arguments, with_choice, suffix_read, grow_turn, grow_read, bracket_read, table_read, unary_read, tested_command, as_body, some_label, is_place_end, no_item_yet, may_command, declares, repeated, repeat_turn, repeats_read, label_read, labels_read, entry_read, entry_turn, entries_read, item_read, definition_turn, definitions_read, declaration_read, part_read, place_turn, places_read, block_read, body_of_block, body_read, do_read, valof_read, started_read, operand_read, assigned_read, simple_read, tested_read, test_read, step_read, for_read, switch_read, compound_read, repeatable_read, command_read, variables_read, vector_read, routine_read, shaped_read, defined_read, exp_of, command_of, definition_of, section_of}
 use Rattle.bc_parse_defs.proofs.Yields.{Yields, then, guard, branch, choice, from_yields, looped}
-use Rattle.bc_parse_defs.proofs.Front.{after_is, expect_yields, separator_is, name_yields, Worded, word_is, repeat_sign, repeat_is, simple_sign, simple_is, command_sign, command_is, start_sign, start_is, declaration_sign, declaration_is, start_monadic, declaration_constants, leaf_is, IsFollowing, follows, IsLabelStart, labels, IsShape, shapes, do_front, constant_sign_yields}
+use Rattle.bc_parse_defs.proofs.Front.{after_is, expect_yields, separator_is, name_yields, Worded, word_is, repeat_sign, repeat_is, simple_sign, simple_is, command_sign, command_is, start_sign, start_is, declaration_sign, declaration_is, start_unary, declaration_constants, leaf_is, IsFollowing, follows, IsLabelStart, labels, IsShape, shapes, do_front, constant_sign_yields}
 
 -- ---- the parts that were taken
 
@@ -68,8 +68,8 @@ lower k le (spell.bracketed s) = spell.bracketed s
 lower k le (spell.table s) = spell.table s
 lower k le (spell.valof s) = spell.valof s
 lower k le (spell.call f es) = spell.call f es
-lower k le (spell.monadic h s) = spell.monadic (omega arith) s
-lower k le (spell.dyadic h l r) = spell.dyadic (omega arith) l r
+lower k le (spell.unary h s) = spell.unary (omega arith) s
+lower k le (spell.binary h l r) = spell.binary (omega arith) l r
 lower k le (spell.condition h c x y) = spell.condition (omega arith) c x y
 
 -- ---- names
@@ -182,19 +182,19 @@ module _ (E : Reader) (exp_sound : (nest round level : ℕ) (ts : List Part) →
       then (exps_read E (nest - 1) round 2 (length ts + 1) ts) _ _ _ (exps_sound (nest - 1) round 2 (length ts + 1) ts) (λ (ks : Piece Exps) found.
       record { used = A sign.Table ∷ found.used; split = front (A sign.Table ∷ ts) ts found.used ks.rest (A sign.Table) refl found.split; spelled = λ k. spell.table found.spelled })
 
-  monadic_sound : (nest round : ℕ) (m : code_monadic.Monadic) (ts : List Part) → Yields (monadic_read E nest round m ts) (λ p. Taken (λ used. IsOfLevel (own_level m) p.tree used × ((level : ℕ) → Spells level p.tree used)) (A (monadic_sign m) ∷ ts) p.rest)
-  unfolding monadic_read
-  monadic_sound nest round m ts =
+  unary_sound : (nest round : ℕ) (m : code_unary.UnaryOp) (ts : List Part) → Yields (unary_read E nest round m ts) (λ p. Taken (λ used. IsOfLevel (own_level m) p.tree used × ((level : ℕ) → Spells level p.tree used)) (A (unary_sign m) ∷ ts) p.rest)
+  unfolding unary_read
+  unary_sound nest round m ts =
       then (E (nest - 1) round (operand_level m) ts) _ _ _ (exp_sound (nest - 1) round (operand_level m) ts) (λ (e : Piece Exp) found.
-      record { used = A (monadic_sign m) ∷ found.used; split = front (A (monadic_sign m) ∷ ts) ts found.used e.rest (A (monadic_sign m)) refl found.split; spelled = (spell.monadic (omega arith) found.spelled, λ k. prefixed found.spelled) })
+      record { used = A (unary_sign m) ∷ found.used; split = front (A (unary_sign m) ∷ ts) ts found.used e.rest (A (unary_sign m)) refl found.split; spelled = (spell.unary (omega arith) found.spelled, λ k. prefixed found.spelled) })
 
-  operator_sound : (nest round : ℕ) (o : code_dyadic.Dyadic) (left : Exp) (height place : ℕ) (ts before : List Part) → IsOfLevel (left_level o) left before
-      → Yields (with_operator E nest round o left height place ts) (λ p. Taken (λ used. (k : ℕ) → k ≤ level_of o → IsOfLevel k p.tree used) (before ++ A (dyadic_sign o) ∷ ts) p.rest)
+  operator_sound : (nest round : ℕ) (o : code_binary.BinaryOp) (left : Exp) (height place : ℕ) (ts before : List Part) → IsOfLevel (left_level o) left before
+      → Yields (with_operator E nest round o left height place ts) (λ p. Taken (λ used. (k : ℕ) → k ≤ level_of o → IsOfLevel k p.tree used) (before ++ A (binary_sign o) ∷ ts) p.rest)
   unfolding with_operator
   operator_sound nest round o left height place ts before spelled =
       guard (ltb height nest) _ _ _ (λ room.
       then (E (nest - 1) round (level_of o + 1) ts) _ _ _ (exp_sound (nest - 1) round (level_of o + 1) ts) (λ (right : Piece Exp) found.
-      record { used = before ++ A (dyadic_sign o) ∷ found.used; split = join_by (before ++ A (dyadic_sign o) ∷ ts) before (A (dyadic_sign o) ∷ ts) found.used ts right.rest (A (dyadic_sign o)) refl refl found.split; spelled = λ k le. spell.dyadic le spelled found.spelled }))
+      record { used = before ++ A (binary_sign o) ∷ found.used; split = join_by (before ++ A (binary_sign o) ∷ ts) before (A (binary_sign o) ∷ ts) found.used ts right.rest (A (binary_sign o)) refl refl found.split; spelled = λ k le. spell.binary le spelled found.spelled }))
 
   call_sound : (nest round : ℕ) (left : Exp) (height place : ℕ) (ts before : List Part) → IsOfLevel 12 left before
       → Yields (with_arguments E nest round left height place ts) (λ p. Taken (λ used. (k : ℕ) → IsOfLevel k p.tree used) (before ++ A sign.OpenBracket ∷ ts) p.rest)
@@ -228,7 +228,7 @@ module _ (E : Reader) (exp_sound : (nest round level : ℕ) (ts : List Part) →
   unfolding suffix_read
   suffix_sound nest round begin level ts s place Ends is so_far = tt
   suffix_sound nest round begin level ts s place (Operator o after) is so_far =
-      let whole : ts ≡ so_far.used ++ A (dyadic_sign o) ∷ after = so_far.split ∙ ap (λ (r : List Part). so_far.used ++ r) is.0 in
+      let whole : ts ≡ so_far.used ++ A (binary_sign o) ∷ after = so_far.split ∙ ap (λ (r : List Part). so_far.used ++ r) is.0 in
       then (with_operator E nest round o s.tree.0 s.height place after) _ _ _ (operator_sound nest round o s.tree.0 s.height place after so_far.used (lower (left_level o) is.2 so_far.spelled.0)) (λ (p : Piece Exp) found.
       record { used = found.used; split = whole ∙ found.split; spelled = (found.spelled (level_of o) (omega arith), of_level (found.spelled level is.1)) })
   suffix_sound nest round begin level ts s place (Arguments after) is so_far =
@@ -639,9 +639,9 @@ module _ (E : Reader) (C : CommandReader) (D : DefinitionReader)
   started_sound nest round place start.Valof ts =
       then (valof_read E C D nest round ts) _ _ _ (valof_sound nest round ts) (λ (e : Piece Exp) found.
       record { used = found.used; split = found.split; spelled = (found.spelled 12, λ k. of_level (found.spelled k)) })
-  started_sound nest round place (start.Monadic m) ts =
-      then (monadic_read E nest round m ts) _ _ _ (monadic_sound E exp_sound nest round m ts) (λ (e : Piece Exp) found.
-      record { used = found.used; split = ap (λ (x : Symbol). A x ∷ ts) (start_monadic m) ∙ found.split; spelled = found.spelled })
+  started_sound nest round place (start.Unary m) ts =
+      then (unary_read E nest round m ts) _ _ _ (unary_sound E exp_sound nest round m ts) (λ (e : Piece Exp) found.
+      record { used = found.used; split = ap (λ (x : Symbol). A x ∷ ts) (start_unary m) ∙ found.split; spelled = found.spelled })
 
   pub operand_sound : (nest round : ℕ) (ts : List Part) → Yields (operand_read E C D nest round ts) (SoundOperand ts)
   unfolding operand_read
@@ -662,16 +662,16 @@ module _ (E : Reader) (C : CommandReader) (D : DefinitionReader)
   call_in_is (more (tree.Call f es) (more d ds)) c e = absurd cc
   call_in_is none c e = absurd cc
   call_in_is (more (tree.Name s) ds) c e = absurd cc
-  call_in_is (more (tree.Number n) ds) c e = absurd cc
+  call_in_is (more (tree.Num n) ds) c e = absurd cc
   call_in_is (more (tree.Character n) ds) c e = absurd cc
   call_in_is (more (tree.Text s) ds) c e = absurd cc
   call_in_is (more tree.True ds) c e = absurd cc
   call_in_is (more tree.False ds) c e = absurd cc
   call_in_is (more (tree.Table ks) ds) c e = absurd cc
   call_in_is (more (tree.Valof b) ds) c e = absurd cc
-  call_in_is (more (tree.Monadic m x) ds) c e = absurd cc
-  call_in_is (more (tree.Dyadic o l r) ds) c e = absurd cc
-  call_in_is (more (tree.Condition x y z) ds) c e = absurd cc
+  call_in_is (more (tree.Unary m x) ds) c e = absurd cc
+  call_in_is (more (tree.Bin o l r) ds) c e = absurd cc
+  call_in_is (more (tree.Cond x y z) ds) c e = absurd cc
 
   assigned_sound : (nest round : ℕ) (ts : List Part) → Yields (assigned_read E C D nest round ts) (λ p. Taken (SpellsSimple p.tree) ts p.rest)
   unfolding assigned_read

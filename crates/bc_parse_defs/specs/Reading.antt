@@ -9,10 +9,10 @@ use Rattle.std.specs.Prelude.{ℕ, zero, suc, ◌+◌, ◌-◌, Bool, true, fals
 use Rattle.bc_lex_tokens.specs.declared.symbol.Symbol.{Symbol}
 use Rattle.bc_lex_tokens.specs.declared.symbol.Symbol.TheVariants as sign
 use Rattle.bc_lex_tokens.specs.Numbers.{same}
-use Rattle.bc_parse_tree.specs.declared.tree.Dyadic as code_dyadic
-use Rattle.bc_parse_tree.specs.declared.tree.Dyadic.TheVariants as dyadic
-use Rattle.bc_parse_tree.specs.declared.tree.Monadic as code_monadic
-use Rattle.bc_parse_tree.specs.declared.tree.Monadic.TheVariants as monadic
+use Rattle.bc_parse_tree.specs.declared.tree.BinaryOp as code_binary
+use Rattle.bc_parse_tree.specs.declared.tree.BinaryOp.TheVariants as binary
+use Rattle.bc_parse_tree.specs.declared.tree.UnaryOp as code_unary
+use Rattle.bc_parse_tree.specs.declared.tree.UnaryOp.TheVariants as unary
 use Rattle.bc_parse_tree.specs.declared.tree.Storage.TheVariants as storage
 use Rattle.bc_parse_tree.specs.Parts.{Part, A, Name, Number, Character, String, NewLine}
 use Rattle.bc_parse_tree.specs.Tree.{Exp, Exps, none, more, Block, block, Declaration, Declarations, no_declarations, declaration, Entries, no_entries, entry, Definition, Definitions, no_definitions, definition, Item, Labelled, Labels_alone, Items, no_items, item, Label, Labels, no_labels, label, Command}
@@ -58,37 +58,37 @@ piece x h ts = record { tree = x; height = h; rest = ts }
 
 -- ---- which construct a symbol begins
 
--- the dyadic operator that a symbol is
-abbrev pub dyadic_of : Symbol → Option code_dyadic.Dyadic
-dyadic_of sign.Equivalent = Some dyadic.Equivalent
-dyadic_of sign.NotEquivalent = Some dyadic.NotEquivalent
-dyadic_of sign.LogicalOr = Some dyadic.Or
-dyadic_of sign.LogicalAnd = Some dyadic.And
-dyadic_of sign.ShiftLeft = Some dyadic.ShiftLeft
-dyadic_of sign.ShiftRight = Some dyadic.ShiftRight
-dyadic_of sign.Equal = Some dyadic.Equal
-dyadic_of sign.NotEqual = Some dyadic.NotEqual
-dyadic_of sign.Less = Some dyadic.Less
-dyadic_of sign.GreaterEqual = Some dyadic.GreaterEqual
-dyadic_of sign.Greater = Some dyadic.Greater
-dyadic_of sign.LessEqual = Some dyadic.LessEqual
-dyadic_of sign.Plus = Some dyadic.Add
-dyadic_of sign.Minus = Some dyadic.Subtract
-dyadic_of sign.Multiply = Some dyadic.Multiply
-dyadic_of sign.Divide = Some dyadic.Divide
-dyadic_of sign.Remainder = Some dyadic.Remainder
-dyadic_of sign.Indirection = Some dyadic.Index
-dyadic_of _ = None
+-- the binary operator that a symbol is
+abbrev pub binary_of : Symbol → Option code_binary.BinaryOp
+binary_of sign.Equivalent = Some binary.Equivalent
+binary_of sign.NotEquivalent = Some binary.NotEquivalent
+binary_of sign.LogicalOr = Some binary.Or
+binary_of sign.LogicalAnd = Some binary.And
+binary_of sign.ShiftLeft = Some binary.ShiftLeft
+binary_of sign.ShiftRight = Some binary.ShiftRight
+binary_of sign.Equal = Some binary.Equal
+binary_of sign.NotEqual = Some binary.NotEqual
+binary_of sign.Less = Some binary.Less
+binary_of sign.GreaterEqual = Some binary.GreaterEqual
+binary_of sign.Greater = Some binary.Greater
+binary_of sign.LessEqual = Some binary.LessEqual
+binary_of sign.Plus = Some binary.Add
+binary_of sign.Minus = Some binary.Subtract
+binary_of sign.Multiply = Some binary.Multiply
+binary_of sign.Divide = Some binary.Divide
+binary_of sign.Remainder = Some binary.Remainder
+binary_of sign.Indirection = Some binary.Index
+binary_of _ = None
 
 -- the operand of more than one part that a symbol begins
 abbrev pub start_of : Symbol → Option Start
 start_of sign.OpenBracket = Some start.Bracket
 start_of sign.Table = Some start.Table
 start_of sign.ValueOf = Some start.Valof
-start_of sign.Not = Some (start.Monadic monadic.Not)
-start_of sign.Minus = Some (start.Monadic monadic.Negate)
-start_of sign.Indirection = Some (start.Monadic monadic.Load)
-start_of sign.AddressOf = Some (start.Monadic monadic.Address)
+start_of sign.Not = Some (start.Unary unary.Not)
+start_of sign.Minus = Some (start.Unary unary.Neg)
+start_of sign.Indirection = Some (start.Unary unary.Load)
+start_of sign.AddressOf = Some (start.Unary unary.Address)
 start_of _ = None
 
 -- the command that a symbol begins, if REPEAT can't follow it
@@ -172,7 +172,7 @@ name_of ts = wanted ts (name_in ts)
 -- an expression of one part, if it comes first
 abbrev pub leaf_of : List Part → Option (Exp × List Part)
 leaf_of (Name n ∷ ts) = Some (tree.Name n, ts)
-leaf_of (Number n ∷ ts) = Some (tree.Number n, ts)
+leaf_of (Number n ∷ ts) = Some (tree.Num n, ts)
 leaf_of (Character n ∷ ts) = Some (tree.Character n, ts)
 leaf_of (String n ∷ ts) = Some (tree.Text n, ts)
 leaf_of (A sign.True ∷ ts) = Some (tree.True, ts)
@@ -207,7 +207,7 @@ past_do ts = or_else (after_of sign.Do (past_line ts)) (past_line ts)
 -- expression, an operator, the arguments of a call, or a choice `->`. The argument has the parts after it.
 pub data Following : Type 0 where
   Ends : Following
-  Operator : code_dyadic.Dyadic → List Part → Following
+  Operator : code_binary.BinaryOp → List Part → Following
   Arguments : List Part → Following
   Choice : List Part → Following
 
@@ -220,7 +220,7 @@ ends (Choice ts) = false
 
 -- an operator continues the expression if its level is high enough for the place, and that of the operand for the
 -- operator
-abbrev pub operator_of : ℕ → ℕ → List Part → Option code_dyadic.Dyadic → Following
+abbrev pub operator_of : ℕ → ℕ → List Part → Option code_binary.BinaryOp → Following
 operator_of level top ts None = Ends
 operator_of level top ts (Some o) = if nat_lt (level_of o) level || nat_lt top (left_level o) then Ends else Operator o ts
 
@@ -228,7 +228,7 @@ operator_of level top ts (Some o) = if nat_lt (level_of o) level || nat_lt top (
 abbrev pub following : ℕ → ℕ → List Part → Following
 following level top (A sign.OpenBracket ∷ ts) = if nat_lt top 12 then Ends else Arguments ts
 following level top (A sign.Arrow ∷ ts) = if nat_lt 1 level || nat_lt top 2 then Ends else Choice ts
-following level top (A s ∷ ts) = operator_of level top ts (dyadic_of s)
+following level top (A s ∷ ts) = operator_of level top ts (binary_of s)
 following level top _ = Ends
 
 -- what begins a label: CASE, DEFAULT, or a name and a colon; the argument has the parts after it
@@ -361,11 +361,11 @@ module _ (E : Reader) where
 
   -- An operator after the operand `left`, with its right operand. `height` is how deep `left` nests, and `place` is
   -- the operator's place, which is named if the whole nests too deep.
-  unfoldable pub with_operator : ℕ → ℕ → code_dyadic.Dyadic → Exp → ℕ → ℕ → List Part → Result (Piece Exp) Fault
+  unfoldable pub with_operator : ℕ → ℕ → code_binary.BinaryOp → Exp → ℕ → ℕ → List Part → Result (Piece Exp) Fault
   with_operator nest round o left height place ts =
       if nat_lt height nest then (
       E (nest - 1) round (level_of o + 1) ts >>= λ right.
-      Ok (piece (tree.Dyadic o left right.tree) (max height right.height + 1) right.rest))
+      Ok (piece (tree.Bin o left right.tree) (max height right.height + 1) right.rest))
       else Err (TooDeep place)
 
   -- the arguments of a call after the routine `left`; TooDeep names the bracket
@@ -383,7 +383,7 @@ module _ (E : Reader) where
       E (nest - 1) round 1 ts >>= λ x.
       expect_of sign.Comma x.rest >>= λ rest.
       E (nest - 1) round 1 rest >>= λ y.
-      Ok (piece (tree.Condition left x.tree y.tree) (max (max height x.height) y.height + 1) y.rest))
+      Ok (piece (tree.Cond left x.tree y.tree) (max (max height x.height) y.height + 1) y.rest))
       else Err (TooDeep place)
 
   -- one of these after an operand, and the level of the whole; `begin` is where the expression begins
@@ -416,9 +416,9 @@ module _ (E : Reader) where
   unfoldable pub table_read : ℕ → ℕ → List Part → Result (Piece Exp) Fault
   table_read nest round ts = exps_read (nest - 1) round 2 (length ts + 1) ts >>= λ ks. Ok (piece (tree.Table ks.tree) (ks.height + 1) ks.rest)
 
-  -- the operand of a monadic operator, after its sign
-  unfoldable pub monadic_read : ℕ → ℕ → code_monadic.Monadic → List Part → Result (Piece Exp) Fault
-  monadic_read nest round m ts = E (nest - 1) round (operand_level m) ts >>= λ e. Ok (piece (tree.Monadic m e.tree) (e.height + 1) e.rest)
+  -- the operand of a unary operator, after its sign
+  unfoldable pub unary_read : ℕ → ℕ → code_unary.UnaryOp → List Part → Result (Piece Exp) Fault
+  unary_read nest round m ts = E (nest - 1) round (operand_level m) ts >>= λ e. Ok (piece (tree.Unary m e.tree) (e.height + 1) e.rest)
 
 -- ---- commands
 
@@ -603,7 +603,7 @@ module _ (E : Reader) (C : CommandReader) (D : DefinitionReader) where
   started_read nest round place start.Bracket ts = bracket_read E nest round place ts >>= λ e. Ok (piece (e.tree, 12) e.height e.rest)
   started_read nest round place start.Table ts = table_read E nest round ts >>= λ e. Ok (piece (e.tree, 12) e.height e.rest)
   started_read nest round place start.Valof ts = valof_read nest round ts >>= λ e. Ok (piece (e.tree, 12) e.height e.rest)
-  started_read nest round place (start.Monadic m) ts = monadic_read E nest round m ts >>= λ e. Ok (piece (e.tree, own_level m) e.height e.rest)
+  started_read nest round place (start.Unary m) ts = unary_read E nest round m ts >>= λ e. Ok (piece (e.tree, own_level m) e.height e.rest)
 
   -- an operand, and its level
   unfoldable pub operand_read : ℕ → ℕ → List Part → Result (Piece (Exp × ℕ)) Fault

@@ -1,10 +1,10 @@
 //! Which symbols begin which construct, and the levels of operators. The parser decides by these tables.
 ghost use Rattle.std.specs.Prelude.{◌≡◌};
-ghost use Rattle.bc_parse_defs.specs.Reading.{start_of, command_word_of, simple_word_of, repeat_word_of, declaration_word_of, dyadic_of};
+ghost use Rattle.bc_parse_defs.specs.Reading.{start_of, command_word_of, simple_word_of, repeat_word_of, declaration_word_of, binary_of};
 ghost use Rattle.bc_parse_tree.specs.Operators.{level_of, left_level, own_level, operand_level};
 
 use bc_lex_tokens::Symbol;
-use bc_parse_tree::{Dyadic, Monadic, Storage};
+use bc_parse_tree::{BinaryOp, Storage, UnaryOp};
 
 /// What begins an operand of more than one part.
 #[derive(Clone, Copy)]
@@ -15,8 +15,8 @@ pub enum Start {
     Table,
     /// VALOF
     Valof,
-    /// A monadic operator.
-    Monadic(Monadic),
+    /// A unary operator.
+    Unary(UnaryOp),
 }
 
 /// A command with a test and one body.
@@ -105,10 +105,10 @@ pub fn start_word(symbol: Symbol) -> Option<Start>
         Symbol::OpenBracket => Some(Start::Bracket),
         Symbol::Table => Some(Start::Table),
         Symbol::ValueOf => Some(Start::Valof),
-        Symbol::Not => Some(Start::Monadic(Monadic::Not)),
-        Symbol::Minus => Some(Start::Monadic(Monadic::Negate)),
-        Symbol::Indirection => Some(Start::Monadic(Monadic::Load)),
-        Symbol::AddressOf => Some(Start::Monadic(Monadic::Address)),
+        Symbol::Not => Some(Start::Unary(UnaryOp::Not)),
+        Symbol::Minus => Some(Start::Unary(UnaryOp::Neg)),
+        Symbol::Indirection => Some(Start::Unary(UnaryOp::Load)),
+        Symbol::AddressOf => Some(Start::Unary(UnaryOp::Address)),
         _ => None,
     }
 }
@@ -171,87 +171,87 @@ pub fn declaration_word(symbol: Symbol) -> Option<DeclarationWord>
     }
 }
 
-/// The dyadic operator that this symbol is, if it is one.
-pub fn dyadic(symbol: Symbol) -> Option<Dyadic>
-    ensures { result ≡ dyadic_of symbol }
+/// The binary operator that this symbol is, if it is one.
+pub fn binary(symbol: Symbol) -> Option<BinaryOp>
+    ensures { result ≡ binary_of symbol }
 {
     match symbol {
-        Symbol::Equivalent => Some(Dyadic::Equivalent),
-        Symbol::NotEquivalent => Some(Dyadic::NotEquivalent),
-        Symbol::LogicalOr => Some(Dyadic::Or),
-        Symbol::LogicalAnd => Some(Dyadic::And),
-        Symbol::ShiftLeft => Some(Dyadic::ShiftLeft),
-        Symbol::ShiftRight => Some(Dyadic::ShiftRight),
-        Symbol::Equal => Some(Dyadic::Equal),
-        Symbol::NotEqual => Some(Dyadic::NotEqual),
-        Symbol::Less => Some(Dyadic::Less),
-        Symbol::GreaterEqual => Some(Dyadic::GreaterEqual),
-        Symbol::Greater => Some(Dyadic::Greater),
-        Symbol::LessEqual => Some(Dyadic::LessEqual),
-        Symbol::Plus => Some(Dyadic::Add),
-        Symbol::Minus => Some(Dyadic::Subtract),
-        Symbol::Multiply => Some(Dyadic::Multiply),
-        Symbol::Divide => Some(Dyadic::Divide),
-        Symbol::Remainder => Some(Dyadic::Remainder),
-        Symbol::Indirection => Some(Dyadic::Index),
+        Symbol::Equivalent => Some(BinaryOp::Equivalent),
+        Symbol::NotEquivalent => Some(BinaryOp::NotEquivalent),
+        Symbol::LogicalOr => Some(BinaryOp::Or),
+        Symbol::LogicalAnd => Some(BinaryOp::And),
+        Symbol::ShiftLeft => Some(BinaryOp::ShiftLeft),
+        Symbol::ShiftRight => Some(BinaryOp::ShiftRight),
+        Symbol::Equal => Some(BinaryOp::Equal),
+        Symbol::NotEqual => Some(BinaryOp::NotEqual),
+        Symbol::Less => Some(BinaryOp::Less),
+        Symbol::GreaterEqual => Some(BinaryOp::GreaterEqual),
+        Symbol::Greater => Some(BinaryOp::Greater),
+        Symbol::LessEqual => Some(BinaryOp::LessEqual),
+        Symbol::Plus => Some(BinaryOp::Add),
+        Symbol::Minus => Some(BinaryOp::Subtract),
+        Symbol::Multiply => Some(BinaryOp::Multiply),
+        Symbol::Divide => Some(BinaryOp::Divide),
+        Symbol::Remainder => Some(BinaryOp::Remainder),
+        Symbol::Indirection => Some(BinaryOp::Index),
         _ => None,
     }
 }
 
 /// The level of an expression with this operator, from 2 to 11.
-pub fn level(op: Dyadic) -> usize
+pub fn level(op: BinaryOp) -> usize
     ensures { result ≡ level_of op }
 {
     match op {
-        Dyadic::Equivalent | Dyadic::NotEquivalent => 2,
-        Dyadic::Or => 3,
-        Dyadic::And => 4,
-        Dyadic::ShiftLeft | Dyadic::ShiftRight => 6,
-        Dyadic::Equal
-        | Dyadic::NotEqual
-        | Dyadic::Less
-        | Dyadic::GreaterEqual
-        | Dyadic::Greater
-        | Dyadic::LessEqual => 7,
-        Dyadic::Add | Dyadic::Subtract => 8,
-        Dyadic::Multiply | Dyadic::Divide | Dyadic::Remainder => 9,
-        Dyadic::Index => 11,
+        BinaryOp::Equivalent | BinaryOp::NotEquivalent => 2,
+        BinaryOp::Or => 3,
+        BinaryOp::And => 4,
+        BinaryOp::ShiftLeft | BinaryOp::ShiftRight => 6,
+        BinaryOp::Equal
+        | BinaryOp::NotEqual
+        | BinaryOp::Less
+        | BinaryOp::GreaterEqual
+        | BinaryOp::Greater
+        | BinaryOp::LessEqual => 7,
+        BinaryOp::Add | BinaryOp::Subtract => 8,
+        BinaryOp::Multiply | BinaryOp::Divide | BinaryOp::Remainder => 9,
+        BinaryOp::Index => 11,
     }
 }
 
 /// The least level of the left operand: that of the operator, except that relations don't group.
-pub fn level_before(op: Dyadic) -> usize
+pub fn level_before(op: BinaryOp) -> usize
     ensures { result ≡ left_level op }
 {
     match op {
-        Dyadic::Equal
-        | Dyadic::NotEqual
-        | Dyadic::Less
-        | Dyadic::GreaterEqual
-        | Dyadic::Greater
-        | Dyadic::LessEqual => 8,
+        BinaryOp::Equal
+        | BinaryOp::NotEqual
+        | BinaryOp::Less
+        | BinaryOp::GreaterEqual
+        | BinaryOp::Greater
+        | BinaryOp::LessEqual => 8,
         other => level(other),
     }
 }
 
-/// The level of an expression with this monadic operator.
-pub fn monadic_level(op: Monadic) -> usize
+/// The level of an expression with this unary operator.
+pub fn unary_level(op: UnaryOp) -> usize
     ensures { result ≡ own_level op }
 {
     match op {
-        Monadic::Not => 5,
-        Monadic::Negate => 8,
-        Monadic::Load | Monadic::Address => 10,
+        UnaryOp::Not => 5,
+        UnaryOp::Neg => 8,
+        UnaryOp::Load | UnaryOp::Address => 10,
     }
 }
 
-/// The least level of the operand of this monadic operator.
-pub fn level_after(op: Monadic) -> usize
+/// The least level of the operand of this unary operator.
+pub fn level_after(op: UnaryOp) -> usize
     ensures { result ≡ operand_level op }
 {
     match op {
-        Monadic::Not => 6,
-        Monadic::Negate => 9,
-        Monadic::Load | Monadic::Address => 10,
+        UnaryOp::Not => 6,
+        UnaryOp::Neg => 9,
+        UnaryOp::Load | UnaryOp::Address => 10,
     }
 }

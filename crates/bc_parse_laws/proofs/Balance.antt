@@ -2,16 +2,16 @@
 use Rattle.std.proofs.Common.{◌≡◌, ℕ, zero, suc, ◌-◌, ◌+◌, ◌≤◌, Bool, true, false, Option, Some, None, ◌∙◌, List, [], ◌∷◌, ◌++◌, max, refl, sym, ap, append_assoc, arith}
 use Rattle.std.proofs.lemmas.List.{append-nil}
 use Rattle.bc_lex_tokens.specs.declared.symbol.Symbol.TheVariants as sign
-use Rattle.bc_parse_tree.specs.declared.tree.Dyadic as code_dyadic
-use Rattle.bc_parse_tree.specs.declared.tree.Dyadic.TheVariants as dyadic
-use Rattle.bc_parse_tree.specs.declared.tree.Monadic as code_monadic
-use Rattle.bc_parse_tree.specs.declared.tree.Monadic.TheVariants as monadic
+use Rattle.bc_parse_tree.specs.declared.tree.BinaryOp as code_binary
+use Rattle.bc_parse_tree.specs.declared.tree.BinaryOp.TheVariants as binary
+use Rattle.bc_parse_tree.specs.declared.tree.UnaryOp as code_unary
+use Rattle.bc_parse_tree.specs.declared.tree.UnaryOp.TheVariants as unary
 use Rattle.bc_parse_tree.specs.declared.tree.Storage.{Storage}
 use Rattle.bc_parse_tree.specs.declared.tree.Storage.TheVariants as storage
 use Rattle.bc_parse_tree.specs.Parts.{Part, A, Name, Number, Character, String, NewLine}
 use Rattle.bc_parse_tree.specs.Tree.{Exp, Exps, none, more, Block, block, Declaration, Declarations, no_declarations, declaration, Entries, no_entries, entry, Definition, Definitions, no_definitions, definition, Item, Labelled, Labels_alone, Items, no_items, item, Label, Labels, no_labels, label, Command}
 use Rattle.bc_parse_tree.specs.Tree as tree
-use Rattle.bc_parse_tree.specs.Operators.{dyadic_sign, monadic_sign, storage_sign}
+use Rattle.bc_parse_tree.specs.Operators.{binary_sign, unary_sign, storage_sign}
 use Rattle.bc_parse_tree.specs.Spelling.{in_round, named}
 use Rattle.bc_parse_tree.specs.Canonical.{part_of, routine_of, entry_sign, after_first, whole, after_commas, block_spelling, declarations_spelling, declaration_spelling, entries_spelling, definitions_spelling, definition_spelling, items_spelling, item_spelling, labels_spelling, label_spelling, command_spelling, section_spelling}
 use Rattle.bc_parse_laws.specs.Open.{most_open}
@@ -121,31 +121,31 @@ section_list {xs} {r} f = record {
 
 -- ---- signs and names
 
-pub plain_dyadic : (o : code_dyadic.Dyadic) → Plain (A (dyadic_sign o))
-plain_dyadic dyadic.Equivalent = refl
-plain_dyadic dyadic.NotEquivalent = refl
-plain_dyadic dyadic.Or = refl
-plain_dyadic dyadic.And = refl
-plain_dyadic dyadic.ShiftLeft = refl
-plain_dyadic dyadic.ShiftRight = refl
-plain_dyadic dyadic.Equal = refl
-plain_dyadic dyadic.NotEqual = refl
-plain_dyadic dyadic.Less = refl
-plain_dyadic dyadic.GreaterEqual = refl
-plain_dyadic dyadic.Greater = refl
-plain_dyadic dyadic.LessEqual = refl
-plain_dyadic dyadic.Add = refl
-plain_dyadic dyadic.Subtract = refl
-plain_dyadic dyadic.Multiply = refl
-plain_dyadic dyadic.Divide = refl
-plain_dyadic dyadic.Remainder = refl
-plain_dyadic dyadic.Index = refl
+pub plain_binary : (o : code_binary.BinaryOp) → Plain (A (binary_sign o))
+plain_binary binary.Equivalent = refl
+plain_binary binary.NotEquivalent = refl
+plain_binary binary.Or = refl
+plain_binary binary.And = refl
+plain_binary binary.ShiftLeft = refl
+plain_binary binary.ShiftRight = refl
+plain_binary binary.Equal = refl
+plain_binary binary.NotEqual = refl
+plain_binary binary.Less = refl
+plain_binary binary.GreaterEqual = refl
+plain_binary binary.Greater = refl
+plain_binary binary.LessEqual = refl
+plain_binary binary.Add = refl
+plain_binary binary.Subtract = refl
+plain_binary binary.Multiply = refl
+plain_binary binary.Divide = refl
+plain_binary binary.Remainder = refl
+plain_binary binary.Index = refl
 
-pub plain_monadic : (m : code_monadic.Monadic) → Plain (A (monadic_sign m))
-plain_monadic monadic.Not = refl
-plain_monadic monadic.Negate = refl
-plain_monadic monadic.Load = refl
-plain_monadic monadic.Address = refl
+pub plain_unary : (m : code_unary.UnaryOp) → Plain (A (unary_sign m))
+plain_unary unary.Not = refl
+plain_unary unary.Neg = refl
+plain_unary unary.Load = refl
+plain_unary unary.Address = refl
 
 pub plain_storage : (s : Storage) → Plain (A (storage_sign s))
 plain_storage storage.Manifest = refl
@@ -169,30 +169,30 @@ names (n ∷ m ∷ ns) = before refl (before refl (names (m ∷ ns)))
 
 part_opens : (e : Exp) → Opens (whole e) (exp_rounds e) → Opens (part_of e (whole e)) (part_rounds e (exp_rounds e))
 part_opens (tree.Name s) f = f
-part_opens (tree.Number n) f = f
+part_opens (tree.Num n) f = f
 part_opens (tree.Character n) f = f
 part_opens (tree.Text s) f = f
 part_opens tree.True f = f
 part_opens tree.False f = f
 part_opens (tree.Table ks) f = round f
 part_opens (tree.Valof b) f = round f
-part_opens (tree.Monadic m e) f = round f
-part_opens (tree.Dyadic o l r) f = round f
-part_opens (tree.Condition c x y) f = round f
+part_opens (tree.Unary m e) f = round f
+part_opens (tree.Bin o l r) f = round f
+part_opens (tree.Cond c x y) f = round f
 part_opens (tree.Call g es) f = round f
 
 routine_opens : (e : Exp) → Opens (whole e) (exp_rounds e) → Opens (routine_of e (whole e)) (routine_rounds e (exp_rounds e))
 routine_opens (tree.Name s) f = f
-routine_opens (tree.Number n) f = round f
+routine_opens (tree.Num n) f = round f
 routine_opens (tree.Character n) f = round f
 routine_opens (tree.Text s) f = round f
 routine_opens tree.True f = round f
 routine_opens tree.False f = round f
 routine_opens (tree.Table ks) f = round f
 routine_opens (tree.Valof b) f = round f
-routine_opens (tree.Monadic m e) f = round f
-routine_opens (tree.Dyadic o l r) f = round f
-routine_opens (tree.Condition c x y) f = round f
+routine_opens (tree.Unary m e) f = round f
+routine_opens (tree.Bin o l r) f = round f
+routine_opens (tree.Cond c x y) f = round f
 routine_opens (tree.Call g es) f = round f
 
 list_opens : (es : Exps) → Opens (after_commas es) (exps_rounds es) → Opens (after_first (after_commas es)) (exps_rounds es)
@@ -208,17 +208,17 @@ places_opens (declaration d ds) is f g = without refl (join f g)
 mutual
   whole_opens : (e : Exp) → Opens (whole e) (exp_rounds e)
   whole_opens (tree.Name s) = one_part refl
-  whole_opens (tree.Number n) = one_part refl
+  whole_opens (tree.Num n) = one_part refl
   whole_opens (tree.Character n) = one_part refl
   whole_opens (tree.Text s) = one_part refl
   whole_opens tree.True = one_part refl
   whole_opens tree.False = one_part refl
   whole_opens (tree.Table ks) = before refl (list_opens ks (commas_open ks))
   whole_opens (tree.Valof b) = before refl (block_opens b)
-  whole_opens (tree.Monadic m e) = before (plain_monadic m) (part_opens e (whole_opens e))
-  whole_opens (tree.Dyadic o l r) = join (part_opens l (whole_opens l)) (before (plain_dyadic o) (part_opens r (whole_opens r)))
-  whole_opens (tree.Condition c x y) =
-      less (exp_rounds (tree.Condition c x y)) (omega arith) (join (part_opens c (whole_opens c)) (before refl (join (part_opens x (whole_opens x)) (before refl (part_opens y (whole_opens y))))))
+  whole_opens (tree.Unary m e) = before (plain_unary m) (part_opens e (whole_opens e))
+  whole_opens (tree.Bin o l r) = join (part_opens l (whole_opens l)) (before (plain_binary o) (part_opens r (whole_opens r)))
+  whole_opens (tree.Cond c x y) =
+      less (exp_rounds (tree.Cond c x y)) (omega arith) (join (part_opens c (whole_opens c)) (before refl (join (part_opens x (whole_opens x)) (before refl (part_opens y (whole_opens y))))))
   whole_opens (tree.Call f es) = join (routine_opens f (whole_opens f)) (round (list_opens es (commas_open es)))
 
   commas_open : (es : Exps) → Opens (after_commas es) (exps_rounds es)

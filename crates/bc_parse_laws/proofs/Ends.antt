@@ -42,15 +42,15 @@ Unrepeated _ ts = Unit {0}
 pub unrepeated : (e : Exp) (ts : List Part) → NoRepeat ts → Unrepeated e ts
 unrepeated (tree.Valof b) ts h = h
 unrepeated (tree.Name s) ts h = tt
-unrepeated (tree.Number n) ts h = tt
+unrepeated (tree.Num n) ts h = tt
 unrepeated (tree.Character n) ts h = tt
 unrepeated (tree.Text s) ts h = tt
 unrepeated tree.True ts h = tt
 unrepeated tree.False ts h = tt
 unrepeated (tree.Table ks) ts h = tt
-unrepeated (tree.Monadic m e) ts h = tt
-unrepeated (tree.Dyadic o l r) ts h = tt
-unrepeated (tree.Condition c x y) ts h = tt
+unrepeated (tree.Unary m e) ts h = tt
+unrepeated (tree.Bin o l r) ts h = tt
+unrepeated (tree.Cond c x y) ts h = tt
 unrepeated (tree.Call f es) ts h = tt
 
 pub stops_here : (level top : ℕ) (ts : List Part) → Stops ts → following level top ts ≡ Ends
@@ -99,30 +99,30 @@ bracket_head ts = record { no_close = refl; no_vector = refl; no_command = refl;
 
 pub exp_head : (e : Exp) (ts : List Part) → ExpHead (part_of e (whole e) ++ ts)
 exp_head (tree.Name n) ts = name_head n ts
-exp_head (tree.Number n) ts = record { no_close = refl; no_vector = refl; no_command = refl; no_simple = refl }
+exp_head (tree.Num n) ts = record { no_close = refl; no_vector = refl; no_command = refl; no_simple = refl }
 exp_head (tree.Character n) ts = record { no_close = refl; no_vector = refl; no_command = refl; no_simple = refl }
 exp_head (tree.Text n) ts = record { no_close = refl; no_vector = refl; no_command = refl; no_simple = refl }
 exp_head tree.True ts = record { no_close = refl; no_vector = refl; no_command = refl; no_simple = refl }
 exp_head tree.False ts = record { no_close = refl; no_vector = refl; no_command = refl; no_simple = refl }
 exp_head (tree.Table ks) ts = bracket_head _
 exp_head (tree.Valof b) ts = bracket_head _
-exp_head (tree.Monadic m e) ts = bracket_head _
-exp_head (tree.Dyadic o l r) ts = bracket_head _
-exp_head (tree.Condition c x y) ts = bracket_head _
+exp_head (tree.Unary m e) ts = bracket_head _
+exp_head (tree.Bin o l r) ts = bracket_head _
+exp_head (tree.Cond c x y) ts = bracket_head _
 exp_head (tree.Call f es) ts = bracket_head _
 
 pub routine_head : (e : Exp) (ts : List Part) → ExpHead (routine_of e (whole e) ++ ts)
 routine_head (tree.Name n) ts = name_head n ts
-routine_head (tree.Number n) ts = bracket_head _
+routine_head (tree.Num n) ts = bracket_head _
 routine_head (tree.Character n) ts = bracket_head _
 routine_head (tree.Text n) ts = bracket_head _
 routine_head tree.True ts = bracket_head _
 routine_head tree.False ts = bracket_head _
 routine_head (tree.Table ks) ts = bracket_head _
 routine_head (tree.Valof b) ts = bracket_head _
-routine_head (tree.Monadic m e) ts = bracket_head _
-routine_head (tree.Dyadic o l r) ts = bracket_head _
-routine_head (tree.Condition c x y) ts = bracket_head _
+routine_head (tree.Unary m e) ts = bracket_head _
+routine_head (tree.Bin o l r) ts = bracket_head _
+routine_head (tree.Cond c x y) ts = bracket_head _
 routine_head (tree.Call f es) ts = bracket_head _
 
 -- at an item
@@ -141,30 +141,30 @@ pub record CommandHead (ts : List Part) : Type 0 where
 assign_head : (e : Exp) (es : Exps) (ts : List Part) → CommandHead (part_of e (whole e) ++ (after_commas es ++ A sign.Assign ∷ ts))
 assign_head (tree.Name n) none ts = record { no_separator = refl; no_close = refl; no_declaration = refl; no_label = refl }
 assign_head (tree.Name n) (more e es) ts = record { no_separator = refl; no_close = refl; no_declaration = refl; no_label = refl }
-assign_head (tree.Number n) es ts = record { no_separator = refl; no_close = refl; no_declaration = refl; no_label = refl }
+assign_head (tree.Num n) es ts = record { no_separator = refl; no_close = refl; no_declaration = refl; no_label = refl }
 assign_head (tree.Character n) es ts = record { no_separator = refl; no_close = refl; no_declaration = refl; no_label = refl }
 assign_head (tree.Text n) es ts = record { no_separator = refl; no_close = refl; no_declaration = refl; no_label = refl }
 assign_head tree.True es ts = record { no_separator = refl; no_close = refl; no_declaration = refl; no_label = refl }
 assign_head tree.False es ts = record { no_separator = refl; no_close = refl; no_declaration = refl; no_label = refl }
 assign_head (tree.Table ks) es ts = record { no_separator = refl; no_close = refl; no_declaration = refl; no_label = refl }
 assign_head (tree.Valof b) es ts = record { no_separator = refl; no_close = refl; no_declaration = refl; no_label = refl }
-assign_head (tree.Monadic m e) es ts = record { no_separator = refl; no_close = refl; no_declaration = refl; no_label = refl }
-assign_head (tree.Dyadic o l r) es ts = record { no_separator = refl; no_close = refl; no_declaration = refl; no_label = refl }
-assign_head (tree.Condition c x y) es ts = record { no_separator = refl; no_close = refl; no_declaration = refl; no_label = refl }
+assign_head (tree.Unary m e) es ts = record { no_separator = refl; no_close = refl; no_declaration = refl; no_label = refl }
+assign_head (tree.Bin o l r) es ts = record { no_separator = refl; no_close = refl; no_declaration = refl; no_label = refl }
+assign_head (tree.Cond c x y) es ts = record { no_separator = refl; no_close = refl; no_declaration = refl; no_label = refl }
 assign_head (tree.Call f gs) es ts = record { no_separator = refl; no_close = refl; no_declaration = refl; no_label = refl }
 
 call_head : (f : Exp) (ts : List Part) → CommandHead (routine_of f (whole f) ++ A sign.OpenBracket ∷ ts)
 call_head (tree.Name n) ts = record { no_separator = refl; no_close = refl; no_declaration = refl; no_label = refl }
-call_head (tree.Number n) ts = record { no_separator = refl; no_close = refl; no_declaration = refl; no_label = refl }
+call_head (tree.Num n) ts = record { no_separator = refl; no_close = refl; no_declaration = refl; no_label = refl }
 call_head (tree.Character n) ts = record { no_separator = refl; no_close = refl; no_declaration = refl; no_label = refl }
 call_head (tree.Text n) ts = record { no_separator = refl; no_close = refl; no_declaration = refl; no_label = refl }
 call_head tree.True ts = record { no_separator = refl; no_close = refl; no_declaration = refl; no_label = refl }
 call_head tree.False ts = record { no_separator = refl; no_close = refl; no_declaration = refl; no_label = refl }
 call_head (tree.Table ks) ts = record { no_separator = refl; no_close = refl; no_declaration = refl; no_label = refl }
 call_head (tree.Valof b) ts = record { no_separator = refl; no_close = refl; no_declaration = refl; no_label = refl }
-call_head (tree.Monadic m e) ts = record { no_separator = refl; no_close = refl; no_declaration = refl; no_label = refl }
-call_head (tree.Dyadic o l r) ts = record { no_separator = refl; no_close = refl; no_declaration = refl; no_label = refl }
-call_head (tree.Condition c x y) ts = record { no_separator = refl; no_close = refl; no_declaration = refl; no_label = refl }
+call_head (tree.Unary m e) ts = record { no_separator = refl; no_close = refl; no_declaration = refl; no_label = refl }
+call_head (tree.Bin o l r) ts = record { no_separator = refl; no_close = refl; no_declaration = refl; no_label = refl }
+call_head (tree.Cond c x y) ts = record { no_separator = refl; no_close = refl; no_declaration = refl; no_label = refl }
 call_head (tree.Call f es) ts = record { no_separator = refl; no_close = refl; no_declaration = refl; no_label = refl }
 
 pub command_head : (c : Command) → FormedCommand EndsInNoValof c → (ts : List Part) → CommandHead (command_spelling c ++ ts)

@@ -4,34 +4,34 @@ use Rattle.std.proofs.Math.Numerals.{add-one}
 use Rattle.std.proofs.lemmas.Bool.{lt-ltb, eqb-true}
 use Rattle.std.proofs.lemmas.List.{length-append}
 use Rattle.bc_lex_tokens.specs.declared.symbol.Symbol.TheVariants as sign
-use Rattle.bc_parse_tree.specs.declared.tree.Dyadic as code_dyadic
-use Rattle.bc_parse_tree.specs.declared.tree.Dyadic.TheVariants as dyadic
-use Rattle.bc_parse_tree.specs.declared.tree.Monadic as code_monadic
-use Rattle.bc_parse_tree.specs.declared.tree.Monadic.TheVariants as monadic
+use Rattle.bc_parse_tree.specs.declared.tree.BinaryOp as code_binary
+use Rattle.bc_parse_tree.specs.declared.tree.BinaryOp.TheVariants as binary
+use Rattle.bc_parse_tree.specs.declared.tree.UnaryOp as code_unary
+use Rattle.bc_parse_tree.specs.declared.tree.UnaryOp.TheVariants as unary
 use Rattle.bc_parse_tree.specs.Parts.{Part, A}
 use Rattle.bc_parse_tree.specs.Tree.{Exp, Exps, none, more}
 use Rattle.bc_parse_tree.specs.Tree as tree
-use Rattle.bc_parse_tree.specs.Operators.{level_of, own_level, dyadic_sign}
+use Rattle.bc_parse_tree.specs.Operators.{level_of, own_level, binary_sign}
 use Rattle.bc_parse_tree.specs.Spelling.{in_round, add_exp, count}
 use Rattle.bc_parse_tree.specs.Canonical.{whole, part_of, routine_of, after_commas, after_first}
 use Rattle.bc_parse_tree.specs.Height.{exp_height, exps_height}
-use Rattle.bc_parse_defs.specs.Reading.{Fault, ◌>>=◌, Piece, piece, turns, Reader, Following, Operator, Arguments, Choice, ends, following, after_of, exps_turn, exps_read, next_exp, arguments_read, with_operator, with_arguments, with_choice, suffix_read, grow_turn, grow_read, bracket_read, table_read, monadic_read, started_read, operand_read, exp_of, command_of, definition_of}
+use Rattle.bc_parse_defs.specs.Reading.{Fault, ◌>>=◌, Piece, piece, turns, Reader, Following, Operator, Arguments, Choice, ends, following, after_of, exps_turn, exps_read, next_exp, arguments_read, with_operator, with_arguments, with_choice, suffix_read, grow_turn, grow_read, bracket_read, table_read, unary_read, started_read, operand_read, exp_of, command_of, definition_of}
 use Rattle.bc_parse_laws.proofs.Rounds.{part_rounds, routine_rounds, exp_rounds, exps_rounds}
 use Rattle.bc_parse_laws.proofs.Formed.{SomeExps}
 use Rattle.bc_parse_laws.proofs.Ends.{turn_last, turn_next, Stops, After, Unrepeated, unrepeated, stops_here, exp_head}
 
 pub height_positive : (e : Exp) → 0 < exp_height e
 height_positive (tree.Name s) = omega arith
-height_positive (tree.Number n) = omega arith
+height_positive (tree.Num n) = omega arith
 height_positive (tree.Character n) = omega arith
 height_positive (tree.Text s) = omega arith
 height_positive tree.True = omega arith
 height_positive tree.False = omega arith
 height_positive (tree.Table ks) = omega arith
 height_positive (tree.Valof b) = omega arith
-height_positive (tree.Monadic m e) = omega arith
-height_positive (tree.Dyadic o l r) = omega arith
-height_positive (tree.Condition c x y) = omega arith
+height_positive (tree.Unary m e) = omega arith
+height_positive (tree.Bin o l r) = omega arith
+height_positive (tree.Cond c x y) = omega arith
 height_positive (tree.Call f es) = omega arith
 
 -- ---- after an operand
@@ -107,32 +107,32 @@ operand_again : (e : Exp) → WholeAgain e → (m nest round : ℕ) (rest : List
     → Operand m nest round (part_of e (whole e) ++ rest) ≡ Ok (piece (e, 12) (exp_height e) rest)
 unfolding operand_read
 operand_again (tree.Name s) again m nest round rest high deep enough = refl
-operand_again (tree.Number n) again m nest round rest high deep enough = refl
+operand_again (tree.Num n) again m nest round rest high deep enough = refl
 operand_again (tree.Character n) again m nest round rest high deep enough = refl
 operand_again (tree.Text s) again m nest round rest high deep enough = refl
 operand_again tree.True again m nest round rest high deep enough = refl
 operand_again tree.False again m nest round rest high deep enough = refl
 operand_again (tree.Table ks) again m nest round rest high deep enough = bracket_again (tree.Table ks) again m nest round rest high deep enough
 operand_again (tree.Valof b) again m nest round rest high deep enough = bracket_again (tree.Valof b) again m nest round rest high deep enough
-operand_again (tree.Monadic o e) again m nest round rest high deep enough = bracket_again (tree.Monadic o e) again m nest round rest high deep enough
-operand_again (tree.Dyadic o l r) again m nest round rest high deep enough = bracket_again (tree.Dyadic o l r) again m nest round rest high deep enough
-operand_again (tree.Condition c x y) again m nest round rest high deep enough = bracket_again (tree.Condition c x y) again m nest round rest high deep enough
+operand_again (tree.Unary o e) again m nest round rest high deep enough = bracket_again (tree.Unary o e) again m nest round rest high deep enough
+operand_again (tree.Bin o l r) again m nest round rest high deep enough = bracket_again (tree.Bin o l r) again m nest round rest high deep enough
+operand_again (tree.Cond c x y) again m nest round rest high deep enough = bracket_again (tree.Cond c x y) again m nest round rest high deep enough
 operand_again (tree.Call f es) again m nest round rest high deep enough = bracket_again (tree.Call f es) again m nest round rest high deep enough
 
 routine_again : (e : Exp) → WholeAgain e → (m nest round : ℕ) (rest : List Part) → exp_height e ≤ nest → routine_rounds e (exp_rounds e) ≤ round → nest + round ≤ m + 1
     → Operand m nest round (routine_of e (whole e) ++ rest) ≡ Ok (piece (e, 12) (exp_height e) rest)
 unfolding operand_read
 routine_again (tree.Name s) again m nest round rest high deep enough = refl
-routine_again (tree.Number n) again m nest round rest high deep enough = bracket_again (tree.Number n) again m nest round rest high deep enough
+routine_again (tree.Num n) again m nest round rest high deep enough = bracket_again (tree.Num n) again m nest round rest high deep enough
 routine_again (tree.Character n) again m nest round rest high deep enough = bracket_again (tree.Character n) again m nest round rest high deep enough
 routine_again (tree.Text s) again m nest round rest high deep enough = bracket_again (tree.Text s) again m nest round rest high deep enough
 routine_again tree.True again m nest round rest high deep enough = bracket_again tree.True again m nest round rest high deep enough
 routine_again tree.False again m nest round rest high deep enough = bracket_again tree.False again m nest round rest high deep enough
 routine_again (tree.Table ks) again m nest round rest high deep enough = bracket_again (tree.Table ks) again m nest round rest high deep enough
 routine_again (tree.Valof b) again m nest round rest high deep enough = bracket_again (tree.Valof b) again m nest round rest high deep enough
-routine_again (tree.Monadic o e) again m nest round rest high deep enough = bracket_again (tree.Monadic o e) again m nest round rest high deep enough
-routine_again (tree.Dyadic o l r) again m nest round rest high deep enough = bracket_again (tree.Dyadic o l r) again m nest round rest high deep enough
-routine_again (tree.Condition c x y) again m nest round rest high deep enough = bracket_again (tree.Condition c x y) again m nest round rest high deep enough
+routine_again (tree.Unary o e) again m nest round rest high deep enough = bracket_again (tree.Unary o e) again m nest round rest high deep enough
+routine_again (tree.Bin o l r) again m nest round rest high deep enough = bracket_again (tree.Bin o l r) again m nest round rest high deep enough
+routine_again (tree.Cond c x y) again m nest round rest high deep enough = bracket_again (tree.Cond c x y) again m nest round rest high deep enough
 routine_again (tree.Call f es) again m nest round rest high deep enough = bracket_again (tree.Call f es) again m nest round rest high deep enough
 
 pub part_again : (e : Exp) → WholeAgain e → PartAgain e
@@ -247,9 +247,9 @@ pub name_again : (s : List ℕ) → WholeAgain (tree.Name s)
 unfolding operand_read
 name_again s = leaf_again (tree.Name s) (λ m nest round rest. refl)
 
-pub number_again : (k : ℕ) → WholeAgain (tree.Number k)
+pub number_again : (k : ℕ) → WholeAgain (tree.Num k)
 unfolding operand_read
-number_again k = leaf_again (tree.Number k) (λ m nest round rest. refl)
+number_again k = leaf_again (tree.Num k) (λ m nest round rest. refl)
 
 pub character_again : (k : ℕ) → WholeAgain (tree.Character k)
 unfolding operand_read
@@ -280,17 +280,17 @@ pub table_again : (ks : Exps) → SomeExps ks → PartsAgain ks → WholeAgain (
 table_again ks some again n nest round rest high deep enough end quiet =
     operand_alone n nest round 1 _ rest (tree.Table ks) 12 (exps_height ks + 1) (omega arith) enough end.stops (λ m le. table_operand ks some again m nest round rest high deep le end)
 
-monadic_operand : (o : code_monadic.Monadic) (e : Exp) → PartAgain e → (m nest round : ℕ) (rest : List Part) → exp_height e + 1 ≤ nest → part_rounds e (exp_rounds e) ≤ round → nest + round ≤ m + 1 → After rest
-    → Operand m nest round (whole (tree.Monadic o e) ++ rest) ≡ Ok (piece (tree.Monadic o e, own_level o) (exp_height e + 1) rest)
-unfolding operand_read started_read monadic_read
-monadic_operand monadic.Not e again m nest round rest high deep enough end = rw (again m (nest - 1) round 6 rest (omega arith) deep (omega arith) end.stops) refl
-monadic_operand monadic.Negate e again m nest round rest high deep enough end = rw (again m (nest - 1) round 9 rest (omega arith) deep (omega arith) end.stops) refl
-monadic_operand monadic.Load e again m nest round rest high deep enough end = rw (again m (nest - 1) round 10 rest (omega arith) deep (omega arith) end.stops) refl
-monadic_operand monadic.Address e again m nest round rest high deep enough end = rw (again m (nest - 1) round 10 rest (omega arith) deep (omega arith) end.stops) refl
+unary_operand : (o : code_unary.UnaryOp) (e : Exp) → PartAgain e → (m nest round : ℕ) (rest : List Part) → exp_height e + 1 ≤ nest → part_rounds e (exp_rounds e) ≤ round → nest + round ≤ m + 1 → After rest
+    → Operand m nest round (whole (tree.Unary o e) ++ rest) ≡ Ok (piece (tree.Unary o e, own_level o) (exp_height e + 1) rest)
+unfolding operand_read started_read unary_read
+unary_operand unary.Not e again m nest round rest high deep enough end = rw (again m (nest - 1) round 6 rest (omega arith) deep (omega arith) end.stops) refl
+unary_operand unary.Neg e again m nest round rest high deep enough end = rw (again m (nest - 1) round 9 rest (omega arith) deep (omega arith) end.stops) refl
+unary_operand unary.Load e again m nest round rest high deep enough end = rw (again m (nest - 1) round 10 rest (omega arith) deep (omega arith) end.stops) refl
+unary_operand unary.Address e again m nest round rest high deep enough end = rw (again m (nest - 1) round 10 rest (omega arith) deep (omega arith) end.stops) refl
 
-pub monadic_again : (o : code_monadic.Monadic) (e : Exp) → PartAgain e → WholeAgain (tree.Monadic o e)
-monadic_again o e again n nest round rest high deep enough end quiet =
-    operand_alone n nest round 1 _ rest (tree.Monadic o e) (own_level o) (exp_height e + 1) (omega arith) enough end.stops (λ m le. monadic_operand o e again m nest round rest high deep le end)
+pub unary_again : (o : code_unary.UnaryOp) (e : Exp) → PartAgain e → WholeAgain (tree.Unary o e)
+unary_again o e again n nest round rest high deep enough end quiet =
+    operand_alone n nest round 1 _ rest (tree.Unary o e) (own_level o) (exp_height e + 1) (omega arith) enough end.stops (λ m le. unary_operand o e again m nest round rest high deep le end)
 
 -- an operand, and one thing that continues it
 two_parts : (n nest round : ℕ) (ts more_ts rest : List Part) (p : Part) (f : Following) (l e : Exp) (h height top : ℕ) → 0 < nest → nest + round ≤ n → Stops rest
@@ -302,53 +302,53 @@ two_parts n nest round ts more_ts rest p f l e h height top some enough stop is 
     exp_runs n nest round 1 ts (Ok (piece e height rest)) some enough (λ m le.
     rw (first m le) (grow_once (exp_of m) nest round (length ts) (piece (l, 12) h (p ∷ more_ts)) p more_ts f (piece (e, top) height rest) refl is goes_on (second m le) stop))
 
-operator_follows : (o : code_dyadic.Dyadic) (ts : List Part) → following 1 12 (A (dyadic_sign o) ∷ ts) ≡ Operator o ts
-operator_follows dyadic.Equivalent ts = refl
-operator_follows dyadic.NotEquivalent ts = refl
-operator_follows dyadic.Or ts = refl
-operator_follows dyadic.And ts = refl
-operator_follows dyadic.ShiftLeft ts = refl
-operator_follows dyadic.ShiftRight ts = refl
-operator_follows dyadic.Equal ts = refl
-operator_follows dyadic.NotEqual ts = refl
-operator_follows dyadic.Less ts = refl
-operator_follows dyadic.GreaterEqual ts = refl
-operator_follows dyadic.Greater ts = refl
-operator_follows dyadic.LessEqual ts = refl
-operator_follows dyadic.Add ts = refl
-operator_follows dyadic.Subtract ts = refl
-operator_follows dyadic.Multiply ts = refl
-operator_follows dyadic.Divide ts = refl
-operator_follows dyadic.Remainder ts = refl
-operator_follows dyadic.Index ts = refl
+operator_follows : (o : code_binary.BinaryOp) (ts : List Part) → following 1 12 (A (binary_sign o) ∷ ts) ≡ Operator o ts
+operator_follows binary.Equivalent ts = refl
+operator_follows binary.NotEquivalent ts = refl
+operator_follows binary.Or ts = refl
+operator_follows binary.And ts = refl
+operator_follows binary.ShiftLeft ts = refl
+operator_follows binary.ShiftRight ts = refl
+operator_follows binary.Equal ts = refl
+operator_follows binary.NotEqual ts = refl
+operator_follows binary.Less ts = refl
+operator_follows binary.GreaterEqual ts = refl
+operator_follows binary.Greater ts = refl
+operator_follows binary.LessEqual ts = refl
+operator_follows binary.Add ts = refl
+operator_follows binary.Subtract ts = refl
+operator_follows binary.Multiply ts = refl
+operator_follows binary.Divide ts = refl
+operator_follows binary.Remainder ts = refl
+operator_follows binary.Index ts = refl
 
-operator_suffix : (o : code_dyadic.Dyadic) (l r : Exp) → PartAgain r → (m nest round begin place : ℕ) (rest : List Part) → max (exp_height l) (exp_height r) + 1 ≤ nest → part_rounds r (exp_rounds r) ≤ round → nest + round ≤ m + 1 → Stops rest
-    → suffix_read (exp_of m) nest round begin (Operator o (part_of r (whole r) ++ rest)) l (exp_height l) place ≡ Ok (piece (tree.Dyadic o l r, level_of o) (max (exp_height l) (exp_height r) + 1) rest)
+operator_suffix : (o : code_binary.BinaryOp) (l r : Exp) → PartAgain r → (m nest round begin place : ℕ) (rest : List Part) → max (exp_height l) (exp_height r) + 1 ≤ nest → part_rounds r (exp_rounds r) ≤ round → nest + round ≤ m + 1 → Stops rest
+    → suffix_read (exp_of m) nest round begin (Operator o (part_of r (whole r) ++ rest)) l (exp_height l) place ≡ Ok (piece (tree.Bin o l r, level_of o) (max (exp_height l) (exp_height r) + 1) rest)
 unfolding suffix_read with_operator
 operator_suffix o l r again m nest round begin place rest high deep enough stop =
     rw (lt-ltb (exp_height l) nest (omega arith), again m (nest - 1) round (level_of o + 1) rest (omega arith) deep (omega arith) stop) refl
 
-pub dyadic_again : (o : code_dyadic.Dyadic) (l r : Exp) → WholeAgain l → PartAgain r → WholeAgain (tree.Dyadic o l r)
-dyadic_again o l r first second n nest round rest high deep enough end quiet =
+pub binary_again : (o : code_binary.BinaryOp) (l r : Exp) → WholeAgain l → PartAgain r → WholeAgain (tree.Bin o l r)
+binary_again o l r first second n nest round rest high deep enough end quiet =
     let more_ts : List Part = part_of r (whole r) ++ rest in
-    let shape : whole (tree.Dyadic o l r) ++ rest ≡ part_of l (whole l) ++ A (dyadic_sign o) ∷ more_ts = append_assoc (part_of l (whole l)) _ rest in
+    let shape : whole (tree.Bin o l r) ++ rest ≡ part_of l (whole l) ++ A (binary_sign o) ∷ more_ts = append_assoc (part_of l (whole l)) _ rest in
     ap (exp_of n nest round 1) shape
-    ∙ two_parts n nest round _ more_ts rest (A (dyadic_sign o)) (Operator o more_ts) l (tree.Dyadic o l r) (exp_height l) _ (level_of o) (omega arith) enough end.stops (operator_follows o more_ts) refl
+    ∙ two_parts n nest round _ more_ts rest (A (binary_sign o)) (Operator o more_ts) l (tree.Bin o l r) (exp_height l) _ (level_of o) (omega arith) enough end.stops (operator_follows o more_ts) refl
     (λ m le. operand_again l first m nest round _ (omega arith) (omega arith) le)
     (λ m le. operator_suffix o l r second m nest round _ _ rest high (omega arith) le end.stops)
 
 choice_suffix : (c x y : Exp) → PartAgain x → PartAgain y → (m nest round begin place : ℕ) (rest : List Part) → max (max (exp_height c) (exp_height x)) (exp_height y) + 1 ≤ nest → part_rounds x (exp_rounds x) ≤ round → part_rounds y (exp_rounds y) ≤ round → nest + round ≤ m + 1 → Stops rest
-    → suffix_read (exp_of m) nest round begin (Choice (part_of x (whole x) ++ A sign.Comma ∷ (part_of y (whole y) ++ rest))) c (exp_height c) place ≡ Ok (piece (tree.Condition c x y, 1) (max (max (exp_height c) (exp_height x)) (exp_height y) + 1) rest)
+    → suffix_read (exp_of m) nest round begin (Choice (part_of x (whole x) ++ A sign.Comma ∷ (part_of y (whole y) ++ rest))) c (exp_height c) place ≡ Ok (piece (tree.Cond c x y, 1) (max (max (exp_height c) (exp_height x)) (exp_height y) + 1) rest)
 unfolding suffix_read with_choice
 choice_suffix c x y first second m nest round begin place rest high deep deep_more enough stop =
     rw (lt-ltb (exp_height c) nest (omega arith), first m (nest - 1) round 1 (A sign.Comma ∷ (part_of y (whole y) ++ rest)) (omega arith) deep (omega arith) refl, second m (nest - 1) round 1 rest (omega arith) deep_more (omega arith) stop) refl
 
-pub condition_again : (c x y : Exp) → WholeAgain c → PartAgain x → PartAgain y → WholeAgain (tree.Condition c x y)
+pub condition_again : (c x y : Exp) → WholeAgain c → PartAgain x → PartAgain y → WholeAgain (tree.Cond c x y)
 condition_again c x y first second third n nest round rest high deep enough end quiet =
     let more_ts : List Part = part_of x (whole x) ++ A sign.Comma ∷ (part_of y (whole y) ++ rest) in
-    let shape : whole (tree.Condition c x y) ++ rest ≡ part_of c (whole c) ++ A sign.Arrow ∷ more_ts = simp append_assoc in
+    let shape : whole (tree.Cond c x y) ++ rest ≡ part_of c (whole c) ++ A sign.Arrow ∷ more_ts = simp append_assoc in
     ap (exp_of n nest round 1) shape
-    ∙ two_parts n nest round _ more_ts rest (A sign.Arrow) (Choice more_ts) c (tree.Condition c x y) (exp_height c) _ 1 (omega arith) enough end.stops refl refl
+    ∙ two_parts n nest round _ more_ts rest (A sign.Arrow) (Choice more_ts) c (tree.Cond c x y) (exp_height c) _ 1 (omega arith) enough end.stops refl refl
     (λ m le. operand_again c first m nest round _ (omega arith) (omega arith) le)
     (λ m le. choice_suffix c x y second third m nest round _ _ rest high (omega arith) (omega arith) le end.stops)
 

@@ -45,16 +45,16 @@ module _ (Repeated : Command → Type 0) where
   abbrev mutual
     pub FormedExp : Exp → Type 0
     FormedExp (tree.Name s) = Unit {0}
-    FormedExp (tree.Number n) = Unit {0}
+    FormedExp (tree.Num n) = Unit {0}
     FormedExp (tree.Character n) = Unit {0}
     FormedExp (tree.Text s) = Unit {0}
     FormedExp tree.True = Unit {0}
     FormedExp tree.False = Unit {0}
     FormedExp (tree.Table ks) = SomeExps ks × FormedExps ks
     FormedExp (tree.Valof b) = FormedBlock b
-    FormedExp (tree.Monadic m e) = FormedExp e
-    FormedExp (tree.Dyadic o l r) = FormedExp l × FormedExp r
-    FormedExp (tree.Condition c x y) = FormedExp c × FormedExp x × FormedExp y
+    FormedExp (tree.Unary m e) = FormedExp e
+    FormedExp (tree.Bin o l r) = FormedExp l × FormedExp r
+    FormedExp (tree.Cond c x y) = FormedExp c × FormedExp x × FormedExp y
     FormedExp (tree.Call f es) = FormedExp f × FormedExps es
 
     pub FormedExps : Exps → Type 0

@@ -44,30 +44,30 @@ places (p ∷ xs) ys f = (front _ f, rest ys (back xs f))
 
 part : (e : Exp) → Free (part_of e (whole e)) → Free (whole e)
 part (tree.Name s) f = f
-part (tree.Number n) f = f
+part (tree.Num n) f = f
 part (tree.Character n) f = f
 part (tree.Text s) f = f
 part tree.True f = f
 part tree.False f = f
 part (tree.Table ks) f = front _ (tail f)
 part (tree.Valof b) f = front _ (tail f)
-part (tree.Monadic m e) f = front _ (tail f)
-part (tree.Dyadic o l r) f = front _ (tail f)
-part (tree.Condition c x y) f = front _ (tail f)
+part (tree.Unary m e) f = front _ (tail f)
+part (tree.Bin o l r) f = front _ (tail f)
+part (tree.Cond c x y) f = front _ (tail f)
 part (tree.Call g es) f = front _ (tail f)
 
 routine : (e : Exp) → Free (routine_of e (whole e)) → Free (whole e)
 routine (tree.Name s) f = f
-routine (tree.Number n) f = front _ (tail f)
+routine (tree.Num n) f = front _ (tail f)
 routine (tree.Character n) f = front _ (tail f)
 routine (tree.Text s) f = front _ (tail f)
 routine tree.True f = front _ (tail f)
 routine tree.False f = front _ (tail f)
 routine (tree.Table ks) f = front _ (tail f)
 routine (tree.Valof b) f = front _ (tail f)
-routine (tree.Monadic m e) f = front _ (tail f)
-routine (tree.Dyadic o l r) f = front _ (tail f)
-routine (tree.Condition c x y) f = front _ (tail f)
+routine (tree.Unary m e) f = front _ (tail f)
+routine (tree.Bin o l r) f = front _ (tail f)
+routine (tree.Cond c x y) f = front _ (tail f)
 routine (tree.Call g es) f = front _ (tail f)
 
 -- ---- VALOF before a REPEAT word
@@ -75,15 +75,15 @@ routine (tree.Call g es) f = front _ (tail f)
 no_valof : (e : Exp) (s : Symbol) (ts : List Part) → IsRepeatWord s → Free (whole e ++ A s ∷ ts) → IsNoValof e
 no_valof (tree.Valof b) s ts word f = f.holds [] ts b s word refl
 no_valof (tree.Name n) s ts word f = tt
-no_valof (tree.Number n) s ts word f = tt
+no_valof (tree.Num n) s ts word f = tt
 no_valof (tree.Character n) s ts word f = tt
 no_valof (tree.Text n) s ts word f = tt
 no_valof tree.True s ts word f = tt
 no_valof tree.False s ts word f = tt
 no_valof (tree.Table ks) s ts word f = tt
-no_valof (tree.Monadic m e) s ts word f = tt
-no_valof (tree.Dyadic o l r) s ts word f = tt
-no_valof (tree.Condition c x y) s ts word f = tt
+no_valof (tree.Unary m e) s ts word f = tt
+no_valof (tree.Bin o l r) s ts word f = tt
+no_valof (tree.Cond c x y) s ts word f = tt
 no_valof (tree.Call g es) s ts word f = tt
 
 no_valof_end : (c : Command) (s : Symbol) (ts : List Part) → IsRepeatWord s → Free (command_spelling c ++ A s ∷ ts) → EndsInNoValof c
@@ -97,16 +97,16 @@ no_valof_end _ s ts word f = tt
 mutual
   exp_free : (e : Exp) → FormedExp Any e → Free (whole e) → FormedExp EndsInNoValof e
   exp_free (tree.Name s) formed f = tt
-  exp_free (tree.Number n) formed f = tt
+  exp_free (tree.Num n) formed f = tt
   exp_free (tree.Character n) formed f = tt
   exp_free (tree.Text s) formed f = tt
   exp_free tree.True formed f = tt
   exp_free tree.False formed f = tt
   exp_free (tree.Table ks) formed f = (formed.0, exps_free ks formed.1 (tail f))
   exp_free (tree.Valof b) formed f = block_free b formed (tail f)
-  exp_free (tree.Monadic m e) formed f = exp_free e formed (part e (tail f))
-  exp_free (tree.Dyadic o l r) formed f = (exp_free l formed.0 (part l (front _ f)), exp_free r formed.1 (part r (tail (back (part_of l (whole l)) f))))
-  exp_free (tree.Condition c x y) formed f =
+  exp_free (tree.Unary m e) formed f = exp_free e formed (part e (tail f))
+  exp_free (tree.Bin o l r) formed f = (exp_free l formed.0 (part l (front _ f)), exp_free r formed.1 (part r (tail (back (part_of l (whole l)) f))))
+  exp_free (tree.Cond c x y) formed f =
       let g = tail (back (part_of c (whole c)) f) in
       (exp_free c formed.0 (part c (front _ f)), exp_free x formed.1 (part x (front _ g)), exp_free y formed.2 (part y (tail (back (part_of x (whole x)) g))))
   exp_free (tree.Call g es) formed f = (exp_free g formed.0 (routine g (front _ f)), exps_free es formed.1 (front _ (tail (back (routine_of g (whole g)) f))))

@@ -106,8 +106,8 @@ mutual
   level_formed (spell.table s) = exps_formed s
   level_formed (spell.valof s) = body_formed s
   level_formed (spell.call f es) = (level_formed f, arguments_formed es)
-  level_formed (spell.monadic h s) = exp_formed s
-  level_formed (spell.dyadic h l r) = (level_formed l, exp_formed r)
+  level_formed (spell.unary h s) = exp_formed s
+  level_formed (spell.binary h l r) = (level_formed l, exp_formed r)
   level_formed (spell.condition h c x y) = (level_formed c, exp_formed x, exp_formed y)
 
   exps_formed : {level : ℕ} {es : Exps} {ts : List Part} → SpellsExps level es ts → SomeExps es × FormedExps Any es

@@ -6,11 +6,11 @@ use Rattle.bc_lex_tokens.specs.declared.symbol.Symbol.TheVariants as sign
 use Rattle.bc_parse_tree.specs.Parts.{Part, A, Name, Number, Character, String, NewLine}
 use Rattle.bc_parse_tree.specs.Tree.{Exp, Exps, none, more, Block, block, Declaration, Declarations, no_declarations, declaration, Entries, no_entries, entry, Definition, Definitions, no_definitions, definition, Item, Labelled, Labels_alone, Items, no_items, item, Label, Labels, no_labels, label, Command}
 use Rattle.bc_parse_tree.specs.Tree as tree
-use Rattle.bc_parse_tree.specs.Operators.{dyadic_sign, monadic_sign}
+use Rattle.bc_parse_tree.specs.Operators.{binary_sign, unary_sign}
 use Rattle.bc_parse_tree.specs.Spelling.{in_round, named}
 use Rattle.bc_parse_tree.specs.Canonical.{part_of, routine_of, entry_sign, after_first, whole, after_commas, block_spelling, declarations_spelling, declaration_spelling, entries_spelling, definitions_spelling, definition_spelling, items_spelling, item_spelling, labels_spelling, label_spelling, command_spelling, section_spelling}
 use Rattle.bc_parse_laws.specs.Held.{operators, add_to, most_held}
-use Rattle.bc_parse_laws.proofs.Balance.{Plain, plain_dyadic, plain_monadic, plain_storage, plain_entry}
+use Rattle.bc_parse_laws.proofs.Balance.{Plain, plain_binary, plain_unary, plain_storage, plain_entry}
 
 -- ---- lists of parts
 
@@ -136,30 +136,30 @@ in_section f = section_list f.holds
 
 part_holds : (e : Exp) → HoldsFew (whole e) → Holds (part_of e (whole e)) 0
 part_holds (tree.Name s) f = before refl nothing
-part_holds (tree.Number n) f = before refl nothing
+part_holds (tree.Num n) f = before refl nothing
 part_holds (tree.Character n) f = before refl nothing
 part_holds (tree.Text s) f = before refl nothing
 part_holds tree.True f = before refl nothing
 part_holds tree.False f = before refl nothing
 part_holds (tree.Table ks) f = bracketed f
 part_holds (tree.Valof b) f = bracketed f
-part_holds (tree.Monadic m e) f = bracketed f
-part_holds (tree.Dyadic o l r) f = bracketed f
-part_holds (tree.Condition c x y) f = bracketed f
+part_holds (tree.Unary m e) f = bracketed f
+part_holds (tree.Bin o l r) f = bracketed f
+part_holds (tree.Cond c x y) f = bracketed f
 part_holds (tree.Call g es) f = bracketed f
 
 routine_holds : (e : Exp) → HoldsFew (whole e) → Holds (routine_of e (whole e)) 0
 routine_holds (tree.Name s) f = before refl nothing
-routine_holds (tree.Number n) f = bracketed f
+routine_holds (tree.Num n) f = bracketed f
 routine_holds (tree.Character n) f = bracketed f
 routine_holds (tree.Text s) f = bracketed f
 routine_holds tree.True f = bracketed f
 routine_holds tree.False f = bracketed f
 routine_holds (tree.Table ks) f = bracketed f
 routine_holds (tree.Valof b) f = bracketed f
-routine_holds (tree.Monadic m e) f = bracketed f
-routine_holds (tree.Dyadic o l r) f = bracketed f
-routine_holds (tree.Condition c x y) f = bracketed f
+routine_holds (tree.Unary m e) f = bracketed f
+routine_holds (tree.Bin o l r) f = bracketed f
+routine_holds (tree.Cond c x y) f = bracketed f
 routine_holds (tree.Call g es) f = bracketed f
 
 -- expressions, each preceded by a comma, and the same without the first comma
@@ -189,20 +189,20 @@ block_row (p ∷ xs) ys f g = both f.without_first g.with_first
 mutual
   whole_holds : (e : Exp) → HoldsFew (whole e)
   whole_holds (tree.Name s) = no_operator (before refl nothing)
-  whole_holds (tree.Number n) = no_operator (before refl nothing)
+  whole_holds (tree.Num n) = no_operator (before refl nothing)
   whole_holds (tree.Character n) = no_operator (before refl nothing)
   whole_holds (tree.Text s) = no_operator (before refl nothing)
   whole_holds tree.True = no_operator (before refl nothing)
   whole_holds tree.False = no_operator (before refl nothing)
   whole_holds (tree.Table ks) = no_operator (before refl (list_holds ks).without_first)
   whole_holds (tree.Valof b) = no_operator (before refl (block_holds b))
-  whole_holds (tree.Monadic m e) = record { count = operators (A (monadic_sign m)) + 0; is_few = omega (arith, few (A (monadic_sign m))); holds = before (plain_monadic m) (part_holds e (whole_holds e)) }
-  whole_holds (tree.Dyadic o l r) = record {
-    count = 0 + (operators (A (dyadic_sign o)) + 0);
-    is_few = omega (arith, few (A (dyadic_sign o)));
-    holds = join (part_holds l (whole_holds l)) (before (plain_dyadic o) (part_holds r (whole_holds r)));
+  whole_holds (tree.Unary m e) = record { count = operators (A (unary_sign m)) + 0; is_few = omega (arith, few (A (unary_sign m))); holds = before (plain_unary m) (part_holds e (whole_holds e)) }
+  whole_holds (tree.Bin o l r) = record {
+    count = 0 + (operators (A (binary_sign o)) + 0);
+    is_few = omega (arith, few (A (binary_sign o)));
+    holds = join (part_holds l (whole_holds l)) (before (plain_binary o) (part_holds r (whole_holds r)));
   }
-  whole_holds (tree.Condition c x y) = record {
+  whole_holds (tree.Cond c x y) = record {
     count = 1;
     is_few = omega arith;
     holds = join (part_holds c (whole_holds c)) (before refl (join (part_holds x (whole_holds x)) (before refl (part_holds y (whole_holds y)))));

@@ -6,7 +6,7 @@ use Rattle.bc_parse_tree.specs.Tree as tree
 -- one more if it is a part of another one
 abbrev pub part_rounds : Exp → ℕ → ℕ
 part_rounds (tree.Name s) k = 0
-part_rounds (tree.Number n) k = 0
+part_rounds (tree.Num n) k = 0
 part_rounds (tree.Character n) k = 0
 part_rounds (tree.Text s) k = 0
 part_rounds tree.True k = 0
@@ -20,16 +20,16 @@ routine_rounds _ k = k + 1
 abbrev mutual
   pub exp_rounds : Exp → ℕ
   exp_rounds (tree.Name s) = 0
-  exp_rounds (tree.Number n) = 0
+  exp_rounds (tree.Num n) = 0
   exp_rounds (tree.Character n) = 0
   exp_rounds (tree.Text s) = 0
   exp_rounds tree.True = 0
   exp_rounds tree.False = 0
   exp_rounds (tree.Table ks) = exps_rounds ks
   exp_rounds (tree.Valof b) = block_rounds b
-  exp_rounds (tree.Monadic m e) = part_rounds e (exp_rounds e)
-  exp_rounds (tree.Dyadic o l r) = max (part_rounds l (exp_rounds l)) (part_rounds r (exp_rounds r))
-  exp_rounds (tree.Condition c x y) = max (max (part_rounds c (exp_rounds c)) (part_rounds x (exp_rounds x))) (part_rounds y (exp_rounds y))
+  exp_rounds (tree.Unary m e) = part_rounds e (exp_rounds e)
+  exp_rounds (tree.Bin o l r) = max (part_rounds l (exp_rounds l)) (part_rounds r (exp_rounds r))
+  exp_rounds (tree.Cond c x y) = max (max (part_rounds c (exp_rounds c)) (part_rounds x (exp_rounds x))) (part_rounds y (exp_rounds y))
   exp_rounds (tree.Call f es) = max (routine_rounds f (exp_rounds f)) (exps_rounds es + 1)
 
   pub exps_rounds : Exps → ℕ

@@ -12,7 +12,7 @@ use Rattle.bc_parse_defs.specs.Reading.{piece, place_turn, places_read, exp_of, 
 use Rattle.bc_parse_laws.proofs.Rounds.{declarations_rounds}
 use Rattle.bc_parse_laws.proofs.Formed.{EndsInNoValof, FormedExp, FormedExps, FormedBlock, FormedDeclaration, FormedDeclarations, FormedEntries, FormedDefinition, FormedDefinitions, FormedItem, FormedItems, FormedLabel, FormedLabels, FormedCommand, IsSimple}
 use Rattle.bc_parse_laws.proofs.Ends.{turn_last}
-use Rattle.bc_parse_laws.proofs.Expressions.{WholeAgain, PartsAgain, part_again, name_again, number_again, character_again, text_again, true_again, false_again, table_again, monadic_again, dyadic_again, condition_again, call_again}
+use Rattle.bc_parse_laws.proofs.Expressions.{WholeAgain, PartsAgain, part_again, name_again, number_again, character_again, text_again, true_again, false_again, table_again, unary_again, binary_again, condition_again, call_again}
 use Rattle.bc_parse_laws.proofs.Lists.{LabelAgain, LabelsAgain, EntriesAgain}
 use Rattle.bc_parse_laws.proofs.Commands.{Quiet, BlockAgain, CommandAgain, valof_again, if_again, unless_again, while_again, until_again, test_again, for_again, for_by_again, switch_again}
 use Rattle.bc_parse_laws.proofs.Simple.{SimpleAgain, simple_command, assign_again, do_again, compound_again, break_again, loop_again, end_case_again, return_again, finish_again, goto_again, result_again, repeat_again, repeat_while_again, repeat_until_again}
@@ -33,16 +33,16 @@ compound c no_simple again = (again, λ is. absurd (no_simple is))
 mutual
   pub whole_read : (e : Exp) → FormedExp EndsInNoValof e → WholeAgain e
   whole_read (tree.Name s) formed = name_again s
-  whole_read (tree.Number n) formed = number_again n
+  whole_read (tree.Num n) formed = number_again n
   whole_read (tree.Character n) formed = character_again n
   whole_read (tree.Text s) formed = text_again s
   whole_read tree.True formed = true_again
   whole_read tree.False formed = false_again
   whole_read (tree.Table ks) formed = table_again ks formed.0 (parts_read ks formed.1)
   whole_read (tree.Valof b) formed = valof_again b (block_read_again b formed)
-  whole_read (tree.Monadic m e) formed = monadic_again m e (part_again e (whole_read e formed))
-  whole_read (tree.Dyadic o l r) formed = dyadic_again o l r (whole_read l formed.0) (part_again r (whole_read r formed.1))
-  whole_read (tree.Condition c x y) formed = condition_again c x y (whole_read c formed.0) (part_again x (whole_read x formed.1)) (part_again y (whole_read y formed.2))
+  whole_read (tree.Unary m e) formed = unary_again m e (part_again e (whole_read e formed))
+  whole_read (tree.Bin o l r) formed = binary_again o l r (whole_read l formed.0) (part_again r (whole_read r formed.1))
+  whole_read (tree.Cond c x y) formed = condition_again c x y (whole_read c formed.0) (part_again x (whole_read x formed.1)) (part_again y (whole_read y formed.2))
   whole_read (tree.Call f es) formed = call_again f es (whole_read f formed.0) (parts_read es formed.1)
 
   parts_read : (es : Exps) → FormedExps EndsInNoValof es → PartsAgain es

@@ -28,15 +28,15 @@ UnrepeatedEnd _ ts = Unit {0}
 no_valof : (e : Exp) (ts : List Part) → IsNoValof e → Unrepeated e ts
 no_valof (tree.Valof b) ts h = absurd h
 no_valof (tree.Name s) ts h = tt
-no_valof (tree.Number n) ts h = tt
+no_valof (tree.Num n) ts h = tt
 no_valof (tree.Character n) ts h = tt
 no_valof (tree.Text s) ts h = tt
 no_valof tree.True ts h = tt
 no_valof tree.False ts h = tt
 no_valof (tree.Table ks) ts h = tt
-no_valof (tree.Monadic m e) ts h = tt
-no_valof (tree.Dyadic o l r) ts h = tt
-no_valof (tree.Condition c x y) ts h = tt
+no_valof (tree.Unary m e) ts h = tt
+no_valof (tree.Bin o l r) ts h = tt
+no_valof (tree.Cond c x y) ts h = tt
 no_valof (tree.Call f es) ts h = tt
 
 -- if it doesn't end with one

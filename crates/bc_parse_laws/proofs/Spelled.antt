@@ -2,8 +2,8 @@
 use Rattle.std.proofs.Common.{◌≡◌, ℕ, ◌≤◌, true, false, List, [], ◌∷◌, ◌++◌, refl, sym, ap, subst, append_assoc, arith}
 use Rattle.std.proofs.lemmas.List.{append-nil}
 use Rattle.bc_lex_tokens.specs.declared.symbol.Symbol.TheVariants as sign
-use Rattle.bc_parse_tree.specs.declared.tree.Dyadic as code_dyadic
-use Rattle.bc_parse_tree.specs.declared.tree.Dyadic.TheVariants as dyadic
+use Rattle.bc_parse_tree.specs.declared.tree.BinaryOp as code_binary
+use Rattle.bc_parse_tree.specs.declared.tree.BinaryOp.TheVariants as binary
 use Rattle.bc_parse_tree.specs.declared.tree.Storage.{Storage}
 use Rattle.bc_parse_tree.specs.declared.tree.Storage.TheVariants as storage
 use Rattle.bc_parse_tree.specs.Parts.{Part, A, Name}
@@ -22,52 +22,52 @@ use Rattle.bc_parse_laws.proofs.Places.{append_items, append_one_item, append_mo
 
 -- ---- parts
 
-level_positive : (o : code_dyadic.Dyadic) → 1 ≤ level_of o
-level_positive dyadic.Equivalent = omega arith
-level_positive dyadic.NotEquivalent = omega arith
-level_positive dyadic.Or = omega arith
-level_positive dyadic.And = omega arith
-level_positive dyadic.ShiftLeft = omega arith
-level_positive dyadic.ShiftRight = omega arith
-level_positive dyadic.Equal = omega arith
-level_positive dyadic.NotEqual = omega arith
-level_positive dyadic.Less = omega arith
-level_positive dyadic.GreaterEqual = omega arith
-level_positive dyadic.Greater = omega arith
-level_positive dyadic.LessEqual = omega arith
-level_positive dyadic.Add = omega arith
-level_positive dyadic.Subtract = omega arith
-level_positive dyadic.Multiply = omega arith
-level_positive dyadic.Divide = omega arith
-level_positive dyadic.Remainder = omega arith
-level_positive dyadic.Index = omega arith
+level_positive : (o : code_binary.BinaryOp) → 1 ≤ level_of o
+level_positive binary.Equivalent = omega arith
+level_positive binary.NotEquivalent = omega arith
+level_positive binary.Or = omega arith
+level_positive binary.And = omega arith
+level_positive binary.ShiftLeft = omega arith
+level_positive binary.ShiftRight = omega arith
+level_positive binary.Equal = omega arith
+level_positive binary.NotEqual = omega arith
+level_positive binary.Less = omega arith
+level_positive binary.GreaterEqual = omega arith
+level_positive binary.Greater = omega arith
+level_positive binary.LessEqual = omega arith
+level_positive binary.Add = omega arith
+level_positive binary.Subtract = omega arith
+level_positive binary.Multiply = omega arith
+level_positive binary.Divide = omega arith
+level_positive binary.Remainder = omega arith
+level_positive binary.Index = omega arith
 
 part_spelled : (level : ℕ) (e : Exp) → Spells 1 e (whole e) → IsOfLevel level e (part_of e (whole e))
 part_spelled level (tree.Name s) f = spell.name
-part_spelled level (tree.Number n) f = spell.number
+part_spelled level (tree.Num n) f = spell.number
 part_spelled level (tree.Character n) f = spell.character
 part_spelled level (tree.Text s) f = spell.text
 part_spelled level tree.True f = spell.true_word
 part_spelled level tree.False f = spell.false_word
 part_spelled level (tree.Table ks) f = spell.bracketed f
 part_spelled level (tree.Valof b) f = spell.bracketed f
-part_spelled level (tree.Monadic m e) f = spell.bracketed f
-part_spelled level (tree.Dyadic o l r) f = spell.bracketed f
-part_spelled level (tree.Condition c x y) f = spell.bracketed f
+part_spelled level (tree.Unary m e) f = spell.bracketed f
+part_spelled level (tree.Bin o l r) f = spell.bracketed f
+part_spelled level (tree.Cond c x y) f = spell.bracketed f
 part_spelled level (tree.Call g es) f = spell.bracketed f
 
 routine_spelled : (level : ℕ) (e : Exp) → Spells 1 e (whole e) → IsOfLevel level e (routine_of e (whole e))
 routine_spelled level (tree.Name s) f = spell.name
-routine_spelled level (tree.Number n) f = spell.bracketed f
+routine_spelled level (tree.Num n) f = spell.bracketed f
 routine_spelled level (tree.Character n) f = spell.bracketed f
 routine_spelled level (tree.Text s) f = spell.bracketed f
 routine_spelled level tree.True f = spell.bracketed f
 routine_spelled level tree.False f = spell.bracketed f
 routine_spelled level (tree.Table ks) f = spell.bracketed f
 routine_spelled level (tree.Valof b) f = spell.bracketed f
-routine_spelled level (tree.Monadic m e) f = spell.bracketed f
-routine_spelled level (tree.Dyadic o l r) f = spell.bracketed f
-routine_spelled level (tree.Condition c x y) f = spell.bracketed f
+routine_spelled level (tree.Unary m e) f = spell.bracketed f
+routine_spelled level (tree.Bin o l r) f = spell.bracketed f
+routine_spelled level (tree.Cond c x y) f = spell.bracketed f
 routine_spelled level (tree.Call g es) f = spell.bracketed f
 
 -- ---- lists, whose spellings grow at their end
@@ -217,16 +217,16 @@ some_is_not_none (label l ls) some is = absurd cc
 mutual
   whole_spelled : (e : Exp) → FormedExp Any e → Spells 1 e (whole e)
   whole_spelled (tree.Name s) f = of_level spell.name
-  whole_spelled (tree.Number n) f = of_level spell.number
+  whole_spelled (tree.Num n) f = of_level spell.number
   whole_spelled (tree.Character n) f = of_level spell.character
   whole_spelled (tree.Text s) f = of_level spell.text
   whole_spelled tree.True f = of_level spell.true_word
   whole_spelled tree.False f = of_level spell.false_word
   whole_spelled (tree.Table ks) f = of_level (spell.table (exps_spelled 2 ks f.0 (all_spelled ks f.1)))
   whole_spelled (tree.Valof b) f = of_level (spell.valof (body_spelled b (block_spelled b f)))
-  whole_spelled (tree.Monadic m e) f = prefixed (of_level (part_spelled _ e (whole_spelled e f)))
-  whole_spelled (tree.Dyadic o l r) f = of_level (spell.dyadic (level_positive o) (part_spelled _ l (whole_spelled l f.0)) (of_level (part_spelled _ r (whole_spelled r f.1))))
-  whole_spelled (tree.Condition c x y) f = of_level (spell.condition (omega arith) (part_spelled 2 c (whole_spelled c f.0)) (of_level (part_spelled 1 x (whole_spelled x f.1))) (of_level (part_spelled 1 y (whole_spelled y f.2))))
+  whole_spelled (tree.Unary m e) f = prefixed (of_level (part_spelled _ e (whole_spelled e f)))
+  whole_spelled (tree.Bin o l r) f = of_level (spell.binary (level_positive o) (part_spelled _ l (whole_spelled l f.0)) (of_level (part_spelled _ r (whole_spelled r f.1))))
+  whole_spelled (tree.Cond c x y) f = of_level (spell.condition (omega arith) (part_spelled 2 c (whole_spelled c f.0)) (of_level (part_spelled 1 x (whole_spelled x f.1))) (of_level (part_spelled 1 y (whole_spelled y f.2))))
   whole_spelled (tree.Call g es) f = of_level (spell.call (routine_spelled 12 g (whole_spelled g f.0)) (arguments_spelled es (all_spelled es f.1)))
 
   all_spelled : (es : Exps) → FormedExps Any es → ExpsSpelled es

@@ -2,11 +2,11 @@
 -- on the grammar, with one line per constructor.
 use Rattle.std.proofs.Common.{◌≡◌, ℕ, ◌+◌, ◌≤◌, true, false, List, [], ◌∷◌, ◌++◌, refl, arith}
 use Rattle.bc_lex_tokens.specs.declared.symbol.Symbol.TheVariants as sign
-use Rattle.bc_parse_tree.specs.declared.tree.Dyadic as code_dyadic
-use Rattle.bc_parse_tree.specs.declared.tree.Dyadic.TheVariants as dyadic
-use Rattle.bc_parse_tree.specs.declared.tree.Monadic as code_monadic
-use Rattle.bc_parse_tree.specs.declared.tree.Monadic.TheVariants as monadic
-use Rattle.bc_parse_tree.specs.Operators.{dyadic_sign, monadic_sign}
+use Rattle.bc_parse_tree.specs.declared.tree.BinaryOp as code_binary
+use Rattle.bc_parse_tree.specs.declared.tree.BinaryOp.TheVariants as binary
+use Rattle.bc_parse_tree.specs.declared.tree.UnaryOp as code_unary
+use Rattle.bc_parse_tree.specs.declared.tree.UnaryOp.TheVariants as unary
+use Rattle.bc_parse_tree.specs.Operators.{binary_sign, unary_sign}
 use Rattle.bc_parse_tree.specs.Parts.{Part, A, Name}
 use Rattle.bc_parse_tree.specs.Tree.{Exp, Exps, none, more, Block, block, Declaration, Declarations, no_declarations, declaration, Entries, no_entries, entry, Definition, Definitions, no_definitions, definition, Item, Labelled, Labels_alone, Items, no_items, item, Label, Labels, no_labels, label, Command}
 use Rattle.bc_parse_tree.specs.Tree as tree
@@ -42,31 +42,31 @@ size_add_item : (is : Items) (i : Item) → items_size (add_item is i) ≡ items
 size_add_item no_items i = omega arith
 size_add_item (item j is) i = omega (arith, size_add_item is i)
 
-weight_dyadic : (o : code_dyadic.Dyadic) → weight_of (A (dyadic_sign o)) ≡ 1
-weight_dyadic dyadic.Equivalent = refl
-weight_dyadic dyadic.NotEquivalent = refl
-weight_dyadic dyadic.Or = refl
-weight_dyadic dyadic.And = refl
-weight_dyadic dyadic.ShiftLeft = refl
-weight_dyadic dyadic.ShiftRight = refl
-weight_dyadic dyadic.Equal = refl
-weight_dyadic dyadic.NotEqual = refl
-weight_dyadic dyadic.Less = refl
-weight_dyadic dyadic.GreaterEqual = refl
-weight_dyadic dyadic.Greater = refl
-weight_dyadic dyadic.LessEqual = refl
-weight_dyadic dyadic.Add = refl
-weight_dyadic dyadic.Subtract = refl
-weight_dyadic dyadic.Multiply = refl
-weight_dyadic dyadic.Divide = refl
-weight_dyadic dyadic.Remainder = refl
-weight_dyadic dyadic.Index = refl
+weight_binary : (o : code_binary.BinaryOp) → weight_of (A (binary_sign o)) ≡ 1
+weight_binary binary.Equivalent = refl
+weight_binary binary.NotEquivalent = refl
+weight_binary binary.Or = refl
+weight_binary binary.And = refl
+weight_binary binary.ShiftLeft = refl
+weight_binary binary.ShiftRight = refl
+weight_binary binary.Equal = refl
+weight_binary binary.NotEqual = refl
+weight_binary binary.Less = refl
+weight_binary binary.GreaterEqual = refl
+weight_binary binary.Greater = refl
+weight_binary binary.LessEqual = refl
+weight_binary binary.Add = refl
+weight_binary binary.Subtract = refl
+weight_binary binary.Multiply = refl
+weight_binary binary.Divide = refl
+weight_binary binary.Remainder = refl
+weight_binary binary.Index = refl
 
-weight_monadic : (m : code_monadic.Monadic) → weight_of (A (monadic_sign m)) ≡ 1
-weight_monadic monadic.Not = refl
-weight_monadic monadic.Negate = refl
-weight_monadic monadic.Load = refl
-weight_monadic monadic.Address = refl
+weight_unary : (m : code_unary.UnaryOp) → weight_of (A (unary_sign m)) ≡ 1
+weight_unary unary.Not = refl
+weight_unary unary.Neg = refl
+weight_unary unary.Load = refl
+weight_unary unary.Address = refl
 
 size_body : (c : Command) → block_size (body c) ≤ command_size c
 size_body (tree.Compound b) = omega arith
@@ -99,7 +99,7 @@ extra _ = 0
 mutual
   pub spells_size : {level : ℕ} {e : Exp} {ts : List Part} → Spells level e ts → exp_size e + extra e ≤ weight ts
   spells_size (of_level s) = of_level_size s
-  spells_size (prefixed {m = m} s) = omega (arith, spells_size s, weight_monadic m)
+  spells_size (prefixed {m = m} s) = omega (arith, spells_size s, weight_unary m)
 
   pub of_level_size : {level : ℕ} {e : Exp} {ts : List Part} → IsOfLevel level e ts → exp_size e + extra e ≤ weight ts
   of_level_size spell.name = omega arith
@@ -112,8 +112,8 @@ mutual
   of_level_size (spell.table s) = omega (arith, exps_spelled_size s)
   of_level_size (spell.valof s) = omega (arith, body_size s)
   of_level_size (spell.call {ts = ts} {us = us} f es) = omega (arith, of_level_size f, arguments_size es, weight_append ts (in_round us), weight_append us (A sign.CloseBracket ∷ []))
-  of_level_size (spell.monadic {m = m} h s) = omega (arith, spells_size s, weight_monadic m)
-  of_level_size (spell.dyadic {o = o} {ts = ts} {us = us} h l r) = omega (arith, of_level_size l, spells_size r, weight_append ts (A (dyadic_sign o) ∷ us), weight_dyadic o)
+  of_level_size (spell.unary {m = m} h s) = omega (arith, spells_size s, weight_unary m)
+  of_level_size (spell.binary {o = o} {ts = ts} {us = us} h l r) = omega (arith, of_level_size l, spells_size r, weight_append ts (A (binary_sign o) ∷ us), weight_binary o)
   of_level_size (spell.condition {ts = ts} {us = us} {vs = vs} h c x y) = omega (arith, of_level_size c, spells_size x, spells_size y, weight_append ts (A sign.Arrow ∷ (us ++ A sign.Comma ∷ vs)), weight_append us (A sign.Comma ∷ vs))
 
   pub exps_spelled_size : {level : ℕ} {es : Exps} {ts : List Part} → SpellsExps level es ts → exps_size es ≤ weight ts

@@ -10,13 +10,13 @@ use Rattle.bc_parse_tree.specs.declared.tree.Storage.TheVariants as storage
 use Rattle.bc_parse_tree.specs.Parts.{Part, A, Name, Number, Character, String}
 use Rattle.bc_parse_tree.specs.Tree.{Exp, Exps, none, more, Block, block, Declaration, Declarations, no_declarations, declaration, Entries, no_entries, entry, Definition, Definitions, no_definitions, definition, Item, Labelled, Labels_alone, Items, no_items, item, Label, Labels, no_labels, label, Command}
 use Rattle.bc_parse_tree.specs.Tree as tree
-use Rattle.bc_parse_tree.specs.Operators.{dyadic_sign, monadic_sign, storage_sign}
+use Rattle.bc_parse_tree.specs.Operators.{binary_sign, unary_sign, storage_sign}
 use Rattle.bc_parse_tree.specs.Spelling.{in_round, named}
 
 -- the tokens of an expression that is a part of another one or of a list, given those without parentheses
 abbrev pub part_of : Exp → List Part → List Part
 part_of (tree.Name s) ts = ts
-part_of (tree.Number n) ts = ts
+part_of (tree.Num n) ts = ts
 part_of (tree.Character n) ts = ts
 part_of (tree.Text s) ts = ts
 part_of tree.True ts = ts
@@ -43,16 +43,16 @@ abbrev mutual
   -- the tokens of an expression in a place where it needs no parentheses
   pub whole : Exp → List Part
   whole (tree.Name s) = Name s ∷ []
-  whole (tree.Number n) = Number n ∷ []
+  whole (tree.Num n) = Number n ∷ []
   whole (tree.Character n) = Character n ∷ []
   whole (tree.Text s) = String s ∷ []
   whole tree.True = A sign.True ∷ []
   whole tree.False = A sign.False ∷ []
   whole (tree.Table ks) = A sign.Table ∷ after_first (after_commas ks)
   whole (tree.Valof b) = A sign.ValueOf ∷ block_spelling b
-  whole (tree.Monadic m e) = A (monadic_sign m) ∷ part_of e (whole e)
-  whole (tree.Dyadic o l r) = part_of l (whole l) ++ A (dyadic_sign o) ∷ part_of r (whole r)
-  whole (tree.Condition c x y) = part_of c (whole c) ++ A sign.Arrow ∷ (part_of x (whole x) ++ A sign.Comma ∷ part_of y (whole y))
+  whole (tree.Unary m e) = A (unary_sign m) ∷ part_of e (whole e)
+  whole (tree.Bin o l r) = part_of l (whole l) ++ A (binary_sign o) ∷ part_of r (whole r)
+  whole (tree.Cond c x y) = part_of c (whole c) ++ A sign.Arrow ∷ (part_of x (whole x) ++ A sign.Comma ∷ part_of y (whole y))
   whole (tree.Call f es) = routine_of f (whole f) ++ in_round (after_first (after_commas es))
 
   -- the tokens of expressions, each preceded by a comma

@@ -8,16 +8,16 @@ use Rattle.bc_parse_tree.specs.Tree as tree
 abbrev mutual
   pub exp_height : Exp → ℕ
   exp_height (tree.Name s) = 1
-  exp_height (tree.Number n) = 1
+  exp_height (tree.Num n) = 1
   exp_height (tree.Character n) = 1
   exp_height (tree.Text s) = 1
   exp_height tree.True = 1
   exp_height tree.False = 1
   exp_height (tree.Table ks) = exps_height ks + 1
   exp_height (tree.Valof b) = block_height b + 1
-  exp_height (tree.Monadic m e) = exp_height e + 1
-  exp_height (tree.Dyadic o l r) = max (exp_height l) (exp_height r) + 1
-  exp_height (tree.Condition c x y) = max (max (exp_height c) (exp_height x)) (exp_height y) + 1
+  exp_height (tree.Unary m e) = exp_height e + 1
+  exp_height (tree.Bin o l r) = max (exp_height l) (exp_height r) + 1
+  exp_height (tree.Cond c x y) = max (max (exp_height c) (exp_height x)) (exp_height y) + 1
   exp_height (tree.Call f es) = max (exp_height f) (exps_height es) + 1
 
   pub exps_height : Exps → ℕ

@@ -8,16 +8,16 @@ use Rattle.bc_parse_tree.specs.Tree as tree
 abbrev mutual
   pub exp_size : Exp → ℕ
   exp_size (tree.Name s) = 1
-  exp_size (tree.Number n) = 1
+  exp_size (tree.Num n) = 1
   exp_size (tree.Character n) = 1
   exp_size (tree.Text s) = 1
   exp_size tree.True = 1
   exp_size tree.False = 1
   exp_size (tree.Table ks) = exps_size ks + 1
   exp_size (tree.Valof b) = block_size b + 1
-  exp_size (tree.Monadic m e) = exp_size e + 1
-  exp_size (tree.Dyadic o l r) = exp_size l + exp_size r + 1
-  exp_size (tree.Condition c x y) = exp_size c + exp_size x + exp_size y + 1
+  exp_size (tree.Unary m e) = exp_size e + 1
+  exp_size (tree.Bin o l r) = exp_size l + exp_size r + 1
+  exp_size (tree.Cond c x y) = exp_size c + exp_size x + exp_size y + 1
   exp_size (tree.Call f es) = exp_size f + exps_size es + 1
 
   pub exps_size : Exps → ℕ

@@ -3,13 +3,13 @@
 use Rattle.std.specs.Prelude.{◌≡◌, ◌≢◌, ℕ, ◌+◌, ◌≤◌, Bool, true, false, List, [], ◌∷◌, ◌++◌, length}
 use Rattle.bc_lex_tokens.specs.declared.symbol.Symbol.{Symbol}
 use Rattle.bc_lex_tokens.specs.declared.symbol.Symbol.TheVariants as sign
-use Rattle.bc_parse_tree.specs.declared.tree.Dyadic as code_dyadic
-use Rattle.bc_parse_tree.specs.declared.tree.Monadic as code_monadic
+use Rattle.bc_parse_tree.specs.declared.tree.BinaryOp as code_binary
+use Rattle.bc_parse_tree.specs.declared.tree.UnaryOp as code_unary
 use Rattle.bc_parse_tree.specs.declared.tree.Storage.{Storage}
 use Rattle.bc_parse_tree.specs.Parts.{Part, A, Name, Number, Character, String, NewLine}
 use Rattle.bc_parse_tree.specs.Tree.{Exp, Exps, none, more, Block, block, Declaration, Declarations, no_declarations, declaration, Entries, no_entries, entry, Definition, Definitions, no_definitions, definition, Item, Labelled, Labels_alone, Items, no_items, item, Label, Labels, no_labels, label, Command}
 use Rattle.bc_parse_tree.specs.Tree as tree
-use Rattle.bc_parse_tree.specs.Operators.{level_of, left_level, own_level, operand_level, dyadic_sign, monadic_sign, storage_sign}
+use Rattle.bc_parse_tree.specs.Operators.{level_of, left_level, own_level, operand_level, binary_sign, unary_sign, storage_sign}
 
 -- ---- a list with one more element at its end
 
@@ -75,17 +75,17 @@ body (tree.Compound b) = b
 body c = block no_declarations (item (Labelled no_labels c) no_items)
 
 mutual
-  -- These parts spell this expression in a place for this level. A monadic operator may begin any such place,
+  -- These parts spell this expression in a place for this level. A unary operator may begin any such place,
   -- whatever its own level.
   pub data Spells : ℕ → Exp → List Part → Type 0 where
     of_level : {level : ℕ} {e : Exp} {ts : List Part} → IsOfLevel level e ts → Spells level e ts
-    prefixed : {level : ℕ} {m : code_monadic.Monadic} {e : Exp} {ts : List Part} → Spells (operand_level m) e ts
-        → Spells level (tree.Monadic m e) (A (monadic_sign m) ∷ ts)
+    prefixed : {level : ℕ} {m : code_unary.UnaryOp} {e : Exp} {ts : List Part} → Spells (operand_level m) e ts
+        → Spells level (tree.Unary m e) (A (unary_sign m) ∷ ts)
 
   -- These parts spell this expression, and it has this level itself or binds more tightly.
   pub data IsOfLevel : ℕ → Exp → List Part → Type 0 where
     name : {level : ℕ} {s : List ℕ} → IsOfLevel level (tree.Name s) (Name s ∷ [])
-    number : {level n : ℕ} → IsOfLevel level (tree.Number n) (Number n ∷ [])
+    number : {level n : ℕ} → IsOfLevel level (tree.Num n) (Number n ∷ [])
     character : {level n : ℕ} → IsOfLevel level (tree.Character n) (Character n ∷ [])
     text : {level : ℕ} {s : List ℕ} → IsOfLevel level (tree.Text s) (String s ∷ [])
     true_word : {level : ℕ} → IsOfLevel level tree.True (A sign.True ∷ [])
@@ -95,13 +95,13 @@ mutual
     valof : {level : ℕ} {b : Block} {ts : List Part} → SpellsBody b ts → IsOfLevel level (tree.Valof b) (A sign.ValueOf ∷ ts)
     call : {level : ℕ} {f : Exp} {es : Exps} {ts us : List Part} → IsOfLevel 12 f ts → SpellsArguments es us
         → IsOfLevel level (tree.Call f es) (ts ++ in_round us)
-    monadic : {level : ℕ} {m : code_monadic.Monadic} {e : Exp} {ts : List Part} → level ≤ own_level m → Spells (operand_level m) e ts
-        → IsOfLevel level (tree.Monadic m e) (A (monadic_sign m) ∷ ts)
-    dyadic : {level : ℕ} {o : code_dyadic.Dyadic} {l r : Exp} {ts us : List Part} → level ≤ level_of o → IsOfLevel (left_level o) l ts
+    unary : {level : ℕ} {m : code_unary.UnaryOp} {e : Exp} {ts : List Part} → level ≤ own_level m → Spells (operand_level m) e ts
+        → IsOfLevel level (tree.Unary m e) (A (unary_sign m) ∷ ts)
+    binary : {level : ℕ} {o : code_binary.BinaryOp} {l r : Exp} {ts us : List Part} → level ≤ level_of o → IsOfLevel (left_level o) l ts
         → Spells (level_of o + 1) r us
-        → IsOfLevel level (tree.Dyadic o l r) (ts ++ A (dyadic_sign o) ∷ us)
+        → IsOfLevel level (tree.Bin o l r) (ts ++ A (binary_sign o) ∷ us)
     condition : {level : ℕ} {c x y : Exp} {ts us vs : List Part} → level ≤ 1 → IsOfLevel 2 c ts → Spells 1 x us → Spells 1 y vs
-        → IsOfLevel level (tree.Condition c x y) (ts ++ A sign.Arrow ∷ (us ++ A sign.Comma ∷ vs))
+        → IsOfLevel level (tree.Cond c x y) (ts ++ A sign.Arrow ∷ (us ++ A sign.Comma ∷ vs))
 
   -- one or more expressions of a level, separated by commas
   pub data SpellsExps : ℕ → Exps → List Part → Type 0 where

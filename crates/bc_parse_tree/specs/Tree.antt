@@ -2,23 +2,23 @@
 -- of bytes, a string with its quotes.
 use Rattle.std.specs.Prelude.{ℕ, List}
 use Rattle.bc_parse_tree.specs.declared.tree.Storage.{Storage}
-use Rattle.bc_parse_tree.specs.declared.tree.Monadic as monadic
-use Rattle.bc_parse_tree.specs.declared.tree.Dyadic as dyadic
+use Rattle.bc_parse_tree.specs.declared.tree.UnaryOp as unary
+use Rattle.bc_parse_tree.specs.declared.tree.BinaryOp as binary
 
 mutual
   -- an expression
   pub data Exp : Type 0 where
     Name : List ℕ → Exp
-    Number : ℕ → Exp
+    Num : ℕ → Exp
     Character : ℕ → Exp
     Text : List ℕ → Exp
     True : Exp
     False : Exp
     Table : Exps → Exp
     Valof : Block → Exp
-    Monadic : monadic.Monadic → Exp → Exp
-    Dyadic : dyadic.Dyadic → Exp → Exp → Exp
-    Condition : Exp → Exp → Exp → Exp
+    Unary : unary.UnaryOp → Exp → Exp
+    Bin : binary.BinaryOp → Exp → Exp → Exp
+    Cond : Exp → Exp → Exp → Exp
     Call : Exp → Exps → Exp
 
   -- a list of expressions

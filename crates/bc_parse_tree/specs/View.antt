@@ -51,16 +51,16 @@ labels_of (l ∷ ls) = label l (labels_of ls)
 -- one layer of an expression, whose parts are views already
 abbrev pub exp_step : Exp-F Command Declaration Definition Exp Label Block (List ℕ × Exp) Item → Exp
 exp_step (Exp-F.Exp::Name s) = pure.Name s.now
-exp_step (Exp-F.Number n) = pure.Number n
+exp_step (Exp-F.Num n) = pure.Num n
 exp_step (Exp-F.Character n) = pure.Character n
 exp_step (Exp-F.String s) = pure.Text s.now
 exp_step Exp-F.True = pure.True
 exp_step Exp-F.False = pure.False
 exp_step (Exp-F.Table es) = pure.Table (exps_of es.items)
 exp_step (Exp-F.Valof b) = pure.Valof b
-exp_step (Exp-F.Monadic m e) = pure.Monadic m e.value
-exp_step (Exp-F.Dyadic o l r) = pure.Dyadic o l.value r.value
-exp_step (Exp-F.Condition c x y) = pure.Condition c.value x.value y.value
+exp_step (Exp-F.Unary m e) = pure.Unary m e.value
+exp_step (Exp-F.Bin o l r) = pure.Bin o l.value r.value
+exp_step (Exp-F.Cond c x y) = pure.Cond c.value x.value y.value
 exp_step (Exp-F.Exp::Call f es) = pure.Call f.value (exps_of es.items)
 
 -- one layer of a label

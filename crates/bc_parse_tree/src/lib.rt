@@ -17,6 +17,6 @@ pub use part::Part;
 pub use rendering::render;
 pub use spelling::spell;
 pub use tree::{
-    Block, Command, Constant, Declaration, Definition, Dyadic, Exp, Item, Label, Monadic, Section,
-    Storage,
+    BinaryOp, Block, Command, Constant, Declaration, Definition, Exp, Item, Label, Section,
+    Storage, UnaryOp,
 };

@@ -1,46 +1,46 @@
 //! The symbols that operators and declarations are written with.
 ghost use Rattle.std.specs.Prelude.{◌≡◌};
 ghost use Rattle.bc_parse_tree.specs.Canonical.{entry_sign};
-ghost use Rattle.bc_parse_tree.specs.Operators.{dyadic_sign, monadic_sign, storage_sign};
+ghost use Rattle.bc_parse_tree.specs.Operators.{binary_sign, unary_sign, storage_sign};
 
-use crate::{Dyadic, Monadic, Storage};
+use crate::{BinaryOp, Storage, UnaryOp};
 use bc_lex_tokens::Symbol;
 
 /// The sign of an operator with two operands.
-pub(crate) fn dyadic(operator: Dyadic) -> Symbol
-    ensures { result ≡ dyadic_sign operator }
+pub(crate) fn binary(operator: BinaryOp) -> Symbol
+    ensures { result ≡ binary_sign operator }
 {
     match operator {
-        Dyadic::Equivalent => Symbol::Equivalent,
-        Dyadic::NotEquivalent => Symbol::NotEquivalent,
-        Dyadic::Or => Symbol::LogicalOr,
-        Dyadic::And => Symbol::LogicalAnd,
-        Dyadic::ShiftLeft => Symbol::ShiftLeft,
-        Dyadic::ShiftRight => Symbol::ShiftRight,
-        Dyadic::Equal => Symbol::Equal,
-        Dyadic::NotEqual => Symbol::NotEqual,
-        Dyadic::Less => Symbol::Less,
-        Dyadic::GreaterEqual => Symbol::GreaterEqual,
-        Dyadic::Greater => Symbol::Greater,
-        Dyadic::LessEqual => Symbol::LessEqual,
-        Dyadic::Add => Symbol::Plus,
-        Dyadic::Subtract => Symbol::Minus,
-        Dyadic::Multiply => Symbol::Multiply,
-        Dyadic::Divide => Symbol::Divide,
-        Dyadic::Remainder => Symbol::Remainder,
-        Dyadic::Index => Symbol::Indirection,
+        BinaryOp::Equivalent => Symbol::Equivalent,
+        BinaryOp::NotEquivalent => Symbol::NotEquivalent,
+        BinaryOp::Or => Symbol::LogicalOr,
+        BinaryOp::And => Symbol::LogicalAnd,
+        BinaryOp::ShiftLeft => Symbol::ShiftLeft,
+        BinaryOp::ShiftRight => Symbol::ShiftRight,
+        BinaryOp::Equal => Symbol::Equal,
+        BinaryOp::NotEqual => Symbol::NotEqual,
+        BinaryOp::Less => Symbol::Less,
+        BinaryOp::GreaterEqual => Symbol::GreaterEqual,
+        BinaryOp::Greater => Symbol::Greater,
+        BinaryOp::LessEqual => Symbol::LessEqual,
+        BinaryOp::Add => Symbol::Plus,
+        BinaryOp::Subtract => Symbol::Minus,
+        BinaryOp::Multiply => Symbol::Multiply,
+        BinaryOp::Divide => Symbol::Divide,
+        BinaryOp::Remainder => Symbol::Remainder,
+        BinaryOp::Index => Symbol::Indirection,
     }
 }
 
 /// The sign of an operator with one operand.
-pub(crate) fn monadic(operator: Monadic) -> Symbol
-    ensures { result ≡ monadic_sign operator }
+pub(crate) fn unary(operator: UnaryOp) -> Symbol
+    ensures { result ≡ unary_sign operator }
 {
     match operator {
-        Monadic::Not => Symbol::Not,
-        Monadic::Negate => Symbol::Minus,
-        Monadic::Load => Symbol::Indirection,
-        Monadic::Address => Symbol::AddressOf,
+        UnaryOp::Not => Symbol::Not,
+        UnaryOp::Neg => Symbol::Minus,
+        UnaryOp::Load => Symbol::Indirection,
+        UnaryOp::Address => Symbol::AddressOf,
     }
 }
 

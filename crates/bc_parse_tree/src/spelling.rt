@@ -118,19 +118,19 @@ fn whole<'s>(out: &mut Vec<TokenKind<'s>>, tree: &Exp<'s>) -> Result<(), Memory>
 {
     match tree {
         Exp::Name(text) => name(out, text),
-        Exp::Number(number) => put(out, TokenKind::Number(number.get())),
+        Exp::Num(number) => put(out, TokenKind::Number(number.get())),
         Exp::Character(byte) => put(out, TokenKind::Character(byte.get())),
         Exp::String(text) => put(out, TokenKind::String(text)),
         Exp::True => sign(out, Symbol::True),
         Exp::False => sign(out, Symbol::False),
         Exp::Table(constants) => listed(out, Symbol::Table, constants),
         Exp::Valof(body) => bodied(out, Symbol::ValueOf, body),
-        Exp::Monadic(operator, operand) => parted(out, signs::monadic(*operator), operand),
-        Exp::Dyadic(operator, left, right) => {
+        Exp::Unary(operator, operand) => parted(out, signs::unary(*operator), operand),
+        Exp::Bin(operator, left, right) => {
             part(out, left)?;
-            parted(out, signs::dyadic(*operator), right)
+            parted(out, signs::binary(*operator), right)
         }
-        Exp::Condition { test, this, that } => {
+        Exp::Cond { test, this, that } => {
             part(out, test)?;
             parted(out, Symbol::Arrow, this)?;
             parted(out, Symbol::Comma, that)
@@ -148,12 +148,8 @@ fn part<'s>(out: &mut Vec<TokenKind<'s>>, tree: &Exp<'s>) -> Result<(), Memory>
     ensures { Adds result out.old out.new (part_of (exp_view tree.now) (whole (exp_view tree.now))) }
 {
     match tree {
-        Exp::Name(_)
-        | Exp::Number(_)
-        | Exp::Character(_)
-        | Exp::String(_)
-        | Exp::True
-        | Exp::False => whole(out, tree),
+        Exp::Name(_) | Exp::Num(_) | Exp::Character(_) | Exp::String(_) | Exp::True | Exp::False =>
+            whole(out, tree),
         _ => bracketed(out, tree),
     }
 }

@@ -14,11 +14,11 @@ pub enum Storage {
 
 /// An operator with one operand, which follows it.
 #[derive(Clone, Copy, Debug, PartialEq, Eq)]
-pub enum Monadic {
+pub enum UnaryOp {
     /// NOT: every bit inverted.
     Not,
     /// `-`: the negative of the operand.
-    Negate,
+    Neg,
     /// `!`: the content of the cell whose address is the operand.
     Load,
     /// `@`: the address of the operand.
@@ -27,7 +27,7 @@ pub enum Monadic {
 
 /// An operator with two operands, which is written between them.
 #[derive(Clone, Copy, Debug, PartialEq, Eq)]
-pub enum Dyadic {
+pub enum BinaryOp {
     /// EQV
     Equivalent,
     /// NEQV
@@ -73,7 +73,7 @@ pub enum Exp<'s> {
     /// A name.
     Name(&'s [u8]),
     /// A number.
-    Number(Word),
+    Num(Word),
     /// A character constant, by its value.
     Character(Word),
     /// A string, with its quotes.
@@ -86,12 +86,12 @@ pub enum Exp<'s> {
     Table(Vec<Exp<'s>>),
     /// VALOF and its body.
     Valof(Block<'s>),
-    /// A monadic operator and its operand.
-    Monadic(Monadic, Box<Exp<'s>>),
-    /// A dyadic operator with its left and right operand.
-    Dyadic(Dyadic, Box<Exp<'s>>, Box<Exp<'s>>),
+    /// A unary operator and its operand.
+    Unary(UnaryOp, Box<Exp<'s>>),
+    /// A binary operator with its left and right operand.
+    Bin(BinaryOp, Box<Exp<'s>>, Box<Exp<'s>>),
     /// `test -> this, that`: `this` is the value if the test is true, `that` if it is false.
-    Condition {
+    Cond {
         test: Box<Exp<'s>>,
         this: Box<Exp<'s>>,
         that: Box<Exp<'s>>,

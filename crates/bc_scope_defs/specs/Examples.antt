@@ -2,7 +2,7 @@
 use Rattle.std.specs.Prelude.{ℕ, codes, List, [], ◌∷◌}
 use Rattle.bc_parse_tree.specs.declared.tree.Storage.{Storage}
 use Rattle.bc_parse_tree.specs.declared.tree.Storage.TheVariants as storage
-use Rattle.bc_parse_tree.specs.declared.tree.Dyadic.{Dyadic}
+use Rattle.bc_parse_tree.specs.declared.tree.BinaryOp.{BinaryOp}
 use Rattle.bc_parse_tree.specs.Tree.{Exp, Exps, none, more, Block, block, Declaration, Declarations, no_declarations, declaration, Entries, no_entries, entry, Definition, Definitions, no_definitions, definition, Item, Labelled, Labels_alone, Items, no_items, item, Label, no_labels, label, Command}
 use Rattle.bc_parse_tree.specs.Tree as tree
 use Rattle.bc_scope_defs.specs.Scope.{Name}
@@ -45,10 +45,10 @@ abbrev pub of : Name → Exp
 of n = tree.Name n
 
 abbrev pub number : ℕ → Exp
-number n = tree.Number n
+number n = tree.Num n
 
-abbrev pub two : Dyadic → Exp → Exp → Exp
-two o d e = tree.Dyadic o d e
+abbrev pub two : BinaryOp → Exp → Exp → Exp
+two o d e = tree.Bin o d e
 
 abbrev pub list : List Exp → Exps
 list [] = none

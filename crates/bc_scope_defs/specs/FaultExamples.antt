@@ -3,8 +3,8 @@
 use Rattle.std.specs.Prelude.{ℕ, zero, suc, ◌≡◌, List, [], ◌∷◌, Option, Some, None}
 use Rattle.std.proofs.Common.{refl}
 use Rattle.bc_parse_tree.specs.declared.tree.Storage.TheVariants as storage
-use Rattle.bc_parse_tree.specs.declared.tree.Dyadic.TheVariants as dyadic
-use Rattle.bc_parse_tree.specs.declared.tree.Monadic.TheVariants as monadic
+use Rattle.bc_parse_tree.specs.declared.tree.BinaryOp.TheVariants as binary
+use Rattle.bc_parse_tree.specs.declared.tree.UnaryOp.TheVariants as unary
 use Rattle.bc_parse_tree.specs.Tree.{Exp, Block, Declarations, Definition, Labelled, Labels_alone, Item, no_labels, label, Command}
 use Rattle.bc_parse_tree.specs.Tree as tree
 use Rattle.bc_scope_defs.specs.Found.{Thing, Data, AStatic, found_in_section}
@@ -92,10 +92,10 @@ text_order = refl
 abbrev manifest : Exp → Declarations
 manifest k = declarations (constants storage.Manifest ((a, k) ∷ []) ∷ [])
 
-divided_by_zero : section_fault (manifest (two dyadic.Divide (number 1) (number 0))) ≡ Some ANotConstant
+divided_by_zero : section_fault (manifest (two binary.Divide (number 1) (number 0))) ≡ Some ANotConstant
 divided_by_zero = refl
 
-divided_by_one : section_fault (manifest (two dyadic.Divide (number 1) (number 1))) ≡ None
+divided_by_one : section_fault (manifest (two binary.Divide (number 1) (number 1))) ≡ None
 divided_by_one = refl
 
 -- in a MANIFEST, a name is a constant only after its own entry
@@ -112,7 +112,7 @@ vector_of_itself = refl
 -- In its constants a name of the declaration is what it will be. A static, a global and a variable are cells, which
 -- `@` and `:=` accept, but the whole isn't a constant. A manifest and a routine aren't cells.
 abbrev address_of : Exp → Exp
-address_of e = tree.Monadic monadic.Address e
+address_of e = tree.Unary unary.Address e
 
 own_static : section_fault (declarations (constants storage.Static ((a, address_of (of a)) ∷ []) ∷ [])) ≡ Some ANotConstant
 own_static = refl
@@ -170,7 +170,7 @@ table_of_a_variable : with_variable (set y (tree.Table (list (of y ∷ [])))) �
 table_of_a_variable = refl
 
 -- a name in a constant that isn't in scope comes before NotConstant
-undeclared_in_constant : section_fault (manifest (two dyadic.Add (of y) (two dyadic.Divide (number 1) (number 0)))) ≡ Some (AnUndeclared y)
+undeclared_in_constant : section_fault (manifest (two binary.Add (of y) (two binary.Divide (number 1) (number 0)))) ≡ Some (AnUndeclared y)
 undeclared_in_constant = refl
 
 global_512 : section_fault (declarations (constants storage.Global ((a, number 512) ∷ []) ∷ [])) ≡ Some (AGlobalNumber a)
@@ -184,7 +184,7 @@ global_511 = refl
 not_assignable : fault_of (tree.Assign (list (tree.True ∷ [])) (list (number 1 ∷ []))) ≡ Some ANotAssignable
 not_assignable = refl
 
-assignable : fault_of (tree.Assign (list (tree.Monadic monadic.Load tree.True ∷ [])) (list (number 1 ∷ []))) ≡ None
+assignable : fault_of (tree.Assign (list (tree.Unary unary.Load tree.True ∷ [])) (list (number 1 ∷ []))) ≡ None
 assignable = refl
 
 sides_first : fault_of (tree.Assign (list (tree.True ∷ [])) (list (of y ∷ []))) ≡ Some (AnUndeclared y)
@@ -197,10 +197,10 @@ address_taken e = fault_in (body (variable x (number 0) ∷ []) (plain (set x (a
 address_of_variable : address_taken (of x) ≡ None
 address_of_variable = refl
 
-address_of_content : address_taken (tree.Monadic monadic.Load (number 1)) ≡ None
+address_of_content : address_taken (tree.Unary unary.Load (number 1)) ≡ None
 address_of_content = refl
 
-address_of_indexed : address_taken (two dyadic.Index (number 1) (number 2)) ≡ None
+address_of_indexed : address_taken (two binary.Index (number 1) (number 2)) ≡ None
 address_of_indexed = refl
 
 address_of_number : address_taken (number 1) ≡ Some ANotAssignable
@@ -212,7 +212,7 @@ address_of_routine = refl
 address_of_address : address_taken (address_of (of x)) ≡ Some ANotAssignable
 address_of_address = refl
 
-address_of_sum : address_taken (two dyadic.Add (of x) (number 1)) ≡ Some ANotAssignable
+address_of_sum : address_taken (two binary.Add (of x) (number 1)) ≡ Some ANotAssignable
 address_of_sum = refl
 
 -- Places of commands

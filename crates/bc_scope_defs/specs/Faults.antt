@@ -2,9 +2,9 @@
 use Rattle.std.specs.Prelude.{ℕ, ◌+◌, ◌==◌, ◌||◌, not, nat_le, nat_lt, ◌&&◌, Bool, true, false, List, [], ◌∷◌, ◌++◌, Option, Some, None, is_some}
 use Rattle.bc_parse_tree.specs.declared.tree.Storage.{Storage}
 use Rattle.bc_parse_tree.specs.declared.tree.Storage.TheVariants as storage
-use Rattle.bc_parse_tree.specs.declared.tree.Dyadic.TheVariants as dyadic
-use Rattle.bc_parse_tree.specs.declared.tree.Monadic.{Monadic}
-use Rattle.bc_parse_tree.specs.declared.tree.Monadic.TheVariants as monadic
+use Rattle.bc_parse_tree.specs.declared.tree.BinaryOp.TheVariants as binary
+use Rattle.bc_parse_tree.specs.declared.tree.UnaryOp.{UnaryOp}
+use Rattle.bc_parse_tree.specs.declared.tree.UnaryOp.TheVariants as unary
 use Rattle.bc_parse_tree.specs.Tree.{Exp, Exps, none, more, Block, block, Declaration, Declarations, no_declarations, declaration, Entries, no_entries, entry, Definition, Definitions, no_definitions, definition, Item, Labelled, Labels_alone, Items, no_items, item, Label, Labels, no_labels, label, Command}
 use Rattle.bc_parse_tree.specs.Tree as tree
 use Rattle.bc_scope_defs.specs.Scope.{Meant, Constant, Pending, Static, Global, Routine, Variable, OuterVariable, OuterLabel, StrayVariable, StrayLabel, LabelOutside, Undeclared, Env, nothing_known, Name, is_name, meant_by}
@@ -94,8 +94,8 @@ is_cell _ = false
 -- whether an expression has a cell, so that it can be assigned to
 abbrev pub has_cell : Env → Exp → Bool
 has_cell E (tree.Name n) = is_cell (meant_by E n)
-has_cell E (tree.Monadic monadic.Load e) = true
-has_cell E (tree.Dyadic dyadic.Index l r) = true
+has_cell E (tree.Unary unary.Load e) = true
+has_cell E (tree.Bin binary.Index l r) = true
 has_cell E _ = false
 
 -- whether a name means a label
@@ -115,9 +115,9 @@ names_label E _ = false
 abbrev pub has_address : (constant : Bool) → Env → Exp → Bool
 has_address c E e = has_cell E e || (c && names_label E e)
 
--- the fault of a monadic operator, which comes after those of its operand
-abbrev pub address_fault : (constant : Bool) → Env → Monadic → Exp → Option Fault
-address_fault c E monadic.Address e = unless (has_address c E e) ANotAssignable
+-- the fault of a unary operator, which comes after those of its operand
+abbrev pub address_fault : (constant : Bool) → Env → UnaryOp → Exp → Option Fault
+address_fault c E unary.Address e = unless (has_address c E e) ANotAssignable
 address_fault c E _ e = None
 
 -- whether all expressions have cells
@@ -189,9 +189,9 @@ abbrev mutual
   fault c E (tree.Name n) = name_fault c n (meant_by E n)
   fault c E (tree.Table ks) = constants_fault E ks
   fault c E (tree.Valof b) = block_fault allowed_in_valof (in_valof E) b
-  fault c E (tree.Monadic m e) = or_else (fault c E e) (address_fault c E m e)
-  fault c E (tree.Dyadic o l r) = or_else (fault c E l) (fault c E r)
-  fault c E (tree.Condition t x y) = or_else (fault c E t) (or_else (fault c E x) (fault c E y))
+  fault c E (tree.Unary m e) = or_else (fault c E e) (address_fault c E m e)
+  fault c E (tree.Bin o l r) = or_else (fault c E l) (fault c E r)
+  fault c E (tree.Cond t x y) = or_else (fault c E t) (or_else (fault c E x) (fault c E y))
   fault c E (tree.Call f es) = or_else (fault c E f) (all_fault c E es)
   fault c E _ = None
 

@@ -18,9 +18,9 @@ abbrev mutual
   fault c E at (tree.Name n) s = name_fault c n (meant_by E n)
   fault c E at (tree.Table ks) s = constants_fault E at ks
   fault c E at (tree.Valof b) s = block_fault allowed_in_valof (in_valof E) (after_valof at) b s
-  fault c E at (tree.Monadic m e) s = or_else (fault c E at e s) (address_fault c E m e)
-  fault c E at (tree.Dyadic o l r) s = or_else (fault c E at l (operand_level s)) (fault c E (following at l) r (operand_level s))
-  fault c E at (tree.Condition t x y) s =
+  fault c E at (tree.Unary m e) s = or_else (fault c E at e s) (address_fault c E m e)
+  fault c E at (tree.Bin o l r) s = or_else (fault c E at l (operand_level s)) (fault c E (following at l) r (operand_level s))
+  fault c E at (tree.Cond t x y) s =
       let after_test = following at t in or_else (fault c E at t s) (or_else (fault c E after_test x s) (fault c E (following after_test x) y s))
   fault c E at (tree.Call f es) s = or_else (fault c E at f (routine_level s (count es))) (arguments_fault c E (following at f) es (argument_level s))
   fault c E at _ s = None

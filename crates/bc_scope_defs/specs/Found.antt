@@ -91,9 +91,9 @@ abbrev mutual
   found E at (tree.Valof b) s =
       AValof (record { number = at.valof; names = in_valof E; numbers = after_valof at; body = b; level = s })
       ∷ found_in_block (in_valof E) (after_valof at) b s
-  found E at (tree.Monadic m e) s = found E at e s
-  found E at (tree.Dyadic o l r) s = found E at l (operand_level s) ++ found E (following at l) r (operand_level s)
-  found E at (tree.Condition c x y) s =
+  found E at (tree.Unary m e) s = found E at e s
+  found E at (tree.Bin o l r) s = found E at l (operand_level s) ++ found E (following at l) r (operand_level s)
+  found E at (tree.Cond c x y) s =
       let after_test = following at c in found E at c s ++ (found E after_test x s ++ found E (following after_test x) y s)
   found E at (tree.Call f es) s = found E at f (routine_level s (count es)) ++ found_in_arguments E (following at f) es (argument_level s)
   found E at (tree.Text text) s = Data at.place (AText (decoded text)) ∷ []

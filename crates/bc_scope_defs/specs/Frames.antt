@@ -28,9 +28,9 @@ held E x s = cond (is_operand_kind (kinds E x).address) 0 (s + 2)
 abbrev mutual
   pub width : Env → Exp → (s : ℕ) → ℕ
   width E (tree.Valof b) s = width_of_block (in_valof E) b s
-  width E (tree.Monadic m e) s = width E e s
-  width E (tree.Dyadic o l r) s = max (s + 2) (max (width E l (operand_level s)) (width E r (operand_level s)))
-  width E (tree.Condition c x y) s = max (width E c s) (max (width E x s) (width E y s))
+  width E (tree.Unary m e) s = width E e s
+  width E (tree.Bin o l r) s = max (s + 2) (max (width E l (operand_level s)) (width E r (operand_level s)))
+  width E (tree.Cond c x y) s = max (width E c s) (max (width E x s) (width E y s))
   width E (tree.Call f es) s = max (s + 2 + count es) (max (width_of_all E es (argument_level s) 1) (width E f (routine_level s (count es))))
   width E _ s = 0
 

@@ -23,9 +23,9 @@ widest _ _ _ = 0
 abbrev mutual
   pub width : Env → Numbers → Exp → (s : ℕ) → ℕ
   width E at (tree.Valof b) s = width_of_block (in_valof E) (after_valof at) b s
-  width E at (tree.Monadic m e) s = width E at e s
-  width E at (tree.Dyadic o l r) s = max (s + 2) (max (width E at l (operand_level s)) (width E (following at l) r (operand_level s)))
-  width E at (tree.Condition c x y) s =
+  width E at (tree.Unary m e) s = width E at e s
+  width E at (tree.Bin o l r) s = max (s + 2) (max (width E at l (operand_level s)) (width E (following at l) r (operand_level s)))
+  width E at (tree.Cond c x y) s =
       let after_test = following at c in max (width E at c s) (max (width E after_test x s) (width E (following after_test x) y s))
   width E at (tree.Call f es) s =
       max (s + 2 + count es) (max (width_of_arguments E (following at f) es (argument_level s)) (width E at f (routine_level s (count es))))

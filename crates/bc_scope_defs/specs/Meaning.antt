@@ -4,8 +4,8 @@ use Rattle.std.specs.Prelude.{ℕ, ◌+◌, ◌%◌, ◌==◌, ◌||◌, Bool, t
 use Rattle.bc_word.specs.declared.operator.Op.{Op}
 use Rattle.bc_word.specs.declared.operator.Op.TheVariants as operators
 use Rattle.bc_word.specs.Words.{negated}
-use Rattle.bc_parse_tree.specs.declared.tree.Monadic.{Monadic}
-use Rattle.bc_parse_tree.specs.declared.tree.Monadic.TheVariants as monadic
+use Rattle.bc_parse_tree.specs.declared.tree.UnaryOp.{UnaryOp}
+use Rattle.bc_parse_tree.specs.declared.tree.UnaryOp.TheVariants as unary
 use Rattle.bc_parse_tree.specs.Tree.{Exp, Exps, none, more, Block, block, Declaration, Declarations, no_declarations, declaration, Definition, Definitions, no_definitions, definition, Item, Labelled, Labels_alone, Items, no_items, item, Label, Labels, no_labels, label, Command}
 use Rattle.bc_parse_tree.specs.Tree as tree
 use Rattle.bc_core.specs.Level.{operand_level, argument_level, routine_level, level_in_for}
@@ -57,22 +57,22 @@ worth_of_name A _ p = plain (known 0)
 abbrev pub holds_call : Exp → Bool
 holds_call (tree.Valof b) = true
 holds_call (tree.Call f es) = true
-holds_call (tree.Monadic m e) = holds_call e
-holds_call (tree.Dyadic o l r) = holds_call l || holds_call r
-holds_call (tree.Condition c x y) = holds_call c || holds_call x || holds_call y
+holds_call (tree.Unary m e) = holds_call e
+holds_call (tree.Bin o l r) = holds_call l || holds_call r
+holds_call (tree.Cond c x y) = holds_call c || holds_call x || holds_call y
 holds_call _ = false
 
--- what a monadic operator denotes with this operand
-abbrev pub worth_of_monadic : Monadic → Worth → Worth
-worth_of_monadic monadic.Load e = cell e.content
-worth_of_monadic monadic.Address e = plain e.address
-worth_of_monadic monadic.Not e = plain (not_sense e.content)
-worth_of_monadic monadic.Negate e = plain (by_value (then_do e.content.value (λ v. Done (negated v))))
+-- what a unary operator denotes with this operand
+abbrev pub worth_of_unary : UnaryOp → Worth → Worth
+worth_of_unary unary.Load e = cell e.content
+worth_of_unary unary.Address e = plain e.address
+worth_of_unary unary.Not e = plain (not_sense e.content)
+worth_of_unary unary.Neg e = plain (by_value (then_do e.content.value (λ v. Done (negated v))))
 
--- what a dyadic operator denotes with these operands; `l ! r` is the cell at the sum of both
-abbrev pub worth_of_dyadic : Option Op → (calls : Bool) → Sense → Sense → Worth
-worth_of_dyadic None calls l r = cell (operator_sense operators.Add calls l r)
-worth_of_dyadic (Some op) calls l r = plain (operator_sense op calls l r)
+-- what a binary operator denotes with these operands; `l ! r` is the cell at the sum of both
+abbrev pub worth_of_binary : Option Op → (calls : Bool) → Sense → Sense → Worth
+worth_of_binary None calls l r = cell (operator_sense operators.Add calls l r)
+worth_of_binary (Some op) calls l r = plain (operator_sense op calls l r)
 
 -- one expression on a side of an assignment: whether it contains a call or a VALOF, and what it denotes
 pub record Side : Type 0 where
@@ -153,18 +153,18 @@ abbrev mutual
   -- what an expression denotes
   pub worth : Around → Env → Numbers → Exp → (p s : ℕ) → Worth
   worth A E at (tree.Name n) p s = worth_of_name A (meant_by E n) p
-  worth A E at (tree.Number w) p s = plain (known w)
+  worth A E at (tree.Num w) p s = plain (known w)
   worth A E at (tree.Character w) p s = plain (known w)
   worth A E at tree.True p s = plain (known 65535)
   worth A E at tree.False p s = plain (known 0)
   worth A E at (tree.Text bytes) p s = plain (known (A.place at.place))
   worth A E at (tree.Table ks) p s = plain (known (A.place at.place))
   worth A E at (tree.Valof b) p s = plain (by_value (then_do (run_block A (in_valof E) (after_valof at) b p s) valof_value))
-  worth A E at (tree.Monadic m e) p s = worth_of_monadic m (worth A E at e p s)
-  worth A E at (tree.Dyadic o l r) p s =
+  worth A E at (tree.Unary m e) p s = worth_of_unary m (worth A E at e p s)
+  worth A E at (tree.Bin o l r) p s =
       let s1 = operand_level s in
-      worth_of_dyadic (operator o) (holds_call l || holds_call r) (worth A E at l p s1).content (worth A E (following at l) r p s1).content
-  worth A E at (tree.Condition c x y) p s =
+      worth_of_binary (operator o) (holds_call l || holds_call r) (worth A E at l p s1).content (worth A E (following at l) r p s1).content
+  worth A E at (tree.Cond c x y) p s =
       let after_test = following at c in
       plain (by_value (then_do (worth A E at c p s).content.truth (λ t.
       choose t (worth A E after_test x p s).content.value (worth A E (following after_test x) y p s).content.value)))

@@ -2,8 +2,8 @@
 use Rattle.std.specs.Prelude.{ℕ, ◌≡◌, ◌+◌, codes, List, [], ◌∷◌}
 use Rattle.std.proofs.Common.{refl}
 use Rattle.bc_parse_tree.specs.declared.tree.Storage.TheVariants as storage
-use Rattle.bc_parse_tree.specs.declared.tree.Dyadic.TheVariants as dyadic
-use Rattle.bc_parse_tree.specs.declared.tree.Monadic.TheVariants as monadic
+use Rattle.bc_parse_tree.specs.declared.tree.BinaryOp.TheVariants as binary
+use Rattle.bc_parse_tree.specs.declared.tree.UnaryOp.TheVariants as unary
 use Rattle.bc_parse_tree.specs.Tree.{Exp, Block, Declarations, Command}
 use Rattle.bc_parse_tree.specs.Tree as tree
 use Rattle.bc_machine_defs.specs.StreamStart.{start_streams}
@@ -30,8 +30,8 @@ print e = do_call wrch (e ∷ [])
 
 -- `LET X = 0; L: X := X + 1; IF X < 3 DO GOTO L; WRCH('0' + X)`
 by_labels : run (body (variable x (number 0) ∷ [])
-    (labelled l (set x (two dyadic.Add (of x) (number 1))) ∷ plain (tree.If (two dyadic.Less (of x) (number 3)) (commands (tree.Goto l ∷ [])))
-    ∷ plain (print (two dyadic.Add (number 48) (of x))) ∷ [])) ≡ printed (51 ∷ [])
+    (labelled l (set x (two binary.Add (of x) (number 1))) ∷ plain (tree.If (two binary.Less (of x) (number 3)) (commands (tree.Goto l ∷ [])))
+    ∷ plain (print (two binary.Add (number 48) (of x))) ∷ [])) ≡ printed (51 ∷ [])
 by_labels = refl
 
 -- `X, Y := Y, X` is done pair by pair
@@ -49,18 +49,18 @@ falls_through : run (commands (tree.SwitchOn (number 2)
 falls_through = refl
 
 -- `IF NOT 1` doesn't hold; as a value NOT 1 is -2
-not_one : run (commands (tree.If (tree.Monadic monadic.Not (number 1)) (commands (print (number 88) ∷ []))
-    ∷ print (two dyadic.Add (number 67) (tree.Monadic monadic.Not (number 1))) ∷ [])) ≡ printed (65 ∷ [])
+not_one : run (commands (tree.If (tree.Unary unary.Not (number 1)) (commands (print (number 88) ∷ []))
+    ∷ print (two binary.Add (number 67) (tree.Unary unary.Not (number 1))) ∷ [])) ≡ printed (65 ∷ [])
 not_one = refl
 
 -- a VALOF without RESULTIS has the value 0, and RESULTIS leaves a loop inside it
-valofs : run (commands (print (two dyadic.Add (number 65) (tree.Valof (commands [])))
+valofs : run (commands (print (two binary.Add (number 65) (tree.Valof (commands [])))
     ∷ print (tree.Valof (commands (tree.Repeat (tree.ResultIs (number 66)) ∷ []))) ∷ [])) ≡ printed (65 ∷ 66 ∷ [])
 valofs = refl
 
 -- statics and strings have their words when the run begins: the first of "AB" has the bytes 2 and 65
 static_and_string : runs (declarations (constants storage.Global ((start, number 1) ∷ (wrch, number 14) ∷ []) ∷ constants storage.Static ((x, number 66) ∷ [])
-    ∷ lets (tree.Routine start [] (commands (print (two dyadic.Index (tree.Text (codes "\"AB\"")) (number 0)) ∷ print (of x) ∷ [])) ∷ []) ∷ [])) 100
+    ∷ lets (tree.Routine start [] (commands (print (two binary.Index (tree.Text (codes "\"AB\"")) (number 0)) ∷ print (of x) ∷ [])) ∷ []) ∷ [])) 100
     ≡ printed (65 ∷ 66 ∷ [])
 static_and_string = refl
 
@@ -69,12 +69,12 @@ goes_on : runs (program (commands (print (number 65) ∷ tree.Repeat (tree.Compo
 goes_on = refl
 
 -- `X := 1/0` with X declared
-zero_divisor : run (body (variable x (number 0) ∷ []) (plain (set x (two dyadic.Divide (number 1) (number 0))) ∷ [])) ≡ Ended ([] ∷ []) ZeroDivide
+zero_divisor : run (body (variable x (number 0) ∷ []) (plain (set x (two binary.Divide (number 1) (number 0))) ∷ [])) ≡ Ended ([] ∷ []) ZeroDivide
 zero_divisor = refl
 
 -- an unset cell outweighs the zero divisor on the other side: `LET V = VEC 0; !V := V!0 + 1/0`
-wild : run (body (lets (tree.Vector v (number 0) ∷ []) ∷ []) (plain (tree.Assign (list (tree.Monadic monadic.Load (of v) ∷ []))
-    (list (two dyadic.Add (two dyadic.Divide (number 1) (number 0)) (two dyadic.Index (of v) (number 0)) ∷ []))) ∷ [])) ≡ Wild
+wild : run (body (lets (tree.Vector v (number 0) ∷ []) ∷ []) (plain (tree.Assign (list (tree.Unary unary.Load (of v) ∷ []))
+    (list (two binary.Add (two binary.Divide (number 1) (number 0)) (two binary.Index (of v) (number 0)) ∷ []))) ∷ [])) ≡ Wild
 wild = refl
 
 -- a missing argument is unset

@@ -43,9 +43,9 @@ abbrev mutual
   following at (tree.Text s) = after_place at
   following at (tree.Table ks) = after_place at
   following at (tree.Valof b) = after_block (after_valof at) b
-  following at (tree.Monadic m e) = following at e
-  following at (tree.Dyadic o l r) = following (following at l) r
-  following at (tree.Condition c x y) = following (following (following at c) x) y
+  following at (tree.Unary m e) = following at e
+  following at (tree.Bin o l r) = following (following at l) r
+  following at (tree.Cond c x y) = following (following (following at c) x) y
   following at (tree.Call f es) = after_all (following at f) es
   following at _ = at
 

@@ -5,36 +5,36 @@ use Rattle.bc_word.specs.declared.operator.Op.TheVariants as operators
 use Rattle.bc_word.specs.Words.{value_of, negated, complemented}
 use Rattle.bc_parse_tree.specs.declared.tree.Storage.{Storage}
 use Rattle.bc_parse_tree.specs.declared.tree.Storage.TheVariants as storage
-use Rattle.bc_parse_tree.specs.declared.tree.Dyadic.{Dyadic}
-use Rattle.bc_parse_tree.specs.declared.tree.Dyadic.TheVariants as dyadic
-use Rattle.bc_parse_tree.specs.declared.tree.Monadic.{Monadic}
-use Rattle.bc_parse_tree.specs.declared.tree.Monadic.TheVariants as monadic
+use Rattle.bc_parse_tree.specs.declared.tree.BinaryOp.{BinaryOp}
+use Rattle.bc_parse_tree.specs.declared.tree.BinaryOp.TheVariants as binary
+use Rattle.bc_parse_tree.specs.declared.tree.UnaryOp.{UnaryOp}
+use Rattle.bc_parse_tree.specs.declared.tree.UnaryOp.TheVariants as unary
 use Rattle.bc_parse_tree.specs.Tree.{Exp, Exps, none, more, Declaration, Declarations, no_declarations, declaration, Entries, no_entries, entry, Definition, Definitions, no_definitions, definition, Item, Labelled, Labels_alone, Items, no_items, item, Label, Labels, no_labels, label}
 use Rattle.bc_parse_tree.specs.Tree as tree
 use Rattle.bc_scope_defs.specs.Scope.{Meant, Constant, Pending, Static, Global, Routine, Variable, OuterVariable, OuterLabel, StrayVariable, StrayLabel, LabelOutside, Env, Name, Names, with_name, meant_by, Numbers}
 use Rattle.bc_scope_defs.specs.Scope as scope
 use Rattle.bc_scope_defs.specs.Numbering.{after_entry, after_declaration, after_definition, labels_named, labels_of_item}
 
--- the operator on words for each dyadic operator but `!`
-abbrev pub operator : Dyadic → Option Op
-operator dyadic.Equivalent = Some operators.Equivalent
-operator dyadic.NotEquivalent = Some operators.NotEquivalent
-operator dyadic.Or = Some operators.Or
-operator dyadic.And = Some operators.And
-operator dyadic.ShiftLeft = Some operators.ShiftLeft
-operator dyadic.ShiftRight = Some operators.ShiftRight
-operator dyadic.Equal = Some operators.Equal
-operator dyadic.NotEqual = Some operators.NotEqual
-operator dyadic.Less = Some operators.Less
-operator dyadic.GreaterEqual = Some operators.GreaterEqual
-operator dyadic.Greater = Some operators.Greater
-operator dyadic.LessEqual = Some operators.LessEqual
-operator dyadic.Add = Some operators.Add
-operator dyadic.Subtract = Some operators.Subtract
-operator dyadic.Multiply = Some operators.Multiply
-operator dyadic.Divide = Some operators.Divide
-operator dyadic.Remainder = Some operators.Remainder
-operator dyadic.Index = None
+-- the operator on words for each binary operator but `!`
+abbrev pub operator : BinaryOp → Option Op
+operator binary.Equivalent = Some operators.Equivalent
+operator binary.NotEquivalent = Some operators.NotEquivalent
+operator binary.Or = Some operators.Or
+operator binary.And = Some operators.And
+operator binary.ShiftLeft = Some operators.ShiftLeft
+operator binary.ShiftRight = Some operators.ShiftRight
+operator binary.Equal = Some operators.Equal
+operator binary.NotEqual = Some operators.NotEqual
+operator binary.Less = Some operators.Less
+operator binary.GreaterEqual = Some operators.GreaterEqual
+operator binary.Greater = Some operators.Greater
+operator binary.LessEqual = Some operators.LessEqual
+operator binary.Add = Some operators.Add
+operator binary.Subtract = Some operators.Subtract
+operator binary.Multiply = Some operators.Multiply
+operator binary.Divide = Some operators.Divide
+operator binary.Remainder = Some operators.Remainder
+operator binary.Index = None
 
 -- ---- Constants
 
@@ -44,25 +44,25 @@ constant_name (Constant w) = Some w
 constant_name _ = None
 
 -- `-` or NOT of a constant; `!` and `@` make no constant
-abbrev pub constant_monadic : Monadic → Option ℕ → Option ℕ
-constant_monadic monadic.Negate (Some w) = Some (negated w)
-constant_monadic monadic.Not (Some w) = Some (complemented w)
-constant_monadic _ w = None
+abbrev pub constant_unary : UnaryOp → Option ℕ → Option ℕ
+constant_unary unary.Neg (Some w) = Some (negated w)
+constant_unary unary.Not (Some w) = Some (complemented w)
+constant_unary _ w = None
 
 -- an operator between two constants; a zero divisor has no value, and `!` makes no constant
-abbrev pub constant_dyadic : Option Op → Option ℕ → Option ℕ → Option ℕ
-constant_dyadic (Some op) (Some a) (Some b) = value_of op a b
-constant_dyadic _ _ _ = None
+abbrev pub constant_binary : Option Op → Option ℕ → Option ℕ → Option ℕ
+constant_binary (Some op) (Some a) (Some b) = value_of op a b
+constant_binary _ _ _ = None
 
 -- The value of a constant. None, if the expression is no constant.
 abbrev pub constant_in : Env → Exp → Option ℕ
 constant_in E (tree.Name n) = constant_name (meant_by E n)
-constant_in E (tree.Number w) = Some w
+constant_in E (tree.Num w) = Some w
 constant_in E (tree.Character w) = Some w
 constant_in E tree.True = Some 65535
 constant_in E tree.False = Some 0
-constant_in E (tree.Monadic m e) = constant_monadic m (constant_in E e)
-constant_in E (tree.Dyadic o l r) = constant_dyadic (operator o) (constant_in E l) (constant_in E r)
+constant_in E (tree.Unary m e) = constant_unary m (constant_in E e)
+constant_in E (tree.Bin o l r) = constant_binary (operator o) (constant_in E l) (constant_in E r)
 constant_in E _ = None
 
 -- Where a constant is required, anything else is a fault. For what follows it counts as 0.

@@ -1,10 +1,10 @@
 -- The level of both sides of an assignment. It depends on whether one instruction takes the address as its operand,
 -- which is decided here by the form of the address in the source.
 use Rattle.std.specs.Prelude.{ℕ, ◌+◌, Bool, true, false, cond, List, [], ◌∷◌}
-use Rattle.bc_parse_tree.specs.declared.tree.Dyadic.{Dyadic}
-use Rattle.bc_parse_tree.specs.declared.tree.Dyadic.TheVariants as dyadic
-use Rattle.bc_parse_tree.specs.declared.tree.Monadic.{Monadic}
-use Rattle.bc_parse_tree.specs.declared.tree.Monadic.TheVariants as monadic
+use Rattle.bc_parse_tree.specs.declared.tree.BinaryOp.{BinaryOp}
+use Rattle.bc_parse_tree.specs.declared.tree.BinaryOp.TheVariants as binary
+use Rattle.bc_parse_tree.specs.declared.tree.UnaryOp.{UnaryOp}
+use Rattle.bc_parse_tree.specs.declared.tree.UnaryOp.TheVariants as unary
 use Rattle.bc_parse_tree.specs.Tree.{Exp, Exps, none, more}
 use Rattle.bc_parse_tree.specs.Tree as tree
 use Rattle.bc_scope_defs.specs.Scope.{Meant, Static, Global, Routine, Variable, Env, meant_by}
@@ -52,29 +52,29 @@ kinds_of_name (Routine m) = kinds_of_plain APlace
 kinds_of_name (Variable k) = kinds_of_cell ACell
 kinds_of_name _ = kinds_of_plain ANumber
 
--- a monadic operator
-abbrev pub kinds_of_monadic : Monadic → Kinds → Kinds
-kinds_of_monadic monadic.Load e = kinds_of_cell e.content
-kinds_of_monadic monadic.Address e = kinds_of_plain e.address
-kinds_of_monadic _ e = kinds_of_plain NoOperand
+-- a unary operator
+abbrev pub kinds_of_unary : UnaryOp → Kinds → Kinds
+kinds_of_unary unary.Load e = kinds_of_cell e.content
+kinds_of_unary unary.Address e = kinds_of_plain e.address
+kinds_of_unary _ e = kinds_of_plain NoOperand
 
--- a dyadic operator
-abbrev pub kinds_of_dyadic : Dyadic → Kind → Kind → Kinds
-kinds_of_dyadic dyadic.Index l r = kinds_of_cell (kind_of_sum l r)
-kinds_of_dyadic dyadic.Add l r = kinds_of_plain (kind_of_sum l r)
-kinds_of_dyadic _ l r = kinds_of_plain NoOperand
+-- a binary operator
+abbrev pub kinds_of_binary : BinaryOp → Kind → Kind → Kinds
+kinds_of_binary binary.Index l r = kinds_of_cell (kind_of_sum l r)
+kinds_of_binary binary.Add l r = kinds_of_plain (kind_of_sum l r)
+kinds_of_binary _ l r = kinds_of_plain NoOperand
 
 -- an expression
 abbrev pub kinds : Env → Exp → Kinds
 kinds E (tree.Name n) = kinds_of_name (meant_by E n)
-kinds E (tree.Number w) = kinds_of_plain ANumber
+kinds E (tree.Num w) = kinds_of_plain ANumber
 kinds E (tree.Character w) = kinds_of_plain ANumber
 kinds E tree.True = kinds_of_plain ANumber
 kinds E tree.False = kinds_of_plain ANumber
 kinds E (tree.Text s) = kinds_of_plain APlace
 kinds E (tree.Table ks) = kinds_of_plain APlace
-kinds E (tree.Monadic m e) = kinds_of_monadic m (kinds E e)
-kinds E (tree.Dyadic o l r) = kinds_of_dyadic o (kinds E l).content (kinds E r).content
+kinds E (tree.Unary m e) = kinds_of_unary m (kinds E e)
+kinds E (tree.Bin o l r) = kinds_of_binary o (kinds E l).content (kinds E r).content
 kinds E _ = kinds_of_plain NoOperand
 
 -- whether one instruction takes it as its operand

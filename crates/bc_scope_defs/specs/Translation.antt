@@ -2,8 +2,8 @@
 use Rattle.std.specs.Prelude.{ℕ, ◌+◌, true, false, List, [], ◌∷◌, ◌++◌, map, Option, Some, None}
 use Rattle.bc_word.specs.declared.operator.Op.{Op}
 use Rattle.bc_word.specs.declared.operator.Op.TheVariants as operators
-use Rattle.bc_parse_tree.specs.declared.tree.Monadic.{Monadic}
-use Rattle.bc_parse_tree.specs.declared.tree.Monadic.TheVariants as monadic
+use Rattle.bc_parse_tree.specs.declared.tree.UnaryOp.{UnaryOp}
+use Rattle.bc_parse_tree.specs.declared.tree.UnaryOp.TheVariants as unary
 use Rattle.bc_parse_tree.specs.Tree.{Declarations}
 use Rattle.bc_parse_tree.specs.Tree as tree
 use Rattle.bc_core.specs.Tree.{Exp, Num, Frame, Glob, Place, Load, Neg, Not, Bin, Cond, Call, Valof, Args, no_argument, argument}
@@ -58,32 +58,32 @@ abbrev pub negation : Exp → Exp
 negation (Bin op a b) = or_not (opposite op) op a b
 negation e = Not e
 
--- what a monadic operator becomes
-abbrev pub form_of_monadic : Monadic → Forms → Forms
-form_of_monadic monadic.Load e = cell e.content
-form_of_monadic monadic.Address e = plain e.address
-form_of_monadic monadic.Not e = plain (negation e.content)
-form_of_monadic monadic.Negate e = plain (Neg e.content)
+-- what a unary operator becomes
+abbrev pub form_of_unary : UnaryOp → Forms → Forms
+form_of_unary unary.Load e = cell e.content
+form_of_unary unary.Address e = plain e.address
+form_of_unary unary.Not e = plain (negation e.content)
+form_of_unary unary.Neg e = plain (Neg e.content)
 
--- what a dyadic operator becomes; `l ! r` is the cell at the sum of both
-abbrev pub form_of_dyadic : Option Op → Exp → Exp → Forms
-form_of_dyadic None l r = cell (Bin operators.Add l r)
-form_of_dyadic (Some op) l r = plain (Bin op l r)
+-- what a binary operator becomes; `l ! r` is the cell at the sum of both
+abbrev pub form_of_binary : Option Op → Exp → Exp → Forms
+form_of_binary None l r = cell (Bin operators.Add l r)
+form_of_binary (Some op) l r = plain (Bin op l r)
 
 -- What an expression becomes. Of a VALOF only the number stays; its body is in the table of VALOFs.
 abbrev mutual
   pub forms : Env → Numbers → tree.Exp → Forms
   forms E at (tree.Name n) = form_of_name (meant_by E n)
-  forms E at (tree.Number w) = plain (Num w)
+  forms E at (tree.Num w) = plain (Num w)
   forms E at (tree.Character w) = plain (Num w)
   forms E at tree.True = plain (Num 65535)
   forms E at tree.False = plain (Num 0)
   forms E at (tree.Text bytes) = plain (Place at.place)
   forms E at (tree.Table ks) = plain (Place at.place)
   forms E at (tree.Valof b) = plain (Valof at.valof)
-  forms E at (tree.Monadic m e) = form_of_monadic m (forms E at e)
-  forms E at (tree.Dyadic o l r) = form_of_dyadic (operator o) (forms E at l).content (forms E (following at l) r).content
-  forms E at (tree.Condition c x y) =
+  forms E at (tree.Unary m e) = form_of_unary m (forms E at e)
+  forms E at (tree.Bin o l r) = form_of_binary (operator o) (forms E at l).content (forms E (following at l) r).content
+  forms E at (tree.Cond c x y) =
       let after_test = following at c in
       plain (Cond (forms E at c).content (forms E after_test x).content (forms E (following after_test x) y).content)
   forms E at (tree.Call f es) = plain (Call (core_arguments E (following at f) es) (forms E at f).content)

@@ -3,8 +3,8 @@ use Rattle.std.specs.Prelude.{ℕ, ◌≡◌, true, codes, List, [], ◌∷◌, 
 use Rattle.std.proofs.Common.{refl}
 use Rattle.bc_word.specs.declared.operator.Op.TheVariants as operators
 use Rattle.bc_parse_tree.specs.declared.tree.Storage.TheVariants as storage
-use Rattle.bc_parse_tree.specs.declared.tree.Dyadic.TheVariants as dyadic
-use Rattle.bc_parse_tree.specs.declared.tree.Monadic.TheVariants as monadic
+use Rattle.bc_parse_tree.specs.declared.tree.BinaryOp.TheVariants as binary
+use Rattle.bc_parse_tree.specs.declared.tree.UnaryOp.TheVariants as unary
 use Rattle.bc_parse_tree.specs.Tree.{Exp, Block, Declarations, Command}
 use Rattle.bc_parse_tree.specs.Tree as tree
 use Rattle.bc_core.specs.Tree as core
@@ -30,15 +30,15 @@ abbrev translated : Exp → core.Exp
 translated e = (forms names section_start e).content
 
 abbrev load : Exp → Exp
-load e = tree.Monadic monadic.Load e
+load e = tree.Unary unary.Load e
 
 abbrev address_of : Exp → Exp
-address_of e = tree.Monadic monadic.Address e
+address_of e = tree.Unary unary.Address e
 
 abbrev opposite : Exp → Exp
-opposite e = tree.Monadic monadic.Not e
+opposite e = tree.Unary unary.Not e
 
-names_stand : translated (two dyadic.Add (of a) (of v)) ≡ core.Bin operators.Add (core.Num 5) (core.Load (core.Glob 100))
+names_stand : translated (two binary.Add (of a) (of v)) ≡ core.Bin operators.Add (core.Num 5) (core.Load (core.Glob 100))
 names_stand = refl
 
 routines_stand : translated (call f (of x ∷ of y ∷ [])) ≡ core.Call (core.argument (at 2) (core.argument (at 3) core.no_argument)) (core.Place 3)
@@ -48,27 +48,27 @@ routines_stand = refl
 content : translated (load (of x)) ≡ core.Load (at 2)
 content = refl
 
-indexed : translated (two dyadic.Index (of v) (number 1)) ≡ core.Load (core.Bin operators.Add (core.Load (core.Glob 100)) (core.Num 1))
+indexed : translated (two binary.Index (of v) (number 1)) ≡ core.Load (core.Bin operators.Add (core.Load (core.Glob 100)) (core.Num 1))
 indexed = refl
 
-address_of_indexed : translated (address_of (two dyadic.Index (of v) (number 1))) ≡ core.Bin operators.Add (core.Load (core.Glob 100)) (core.Num 1)
+address_of_indexed : translated (address_of (two binary.Index (of v) (number 1))) ≡ core.Bin operators.Add (core.Load (core.Glob 100)) (core.Num 1)
 address_of_indexed = refl
 
 address_of_content : translated (address_of (load (of x))) ≡ at 2
 address_of_content = refl
 
 -- NOT of a relation is the opposite relation, also if that relation was made in this way; NOT of anything else stays
-not_less : translated (opposite (two dyadic.Less (of x) (number 7))) ≡ core.Bin operators.GreaterEqual (at 2) (core.Num 7)
+not_less : translated (opposite (two binary.Less (of x) (number 7))) ≡ core.Bin operators.GreaterEqual (at 2) (core.Num 7)
 not_less = refl
 
-not_not_less : translated (opposite (opposite (two dyadic.Less (of x) (number 7)))) ≡ core.Bin operators.Less (at 2) (core.Num 7)
+not_not_less : translated (opposite (opposite (two binary.Less (of x) (number 7)))) ≡ core.Bin operators.Less (at 2) (core.Num 7)
 not_not_less = refl
 
 not_variable : translated (opposite (of x)) ≡ core.Not (at 2)
 not_variable = refl
 
 -- nothing is folded or reordered
-not_folded : translated (two dyadic.Add (number 1) (tree.Monadic monadic.Negate (number 2))) ≡ core.Bin operators.Add (core.Num 1) (core.Neg (core.Num 2))
+not_folded : translated (two binary.Add (number 1) (tree.Unary unary.Neg (number 2))) ≡ core.Bin operators.Add (core.Num 1) (core.Neg (core.Num 2))
 not_folded = refl
 
 -- in a call, a VALOF in the routine is numbered before those in the arguments
@@ -87,10 +87,10 @@ of_variable = refl
 of_content : level_of_sides (load (of x)) ≡ 6
 of_content = refl
 
-of_cell_after : level_of_sides (two dyadic.Index (address_of (of x)) (number 1)) ≡ 6
+of_cell_after : level_of_sides (two binary.Index (address_of (of x)) (number 1)) ≡ 6
 of_cell_after = refl
 
-of_indexed : level_of_sides (two dyadic.Index (of x) (number 1)) ≡ 7
+of_indexed : level_of_sides (two binary.Index (of x) (number 1)) ≡ 7
 of_indexed = refl
 
 of_content_of_content : level_of_sides (load (load (of x))) ≡ 7
@@ -117,7 +117,7 @@ frames ds = frames_among (found_in_section ds)
 
 -- `LET A, B = 1, 2; A := A + B`: the roots have the level 4, and the frame has 6 cells
 abbrev sum : Declarations
-sum = alone (body (lets (variables (a ∷ b ∷ []) (number 1 ∷ number 2 ∷ []) ∷ []) ∷ []) (plain (set a (two dyadic.Add (of a) (of b))) ∷ []))
+sum = alone (body (lets (variables (a ∷ b ∷ []) (number 1 ∷ number 2 ∷ []) ∷ []) ∷ []) (plain (set a (two binary.Add (of a) (of b))) ∷ []))
 
 sum_translated : core_of sum ≡ record {
   places =
@@ -190,8 +190,8 @@ after_a_vector = refl
 
 -- `MANIFEST $( A = -1; B = NOT A $)`, `STATIC $( X = B + 2 $)`, and data in a routine: all places in text order
 places_in_order : core_of (declarations
-    (constants storage.Manifest ((a, tree.Monadic monadic.Negate (number 1)) ∷ (b, opposite (of a)) ∷ [])
-    ∷ constants storage.Static ((x, two dyadic.Add (of b) (number 2)) ∷ [])
+    (constants storage.Manifest ((a, tree.Unary unary.Neg (number 1)) ∷ (b, opposite (of a)) ∷ [])
+    ∷ constants storage.Static ((x, two binary.Add (of b) (number 2)) ∷ [])
     ∷ lets (tree.Routine start [] (commands (set x (tree.Table (list (of a ∷ number 3 ∷ []))) ∷ set x (tree.Text (codes "\"A*N\"")) ∷ [])) ∷ []) ∷ []))
     ≡ record {
       places =
@@ -209,10 +209,10 @@ abbrev section : Declarations
 section = declarations
     (constants storage.Global ((start, number 1) ∷ (wrch, number 14) ∷ [])
     ∷ lets
-    (tree.Function f (x ∷ []) (tree.Valof (body (variable y (two dyadic.Add (of x) (number 1)) ∷ [])
-    (plain (tree.If (two dyadic.Equal (of y) (number 3)) (commands (tree.Goto l ∷ [])))
+    (tree.Function f (x ∷ []) (tree.Valof (body (variable y (two binary.Add (of x) (number 1)) ∷ [])
+    (plain (tree.If (two binary.Equal (of y) (number 3)) (commands (tree.Goto l ∷ [])))
     ∷ plain (tree.ResultIs (of y))
-    ∷ labelled l (tree.ResultIs (tree.Valof (commands (tree.ResultIs (opposite (two dyadic.Less (of y) (number 7))) ∷ [])))) ∷ [])))
+    ∷ labelled l (tree.ResultIs (tree.Valof (commands (tree.ResultIs (opposite (two binary.Less (of y) (number 7))) ∷ [])))) ∷ [])))
     ∷ tree.Routine start [] (body (lets (variables (x ∷ y ∷ []) (number 1 ∷ number 2 ∷ []) ∷ []) ∷ [])
     (plain (tree.Assign (list (of x ∷ load (of y) ∷ [])) (list (of y ∷ address_of (of x) ∷ [])))
     ∷ plain (do_call wrch (call f (of x ∷ []) ∷ [])) ∷ [])) ∷ []) ∷ [])

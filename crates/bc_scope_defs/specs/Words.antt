@@ -11,14 +11,14 @@ AreBytes (b ∷ bs) = (b < 256) × AreBytes bs
 abbrev mutual
   -- an expression
   pub ExpHasWords : Exp → Type 0
-  ExpHasWords (tree.Number n) = n < 65536
+  ExpHasWords (tree.Num n) = n < 65536
   ExpHasWords (tree.Character n) = n < 65536
   ExpHasWords (tree.Text text) = AreBytes text
   ExpHasWords (tree.Table ks) = ExpsHaveWords ks
   ExpHasWords (tree.Valof b) = BlockHasWords b
-  ExpHasWords (tree.Monadic m e) = ExpHasWords e
-  ExpHasWords (tree.Dyadic o l r) = ExpHasWords l × ExpHasWords r
-  ExpHasWords (tree.Condition c x y) = ExpHasWords c × ExpHasWords x × ExpHasWords y
+  ExpHasWords (tree.Unary m e) = ExpHasWords e
+  ExpHasWords (tree.Bin o l r) = ExpHasWords l × ExpHasWords r
+  ExpHasWords (tree.Cond c x y) = ExpHasWords c × ExpHasWords x × ExpHasWords y
   ExpHasWords (tree.Call f es) = ExpHasWords f × ExpsHaveWords es
   ExpHasWords _ = Unit {0}
 

@@ -32,7 +32,7 @@ pub fn expression<'s>(
             check_name(context.in_constant, name, scope.meant_by(name))?;
             Ok(0)
         }
-        Exp::Number(_) | Exp::Character(_) | Exp::True | Exp::False => Ok(0),
+        Exp::Num(_) | Exp::Character(_) | Exp::True | Exp::False => Ok(0),
         Exp::String(_) => {
             progress.at = progress.at.after_place()?;
             Ok(0)
@@ -54,13 +54,13 @@ pub fn expression<'s>(
             scope.leave(mark);
             Ok(width)
         }
-        Exp::Monadic(sign, operand) => {
+        Exp::Unary(sign, operand) => {
             let width = expression(scope, progress, context, operand)?;
             check_address(scope, context.in_constant, *sign, operand)?;
             Ok(width)
         }
-        Exp::Dyadic(_, left, right) => operands(scope, progress, context, left, right),
-        Exp::Condition { test, this, that } => choice(scope, progress, context, test, this, that),
+        Exp::Bin(_, left, right) => operands(scope, progress, context, left, right),
+        Exp::Cond { test, this, that } => choice(scope, progress, context, test, this, that),
         Exp::Call(routine, values) => call(scope, progress, context, routine, values),
     }
 }

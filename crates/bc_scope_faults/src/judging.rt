@@ -9,7 +9,7 @@ ghost use Rattle.bc_scope_faults.specs.Parts.{head_level, side_width};
 ghost use Rattle.bc_scope_faults.specs.Judged.{Judges, Passes};
 ghost use Rattle.bc_scope_faults.specs.Seen.{allowed_view, names_view, met_view};
 
-use bc_parse_tree::{Definition, Dyadic, Exp, Monadic, Storage};
+use bc_parse_tree::{BinaryOp, Definition, Exp, Storage, UnaryOp};
 use bc_scope_names::{Meant, Scope, ScopeError, constant, is_operand, sum};
 use bc_word::{Memory, Word};
 use indexmap::IndexSet;
@@ -176,16 +176,16 @@ fn names_label(scope: &Scope<'_>, e: &Exp<'_>) -> bool
 {
     match e {
         Exp::Name(name) => is_label(scope.meant_by(name)),
-        Exp::Monadic(_, _)
-        | Exp::Dyadic(_, _, _)
-        | Exp::Number(_)
+        Exp::Unary(_, _)
+        | Exp::Bin(_, _, _)
+        | Exp::Num(_)
         | Exp::Character(_)
         | Exp::String(_)
         | Exp::True
         | Exp::False
         | Exp::Table(_)
         | Exp::Valof(_)
-        | Exp::Condition { .. }
+        | Exp::Cond { .. }
         | Exp::Call(_, _) => false,
     }
 }
@@ -196,17 +196,17 @@ pub fn has_cell(scope: &Scope<'_>, e: &Exp<'_>) -> bool
 {
     match e {
         Exp::Name(name) => is_cell(scope.meant_by(name)),
-        Exp::Monadic(Monadic::Load, _) | Exp::Dyadic(Dyadic::Index, _, _) => true,
-        Exp::Monadic(_, _)
-        | Exp::Dyadic(_, _, _)
-        | Exp::Number(_)
+        Exp::Unary(UnaryOp::Load, _) | Exp::Bin(BinaryOp::Index, _, _) => true,
+        Exp::Unary(_, _)
+        | Exp::Bin(_, _, _)
+        | Exp::Num(_)
         | Exp::Character(_)
         | Exp::String(_)
         | Exp::True
         | Exp::False
         | Exp::Table(_)
         | Exp::Valof(_)
-        | Exp::Condition { .. }
+        | Exp::Cond { .. }
         | Exp::Call(_, _) => false,
     }
 }
@@ -219,24 +219,24 @@ fn has_address(scope: &Scope<'_>, in_constant: bool, e: &Exp<'_>) -> bool
     has_cell(scope, e) || (in_constant && names_label(scope, e))
 }
 
-/// Checks the operand of a monadic operator. Fails with `NotAssignable` for `@` of an expression without a cell.
+/// Checks the operand of a unary operator. Fails with `NotAssignable` for `@` of an expression without a cell.
 pub fn check_address<'s>(
     scope: &Scope<'s>,
     in_constant: bool,
-    sign: Monadic,
+    sign: UnaryOp,
     operand: &Exp<'s>,
 ) -> Result<(), ScopeError<'s>>
     ensures { Passes result (address_fault in_constant (scope_view scope.now) sign (exp_view operand.now)) }
 {
     match sign {
-        Monadic::Address => {
+        UnaryOp::Address => {
             if has_address(scope, in_constant, operand) {
                 Ok(())
             } else {
                 Err(ScopeError::NotAssignable)
             }
         }
-        Monadic::Not | Monadic::Negate | Monadic::Load => Ok(()),
+        UnaryOp::Not | UnaryOp::Neg | UnaryOp::Load => Ok(()),
     }
 }
 

@@ -3,15 +3,15 @@ use Rattle.std.proofs.Common.{◌≡◌, ◌∙◌, ℕ, ◌+◌, Bool, true, fa
 use Rattle.std.specs.Prelude.{nat_lt, ◌&&◌, ◌||◌}
 use Rattle.bc_parse_tree.specs.declared.tree.Storage.{Storage}
 use Rattle.bc_parse_tree.specs.declared.tree.Storage.TheVariants as storage
-use Rattle.bc_parse_tree.specs.declared.tree.Dyadic.TheVariants as dyadic
-use Rattle.bc_parse_tree.specs.declared.tree.Monadic.{Monadic}
-use Rattle.bc_parse_tree.specs.declared.tree.Monadic.TheVariants as monadic
+use Rattle.bc_parse_tree.specs.declared.tree.BinaryOp.TheVariants as binary
+use Rattle.bc_parse_tree.specs.declared.tree.UnaryOp.{UnaryOp}
+use Rattle.bc_parse_tree.specs.declared.tree.UnaryOp.TheVariants as unary
 use Rattle.bc_parse_tree.specs.Tree as tree
 use Rattle.bc_scope_defs.specs.Scope.{Meant, Constant, Pending, Static, Global, Routine, Variable, OuterVariable, OuterLabel, StrayVariable, StrayLabel, LabelOutside, Undeclared, Env, Names, Name, Numbers, with_name, meant_among, meant_by, is_name}
 use Rattle.bc_scope_defs.specs.Scope as scope
 use Rattle.bc_scope_defs.specs.Numbering.{after_entry, after_declaration, after_definition, labels_named, labels_of_item}
-use Rattle.bc_scope_defs.specs.Scoping.{operator, constant, constant_in, constant_name, constant_monadic, constant_dyadic, or_zero, any_numbers, pending, own_names, meant_as, in_entry, in_entries, cells_of, cells_of_all, variables, routine_name, in_definition, in_definitions, before_let, in_let, in_declaration, in_declarations, cells_in, level_after, in_for, in_label, in_labels, in_item, in_list, around_routine, around_valof, seen_through, in_routine, in_valof}
-use Rattle.bc_scope_defs.specs.Sides.{kinds_of_name, kinds_of_monadic, kinds_of_dyadic, kinds, is_operand_kind, side_levels}
+use Rattle.bc_scope_defs.specs.Scoping.{operator, constant, constant_in, constant_name, constant_unary, constant_binary, or_zero, any_numbers, pending, own_names, meant_as, in_entry, in_entries, cells_of, cells_of_all, variables, routine_name, in_definition, in_definitions, before_let, in_let, in_declaration, in_declarations, cells_in, level_after, in_for, in_label, in_labels, in_item, in_list, around_routine, around_valof, seen_through, in_routine, in_valof}
+use Rattle.bc_scope_defs.specs.Sides.{kinds_of_name, kinds_of_unary, kinds_of_binary, kinds, is_operand_kind, side_levels}
 use Rattle.bc_scope_defs.specs.Found.{in_parameters}
 use Rattle.bc_scope_defs.specs.Frames.{held}
 use Rattle.bc_scope_defs.specs.Faults.{ANotConstant, ANotAssignable, AGlobalNumber, unless, name_fault, jump_fault, not_constant, is_cell, has_cell, is_label, names_label, address_fault, all_have_cells, Met, met_label, met_labels, entry_fault}
@@ -141,16 +141,16 @@ same_jump_fault n h = same_told (jump_fault n) (jump_blind n) n h
 
 pub same_constant_in : {E F : Env} (k : tree.Exp) → Alike E F → constant_in E k ≡ constant_in F k
 same_constant_in (tree.Name n) h = same_told constant_name constant_blind n h
-same_constant_in (tree.Number w) h = refl
+same_constant_in (tree.Num w) h = refl
 same_constant_in (tree.Character w) h = refl
 same_constant_in tree.True h = refl
 same_constant_in tree.False h = refl
-same_constant_in (tree.Monadic m e) h = ap (constant_monadic m) (same_constant_in e h)
-same_constant_in (tree.Dyadic o l r) h = λ i. constant_dyadic (operator o) (same_constant_in l h i) (same_constant_in r h i)
+same_constant_in (tree.Unary m e) h = ap (constant_unary m) (same_constant_in e h)
+same_constant_in (tree.Bin o l r) h = λ i. constant_binary (operator o) (same_constant_in l h i) (same_constant_in r h i)
 same_constant_in (tree.Text bytes) h = refl
 same_constant_in (tree.Table ks) h = refl
 same_constant_in (tree.Valof b) h = refl
-same_constant_in (tree.Condition c x y) h = refl
+same_constant_in (tree.Cond c x y) h = refl
 same_constant_in (tree.Call f es) h = refl
 
 pub same_constant : {E F : Env} (k : tree.Exp) → Alike E F → constant E k ≡ constant F k
@@ -177,8 +177,8 @@ same_mets {E} {F} M (tree.label l ls) h = ap (λ N. met_labels E N ls) (same_met
 
 pub same_has_cell : {E F : Env} (e : tree.Exp) → Alike E F → has_cell E e ≡ has_cell F e
 same_has_cell (tree.Name n) h = same_told is_cell cell_blind n h
-same_has_cell (tree.Monadic monadic.Load e) h = refl
-same_has_cell (tree.Dyadic dyadic.Index l r) h = refl
+same_has_cell (tree.Unary unary.Load e) h = refl
+same_has_cell (tree.Bin binary.Index l r) h = refl
 same_has_cell _ h = refl
 
 pub same_have_cells : {E F : Env} (xs : tree.Exps) → Alike E F → all_have_cells E xs ≡ all_have_cells F xs
@@ -189,22 +189,22 @@ same_names_label : {E F : Env} (e : tree.Exp) → Alike E F → names_label E e 
 same_names_label (tree.Name n) h = same_told is_label label_blind n h
 same_names_label _ h = refl
 
-pub same_address_fault : {E F : Env} (c : Bool) (m : Monadic) (e : tree.Exp) → Alike E F → address_fault c E m e ≡ address_fault c F m e
-same_address_fault c monadic.Address e h = λ i. unless (same_has_cell e h i || (c && same_names_label e h i)) ANotAssignable
+pub same_address_fault : {E F : Env} (c : Bool) (m : UnaryOp) (e : tree.Exp) → Alike E F → address_fault c E m e ≡ address_fault c F m e
+same_address_fault c unary.Address e h = λ i. unless (same_has_cell e h i || (c && same_names_label e h i)) ANotAssignable
 same_address_fault c _ e h = refl
 
 same_kinds : {E F : Env} (e : tree.Exp) → Alike E F → kinds E e ≡ kinds F e
 same_kinds (tree.Name n) h = same_told kinds_of_name kinds_blind n h
-same_kinds (tree.Number w) h = refl
+same_kinds (tree.Num w) h = refl
 same_kinds (tree.Character w) h = refl
 same_kinds tree.True h = refl
 same_kinds tree.False h = refl
 same_kinds (tree.Text bytes) h = refl
 same_kinds (tree.Table ks) h = refl
-same_kinds (tree.Monadic m e) h = ap (kinds_of_monadic m) (same_kinds e h)
-same_kinds (tree.Dyadic o l r) h = λ i. kinds_of_dyadic o (same_kinds l h i).content (same_kinds r h i).content
+same_kinds (tree.Unary m e) h = ap (kinds_of_unary m) (same_kinds e h)
+same_kinds (tree.Bin o l r) h = λ i. kinds_of_binary o (same_kinds l h i).content (same_kinds r h i).content
 same_kinds (tree.Valof b) h = refl
-same_kinds (tree.Condition c x y) h = refl
+same_kinds (tree.Cond c x y) h = refl
 same_kinds (tree.Call f es) h = refl
 
 pub same_side_levels : {E F : Env} (xs : tree.Exps) (s : ℕ) → Alike E F → side_levels E xs s ≡ side_levels F xs s

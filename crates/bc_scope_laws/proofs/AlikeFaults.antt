@@ -26,16 +26,16 @@ alone ns n = by (twice_fault ns n) where
 mutual
   pub same_fault : {E F : Env} (c : Bool) (at : Numbers) (e : tree.Exp) (s : ℕ) → Alike E F → along.fault c E at e s ≡ fault c F e
   same_fault c at (tree.Name n) s h = same_name_fault c n h
-  same_fault c at (tree.Number w) s h = refl
+  same_fault c at (tree.Num w) s h = refl
   same_fault c at (tree.Character w) s h = refl
   same_fault c at tree.True s h = refl
   same_fault c at tree.False s h = refl
   same_fault c at (tree.Text bytes) s h = refl
   same_fault c at (tree.Table ks) s h = same_constants at ks h
   same_fault c at (tree.Valof b) s h = same_block allowed_in_valof (after_valof at) b s (alike_valof h)
-  same_fault c at (tree.Monadic m e) s h = λ i. or_else (same_fault c at e s h i) (same_address_fault c m e h i)
-  same_fault c at (tree.Dyadic o l r) s h = λ i. or_else (same_fault c at l (operand_level s) h i) (same_fault c (following at l) r (operand_level s) h i)
-  same_fault c at (tree.Condition t x y) s h =
+  same_fault c at (tree.Unary m e) s h = λ i. or_else (same_fault c at e s h i) (same_address_fault c m e h i)
+  same_fault c at (tree.Bin o l r) s h = λ i. or_else (same_fault c at l (operand_level s) h i) (same_fault c (following at l) r (operand_level s) h i)
+  same_fault c at (tree.Cond t x y) s h =
       let bt = following at t in λ i. or_else (same_fault c at t s h i) (or_else (same_fault c bt x s h i) (same_fault c (following bt x) y s h i))
   same_fault c at (tree.Call f es) s h = λ i. or_else (same_fault c at f (routine_level s (count es)) h i) (same_arguments c (following at f) es (argument_level s) h i)
 

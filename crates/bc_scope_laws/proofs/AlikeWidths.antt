@@ -15,17 +15,17 @@ use Rattle.bc_scope_laws.proofs.Alike.{Alike, alike_self, alike_valof, alike_bef
 mutual
   pub same_width : {E F : Env} (at : Numbers) (e : tree.Exp) (s : ℕ) → Alike E F → along.width E at e s ≡ width F e s
   same_width at (tree.Name n) s h = refl
-  same_width at (tree.Number w) s h = refl
+  same_width at (tree.Num w) s h = refl
   same_width at (tree.Character w) s h = refl
   same_width at tree.True s h = refl
   same_width at tree.False s h = refl
   same_width at (tree.Text bytes) s h = refl
   same_width at (tree.Table ks) s h = refl
   same_width at (tree.Valof b) s h = same_block (after_valof at) b s (alike_valof h)
-  same_width at (tree.Monadic m e) s h = same_width at e s h
-  same_width at (tree.Dyadic o l r) s h =
+  same_width at (tree.Unary m e) s h = same_width at e s h
+  same_width at (tree.Bin o l r) s h =
       let s1 = operand_level s in λ i. max (s + 2) (max (same_width at l s1 h i) (same_width (following at l) r s1 h i))
-  same_width at (tree.Condition c x y) s h =
+  same_width at (tree.Cond c x y) s h =
       let bc = following at c in λ i. max (same_width at c s h i) (max (same_width bc x s h i) (same_width (following bc x) y s h i))
   same_width at (tree.Call f es) s h =
       λ i. max (s + 2 + count es) (max (same_arguments (following at f) es (argument_level s) h i) (same_width at f (routine_level s (count es)) h i))

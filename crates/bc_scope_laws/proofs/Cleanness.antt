@@ -130,7 +130,7 @@ decoded_short text = let e = length-take 255 (characters false (drop 1 text)) in
 mutual
   pub clean : (A : Around) (L : List ℕ) (E : Env) (at : Numbers) (e : tree.Exp) (s : ℕ) → exp_size e ≤ most_size → Sound A.places L E → AllThings (Stands A) (found E at e s) → along.fault false E at e s ≡ None → AllThings (Clean A.places) (found E at e s)
   clean A L E at (tree.Name n) s z so h n1 = tt
-  clean A L E at (tree.Number w) s z so h n = tt
+  clean A L E at (tree.Num w) s z so h n = tt
   clean A L E at (tree.Character w) s z so h n = tt
   clean A L E at tree.True s z so h n = tt
   clean A L E at tree.False s z so h n = tt
@@ -140,15 +140,15 @@ mutual
       let so1 = sound_valof so in
       let z1 : block_size b ≤ most_size = omega arith in
       ((so1, n, z1), clean_block A faults.allowed_in_valof [] (in_valof E) (after_valof at) b s z1 so1 h.1 n)
-  clean A L E at (tree.Monadic m e) s z so h n = clean A L E at e s (omega arith) so h (none_left (along.fault false E at e s) _ n)
-  clean A L E at (tree.Dyadic o l r) s z so h n =
+  clean A L E at (tree.Unary m e) s z so h n = clean A L E at e s (omega arith) so h (none_left (along.fault false E at e s) _ n)
+  clean A L E at (tree.Bin o l r) s z so h n =
       let s1 = operand_level s in
       let x = found E at l s1 in
       let y = found E (following at l) r s1 in
       all_joined (Clean A.places) x y
       (clean A L E at l s1 (omega arith) so (first (Stands A) x y h) (none_left (along.fault false E at l s1) (along.fault false E (following at l) r s1) n))
       (clean A L E (following at l) r s1 (omega arith) so (second (Stands A) x y h) (none_right (along.fault false E at l s1) (along.fault false E (following at l) r s1) n))
-  clean A L E at (tree.Condition c d e) s z so h n =
+  clean A L E at (tree.Cond c d e) s z so h n =
       let bc = following at c in
       let bd = following bc d in
       let x = found E at c s in

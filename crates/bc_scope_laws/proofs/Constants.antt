@@ -8,14 +8,14 @@ use Rattle.bc_word.specs.declared.operator.Op.TheVariants as operators
 use Rattle.bc_word.specs.Words.{value_of, wrapped, truth, negated, complemented}
 use Rattle.bc_parse_tree.specs.declared.tree.Storage.{Storage}
 use Rattle.bc_parse_tree.specs.declared.tree.Storage.TheVariants as storage
-use Rattle.bc_parse_tree.specs.declared.tree.Monadic.{Monadic}
-use Rattle.bc_parse_tree.specs.declared.tree.Monadic.TheVariants as monadic
+use Rattle.bc_parse_tree.specs.declared.tree.UnaryOp.{UnaryOp}
+use Rattle.bc_parse_tree.specs.declared.tree.UnaryOp.TheVariants as unary
 use Rattle.bc_parse_tree.specs.Tree as tree
 use Rattle.bc_core.specs.Numbers.{is_word, are_words, are_bytes}
 use Rattle.bc_scope_defs.specs.Scope.{Meant, Constant, Pending, Static, Global, Routine, Variable, OuterVariable, OuterLabel, StrayVariable, StrayLabel, LabelOutside, Undeclared, Env, Names, Name, Numbers, meant_among, meant_by, is_name}
 use Rattle.bc_scope_defs.specs.Scope as scope
 use Rattle.bc_scope_defs.specs.Numbering.{after_entry, after_declaration, after_definition, labels_of}
-use Rattle.bc_scope_defs.specs.Scoping.{operator, constant, constant_in, constant_name, constant_monadic, constant_dyadic, or_zero, any_numbers, pending, own_names, meant_as, in_entry, in_entries, variables, routine_name, in_definition, in_definitions, before_let, in_let, in_declaration, in_declarations, cells_in, in_labels, in_list, around_routine, around_valof, seen_through, in_routine, in_valof}
+use Rattle.bc_scope_defs.specs.Scoping.{operator, constant, constant_in, constant_name, constant_unary, constant_binary, or_zero, any_numbers, pending, own_names, meant_as, in_entry, in_entries, variables, routine_name, in_definition, in_definitions, before_let, in_let, in_declaration, in_declarations, cells_in, in_labels, in_list, around_routine, around_valof, seen_through, in_routine, in_valof}
 use Rattle.bc_scope_defs.specs.Scoping as scoping
 use Rattle.bc_scope_defs.specs.Characters.{escaped, characters, decoded}
 use Rattle.bc_scope_defs.specs.Found.{words_of_table, in_parameters}
@@ -115,32 +115,32 @@ name_word StrayLabel h = tt
 name_word LabelOutside h = tt
 name_word Undeclared h = tt
 
-monadic_word : (m : Monadic) (o : Option ℕ) → IsWordIfAny o → IsWordIfAny (constant_monadic m o)
-monadic_word monadic.Negate (Some w) h = word_is (negated w) (omega arith)
-monadic_word monadic.Negate None h = tt
-monadic_word monadic.Not (Some w) h = word_is (complemented w) (omega arith)
-monadic_word monadic.Not None h = tt
-monadic_word monadic.Load o h = tt
-monadic_word monadic.Address o h = tt
+unary_word : (m : UnaryOp) (o : Option ℕ) → IsWordIfAny o → IsWordIfAny (constant_unary m o)
+unary_word unary.Neg (Some w) h = word_is (negated w) (omega arith)
+unary_word unary.Neg None h = tt
+unary_word unary.Not (Some w) h = word_is (complemented w) (omega arith)
+unary_word unary.Not None h = tt
+unary_word unary.Load o h = tt
+unary_word unary.Address o h = tt
 
-dyadic_word : (op : Option Op) (a b : Option ℕ) → IsWordIfAny a → IsWordIfAny b → IsWordIfAny (constant_dyadic op a b)
-dyadic_word None a b h k = tt
-dyadic_word (Some op) None b h k = tt
-dyadic_word (Some op) (Some a) None h k = tt
-dyadic_word (Some op) (Some a) (Some b) h k = value_is_word op a b (below_is a h) (below_is b k)
+binary_word : (op : Option Op) (a b : Option ℕ) → IsWordIfAny a → IsWordIfAny b → IsWordIfAny (constant_binary op a b)
+binary_word None a b h k = tt
+binary_word (Some op) None b h k = tt
+binary_word (Some op) (Some a) None h k = tt
+binary_word (Some op) (Some a) (Some b) h k = value_is_word op a b (below_is a h) (below_is b k)
 
 constant_word : (E : Env) (k : tree.Exp) → Wordy E → ExpHasWords k → IsWordIfAny (constant_in E k)
 constant_word E (tree.Name n) e h = name_word (meant_by E n) (meant_word E n e)
-constant_word E (tree.Number w) e h = word_is w h
+constant_word E (tree.Num w) e h = word_is w h
 constant_word E (tree.Character w) e h = word_is w h
 constant_word E (tree.Text bytes) e h = tt
 constant_word E tree.True e h = refl
 constant_word E tree.False e h = refl
 constant_word E (tree.Table ks) e h = tt
 constant_word E (tree.Valof b) e h = tt
-constant_word E (tree.Monadic m d) e h = monadic_word m (constant_in E d) (constant_word E d e h)
-constant_word E (tree.Dyadic o l r) e h = dyadic_word (operator o) (constant_in E l) (constant_in E r) (constant_word E l e h.0) (constant_word E r e h.1)
-constant_word E (tree.Condition c x y) e h = tt
+constant_word E (tree.Unary m d) e h = unary_word m (constant_in E d) (constant_word E d e h)
+constant_word E (tree.Bin o l r) e h = binary_word (operator o) (constant_in E l) (constant_in E r) (constant_word E l e h.0) (constant_word E r e h.1)
+constant_word E (tree.Cond c x y) e h = tt
 constant_word E (tree.Call f es) e h = tt
 
 zero_word : (o : Option ℕ) → IsWordIfAny o → IsWord (or_zero o)

@@ -4,8 +4,8 @@ use Rattle.std.specs.Prelude.{nat_le, nat_lt}
 use Rattle.bc_word.specs.declared.operator.Op.{Op}
 use Rattle.bc_parse_tree.specs.declared.tree.Storage.{Storage}
 use Rattle.bc_parse_tree.specs.declared.tree.Storage.TheVariants as storage
-use Rattle.bc_parse_tree.specs.declared.tree.Monadic.{Monadic}
-use Rattle.bc_parse_tree.specs.declared.tree.Monadic.TheVariants as monadic
+use Rattle.bc_parse_tree.specs.declared.tree.UnaryOp.{UnaryOp}
+use Rattle.bc_parse_tree.specs.declared.tree.UnaryOp.TheVariants as unary
 use Rattle.bc_parse_tree.specs.Tree as tree
 use Rattle.bc_core.specs.Tree.{Exp, Num, Frame, Glob, Place, Load, Neg, Not, Bin, Cond, Call, Valof}
 use Rattle.bc_core.specs.Level.{operand_level, argument_level, routine_level}
@@ -15,7 +15,7 @@ use Rattle.bc_scope_defs.specs.Scope as scope
 use Rattle.bc_scope_defs.specs.Numbering.{following, after_definition, after_entry}
 use Rattle.bc_scope_defs.specs.Scoping.{operator, constant, constant_in, count, pending, in_entry, in_entries, variables, routine_name, in_definition, in_definitions}
 use Rattle.bc_scope_defs.specs.Scoping as scoping
-use Rattle.bc_scope_defs.specs.Translation.{Forms, form_of_name, form_of_monadic, form_of_dyadic, negation, opposite, or_not, forms, core_arguments}
+use Rattle.bc_scope_defs.specs.Translation.{Forms, form_of_name, form_of_unary, form_of_binary, negation, opposite, or_not, forms, core_arguments}
 use Rattle.bc_scope_defs.specs.Found.{Thing, AValof, ARoutine, Data, found, found_in_arguments, found_in_definition, found_in_definitions, found_in_entries}
 use Rattle.bc_scope_defs.specs.Faults.{Fault, or_else, unless}
 use Rattle.bc_scope_defs.specs.Faults as faults
@@ -186,35 +186,35 @@ negation_fits A (Cond c x y) s = refl
 negation_fits A (Call es f) s = refl
 negation_fits A (Valof n) s = refl
 
-monadic_fits : (A : Around) (m : Monadic) (f : Forms) (s : ℕ) → FormFits A f s → FormFits A (form_of_monadic m f) s
-monadic_fits A monadic.Load f s h = (h.1, h.1)
-monadic_fits A monadic.Address f s h = (h.0, h.0)
-monadic_fits A monadic.Not f s h = let k = negation_fits A f.content s ∙ h.1 in (k, k)
-monadic_fits A monadic.Negate f s h = (h.1, h.1)
+unary_fits : (A : Around) (m : UnaryOp) (f : Forms) (s : ℕ) → FormFits A f s → FormFits A (form_of_unary m f) s
+unary_fits A unary.Load f s h = (h.1, h.1)
+unary_fits A unary.Address f s h = (h.0, h.0)
+unary_fits A unary.Not f s h = let k = negation_fits A f.content s ∙ h.1 in (k, k)
+unary_fits A unary.Neg f s h = (h.1, h.1)
 
-dyadic_fits : (A : Around) (o : Option Op) (l r : Exp) (s : ℕ) → (exp_fits A l (operand_level s) && exp_fits A r (operand_level s)) ≡ true → FormFits A (form_of_dyadic o l r) s
-dyadic_fits A None l r s h = (h, h)
-dyadic_fits A (Some op) l r s h = (h, h)
+binary_fits : (A : Around) (o : Option Op) (l r : Exp) (s : ℕ) → (exp_fits A l (operand_level s) && exp_fits A r (operand_level s)) ≡ true → FormFits A (form_of_binary o l r) s
+binary_fits A None l r s h = (h, h)
+binary_fits A (Some op) l r s h = (h, h)
 
 mutual
   pub exp_fit : {L : List ℕ} (A : Around) (E : Env) (at : Numbers) (e : tree.Exp) (s : ℕ) → Sound A.places L E → AllThings (Stands A) (found E at e s) → FormFits A (forms E at e) s
   exp_fit {L} A E at (tree.Name n) s so h = name_fits A L (meant_by E n) s (so.from n)
-  exp_fit A E at (tree.Number w) s so h = (refl, refl)
+  exp_fit A E at (tree.Num w) s so h = (refl, refl)
   exp_fit A E at (tree.Character w) s so h = (refl, refl)
   exp_fit A E at tree.True s so h = (refl, refl)
   exp_fit A E at tree.False s so h = (refl, refl)
   exp_fit A E at (tree.Text bytes) s so h = (h.0, h.0)
   exp_fit A E at (tree.Table ks) s so h = (h.0, h.0)
   exp_fit A E at (tree.Valof b) s so h = let k : exp_fits A (Valof at.valof) s ≡ true = λ i. h.0.0 i && h.0.1 i in (k, k)
-  exp_fit A E at (tree.Monadic m e) s so h = monadic_fits A m (forms E at e) s (exp_fit A E at e s so h)
-  exp_fit A E at (tree.Dyadic o l r) s so h =
+  exp_fit A E at (tree.Unary m e) s so h = unary_fits A m (forms E at e) s (exp_fit A E at e s so h)
+  exp_fit A E at (tree.Bin o l r) s so h =
       let s1 = operand_level s in
       let of_left = found E at l s1 in
       let of_right = found E (following at l) r s1 in
       let hl = exp_fit A E at l s1 so (first (Stands A) of_left of_right h) in
       let hr = exp_fit A E (following at l) r s1 so (second (Stands A) of_left of_right h) in
-      dyadic_fits A (operator o) (forms E at l).content (forms E (following at l) r).content s (λ i. hl.1 i && hr.1 i)
-  exp_fit A E at (tree.Condition c x y) s so h =
+      binary_fits A (operator o) (forms E at l).content (forms E (following at l) r).content s (λ i. hl.1 i && hr.1 i)
+  exp_fit A E at (tree.Cond c x y) s so h =
       let bc = following at c in
       let bx = following bc x in
       let rest = found E bc x s ++ found E bx y s in
@@ -222,7 +222,7 @@ mutual
       let hc = exp_fit A E at c s so (first (Stands A) (found E at c s) rest h) in
       let hx = exp_fit A E bc x s so (first (Stands A) (found E bc x s) (found E bx y s) hxy) in
       let hy = exp_fit A E bx y s so (second (Stands A) (found E bc x s) (found E bx y s) hxy) in
-      let k : exp_fits A (forms E at (tree.Condition c x y)).content s ≡ true = λ i. hc.1 i && hx.1 i && hy.1 i in
+      let k : exp_fits A (forms E at (tree.Cond c x y)).content s ≡ true = λ i. hc.1 i && hx.1 i && hy.1 i in
       (k, k)
   exp_fit A E at (tree.Call f es) s so h =
       let of_routine = found E at f (routine_level s (count es)) in

@@ -4,8 +4,8 @@ use Rattle.std.specs.Prelude.{not, int_lt, int_le, ◌==◌, ℤ}
 use Rattle.bc_word.specs.declared.operator.Op.{Op}
 use Rattle.bc_word.specs.declared.operator.Op.TheVariants as operators
 use Rattle.bc_word.specs.Words.{value_of, complemented, truth, signed}
-use Rattle.bc_parse_tree.specs.declared.tree.Monadic.{Monadic}
-use Rattle.bc_parse_tree.specs.declared.tree.Monadic.TheVariants as monadic
+use Rattle.bc_parse_tree.specs.declared.tree.UnaryOp.{UnaryOp}
+use Rattle.bc_parse_tree.specs.declared.tree.UnaryOp.TheVariants as unary
 use Rattle.bc_parse_tree.specs.Tree as tree
 use Rattle.bc_core.specs.Tree.{Exp, Num, Frame, Glob, Place, Load, Neg, Not, Bin, Cond, Call, Valof}
 use Rattle.bc_core.specs.Tree as core
@@ -18,8 +18,8 @@ use Rattle.bc_scope_defs.specs.Scope.{Meant, Constant, Pending, Static, Global, 
 use Rattle.bc_scope_defs.specs.Scope as scope
 use Rattle.bc_scope_defs.specs.Numbering.{following}
 use Rattle.bc_scope_defs.specs.Scoping.{operator, count}
-use Rattle.bc_scope_defs.specs.Meaning.{Around, holds_call, worth_of_name, worth_of_monadic, worth_of_dyadic, Worth}
-use Rattle.bc_scope_defs.specs.Translation.{Forms, form_of_name, form_of_monadic, form_of_dyadic, forms, core_arguments, negation, opposite, or_not}
+use Rattle.bc_scope_defs.specs.Meaning.{Around, holds_call, worth_of_name, worth_of_unary, worth_of_binary, Worth}
+use Rattle.bc_scope_defs.specs.Translation.{Forms, form_of_name, form_of_unary, form_of_binary, forms, core_arguments, negation, opposite, or_not}
 use Rattle.bc_scope_laws.proofs.Runs.{both_then, then_then}
 
 pub count_kept : (E : Env) (at : Numbers) (es : tree.Exps) → core.count (core_arguments E at es) ≡ count es
@@ -62,19 +62,19 @@ negation_calls (Cond c x y) = refl
 negation_calls (Call es f) = refl
 negation_calls (Valof n) = refl
 
-calls_of_monadic : (m : Monadic) (f : Forms) (b : Bool) → CallsAre f b → CallsAre (form_of_monadic m f) b
-calls_of_monadic monadic.Load f b h = (h.1, h.1)
-calls_of_monadic monadic.Address f b h = (h.0, h.0)
-calls_of_monadic monadic.Not f b h = let c = negation_calls f.content ∙ h.1 in (c, c)
-calls_of_monadic monadic.Negate f b h = (h.1, h.1)
+calls_of_unary : (m : UnaryOp) (f : Forms) (b : Bool) → CallsAre f b → CallsAre (form_of_unary m f) b
+calls_of_unary unary.Load f b h = (h.1, h.1)
+calls_of_unary unary.Address f b h = (h.0, h.0)
+calls_of_unary unary.Not f b h = let c = negation_calls f.content ∙ h.1 in (c, c)
+calls_of_unary unary.Neg f b h = (h.1, h.1)
 
-calls_of_dyadic : (o : Option Op) (l r : Exp) (b : Bool) → (has_call l || has_call r) ≡ b → CallsAre (form_of_dyadic o l r) b
-calls_of_dyadic None l r b h = (h, h)
-calls_of_dyadic (Some op) l r b h = (h, h)
+calls_of_binary : (o : Option Op) (l r : Exp) (b : Bool) → (has_call l || has_call r) ≡ b → CallsAre (form_of_binary o l r) b
+calls_of_binary None l r b h = (h, h)
+calls_of_binary (Some op) l r b h = (h, h)
 
 pub calls_kept : (E : Env) (at : Numbers) (e : tree.Exp) → CallsAre (forms E at e) (holds_call e)
 calls_kept E at (tree.Name n) = calls_of_name (meant_by E n)
-calls_kept E at (tree.Number w) = (refl, refl)
+calls_kept E at (tree.Num w) = (refl, refl)
 calls_kept E at (tree.Character w) = (refl, refl)
 calls_kept E at tree.True = (refl, refl)
 calls_kept E at tree.False = (refl, refl)
@@ -82,11 +82,11 @@ calls_kept E at (tree.Text bytes) = (refl, refl)
 calls_kept E at (tree.Table ks) = (refl, refl)
 calls_kept E at (tree.Valof b) = (refl, refl)
 calls_kept E at (tree.Call f es) = (refl, refl)
-calls_kept E at (tree.Monadic m e) = calls_of_monadic m _ _ (calls_kept E at e)
-calls_kept E at (tree.Dyadic o l r) =
-    calls_of_dyadic (operator o) _ _ _ (λ i. (calls_kept E at l).1 i || (calls_kept E (following at l) r).1 i)
-calls_kept E at (tree.Condition c x y) =
-    let h : has_call (forms E at (tree.Condition c x y)).content ≡ holds_call (tree.Condition c x y) =
+calls_kept E at (tree.Unary m e) = calls_of_unary m _ _ (calls_kept E at e)
+calls_kept E at (tree.Bin o l r) =
+    calls_of_binary (operator o) _ _ _ (λ i. (calls_kept E at l).1 i || (calls_kept E (following at l) r).1 i)
+calls_kept E at (tree.Cond c x y) =
+    let h : has_call (forms E at (tree.Cond c x y)).content ≡ holds_call (tree.Cond c x y) =
     λ i. (calls_kept E at c).1 i || (calls_kept E (following at c) x).1 i || (calls_kept E (following (following at c) x) y).1 i in
     (h, h)
 
@@ -220,13 +220,13 @@ name_means A V StrayLabel p s = refl
 name_means A V LabelOutside p s = refl
 name_means A V Undeclared p s = refl
 
-pub monadic_means : (C : Context) (m : Monadic) (f : Forms) (p s : ℕ) → worth_of_monadic m (worth_of C f p s) ≡ worth_of C (form_of_monadic m f) p s
-monadic_means C monadic.Load f p s = refl
-monadic_means C monadic.Address f p s = refl
-monadic_means C monadic.Negate f p s = refl
-monadic_means C monadic.Not f p s = λ i. record { address = sym (negation_means C f.content p s) i; content = sym (negation_means C f.content p s) i }
+pub unary_means : (C : Context) (m : UnaryOp) (f : Forms) (p s : ℕ) → worth_of_unary m (worth_of C f p s) ≡ worth_of C (form_of_unary m f) p s
+unary_means C unary.Load f p s = refl
+unary_means C unary.Address f p s = refl
+unary_means C unary.Neg f p s = refl
+unary_means C unary.Not f p s = λ i. record { address = sym (negation_means C f.content p s) i; content = sym (negation_means C f.content p s) i }
 
-pub dyadic_means : (C : Context) (o : Option Op) (l r : Exp) (p s : ℕ)
-    → worth_of_dyadic o (has_call l || has_call r) (sense C l p (operand_level s)) (sense C r p (operand_level s)) ≡ worth_of C (form_of_dyadic o l r) p s
-dyadic_means C None l r p s = refl
-dyadic_means C (Some op) l r p s = refl
+pub binary_means : (C : Context) (o : Option Op) (l r : Exp) (p s : ℕ)
+    → worth_of_binary o (has_call l || has_call r) (sense C l p (operand_level s)) (sense C r p (operand_level s)) ≡ worth_of C (form_of_binary o l r) p s
+binary_means C None l r p s = refl
+binary_means C (Some op) l r p s = refl

@@ -19,12 +19,12 @@ use Rattle.bc_scope_defs.specs.Numbering.{following, after_all, after_declaratio
 use Rattle.bc_scope_defs.specs.Scoping.{operator, constant, count, before_let, in_let, in_declaration, in_declarations, level_after, in_for, in_list}
 use Rattle.bc_scope_defs.specs.Scoping as scoping
 use Rattle.bc_scope_defs.specs.Sides.{side_levels}
-use Rattle.bc_scope_defs.specs.Meaning.{Around, Worth, plain, worth, worth_of_monadic, worth_of_dyadic, arguments, sides, set_variable, initial_values, initialise_one, initialise, declare, run_block, run_items, run_command, run_for, met_labels}
+use Rattle.bc_scope_defs.specs.Meaning.{Around, Worth, plain, worth, worth_of_unary, worth_of_binary, arguments, sides, set_variable, initial_values, initialise_one, initialise, declare, run_block, run_items, run_command, run_for, met_labels}
 use Rattle.bc_scope_defs.specs.Translation.{Forms, forms, core_arguments, forms_of_all, initials, core_definition, core_definitions, core_declarations, core_block, core_items}
 use Rattle.bc_scope_defs.specs.Translation as translation
 use Rattle.bc_scope_defs.specs.Found.{Thing, AValof, ARoutine, Data, found, found_in_arguments, found_in_sides, found_in_initials, found_in_definition, found_in_definitions, found_in_declaration, found_in_declarations, found_in_block, found_in_items, found_in_command}
 use Rattle.bc_scope_laws.proofs.Runs.{then_then, then_done, both_done}
-use Rattle.bc_scope_laws.proofs.Forms.{calls_kept, count_kept, worth_of, in_context, name_means, monadic_means, dyadic_means}
+use Rattle.bc_scope_laws.proofs.Forms.{calls_kept, count_kept, worth_of, in_context, name_means, unary_means, binary_means}
 use Rattle.bc_scope_laws.proofs.Items.{labels_met, label_kept, case_kept, one_command, SidesAre, assignment_means}
 use Rattle.bc_scope_laws.proofs.Declared.{cells_of_one, cells_kept, level_kept, initialise_append}
 use Rattle.bc_scope_laws.proofs.SideLevels.{levels_kept}
@@ -92,21 +92,21 @@ for_means C by p s start limit f g body b hs hl hb =
 mutual
   pub exp_means : (A : Around) (V : Bodies) (p : ℕ) (E : Env) (at : Numbers) (e : tree.Exp) (s : ℕ) → AllRight A V p (found E at e s) → worth A E at e p s ≡ worth_of (in_context A V) (forms E at e) p s
   exp_means A V p E at (tree.Name n) s h = name_means A V (meant_by E n) p s
-  exp_means A V p E at (tree.Number w) s h = refl
+  exp_means A V p E at (tree.Num w) s h = refl
   exp_means A V p E at (tree.Character w) s h = refl
   exp_means A V p E at tree.True s h = refl
   exp_means A V p E at tree.False s h = refl
   exp_means A V p E at (tree.Text bytes) s h = refl
   exp_means A V p E at (tree.Table ks) s h = refl
   exp_means A V p E at (tree.Valof b) s h = λ i. plain (by_value (sym h.0 i))
-  exp_means A V p E at (tree.Monadic m e) s h = ap (worth_of_monadic m) (exp_means A V p E at e s h) ∙ monadic_means (in_context A V) m (forms E at e) p s
-  exp_means A V p E at (tree.Dyadic o l r) s h =
+  exp_means A V p E at (tree.Unary m e) s h = ap (worth_of_unary m) (exp_means A V p E at e s h) ∙ unary_means (in_context A V) m (forms E at e) p s
+  exp_means A V p E at (tree.Bin o l r) s h =
       let s1 = operand_level s in
       let hl = exp_means A V p E at l s1 (first A V p (found E at l s1) (found E (following at l) r s1) h) in
       let hr = exp_means A V p E (following at l) r s1 (second A V p (found E at l s1) (found E (following at l) r s1) h) in
-      (λ i. worth_of_dyadic (operator o) (sym (calls_kept E at l).1 i || sym (calls_kept E (following at l) r).1 i) (hl i).content (hr i).content)
-      ∙ dyadic_means (in_context A V) (operator o) (forms E at l).content (forms E (following at l) r).content p s
-  exp_means A V p E at (tree.Condition c x y) s h =
+      (λ i. worth_of_binary (operator o) (sym (calls_kept E at l).1 i || sym (calls_kept E (following at l) r).1 i) (hl i).content (hr i).content)
+      ∙ binary_means (in_context A V) (operator o) (forms E at l).content (forms E (following at l) r).content p s
+  exp_means A V p E at (tree.Cond c x y) s h =
       let bc = following at c in
       let bx = following bc x in
       let rest = found E bc x s ++ found E bx y s in

@@ -52,16 +52,16 @@ nested_entries storage.Global at (tree.entry n k es) E = record { before = λ re
 mutual
   pub nested : (E : Env) (at : Numbers) (e : tree.Exp) (s : ℕ) → NestedRun at (following at e) (found E at e s)
   nested E at (tree.Name n) s = nothing at
-  nested E at (tree.Number w) s = nothing at
+  nested E at (tree.Num w) s = nothing at
   nested E at (tree.Character w) s = nothing at
   nested E at tree.True s = nothing at
   nested E at tree.False s = nothing at
   nested E at (tree.Text bytes) s = record { before = λ rest h. (h, refl) }
   nested E at (tree.Table ks) s = record { before = λ rest h. (h, refl) }
   nested E at (tree.Valof b) s = record { before = λ rest h. (refl, (rest, refl), (nested_block (in_valof E) (after_valof at) b s).before rest h) }
-  nested E at (tree.Monadic m e) s = nested E at e s
-  nested E at (tree.Dyadic o l r) s = joined (nested E at l (operand_level s)) (nested E (following at l) r (operand_level s))
-  nested E at (tree.Condition c x y) s =
+  nested E at (tree.Unary m e) s = nested E at e s
+  nested E at (tree.Bin o l r) s = joined (nested E at l (operand_level s)) (nested E (following at l) r (operand_level s))
+  nested E at (tree.Cond c x y) s =
       let bc = following at c in
       let bx = following bc x in
       joined (nested E at c s) (joined (nested E bc x s) (nested E bx y s))

@@ -2,10 +2,10 @@
 use Rattle.std.proofs.Common.{◌≡◌, ◌∙◌, ℕ, ◌+◌, ◌%◌, Bool, true, false, cond, ◌∷◌, Option, Some, None, is_some, refl, sym, ap, subst}
 use Rattle.bc_word.specs.declared.operator.Op.{Op}
 use Rattle.bc_word.specs.declared.operator.Op.TheVariants as operators
-use Rattle.bc_parse_tree.specs.declared.tree.Dyadic.{Dyadic}
-use Rattle.bc_parse_tree.specs.declared.tree.Dyadic.TheVariants as dyadic
-use Rattle.bc_parse_tree.specs.declared.tree.Monadic.{Monadic}
-use Rattle.bc_parse_tree.specs.declared.tree.Monadic.TheVariants as monadic
+use Rattle.bc_parse_tree.specs.declared.tree.BinaryOp.{BinaryOp}
+use Rattle.bc_parse_tree.specs.declared.tree.BinaryOp.TheVariants as binary
+use Rattle.bc_parse_tree.specs.declared.tree.UnaryOp.{UnaryOp}
+use Rattle.bc_parse_tree.specs.declared.tree.UnaryOp.TheVariants as unary
 use Rattle.bc_text_items.specs.declared.item.Base.TheVariants as bases
 use Rattle.bc_parse_tree.specs.Tree as tree
 use Rattle.bc_core.specs.declared.operands.Operand.{Operand}
@@ -16,8 +16,8 @@ use Rattle.bc_scope_defs.specs.Scope.{Meant, Constant, Pending, Static, Global, 
 use Rattle.bc_scope_defs.specs.Scope as scope
 use Rattle.bc_scope_defs.specs.Numbering.{following}
 use Rattle.bc_scope_defs.specs.Scoping.{operator}
-use Rattle.bc_scope_defs.specs.Sides.{Kind, ANumber, ACell, APlace, ASum, AContent, NoOperand, Kinds, kind_of_content, kind_of_sum, kinds_of_name, kinds_of_monadic, kinds_of_dyadic, kinds, is_operand_kind, side_levels, side_level_of}
-use Rattle.bc_scope_defs.specs.Translation.{Forms, form_of_name, form_of_monadic, form_of_dyadic, negation, opposite, or_not, forms, forms_of_all}
+use Rattle.bc_scope_defs.specs.Sides.{Kind, ANumber, ACell, APlace, ASum, AContent, NoOperand, Kinds, kind_of_content, kind_of_sum, kinds_of_name, kinds_of_unary, kinds_of_binary, kinds, is_operand_kind, side_levels, side_level_of}
+use Rattle.bc_scope_defs.specs.Translation.{Forms, form_of_name, form_of_unary, form_of_binary, negation, opposite, or_not, forms, forms_of_all}
 use Rattle.bc_scope_laws.proofs.Items.{levels}
 
 -- the kind of a translated expression
@@ -276,30 +276,30 @@ negation_kind (Cond d x y) = refl
 negation_kind (Call es f) = refl
 negation_kind (Valof n) = refl
 
-monadic_kinds : (m : Monadic) (f : Forms) → kinds_of_monadic m (kinds_of f) ≡ kinds_of (form_of_monadic m f)
-monadic_kinds monadic.Load f = refl
-monadic_kinds monadic.Address f = refl
-monadic_kinds monadic.Negate f = refl
-monadic_kinds monadic.Not f = λ i. let k = sym (negation_kind f.content) i in record { address = k; content = k }
+unary_kinds : (m : UnaryOp) (f : Forms) → kinds_of_unary m (kinds_of f) ≡ kinds_of (form_of_unary m f)
+unary_kinds unary.Load f = refl
+unary_kinds unary.Address f = refl
+unary_kinds unary.Neg f = refl
+unary_kinds unary.Not f = λ i. let k = sym (negation_kind f.content) i in record { address = k; content = k }
 
-dyadic_kinds : (o : Dyadic) (l r : Exp) → kinds_of_dyadic o (kind_of l) (kind_of r) ≡ kinds_of (form_of_dyadic (operator o) l r)
-dyadic_kinds dyadic.Index l r = refl
-dyadic_kinds _ l r = refl
+binary_kinds : (o : BinaryOp) (l r : Exp) → kinds_of_binary o (kind_of l) (kind_of r) ≡ kinds_of (form_of_binary (operator o) l r)
+binary_kinds binary.Index l r = refl
+binary_kinds _ l r = refl
 
 kinds_kept : (E : Env) (at : Numbers) (e : tree.Exp) → kinds E e ≡ kinds_of (forms E at e)
 kinds_kept E at (tree.Name n) = name_kinds (meant_by E n)
-kinds_kept E at (tree.Number w) = refl
+kinds_kept E at (tree.Num w) = refl
 kinds_kept E at (tree.Character w) = refl
 kinds_kept E at tree.True = refl
 kinds_kept E at tree.False = refl
 kinds_kept E at (tree.Text s) = refl
 kinds_kept E at (tree.Table ks) = refl
 kinds_kept E at (tree.Valof b) = refl
-kinds_kept E at (tree.Monadic m e) = ap (kinds_of_monadic m) (kinds_kept E at e) ∙ monadic_kinds m (forms E at e)
-kinds_kept E at (tree.Dyadic o l r) =
-    (λ i. kinds_of_dyadic o (kinds_kept E at l i).content (kinds_kept E (following at l) r i).content)
-    ∙ dyadic_kinds o (forms E at l).content (forms E (following at l) r).content
-kinds_kept E at (tree.Condition c x y) = refl
+kinds_kept E at (tree.Unary m e) = ap (kinds_of_unary m) (kinds_kept E at e) ∙ unary_kinds m (forms E at e)
+kinds_kept E at (tree.Bin o l r) =
+    (λ i. kinds_of_binary o (kinds_kept E at l i).content (kinds_kept E (following at l) r i).content)
+    ∙ binary_kinds o (forms E at l).content (forms E (following at l) r).content
+kinds_kept E at (tree.Cond c x y) = refl
 kinds_kept E at (tree.Call f es) = refl
 
 pub operand_test : (E : Env) (at : Numbers) (x : tree.Exp) → is_operand_kind (kinds E x).address ≡ is_operand (forms E at x).address

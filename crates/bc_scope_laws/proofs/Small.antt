@@ -2,8 +2,8 @@
 use Rattle.std.proofs.Common.{◌≡◌, ℕ, ◌+◌, ◌*◌, ◌≤◌, true, List, [], ◌∷◌, Option, Some, None, arith}
 use Rattle.std.specs.Prelude.{nat_le}
 use Rattle.bc_word.specs.declared.operator.Op.{Op}
-use Rattle.bc_parse_tree.specs.declared.tree.Monadic.{Monadic}
-use Rattle.bc_parse_tree.specs.declared.tree.Monadic.TheVariants as monadic
+use Rattle.bc_parse_tree.specs.declared.tree.UnaryOp.{UnaryOp}
+use Rattle.bc_parse_tree.specs.declared.tree.UnaryOp.TheVariants as unary
 use Rattle.bc_parse_tree.specs.Tree as tree
 use Rattle.bc_parse_tree.specs.Size.{exp_size, exps_size}
 use Rattle.bc_core.specs.Tree.{Exp, Num, Frame, Glob, Place, Load, Neg, Not, Bin, Cond, Call, Valof}
@@ -12,7 +12,7 @@ use Rattle.bc_scope_defs.specs.Scope.{Meant, Constant, Pending, Static, Global, 
 use Rattle.bc_scope_defs.specs.Scope as scope
 use Rattle.bc_scope_defs.specs.Numbering.{following}
 use Rattle.bc_scope_defs.specs.Scoping.{operator}
-use Rattle.bc_scope_defs.specs.Translation.{Forms, form_of_name, form_of_monadic, form_of_dyadic, negation, opposite, or_not, forms, core_arguments, forms_of_all}
+use Rattle.bc_scope_defs.specs.Translation.{Forms, form_of_name, form_of_unary, form_of_binary, negation, opposite, or_not, forms, core_arguments, forms_of_all}
 
 abbrev pub AreSmall : Forms → ℕ → Type 0
 AreSmall f n = (nodes f.address ≤ n) × (nodes f.content ≤ n)
@@ -51,29 +51,29 @@ negation_nodes (Cond c x y) = omega arith
 negation_nodes (Call es f) = omega arith
 negation_nodes (Valof n) = omega arith
 
-monadic_small : (m : Monadic) (f : Forms) (n : ℕ) → AreSmall f (2 * n) → AreSmall (form_of_monadic m f) (2 * (n + 1))
-monadic_small monadic.Load f n h = let a = h.1 in (omega arith, omega arith)
-monadic_small monadic.Address f n h = let a = h.0 in (omega arith, omega arith)
-monadic_small monadic.Not f n h = let a = h.1 in let b = negation_nodes f.content in (omega arith, omega arith)
-monadic_small monadic.Negate f n h = let a = h.1 in (omega arith, omega arith)
+unary_small : (m : UnaryOp) (f : Forms) (n : ℕ) → AreSmall f (2 * n) → AreSmall (form_of_unary m f) (2 * (n + 1))
+unary_small unary.Load f n h = let a = h.1 in (omega arith, omega arith)
+unary_small unary.Address f n h = let a = h.0 in (omega arith, omega arith)
+unary_small unary.Not f n h = let a = h.1 in let b = negation_nodes f.content in (omega arith, omega arith)
+unary_small unary.Neg f n h = let a = h.1 in (omega arith, omega arith)
 
-dyadic_small : (o : Option Op) (l r : Exp) (m n : ℕ) → nodes l ≤ 2 * m → nodes r ≤ 2 * n → AreSmall (form_of_dyadic o l r) (2 * (m + n + 1))
-dyadic_small None l r m n h k = (omega arith, omega arith)
-dyadic_small (Some op) l r m n h k = (omega arith, omega arith)
+binary_small : (o : Option Op) (l r : Exp) (m n : ℕ) → nodes l ≤ 2 * m → nodes r ≤ 2 * n → AreSmall (form_of_binary o l r) (2 * (m + n + 1))
+binary_small None l r m n h k = (omega arith, omega arith)
+binary_small (Some op) l r m n h k = (omega arith, omega arith)
 
 mutual
   pub small : (E : Env) (at : Numbers) (e : tree.Exp) → AreSmall (forms E at e) (2 * exp_size e)
   small E at (tree.Name n) = name_small (meant_by E n)
-  small E at (tree.Number w) = (omega arith, omega arith)
+  small E at (tree.Num w) = (omega arith, omega arith)
   small E at (tree.Character w) = (omega arith, omega arith)
   small E at tree.True = (omega arith, omega arith)
   small E at tree.False = (omega arith, omega arith)
   small E at (tree.Text bytes) = (omega arith, omega arith)
   small E at (tree.Table ks) = (omega arith, omega arith)
   small E at (tree.Valof b) = (omega arith, omega arith)
-  small E at (tree.Monadic m e) = monadic_small m (forms E at e) (exp_size e) (small E at e)
-  small E at (tree.Dyadic o l r) = dyadic_small (operator o) _ _ (exp_size l) (exp_size r) (small E at l).1 (small E (following at l) r).1
-  small E at (tree.Condition c x y) =
+  small E at (tree.Unary m e) = unary_small m (forms E at e) (exp_size e) (small E at e)
+  small E at (tree.Bin o l r) = binary_small (operator o) _ _ (exp_size l) (exp_size r) (small E at l).1 (small E (following at l) r).1
+  small E at (tree.Cond c x y) =
       let hc = (small E at c).1 in
       let hx = (small E (following at c) x).1 in
       let hy = (small E (following (following at c) x) y).1 in

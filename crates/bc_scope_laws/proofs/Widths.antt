@@ -1,8 +1,8 @@
 -- The frames of the translation are as wide as those of the section.
 use Rattle.std.proofs.Common.{◌≡◌, ◌∙◌, ℕ, ◌+◌, ◌<◌, max, cond, Bool, true, false, List, [], ◌∷◌, ◌++◌, Option, Some, None, refl, sym, ap, subst, arith}
 use Rattle.bc_word.specs.declared.operator.Op.{Op}
-use Rattle.bc_parse_tree.specs.declared.tree.Monadic.{Monadic}
-use Rattle.bc_parse_tree.specs.declared.tree.Monadic.TheVariants as monadic
+use Rattle.bc_parse_tree.specs.declared.tree.UnaryOp.{UnaryOp}
+use Rattle.bc_parse_tree.specs.declared.tree.UnaryOp.TheVariants as unary
 use Rattle.bc_parse_tree.specs.Tree as tree
 use Rattle.bc_core.specs.Tree.{Exp, Num, Frame, Glob, Place, Load, Neg, Not, Bin, Cond, Call, Valof}
 use Rattle.bc_core.specs.Commands as core
@@ -16,7 +16,7 @@ use Rattle.bc_scope_defs.specs.Numbering.{following, after_all, after_declaratio
 use Rattle.bc_scope_defs.specs.Scoping.{operator, constant, count, before_let, in_let, in_declaration, in_declarations, cells_in, level_after, in_for, in_list, in_valof}
 use Rattle.bc_scope_defs.specs.Scoping as scoping
 use Rattle.bc_scope_defs.specs.Sides.{side_levels}
-use Rattle.bc_scope_defs.specs.Translation.{Forms, form_of_name, form_of_monadic, form_of_dyadic, negation, opposite, or_not, forms, core_arguments, forms_of_all, assignments, assignment, initials, core_definition, core_definitions, core_declarations, core_labels, core_block, core_items, block_of, valofs_of, core_routine, core_body}
+use Rattle.bc_scope_defs.specs.Translation.{Forms, form_of_name, form_of_unary, form_of_binary, negation, opposite, or_not, forms, core_arguments, forms_of_all, assignments, assignment, initials, core_definition, core_definitions, core_declarations, core_labels, core_block, core_items, block_of, valofs_of, core_routine, core_body}
 use Rattle.bc_scope_defs.specs.Translation as translation
 use Rattle.bc_scope_defs.specs.Found.{Found, FoundRoutine, RoutineBody, Gives, Does, Thing, AValof, ARoutine, Data, found, found_in_arguments, found_in_sides, found_in_initials, found_in_definition, found_in_definitions, found_in_declaration, found_in_declarations, found_in_block, found_in_items, found_in_command}
 use Rattle.bc_scope_defs.specs.FramesAlong.{all_held, widest, width, width_of_arguments, widths, width_of_initials, width_of_definition, width_of_definitions, width_of_declarations, width_of_block, width_of_items, width_of_command, width_of_body, frame_of}
@@ -81,15 +81,15 @@ negation_wide V (Cond c x y) s = refl
 negation_wide V (Call es f) s = refl
 negation_wide V (Valof n) s = refl
 
-monadic_wide : (V : Bodies) (m : Monadic) (f : Forms) (s n : ℕ) → AreWide V f s n → AreWide V (form_of_monadic m f) s n
-monadic_wide V monadic.Load f s n h = (h.1, h.1)
-monadic_wide V monadic.Address f s n h = (h.0, h.0)
-monadic_wide V monadic.Not f s n h = let k = negation_wide V f.content s ∙ h.1 in (k, k)
-monadic_wide V monadic.Negate f s n h = (h.1, h.1)
+unary_wide : (V : Bodies) (m : UnaryOp) (f : Forms) (s n : ℕ) → AreWide V f s n → AreWide V (form_of_unary m f) s n
+unary_wide V unary.Load f s n h = (h.1, h.1)
+unary_wide V unary.Address f s n h = (h.0, h.0)
+unary_wide V unary.Not f s n h = let k = negation_wide V f.content s ∙ h.1 in (k, k)
+unary_wide V unary.Neg f s n h = (h.1, h.1)
 
-dyadic_wide : (V : Bodies) (o : Option Op) (l r : Exp) (s n : ℕ) → max (s + 2) (max (cells_of_exp V l (operand_level s)) (cells_of_exp V r (operand_level s))) ≡ n → AreWide V (form_of_dyadic o l r) s n
-dyadic_wide V None l r s n h = (h, h)
-dyadic_wide V (Some op) l r s n h = (h, h)
+binary_wide : (V : Bodies) (o : Option Op) (l r : Exp) (s n : ℕ) → max (s + 2) (max (cells_of_exp V l (operand_level s)) (cells_of_exp V r (operand_level s))) ≡ n → AreWide V (form_of_binary o l r) s n
+binary_wide V None l r s n h = (h, h)
+binary_wide V (Some op) l r s n h = (h, h)
 
 items_labels : (V : Bodies) (E : Env) (k : ℕ) (ls : tree.Labels) (is : Items) (s : ℕ) → cells_of_items V (core_labels E k ls is) s ≡ cells_of_items V is s
 items_labels V E k tree.no_labels is s = refl
@@ -160,20 +160,20 @@ call_wide V E at f es s hf hs =
 mutual
   pub exp_wide : (V : Bodies) (E : Env) (at : Numbers) (e : tree.Exp) (s : ℕ) → AllWide V (found E at e s) → AreWide V (forms E at e) s (width E at e s)
   exp_wide V E at (tree.Name n) s h = name_wide V (meant_by E n) s
-  exp_wide V E at (tree.Number w) s h = (refl, refl)
+  exp_wide V E at (tree.Num w) s h = (refl, refl)
   exp_wide V E at (tree.Character w) s h = (refl, refl)
   exp_wide V E at tree.True s h = (refl, refl)
   exp_wide V E at tree.False s h = (refl, refl)
   exp_wide V E at (tree.Text bytes) s h = (refl, refl)
   exp_wide V E at (tree.Table ks) s h = (refl, refl)
   exp_wide V E at (tree.Valof b) s h = (h.0, h.0)
-  exp_wide V E at (tree.Monadic m e) s h = monadic_wide V m _ s _ (exp_wide V E at e s h)
-  exp_wide V E at (tree.Dyadic o l r) s h =
+  exp_wide V E at (tree.Unary m e) s h = unary_wide V m _ s _ (exp_wide V E at e s h)
+  exp_wide V E at (tree.Bin o l r) s h =
       let s1 = operand_level s in
       let hl = exp_wide V E at l s1 (first V (found E at l s1) (found E (following at l) r s1) h) in
       let hr = exp_wide V E (following at l) r s1 (second V (found E at l s1) (found E (following at l) r s1) h) in
-      dyadic_wide V (operator o) _ _ s _ (λ i. max (s + 2) (max (hl.1 i) (hr.1 i)))
-  exp_wide V E at (tree.Condition c x y) s h =
+      binary_wide V (operator o) _ _ s _ (λ i. max (s + 2) (max (hl.1 i) (hr.1 i)))
+  exp_wide V E at (tree.Cond c x y) s h =
       let bc = following at c in
       let bx = following bc x in
       let rest = found E bc x s ++ found E bx y s in
@@ -181,7 +181,7 @@ mutual
       let hc = exp_wide V E at c s (first V (found E at c s) rest h) in
       let hx = exp_wide V E bc x s (first V (found E bc x s) (found E bx y s) hxy) in
       let hy = exp_wide V E bx y s (second V (found E bc x s) (found E bx y s) hxy) in
-      let k : cells_of_exp V (forms E at (tree.Condition c x y)).content s ≡ width E at (tree.Condition c x y) s = λ i. max (hc.1 i) (max (hx.1 i) (hy.1 i)) in
+      let k : cells_of_exp V (forms E at (tree.Cond c x y)).content s ≡ width E at (tree.Cond c x y) s = λ i. max (hc.1 i) (max (hx.1 i) (hy.1 i)) in
       (k, k)
   exp_wide V E at (tree.Call f es) s h =
       let of_routine = found E at f (routine_level s (count es)) in

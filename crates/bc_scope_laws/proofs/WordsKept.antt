@@ -3,8 +3,8 @@ use Rattle.std.proofs.Common.{◌≡◌, ◌∙◌, ℕ, ◌+◌, ◌&&◌, Bool
 use Rattle.bc_word.specs.declared.operator.Op.{Op}
 use Rattle.bc_parse_tree.specs.declared.tree.Storage.{Storage}
 use Rattle.bc_parse_tree.specs.declared.tree.Storage.TheVariants as storage
-use Rattle.bc_parse_tree.specs.declared.tree.Monadic.{Monadic}
-use Rattle.bc_parse_tree.specs.declared.tree.Monadic.TheVariants as monadic
+use Rattle.bc_parse_tree.specs.declared.tree.UnaryOp.{UnaryOp}
+use Rattle.bc_parse_tree.specs.declared.tree.UnaryOp.TheVariants as unary
 use Rattle.bc_parse_tree.specs.Tree as tree
 use Rattle.bc_core.specs.Tree.{Exp, Num, Frame, Glob, Place, Load, Neg, Not, Bin, Cond, Call, Valof}
 use Rattle.bc_core.specs.Commands as core
@@ -15,7 +15,7 @@ use Rattle.bc_scope_defs.specs.Scope as scope
 use Rattle.bc_scope_defs.specs.Numbering.{following, after_all, after_declarations, after_declaration, after_definition, after_command, after_block, labels_of, labels_in}
 use Rattle.bc_scope_defs.specs.Scoping.{operator, count, pending, in_entry, before_let, in_let, in_declaration, in_declarations, cells_in, cells_of_all, level_after, in_for, in_list, in_valof}
 use Rattle.bc_scope_defs.specs.Sides.{side_levels}
-use Rattle.bc_scope_defs.specs.Translation.{Forms, form_of_name, form_of_monadic, form_of_dyadic, negation, opposite, or_not, forms, core_arguments, forms_of_all, assignments, assignment, initials, core_definition, core_definitions, core_declarations, core_labels, core_block, core_items, core_command, block_of, core_datum, core_routine, valof_of, places_of, valofs_of}
+use Rattle.bc_scope_defs.specs.Translation.{Forms, form_of_name, form_of_unary, form_of_binary, negation, opposite, or_not, forms, core_arguments, forms_of_all, assignments, assignment, initials, core_definition, core_definitions, core_declarations, core_labels, core_block, core_items, core_command, block_of, core_datum, core_routine, valof_of, places_of, valofs_of}
 use Rattle.bc_scope_defs.specs.Found.{Thing, AValof, ARoutine, Data, AStatic, ATable, AText, in_parameters, section_start, found_in_section, found_in_entries, found, found_in_arguments, found_in_sides, found_in_initials, found_in_definition, found_in_definitions, found_in_declaration, found_in_declarations, found_in_block, found_in_items, found_in_command}
 use Rattle.bc_scope_defs.specs.Words.{ExpHasWords, ExpsHaveWords, BlockHasWords, DeclarationHasWords, DeclarationsHaveWords, EntriesHaveWords, DefinitionHasWords, DefinitionsHaveWords, ItemsHaveWords, LabelsHaveWords, CommandHasWords}
 use Rattle.bc_scope_laws.specs.Laws.{WordsAreKept}
@@ -59,33 +59,33 @@ of_negation (Cond c x y) = refl
 of_negation (Call es f) = refl
 of_negation (Valof n) = refl
 
-of_monadic : (m : Monadic) (f : Forms) → FormsHaveWords f → FormsHaveWords (form_of_monadic m f)
-of_monadic monadic.Load f h = (h.1, h.1)
-of_monadic monadic.Address f h = (h.0, h.0)
-of_monadic monadic.Not f h = let k = of_negation f.content ∙ h.1 in (k, k)
-of_monadic monadic.Negate f h = (h.1, h.1)
+of_unary : (m : UnaryOp) (f : Forms) → FormsHaveWords f → FormsHaveWords (form_of_unary m f)
+of_unary unary.Load f h = (h.1, h.1)
+of_unary unary.Address f h = (h.0, h.0)
+of_unary unary.Not f h = let k = of_negation f.content ∙ h.1 in (k, k)
+of_unary unary.Neg f h = (h.1, h.1)
 
-of_dyadic : (o : Option Op) (l r : Exp) → (has_words l && has_words r) ≡ true → FormsHaveWords (form_of_dyadic o l r)
-of_dyadic None l r h = (h, h)
-of_dyadic (Some op) l r h = (h, h)
+of_binary : (o : Option Op) (l r : Exp) → (has_words l && has_words r) ≡ true → FormsHaveWords (form_of_binary o l r)
+of_binary None l r h = (h, h)
+of_binary (Some op) l r h = (h, h)
 
 mutual
   exp_words : (E : Env) (at : Numbers) (e : tree.Exp) → Wordy E → ExpHasWords e → FormsHaveWords (forms E at e)
   exp_words E at (tree.Name n) w h = of_name (meant_by E n) (meant_word E n w)
-  exp_words E at (tree.Number n) w h = (word_is n h, word_is n h)
+  exp_words E at (tree.Num n) w h = (word_is n h, word_is n h)
   exp_words E at (tree.Character n) w h = (word_is n h, word_is n h)
   exp_words E at tree.True w h = (refl, refl)
   exp_words E at tree.False w h = (refl, refl)
   exp_words E at (tree.Text text) w h = (refl, refl)
   exp_words E at (tree.Table ks) w h = (refl, refl)
   exp_words E at (tree.Valof b) w h = (refl, refl)
-  exp_words E at (tree.Monadic m e) w h = of_monadic m (forms E at e) (exp_words E at e w h)
-  exp_words E at (tree.Dyadic o l r) w h =
-      of_dyadic (operator o) (forms E at l).content (forms E (following at l) r).content (λ i. (exp_words E at l w h.0).1 i && (exp_words E (following at l) r w h.1).1 i)
-  exp_words E at (tree.Condition c x y) w h =
+  exp_words E at (tree.Unary m e) w h = of_unary m (forms E at e) (exp_words E at e w h)
+  exp_words E at (tree.Bin o l r) w h =
+      of_binary (operator o) (forms E at l).content (forms E (following at l) r).content (λ i. (exp_words E at l w h.0).1 i && (exp_words E (following at l) r w h.1).1 i)
+  exp_words E at (tree.Cond c x y) w h =
       let bc = following at c in
       let bx = following bc x in
-      let k : has_words (forms E at (tree.Condition c x y)).content ≡ true =
+      let k : has_words (forms E at (tree.Cond c x y)).content ≡ true =
       λ i. (exp_words E at c w h.0).1 i && (exp_words E bc x w h.1).1 i && (exp_words E bx y w h.2).1 i in
       (k, k)
   exp_words E at (tree.Call f es) w h =
@@ -237,7 +237,7 @@ entries_wordy storage.Global at (tree.entry n k es) E w h = entries_wordy storag
 mutual
   exp_wordy : (E : Env) (at : Numbers) (e : tree.Exp) (s : ℕ) → Wordy E → ExpHasWords e → AllWordy (found E at e s)
   exp_wordy E at (tree.Name n) s w h = tt
-  exp_wordy E at (tree.Number n) s w h = tt
+  exp_wordy E at (tree.Num n) s w h = tt
   exp_wordy E at (tree.Character n) s w h = tt
   exp_wordy E at tree.True s w h = tt
   exp_wordy E at tree.False s w h = tt
@@ -246,11 +246,11 @@ mutual
   exp_wordy E at (tree.Valof b) s w h =
       let w1 = wordy_valof E w in
       (block_words (in_valof E) (after_valof at) b s w1 h, block_wordy (in_valof E) (after_valof at) b s w1 h)
-  exp_wordy E at (tree.Monadic m e) s w h = exp_wordy E at e s w h
-  exp_wordy E at (tree.Dyadic o l r) s w h =
+  exp_wordy E at (tree.Unary m e) s w h = exp_wordy E at e s w h
+  exp_wordy E at (tree.Bin o l r) s w h =
       let s1 = operand_level s in
       both_wordy (found E at l s1) (found E (following at l) r s1) (exp_wordy E at l s1 w h.0) (exp_wordy E (following at l) r s1 w h.1)
-  exp_wordy E at (tree.Condition c x y) s w h =
+  exp_wordy E at (tree.Cond c x y) s w h =
       let bc = following at c in
       let bx = following bc x in
       both_wordy (found E at c s) (found E bc x s ++ found E bx y s) (exp_wordy E at c s w h.0)

@@ -1,36 +1,36 @@
 //! The values of constant expressions.
 ghost use Rattle.std.specs.Prelude.{◌≡◌};
 ghost use Rattle.bc_parse_tree.specs.View.{exp_view};
-ghost use Rattle.bc_scope_defs.specs.Scoping.{operator, constant_name, constant_monadic, constant_dyadic, constant_in, constant};
+ghost use Rattle.bc_scope_defs.specs.Scoping.{operator, constant_name, constant_unary, constant_binary, constant_in, constant};
 ghost use Rattle.bc_scope_names.specs.View.{meant_view, scope_view};
 
 use crate::scope::{Meant, Scope};
-use bc_parse_tree::{Dyadic, Exp, Monadic};
+use bc_parse_tree::{BinaryOp, Exp, UnaryOp};
 use bc_word::{Op, Word, apply};
 
-/// The operator on words that a dyadic operator of the source computes; `None` for `!`, which reads a cell.
-pub fn operator(sign: Dyadic) -> Option<Op>
+/// The operator on words that a binary operator of the source computes; `None` for `!`, which reads a cell.
+pub fn operator(sign: BinaryOp) -> Option<Op>
     ensures { result ≡ operator sign }
 {
     match sign {
-        Dyadic::Equivalent => Some(Op::Equivalent),
-        Dyadic::NotEquivalent => Some(Op::NotEquivalent),
-        Dyadic::Or => Some(Op::Or),
-        Dyadic::And => Some(Op::And),
-        Dyadic::ShiftLeft => Some(Op::ShiftLeft),
-        Dyadic::ShiftRight => Some(Op::ShiftRight),
-        Dyadic::Equal => Some(Op::Equal),
-        Dyadic::NotEqual => Some(Op::NotEqual),
-        Dyadic::Less => Some(Op::Less),
-        Dyadic::GreaterEqual => Some(Op::GreaterEqual),
-        Dyadic::Greater => Some(Op::Greater),
-        Dyadic::LessEqual => Some(Op::LessEqual),
-        Dyadic::Add => Some(Op::Add),
-        Dyadic::Subtract => Some(Op::Subtract),
-        Dyadic::Multiply => Some(Op::Multiply),
-        Dyadic::Divide => Some(Op::Divide),
-        Dyadic::Remainder => Some(Op::Remainder),
-        Dyadic::Index => None,
+        BinaryOp::Equivalent => Some(Op::Equivalent),
+        BinaryOp::NotEquivalent => Some(Op::NotEquivalent),
+        BinaryOp::Or => Some(Op::Or),
+        BinaryOp::And => Some(Op::And),
+        BinaryOp::ShiftLeft => Some(Op::ShiftLeft),
+        BinaryOp::ShiftRight => Some(Op::ShiftRight),
+        BinaryOp::Equal => Some(Op::Equal),
+        BinaryOp::NotEqual => Some(Op::NotEqual),
+        BinaryOp::Less => Some(Op::Less),
+        BinaryOp::GreaterEqual => Some(Op::GreaterEqual),
+        BinaryOp::Greater => Some(Op::Greater),
+        BinaryOp::LessEqual => Some(Op::LessEqual),
+        BinaryOp::Add => Some(Op::Add),
+        BinaryOp::Subtract => Some(Op::Subtract),
+        BinaryOp::Multiply => Some(Op::Multiply),
+        BinaryOp::Divide => Some(Op::Divide),
+        BinaryOp::Remainder => Some(Op::Remainder),
+        BinaryOp::Index => None,
     }
 }
 
@@ -44,21 +44,21 @@ fn of_name(meant: Meant) -> Option<Word>
     }
 }
 
-/// The value of a monadic operator's constant; `None` where the operand has none, and for `!` and `@`.
-fn of_monadic(sign: Monadic, operand: Option<Word>) -> Option<Word>
-    ensures { result ≡ constant_monadic sign operand }
+/// The value of a unary operator's constant; `None` where the operand has none, and for `!` and `@`.
+fn of_unary(sign: UnaryOp, operand: Option<Word>) -> Option<Word>
+    ensures { result ≡ constant_unary sign operand }
 {
     let operand = operand?;
     match sign {
-        Monadic::Negate => Some(operand.negated()),
-        Monadic::Not => Some(operand.complemented()),
-        Monadic::Load | Monadic::Address => None,
+        UnaryOp::Neg => Some(operand.negated()),
+        UnaryOp::Not => Some(operand.complemented()),
+        UnaryOp::Load | UnaryOp::Address => None,
     }
 }
 
-/// The value of a dyadic operator's constant; `None` where an operand has none, or on division by zero.
-fn of_dyadic(sign: Option<Op>, left: Option<Word>, right: Option<Word>) -> Option<Word>
-    ensures { result ≡ constant_dyadic sign left right }
+/// The value of a binary operator's constant; `None` where an operand has none, or on division by zero.
+fn of_binary(sign: Option<Op>, left: Option<Word>, right: Option<Word>) -> Option<Word>
+    ensures { result ≡ constant_binary sign left right }
 {
     apply(sign?, left?, right?)
 }
@@ -69,18 +69,17 @@ pub fn constant_in(scope: &Scope<'_>, e: &Exp<'_>) -> Option<Word>
 {
     match e {
         Exp::Name(name) => of_name(scope.meant_by(name)),
-        Exp::Number(number) => Some(*number),
+        Exp::Num(number) => Some(*number),
         Exp::Character(byte) => Some(*byte),
         Exp::True => Some(Word::new(65535)),
         Exp::False => Some(Word::new(0)),
-        Exp::Monadic(sign, operand) => of_monadic(*sign, constant_in(scope, operand)),
-        Exp::Dyadic(sign, left, right) => {
+        Exp::Unary(sign, operand) => of_unary(*sign, constant_in(scope, operand)),
+        Exp::Bin(sign, left, right) => {
             let left = constant_in(scope, left);
             let right = constant_in(scope, right);
-            of_dyadic(operator(*sign), left, right)
+            of_binary(operator(*sign), left, right)
         }
-        Exp::String(_) | Exp::Table(_) | Exp::Valof(_) | Exp::Condition { .. } | Exp::Call(_, _) =>
-            None,
+        Exp::String(_) | Exp::Table(_) | Exp::Valof(_) | Exp::Cond { .. } | Exp::Call(_, _) => None,
     }
 }
 

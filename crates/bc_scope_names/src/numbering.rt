@@ -77,12 +77,12 @@ fn following(at: &mut Numbers, e: &Exp<'_>) -> Result<(), Memory>
             *at = at.after_valof()?;
             after_block(at, body)
         }
-        Exp::Monadic(_, operand) => following(at, operand),
-        Exp::Dyadic(_, left, right) => {
+        Exp::Unary(_, operand) => following(at, operand),
+        Exp::Bin(_, left, right) => {
             following(at, left)?;
             following(at, right)
         }
-        Exp::Condition { test, this, that } => {
+        Exp::Cond { test, this, that } => {
             following(at, test)?;
             following(at, this)?;
             following(at, that)
@@ -91,7 +91,7 @@ fn following(at: &mut Numbers, e: &Exp<'_>) -> Result<(), Memory>
             following(at, routine)?;
             after_all(at, arguments)
         }
-        Exp::Name(_) | Exp::Number(_) | Exp::Character(_) | Exp::True | Exp::False => Ok(()),
+        Exp::Name(_) | Exp::Num(_) | Exp::Character(_) | Exp::True | Exp::False => Ok(()),
     }
 }
 

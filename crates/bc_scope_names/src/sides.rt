@@ -1,13 +1,13 @@
 //! The level at which each pair of an assignment is computed, which depends on the form of the address on the left.
 ghost use Rattle.std.specs.Prelude.{◌≡◌, IfOk};
 ghost use Rattle.bc_parse_tree.specs.View.{exp_view, exps_view};
-ghost use Rattle.bc_scope_defs.specs.Sides.{kind_of_content, kind_of_sum, kinds_of_cell, kinds_of_plain, kinds_of_name, kinds_of_monadic, kinds_of_dyadic, kinds, is_operand_kind, side_levels};
+ghost use Rattle.bc_scope_defs.specs.Sides.{kind_of_content, kind_of_sum, kinds_of_cell, kinds_of_plain, kinds_of_name, kinds_of_unary, kinds_of_binary, kinds, is_operand_kind, side_levels};
 ghost use Rattle.bc_scope_names.specs.View.{meant_view, scope_view};
 ghost use Rattle.bc_scope_names.specs.Kinds.{kind_view, kinds_view};
 
 use crate::numbers::sum;
 use crate::scope::{Meant, Scope};
-use bc_parse_tree::{Dyadic, Exp, Monadic};
+use bc_parse_tree::{BinaryOp, Exp, UnaryOp};
 use bc_word::Memory;
 use std::alloc::Global;
 
@@ -99,24 +99,24 @@ fn kinds_of_name(meant: Meant) -> Kinds
     }
 }
 
-/// The kinds of a monadic operator's result, by the kinds of its operand.
-fn kinds_of_monadic(sign: Monadic, operand: Kinds) -> Kinds
-    ensures { kinds_view result ≡ kinds_of_monadic sign (kinds_view operand) }
+/// The kinds of a unary operator's result, by the kinds of its operand.
+fn kinds_of_unary(sign: UnaryOp, operand: Kinds) -> Kinds
+    ensures { kinds_view result ≡ kinds_of_unary sign (kinds_view operand) }
 {
     match sign {
-        Monadic::Load => kinds_of_cell(operand.content),
-        Monadic::Address => kinds_of_plain(operand.address),
-        Monadic::Not | Monadic::Negate => kinds_of_plain(OperandKind::NoOperand),
+        UnaryOp::Load => kinds_of_cell(operand.content),
+        UnaryOp::Address => kinds_of_plain(operand.address),
+        UnaryOp::Not | UnaryOp::Neg => kinds_of_plain(OperandKind::NoOperand),
     }
 }
 
-/// The kinds of a dyadic operator's result, by the kinds of its operands' values.
-fn kinds_of_dyadic(sign: Dyadic, left: OperandKind, right: OperandKind) -> Kinds
-    ensures { kinds_view result ≡ kinds_of_dyadic sign (kind_view left) (kind_view right) }
+/// The kinds of a binary operator's result, by the kinds of its operands' values.
+fn kinds_of_binary(sign: BinaryOp, left: OperandKind, right: OperandKind) -> Kinds
+    ensures { kinds_view result ≡ kinds_of_binary sign (kind_view left) (kind_view right) }
 {
     match sign {
-        Dyadic::Index => kinds_of_cell(kind_of_sum(left, right)),
-        Dyadic::Add => kinds_of_plain(kind_of_sum(left, right)),
+        BinaryOp::Index => kinds_of_cell(kind_of_sum(left, right)),
+        BinaryOp::Add => kinds_of_plain(kind_of_sum(left, right)),
         _ => kinds_of_plain(OperandKind::NoOperand),
     }
 }
@@ -127,17 +127,17 @@ fn make_kinds(scope: &Scope<'_>, e: &Exp<'_>) -> Kinds
 {
     match e {
         Exp::Name(name) => kinds_of_name(scope.meant_by(name)),
-        Exp::Number(_) | Exp::Character(_) | Exp::True | Exp::False => {
+        Exp::Num(_) | Exp::Character(_) | Exp::True | Exp::False => {
             kinds_of_plain(OperandKind::Number)
         }
         Exp::String(_) | Exp::Table(_) => kinds_of_plain(OperandKind::Place),
-        Exp::Monadic(sign, operand) => kinds_of_monadic(*sign, make_kinds(scope, operand)),
-        Exp::Dyadic(sign, left, right) => {
+        Exp::Unary(sign, operand) => kinds_of_unary(*sign, make_kinds(scope, operand)),
+        Exp::Bin(sign, left, right) => {
             let left = make_kinds(scope, left);
             let right = make_kinds(scope, right);
-            kinds_of_dyadic(*sign, left.content, right.content)
+            kinds_of_binary(*sign, left.content, right.content)
         }
-        Exp::Valof(_) | Exp::Condition { .. } | Exp::Call(_, _) => {
+        Exp::Valof(_) | Exp::Cond { .. } | Exp::Call(_, _) => {
             kinds_of_plain(OperandKind::NoOperand)
         }
     }

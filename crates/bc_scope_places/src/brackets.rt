@@ -10,7 +10,7 @@ fn is_symbol(tokens: &[Token<'_>], i: usize, symbol: Symbol) -> bool {
     i < tokens.len() && tokens[i].kind == TokenKind::Symbol(symbol)
 }
 
-/// Whether token `i` is a monadic operator.
+/// Whether token `i` is a unary operator.
 fn is_sign(tokens: &[Token<'_>], i: usize) -> bool {
     is_symbol(tokens, i, Symbol::Minus)
         || is_symbol(tokens, i, Symbol::Not)

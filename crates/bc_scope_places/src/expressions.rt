@@ -2,7 +2,7 @@
 //! `End` if the walk ends.
 use crate::leaves::Leaves;
 use crate::walk::{Beside, End, PlaceWalk};
-use bc_parse_tree::{Block, Exp, Monadic};
+use bc_parse_tree::{Block, Exp, UnaryOp};
 use bc_scope_faults::{
     Allowed, CommandContext, ExpressionContext, check_address, check_name, level_at,
 };
@@ -15,13 +15,13 @@ impl<'s> PlaceWalk<'s> {
     pub fn expression(&mut self, context: ExpressionContext, e: &Exp<'s>) -> Result<u64, End> {
         match e {
             Exp::Name(name) => self.name(context.in_constant, name),
-            Exp::Number(_) | Exp::Character(_) | Exp::True | Exp::False => Ok(self.plain()),
+            Exp::Num(_) | Exp::Character(_) | Exp::True | Exp::False => Ok(self.plain()),
             Exp::String(_) => self.string(),
             Exp::Table(values) => self.table(values),
             Exp::Valof(body) => self.valof(body, context.level),
-            Exp::Monadic(sign, operand) => self.monadic(context, *sign, operand),
-            Exp::Dyadic(_, left, right) => self.dyadic(context, left, right),
-            Exp::Condition { test, this, that } => self.condition(context, test, this, that),
+            Exp::Unary(sign, operand) => self.unary(context, *sign, operand),
+            Exp::Bin(_, left, right) => self.binary(context, left, right),
+            Exp::Cond { test, this, that } => self.condition(context, test, this, that),
             Exp::Call(routine, values) => self.call(context, routine, values),
         }
     }
@@ -48,9 +48,9 @@ impl<'s> PlaceWalk<'s> {
         Ok(0)
     }
 
-    /// A dyadic operator, with its operands one level above.
+    /// A binary operator, with its operands one level above.
     #[cycle(places)]
-    fn dyadic(
+    fn binary(
         &mut self,
         context: ExpressionContext,
         left: &Exp<'s>,
@@ -116,12 +116,12 @@ impl<'s> PlaceWalk<'s> {
         Ok(width)
     }
 
-    /// A monadic operator with its operand. The operand of `@` must have a cell.
+    /// A unary operator with its operand. The operand of `@` must have a cell.
     #[cycle(places)]
-    fn monadic(
+    fn unary(
         &mut self,
         context: ExpressionContext,
-        sign: Monadic,
+        sign: UnaryOp,
         operand: &Exp<'s>,
     ) -> Result<u64, End> {
         let first = self.leaves;

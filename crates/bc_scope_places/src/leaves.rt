@@ -10,7 +10,7 @@ pub struct Leaves {
     pub first: u64,
     /// The last leaf.
     pub last: u64,
-    /// The number of monadic operators before its first leaf.
+    /// The number of unary operators before its first leaf.
     pub signs: u64,
     /// The number of empty argument lists after its last leaf.
     pub calls: u64,
@@ -43,15 +43,15 @@ impl Leaves {
     }
 }
 
-/// The number of monadic operators before the first leaf of an expression.
+/// The number of unary operators before the first leaf of an expression.
 fn signs_before(e: &Exp<'_>) -> u64 {
     match e {
-        Exp::Monadic(_, operand) => signs_before(operand).saturating_add(1),
-        Exp::Dyadic(_, left, _) => signs_before(left),
-        Exp::Condition { test, .. } => signs_before(test),
+        Exp::Unary(_, operand) => signs_before(operand).saturating_add(1),
+        Exp::Bin(_, left, _) => signs_before(left),
+        Exp::Cond { test, .. } => signs_before(test),
         Exp::Call(called, _) => signs_before(called),
         Exp::Name(_)
-        | Exp::Number(_)
+        | Exp::Num(_)
         | Exp::Character(_)
         | Exp::String(_)
         | Exp::True
@@ -64,15 +64,15 @@ fn signs_before(e: &Exp<'_>) -> u64 {
 /// The number of empty argument lists after the last leaf of an expression.
 fn calls_after(e: &Exp<'_>) -> u64 {
     match e {
-        Exp::Monadic(_, operand) => calls_after(operand),
-        Exp::Dyadic(_, _, right) => calls_after(right),
-        Exp::Condition { that, .. } => calls_after(that),
+        Exp::Unary(_, operand) => calls_after(operand),
+        Exp::Bin(_, _, right) => calls_after(right),
+        Exp::Cond { that, .. } => calls_after(that),
         Exp::Call(called, values) => match values.last() {
             Some(value) => calls_after(value),
             None => calls_after(called).saturating_add(1),
         },
         Exp::Name(_)
-        | Exp::Number(_)
+        | Exp::Num(_)
         | Exp::Character(_)
         | Exp::String(_)
         | Exp::True

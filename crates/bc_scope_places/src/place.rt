@@ -85,7 +85,7 @@ fn has_name(tokens: &[Token<'_>], i: usize, name: Option<&[u8]>) -> bool
     }
 }
 
-/// The tokens of these leaves, with the monadic operators and brackets that belong to them. `None` if the tokens have no such
+/// The tokens of these leaves, with the unary operators and brackets that belong to them. `None` if the tokens have no such
 /// leaves.
 fn span_of(tokens: &[Token<'_>], at: Leaves) -> Option<Span>
     ensures { IfSome result (λ s. (s.first ≤ s.last) × (s.last < length tokens.now)) }

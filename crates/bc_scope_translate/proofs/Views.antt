@@ -13,7 +13,7 @@ use Rattle.bc_parse_tree.specs.declared.tree.Constant.{fold_out-Constant, out-Co
 use Rattle.bc_parse_tree.specs.declared.tree.Declaration.{Declaration-F, fold-roll-Declaration}
 use Rattle.bc_parse_tree.specs.declared.tree.Declaration.TheVariants as declarations
 use Rattle.bc_parse_tree.specs.declared.tree.Definition as code_definition
-use Rattle.bc_parse_tree.specs.declared.tree.Dyadic.{Dyadic}
+use Rattle.bc_parse_tree.specs.declared.tree.BinaryOp.{BinaryOp}
 use Rattle.bc_parse_tree.specs.declared.tree.Exp as code
 use Rattle.bc_parse_tree.specs.declared.tree.Exp.{Exp-F, fold-roll-Exp}
 use Rattle.bc_parse_tree.specs.declared.tree.Exp.TheVariants as exps
@@ -40,11 +40,11 @@ constants_view k cs = ap declaration_view (sym (declarations.rolls-Constants k c
 pub let_view : (ds : Vec code_definition.Definition Global) → declaration_view (declarations.Let ds) ≡ tree.Let (definitions_view ds.items)
 let_view ds = ap declaration_view (sym (declarations.rolls-Let ds)) ∙ fold-roll-Declaration Command Declaration Definition Exp Label Block (List ℕ × Exp) Item command_step declaration_step definition_step exp_step label_step block_step constant_step item_step (Declaration-F.Let ds)
 
-pub dyadic_view : (o : Dyadic) (l : Box code.Exp Global) (r : Box code.Exp Global) → exp_view (exps.Dyadic o l r) ≡ tree.Dyadic o (exp_view l.value) (exp_view r.value)
-dyadic_view o l r = ap exp_view (sym (exps.rolls-Dyadic o l r)) ∙ fold-roll-Exp Command Declaration Definition Exp Label Block (List ℕ × Exp) Item command_step declaration_step definition_step exp_step label_step block_step constant_step item_step (Exp-F.Dyadic o l r)
+pub binary_view : (o : BinaryOp) (l : Box code.Exp Global) (r : Box code.Exp Global) → exp_view (exps.Bin o l r) ≡ tree.Bin o (exp_view l.value) (exp_view r.value)
+binary_view o l r = ap exp_view (sym (exps.rolls-Bin o l r)) ∙ fold-roll-Exp Command Declaration Definition Exp Label Block (List ℕ × Exp) Item command_step declaration_step definition_step exp_step label_step block_step constant_step item_step (Exp-F.Bin o l r)
 
-pub condition_view : (t : Box code.Exp Global) (x : Box code.Exp Global) (y : Box code.Exp Global) → exp_view (exps.Condition t x y) ≡ tree.Condition (exp_view t.value) (exp_view x.value) (exp_view y.value)
-condition_view t x y = ap exp_view (sym (exps.rolls-Condition t x y)) ∙ fold-roll-Exp Command Declaration Definition Exp Label Block (List ℕ × Exp) Item command_step declaration_step definition_step exp_step label_step block_step constant_step item_step (Exp-F.Condition t x y)
+pub condition_view : (t : Box code.Exp Global) (x : Box code.Exp Global) (y : Box code.Exp Global) → exp_view (exps.Cond t x y) ≡ tree.Cond (exp_view t.value) (exp_view x.value) (exp_view y.value)
+condition_view t x y = ap exp_view (sym (exps.rolls-Cond t x y)) ∙ fold-roll-Exp Command Declaration Definition Exp Label Block (List ℕ × Exp) Item command_step declaration_step definition_step exp_step label_step block_step constant_step item_step (Exp-F.Cond t x y)
 
 pub call_view : (f : Box code.Exp Global) (es : Vec code.Exp Global) → exp_view (exps.Call f es) ≡ tree.Call (exp_view f.value) (exps_view es.items)
 call_view f es = ap exp_view (sym (exps.rolls-Call f es)) ∙ fold-roll-Exp Command Declaration Definition Exp Label Block (List ℕ × Exp) Item command_step declaration_step definition_step exp_step label_step block_step constant_step item_step (Exp-F.Exp::Call f es)

@@ -10,7 +10,7 @@ ghost use Rattle.bc_scope_names.specs.View.{scope_view};
 ghost use Rattle.bc_scope_translate.specs.Next.{next_numbers};
 ghost use Rattle.bc_scope_translate.specs.Seen.{Translates, formed_view};
 
-use crate::forms::{Formed, of_dyadic, of_monadic, of_name};
+use crate::forms::{Formed, of_binary, of_name, of_unary};
 use crate::numbering::NextNumbers;
 use bc_core::CoreExp;
 use bc_parse_tree::{Block, Exp};
@@ -56,21 +56,21 @@ pub fn expression<'t, 's>(
 {
     match e {
         Exp::Name(name) => of_name(scope.meant_by(name)),
-        Exp::Number(number) | Exp::Character(number) => Ok(Formed::Plain(CoreExp::Num(*number))),
+        Exp::Num(number) | Exp::Character(number) => Ok(Formed::Plain(CoreExp::Num(*number))),
         Exp::True => Ok(Formed::Plain(CoreExp::Num(Word::new(65535)))),
         Exp::False => Ok(Formed::Plain(CoreExp::Num(Word::new(0)))),
         Exp::String(_) | Exp::Table(_) => place(at),
         Exp::Valof(body) => valof(at, body),
-        Exp::Monadic(sign, operand) => {
+        Exp::Unary(sign, operand) => {
             let operand = expression(scope, at, operand)?;
-            of_monadic(scope.alloc(), *sign, operand)
+            of_unary(scope.alloc(), *sign, operand)
         }
-        Exp::Dyadic(sign, left, right) => {
+        Exp::Bin(sign, left, right) => {
             let left = boxed(scope, at, left)?;
             let right = boxed(scope, at, right)?;
-            Ok(of_dyadic(operator(*sign), left, right))
+            Ok(of_binary(operator(*sign), left, right))
         }
-        Exp::Condition { test, this, that } => {
+        Exp::Cond { test, this, that } => {
             let test = boxed(scope, at, test)?;
             let this = boxed(scope, at, this)?;
             let that = boxed(scope, at, that)?;

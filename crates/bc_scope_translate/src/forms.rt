@@ -1,12 +1,12 @@
 //! How a translated expression is represented, and the translation of names and operators by their translated operands.
 ghost use Rattle.std.specs.Prelude.{◌≡◌, IfOk};
 ghost use Rattle.bc_core.specs.View.{exp, command as command_of, block_of as core_block_of};
-ghost use Rattle.bc_scope_defs.specs.Translation.{form_of_name, opposite, negation, form_of_monadic, form_of_dyadic, block_of};
+ghost use Rattle.bc_scope_defs.specs.Translation.{form_of_name, opposite, negation, form_of_unary, form_of_binary, block_of};
 ghost use Rattle.bc_scope_names.specs.View.{meant_view};
 ghost use Rattle.bc_scope_translate.specs.Seen.{formed_view};
 
 use bc_core::{Block as CoreBlock, Command, CoreExp, ListItem};
-use bc_parse_tree::Monadic;
+use bc_parse_tree::UnaryOp;
 use bc_scope_names::{Meant, short};
 use bc_word::{Memory, Op, Word};
 use std::alloc::Global;
@@ -92,24 +92,24 @@ fn negation(alloc: Global, e: CoreExp) -> Result<CoreExp, Memory>
     }
 }
 
-/// Translates a monadic operator with its translated operand. Fails with `Memory` when an allocation fails.
-pub fn of_monadic(alloc: Global, sign: Monadic, operand: Formed) -> Result<Formed, Memory>
-    ensures { IfOk result (λ f. formed_view f ≡ form_of_monadic sign (formed_view operand)) }
+/// Translates a unary operator with its translated operand. Fails with `Memory` when an allocation fails.
+pub fn of_unary(alloc: Global, sign: UnaryOp, operand: Formed) -> Result<Formed, Memory>
+    ensures { IfOk result (λ f. formed_view f ≡ form_of_unary sign (formed_view operand)) }
 {
     match sign {
-        Monadic::Load => Ok(Formed::Cell(operand.content(alloc)?)),
-        Monadic::Address => Ok(Formed::Plain(operand.address())),
-        Monadic::Not => Ok(Formed::Plain(negation(alloc, operand.content(alloc)?)?)),
-        Monadic::Negate => {
+        UnaryOp::Load => Ok(Formed::Cell(operand.content(alloc)?)),
+        UnaryOp::Address => Ok(Formed::Plain(operand.address())),
+        UnaryOp::Not => Ok(Formed::Plain(negation(alloc, operand.content(alloc)?)?)),
+        UnaryOp::Neg => {
             let value = operand.content(alloc)?;
             Ok(Formed::Plain(CoreExp::Neg(Box::new(alloc, value)?)))
         }
     }
 }
 
-/// Translates a dyadic operator with its translated operands. Without `op` it is `left!right`, whose address is the sum.
-pub fn of_dyadic(op: Option<Op>, left: Box<CoreExp>, right: Box<CoreExp>) -> Formed
-    ensures { formed_view result ≡ form_of_dyadic op (exp left.value) (exp right.value) }
+/// Translates a binary operator with its translated operands. Without `op` it is `left!right`, whose address is the sum.
+pub fn of_binary(op: Option<Op>, left: Box<CoreExp>, right: Box<CoreExp>) -> Formed
+    ensures { formed_view result ≡ form_of_binary op (exp left.value) (exp right.value) }
 {
     match op {
         None => Formed::Cell(CoreExp::Bin(Op::Add, left, right)),

@@ -114,17 +114,17 @@ fn expression<'s>(
         (found_in (scope_view scope.old) (numbers_view found.old.at) (exp_view e.now) level) scope.old scope.new }
 {
     match e {
-        Exp::Name(_) | Exp::Number(_) | Exp::Character(_) | Exp::True | Exp::False => Ok(()),
+        Exp::Name(_) | Exp::Num(_) | Exp::Character(_) | Exp::True | Exp::False => Ok(()),
         Exp::String(spelling) => text(scope.alloc(), found, spelling),
         Exp::Table(values) => table(scope, found, values),
         Exp::Valof(body) => valof(scope, found, body, level),
-        Exp::Monadic(_, operand) => expression(scope, found, operand, level),
-        Exp::Dyadic(_, left, right) => {
+        Exp::Unary(_, operand) => expression(scope, found, operand, level),
+        Exp::Bin(_, left, right) => {
             let above = sum(level, 1)?;
             expression(scope, found, left, above)?;
             expression(scope, found, right, above)
         }
-        Exp::Condition { test, this, that } => {
+        Exp::Cond { test, this, that } => {
             expression(scope, found, test, level)?;
             expression(scope, found, this, level)?;
             expression(scope, found, that, level)

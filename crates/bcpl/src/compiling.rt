@@ -17,8 +17,8 @@ use bc_text::{TextError, print};
 use bc_text_items::Segment;
 use bc_word::Memory;
 use bcpl_cli::{
-    AtomicFile, BuildOrder, Cause, Failure, LinkedLibrary, Sources, is_standard_output,
-    load_sources,
+    AtomicFile, BuildOrder, Cause, Failure, FilePair, LinkedLibrary, Links, Sources,
+    is_replaceable, is_standard_output, load_sources,
 };
 use std::alloc::{AllocError, Global};
 use std::io;
@@ -125,21 +125,32 @@ fn print_all<W: Write>(segments: &[Segment], out: &mut W) -> Result<(), TextErro
     Ok(())
 }
 
-/// Writes these segments to the file with this path, which is written completely or stays as it was.
+/// Prints these segments to the file with this path. Fails if they can't be printed or written.
+fn fill_text<W: Write + Drop>(
+    alloc: Global,
+    path: &str,
+    segments: &[Segment],
+    written: &mut AtomicFile<W>,
+) -> Result<(), Failure> {
+    match print_all(segments, written.out()) {
+        Ok(()) => Ok(()),
+        Err(TextError::Write) => Err(written.failure(alloc, path)),
+        Err(fault) => Err(Failure::from(fault)),
+    }
+}
+
+/// Writes these segments to the file with this path, as `AtomicFile` does.
 fn write_segments<F: Files>(
     rt: &F,
     alloc: Global,
     path: &str,
+    links: Links,
     segments: &[Segment],
 ) -> Result<(), Failure> {
-    let mut written = AtomicFile::begin(rt, alloc, path)?;
-    match print_all(segments, written.out()) {
+    let mut written = AtomicFile::begin(rt, alloc, path, links)?;
+    match fill_text(alloc, path, segments, &mut written) {
         Ok(()) => written.finish(rt, alloc, path),
-        Err(fault) => {
-            let failure = match fault {
-                TextError::Write => written.failure(alloc, path),
-                fault => Failure::from(fault),
-            };
+        Err(failure) => {
             written.abandon(rt);
             Err(failure)
         }
@@ -165,46 +176,94 @@ fn print_segments<O: Write + Drop>(
     }
 }
 
-/// Writes these segments to the file with this path, or prints them if that is standard output.
+/// Writes these segments to the file of the text, or prints them if that is standard output.
 fn write_text<F: Files, O: Write + Drop>(
     rt: &F,
     alloc: Global,
-    path: &str,
+    order: &BuildOrder<'_>,
     segments: &[Segment],
     out: &mut O,
 ) -> Result<(), Failure> {
-    if is_standard_output(path) {
+    if is_standard_output(order.out) {
         print_segments(alloc, segments, out)
     } else {
-        write_segments(rt, alloc, path, segments)
+        write_segments(rt, alloc, order.out, order.links, segments)
     }
 }
 
-/// Writes the certificate of a program to the file with this path, which is written completely or stays as it was.
+/// Prints the certificate of a program to the file with this path. Fails if it can't be printed or written.
+fn fill_certificate<W: Write + Drop>(
+    alloc: Global,
+    path: &str,
+    built: &Built,
+    written: &mut AtomicFile<W>,
+) -> Result<(), Failure>
+    requires { AllZip WorkedOut (map entry_view built.now.entries.items) built.now.workings.items }
+{
+    let entries = built.entries.as_slice();
+    match write_worked(alloc, entries, built.workings.as_slice(), written.out()) {
+        Ok(()) => Ok(()),
+        Err(CertFault::Write) => Err(written.failure(alloc, path)),
+        Err(CertFault::Memory) => Err(Failure::new(Cause::Certificate)),
+    }
+}
+
+/// Writes the certificate of a program to the file with this path, as `AtomicFile` does.
 fn write_certificate<F: Files>(
     rt: &F,
     alloc: Global,
     path: &str,
+    links: Links,
     built: &Built,
 ) -> Result<(), Failure>
     requires { AllZip WorkedOut (map entry_view built.now.entries.items) built.now.workings.items }
 {
-    let mut written = AtomicFile::begin(rt, alloc, path)?;
-    let entries = built.entries.as_slice();
-    match write_worked(alloc, entries, built.workings.as_slice(), written.out()) {
+    let mut written = AtomicFile::begin(rt, alloc, path, links)?;
+    match fill_certificate(alloc, path, built, &mut written) {
         Ok(()) => written.finish(rt, alloc, path),
-        Err(fault) => {
-            let failure = match fault {
-                CertFault::Write => written.failure(alloc, path),
-                CertFault::Memory => Failure::new(Cause::Certificate),
-            };
+        Err(failure) => {
             written.abandon(rt);
             Err(failure)
         }
     }
 }
 
-/// Writes the text and then the certificate, if one is ordered.
+/// Prints the text and the certificate of a program to these two files, whose paths are given. Fails if one of them can't
+/// be printed or written.
+fn fill_pair<W: Write + Drop>(
+    alloc: Global,
+    paths: (&str, &str),
+    built: &Built,
+    pair: &mut FilePair<'_, W>,
+) -> Result<(), Failure>
+    requires { AllZip WorkedOut (map entry_view built.now.entries.items) built.now.workings.items }
+{
+    fill_text(alloc, paths.0, built.segments.as_slice(), &mut pair.first)?;
+    fill_certificate(alloc, paths.1, built, &mut pair.second)
+}
+
+/// Writes the text and the certificate of a program to the files with these paths, as `FilePair` does.
+fn write_pair<'p, F: Files>(
+    rt: &F,
+    alloc: Global,
+    paths: (&'p str, &'p str),
+    links: Links,
+    built: &Built,
+) -> Result<(), Failure>
+    requires { AllZip WorkedOut (map entry_view built.now.entries.items) built.now.workings.items }
+{
+    let mut pair = FilePair::begin(rt, alloc, paths, links)?;
+    match fill_pair(alloc, paths, built, &mut pair) {
+        Ok(()) => pair.finish(rt, alloc),
+        Err(failure) => {
+            pair.abandon(rt);
+            Err(failure)
+        }
+    }
+}
+
+/// Writes the text and the certificate, if one is ordered. What goes to standard output, a device or a pipe can't be
+/// taken back, so such a text is written completely before the certificate is begun.
 fn write_files<F: Files, O: Write + Drop>(
     rt: &F,
     alloc: Global,
@@ -214,10 +273,15 @@ fn write_files<F: Files, O: Write + Drop>(
 ) -> Result<(), Failure>
     requires { AllZip WorkedOut (map entry_view built.now.entries.items) built.now.workings.items }
 {
-    write_text(rt, alloc, order.out, built.segments.as_slice(), out)?;
-    match order.certificate {
-        Some(path) => write_certificate(rt, alloc, path, built),
-        None => Ok(()),
+    let segments = built.segments.as_slice();
+    let Some(certificate) = order.certificate else {
+        return write_text(rt, alloc, order, segments, out);
+    };
+    if is_standard_output(order.out) || !is_replaceable(rt, order.out) {
+        write_text(rt, alloc, order, segments, out)?;
+        write_certificate(rt, alloc, certificate, order.links, built)
+    } else {
+        write_pair(rt, alloc, (order.out, certificate), order.links, built)
     }
 }
 

@@ -14,7 +14,7 @@ use bc_parse::{Section, parse};
 use bc_rules_defs::Entry;
 use bc_scope::{Core, resolve};
 use bc_word::Memory;
-use bcpl_cli::{AtomicFile, Cause, ExplainOrder, Failure, Sources, load_sources};
+use bcpl_cli::{AtomicFile, Cause, ExplainOrder, Failure, Links, Sources, load_sources};
 use bcpl_explain::{Checked, explanation};
 use bcpl_show::Files;
 use std::alloc::Global;
@@ -237,7 +237,7 @@ pub fn write_report<F: Access>(
     path: &str,
     report: &[u8],
 ) -> Result<(), Failure> {
-    let mut written = AtomicFile::begin(rt, alloc, path)?;
+    let mut written = AtomicFile::begin(rt, alloc, path, Links::Apart)?;
     match written.out().write_all(report) {
         Ok(()) => written.finish(rt, alloc, path),
         Err(error) => {

@@ -3,7 +3,7 @@
 use crate::checking::verdict_of;
 use crate::growing_list::Growing;
 use crate::output::{of_listing, print_all};
-use crate::routine_names::routine_names;
+use crate::routine_names::named_routines;
 use crate::texts::{LinkedProgram, in_memory, linked, read_texts, segments_of, texts_of};
 use bc_cert::{Judged, check_against};
 use bc_core::Root;
@@ -88,21 +88,6 @@ fn certified<F: Files>(
     }
 }
 
-/// The notes on the routines of a program, if its sources are given.
-fn named<F: Files>(
-    rt: &F,
-    alloc: Global,
-    order: &ListOrder<'_>,
-    program: &LinkedProgram,
-    explains: bool,
-) -> Result<Vec<Remark>, Failure> {
-    if order.sources.files.is_empty() {
-        return Ok(Vec::new(alloc));
-    }
-    let own = program.segments.as_slice().get(1..).unwrap_or(&[]);
-    routine_names(rt, alloc, &order.sources, own, explains)
-}
-
 /// The notes on a program, if a certificate is given.
 fn remarks_of<F: Files>(
     rt: &F,
@@ -174,7 +159,7 @@ fn listed_of<F: Files>(
     let program = linked(alloc, texts, explains)?;
     let names = names_of(alloc, texts)?;
     let entries = remarks_of(rt, alloc, order, &program, explains)?;
-    let routines = named(rt, alloc, order, &program, explains)?;
+    let routines = named_routines(rt, alloc, &order.sources, &program, explains)?;
     let remarks = (routines.as_slice(), entries.as_slice());
     in_memory(listing_of(alloc, &program, names.as_slice(), remarks))
 }

@@ -1,11 +1,11 @@
-//! The routines of sources with their lines, for a listing of the texts that were built from them.
+//! The routines of sources with their lines, for a listing of the texts that were built from them, and for the profile of a run.
 
 use crate::compiling::refused;
 use crate::explain::{Front, add_fronts};
 use crate::growing_list::Growing;
 use crate::listing::Remark;
 use crate::source_files::Gathered;
-use crate::texts::in_memory;
+use crate::texts::{LinkedProgram, in_memory};
 use bc_build::build;
 use bc_core::Place;
 use bc_lex::Token;
@@ -13,6 +13,7 @@ use bc_text_items::{Item, Segment};
 use bc_word::Memory;
 use bcpl_cli::{Failure, Sources, load_sources};
 use bcpl_show::{Files, Lines, Outline, leaves_of};
+use bcpl_trace::NamedRoutine;
 use std::alloc::Global;
 use std::mem::forget;
 use std::rt::Files as Access;
@@ -177,7 +178,7 @@ fn routines_of_program(
 
 /// The routines of the listed segments by name, from the sources that they were built from. Refuses sources that give
 /// other segments. If `explains`, explains a refusal of a source.
-pub fn routine_names<F: Access>(
+fn routine_names<F: Access>(
     rt: &F,
     alloc: Global,
     given: &Sources<'_>,
@@ -197,6 +198,54 @@ pub fn routine_names<F: Access>(
     };
     let skipped = built.segments.len().saturating_sub(part.len());
     routines_of_program(alloc, &gathered, part, skipped)
+}
+
+/// The notes on the routines of a program, from the sources that its texts were built from. Without sources there are
+/// none. If `explains`, explains a refusal of a source.
+///
+/// # Errors
+///
+/// The failure of a source that can't be read or built, that of sources from which `build` doesn't write these texts, or
+/// one of `Memory`.
+pub fn named_routines<F: Access>(
+    rt: &F,
+    alloc: Global,
+    given: &Sources<'_>,
+    program: &LinkedProgram,
+    explains: bool,
+) -> Result<Vec<Remark>, Failure> {
+    if given.files.is_empty() {
+        return Ok(Vec::new(alloc));
+    }
+    let own = program.segments.as_slice().get(1..).unwrap_or(&[]);
+    routine_names(rt, alloc, given, own, explains)
+}
+
+/// The address of the label on which this note is, if it is on one.
+fn address_of(program: &LinkedProgram, note: &Remark) -> Option<u16> {
+    let segment = program.segments.as_slice().get(note.segment)?;
+    let Item::Label(label) = segment.items().get(note.item)? else {
+        return None;
+    };
+    let place = program.image.places.as_slice().get(note.segment)?;
+    let address = place.labels.address(*label)?;
+    Some(address.get())
+}
+
+/// The routines of a program on which these notes are, with their addresses. `Memory` if an allocation fails.
+pub fn routines_at<'r>(
+    alloc: Global,
+    program: &LinkedProgram,
+    notes: &'r [Remark],
+) -> Result<Vec<NamedRoutine<'r>>, Memory> {
+    let mut routines = Growing::new(alloc);
+    for note in notes {
+        if let Some(address) = address_of(program, note) {
+            let name = note.text.as_str();
+            routines.add(NamedRoutine { address, name });
+        }
+    }
+    routines.whole()
 }
 
 /// Why sources aren't those of the listed texts.

@@ -6,7 +6,9 @@ ghost use Rattle.bcpl_cli.specs.Statuses.{unexplained};
 ghost use Rattle.bcpl_cli.specs.declared.failure.Cause.TheVariants as causes;
 
 use crate::devices::{Sink, Source};
+use crate::listing::Remark;
 use crate::output::unfinished;
+use crate::routine_names::{named_routines, routines_at};
 use crate::standard::RunStreams;
 use crate::texts::{
     LinkedProgram, TextFile, add, explained, linked, program_of, read_texts, standard_text,
@@ -14,11 +16,11 @@ use crate::texts::{
 };
 use crate::watched_run::{RecordFiles, Records, high_of, is_watched, window_of};
 use bc_machine::{FileStreams, Machine, Named, StreamsError};
-use bc_machine_defs::{End, Image};
+use bc_machine_defs::End;
 use bc_word::{Memory, Word};
 use bcpl_cli::{AtomicFile, Binding, Cause, Failure, RunOrder, WatchOrder};
 use bcpl_reports::{Stop, Text, ended_lines, stream_lines};
-use bcpl_trace::{High, Nowhere, Watch, profile, run_image, run_watched};
+use bcpl_trace::{High, Nowhere, ProfiledProgram, Watch, profile, run_image, run_watched};
 use std::alloc::Global;
 use std::fs;
 use std::io::{BufReader, BufWriter, Read, Write};
@@ -150,12 +152,13 @@ fn stop_of(machine: &Machine, end: End, steps: u64) -> Stop {
     }
 }
 
-/// What to run: the texts, the program linked from them, the limit on instructions, and whether a failure is
-/// explained.
+/// What to run: the texts, the program linked from them, the notes on its routines, the limit on instructions, and
+/// whether a failure is explained.
 #[derive(Drop)]
 struct RunSetup<'t, 'p> {
     texts: &'t [Text<'t>],
     program: &'p LinkedProgram,
+    routines: &'p [Remark],
     steps: u64,
     explains: bool,
 }
@@ -241,7 +244,18 @@ fn run_recorded<R: Read, W: Write, T: Write + Drop>(
 struct RecordedRun<'n> {
     watch: &'n Watch,
     machine: &'n Machine,
-    image: &'n Image,
+    program: &'n LinkedProgram,
+    routines: &'n [Remark],
+}
+
+/// The profile of a recorded run. `Memory` if an allocation fails.
+fn written_profile(alloc: Global, noted: RecordedRun<'_>) -> Result<String, Memory> {
+    let routines = routines_at(alloc, noted.program, noted.routines)?;
+    let program = ProfiledProgram {
+        image: &noted.program.image,
+        routines: routines.as_slice(),
+    };
+    profile(alloc, noted.watch, noted.machine, program)
 }
 
 /// The text of the profile, if one is ordered.
@@ -251,7 +265,7 @@ fn profile_of(
     noted: RecordedRun<'_>,
 ) -> Result<String, Memory> {
     match order.profile {
-        Some(_) => profile(alloc, noted.watch, noted.machine, noted.image),
+        Some(_) => written_profile(alloc, noted),
         None => Ok(String::new(alloc)),
     }
 }
@@ -314,7 +328,8 @@ fn watch_linked<F: Files, R: Read, W: Write>(
     let ran = RecordedRun {
         watch: &watch,
         machine: &machine,
-        image,
+        program: setup.program,
+        routines: setup.routines,
     };
     Ok(Ran {
         done: first_failure(done, finish_records(rt, alloc, order, notes, ran)),
@@ -387,6 +402,7 @@ pub fn run_input<F: Files, R: Read + Drop, O: Write + Drop>(
     let setup = RunSetup {
         texts: &texts,
         program: &program,
+        routines: &[],
         steps: DEFAULT_STEPS,
         explains,
     };
@@ -432,14 +448,16 @@ fn explain_streams(
     }
 }
 
-/// The texts of a run, and the program linked from them.
+/// The texts of a run, the program linked from them, and the notes on its routines.
 #[derive(Drop)]
 struct LoadedTexts {
     files: Vec<TextFile>,
     program: LinkedProgram,
+    routines: Vec<Remark>,
 }
 
-/// Reads and links the texts of a run. If `explains`, explains a refusal.
+/// Reads and links the texts of a run, and names its routines if their sources are given. If `explains`, explains a
+/// refusal.
 fn loaded<F: Files>(
     rt: &F,
     alloc: Global,
@@ -447,10 +465,13 @@ fn loaded<F: Files>(
     explains: bool,
 ) -> Result<LoadedTexts, Failure> {
     let files = read_texts(rt, alloc, order.texts.as_slice())?;
-    match program_of(alloc, files.as_slice(), explains) {
-        Ok(program) => Ok(LoadedTexts { files, program }),
-        Err(failure) => Err(failure),
-    }
+    let program = program_of(alloc, files.as_slice(), explains)?;
+    let routines = named_routines(rt, alloc, &order.sources, &program, explains)?;
+    Ok(LoadedTexts {
+        files,
+        program,
+        routines,
+    })
 }
 
 /// Runs `run`. Fails if nothing was run.
@@ -471,6 +492,7 @@ pub fn run<F: Files, R: Read + Drop, O: Write + Drop>(
             let setup = RunSetup {
                 texts: texts.as_slice(),
                 program: &loaded.program,
+                routines: loaded.routines.as_slice(),
                 steps: order.steps,
                 explains,
             };

@@ -213,6 +213,7 @@ impl<'a, 's> Shown<'a, 's> {
             tokens: resolved.tokens,
             section: resolved.section,
             core: resolved.core,
+            items: own_items(resolved.built),
             setters: &setters,
         };
         in_memory(scope_listing(alloc, scopes))
@@ -244,6 +245,14 @@ fn libraries(built: &Built) -> &[Segment] {
     match segments.split_last() {
         Some((_, library)) => library,
         None => segments,
+    }
+}
+
+/// The items of the last segment, which is that of the source.
+fn own_items(built: &Built) -> &[Item] {
+    match built.segments.last() {
+        Some(segment) => segment.items(),
+        None => &[],
     }
 }
 

@@ -1,6 +1,6 @@
 //! What `run` records of a run: the trace, the profile, and how much of the store it used.
 
-use bcpl_cli::{AtomicFile, Failure, WatchOrder};
+use bcpl_cli::{AtomicFile, Failure, Links, WatchOrder};
 use bcpl_trace::{High, Watch, Window};
 use std::alloc::Global;
 use std::io::Write;
@@ -58,7 +58,7 @@ fn begun<W: Write + Drop, F: Files<File = W>>(
     path: Option<&str>,
 ) -> Result<Option<AtomicFile<W>>, Failure> {
     match path {
-        Some(path) => match AtomicFile::begin(rt, alloc, path) {
+        Some(path) => match AtomicFile::begin(rt, alloc, path, Links::Apart) {
             Ok(written) => Ok(Some(written)),
             Err(failure) => Err(failure),
         },

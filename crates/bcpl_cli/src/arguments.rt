@@ -4,6 +4,7 @@ ghost use Rattle.std.specs.Prelude.{◌≡◌};
 ghost use Rattle.bcpl_cli.specs.declared.arguments.ArgumentError.TheVariants as argument_errors;
 
 use crate::argument_reader::ArgumentReader;
+use crate::atomic_file::Links;
 use crate::commands::program;
 use crate::converting::{ConvertOrder, convert_order};
 use crate::grammar::Numbers;
@@ -43,6 +44,8 @@ pub struct RunOrder<'a> {
     pub inputs: Vec<Binding<'a>>,
     pub outputs: Vec<Binding<'a>>,
     pub texts: Vec<&'a str>,
+    /// The sources that the texts were built from, if the profile is to name their routines.
+    pub sources: Sources<'a>,
     pub places: Places,
 }
 
@@ -141,6 +144,8 @@ pub struct BuildOrder<'a> {
     pub out: &'a str,
     /// The file for the certificate, if any.
     pub certificate: Option<&'a str>,
+    /// What happens to further names of these files.
+    pub links: Links,
     pub sources: Sources<'a>,
     pub places: Places,
     /// Whether to warn about valid code that is probably a mistake.
@@ -422,6 +427,15 @@ fn explains_all(reader: &mut ArgumentReader<'_, '_>) -> bool {
     false
 }
 
+/// What happens to further names of the outputs.
+pub(crate) fn links_option(reader: &ArgumentReader<'_, '_>) -> Links {
+    if reader.flag("keep-links") {
+        Links::Kept
+    } else {
+        Links::Apart
+    }
+}
+
 /// The value of `--places`, or else of `BCPL_PLACES`, unless messages are JSON objects. An invalid value is noted in
 /// `reader`.
 pub(crate) fn places_option(reader: &mut ArgumentReader<'_, '_>) -> Places {
@@ -594,6 +608,7 @@ fn run_order<'a>(reader: &mut ArgumentReader<'_, 'a>) -> RunOrder<'a> {
         inputs: reader.bindings("in", IN_ACCEPTS),
         outputs: reader.bindings("to", TO_ACCEPTS),
         texts: reader.values("TEXT"),
+        sources: sources_by(reader, "source"),
         places: places_option(reader),
     }
 }
@@ -630,6 +645,7 @@ fn build_order<'a>(reader: &mut ArgumentReader<'_, 'a>) -> BuildOrder<'a> {
     BuildOrder {
         out: output_path(reader.value("out").unwrap_or("")),
         certificate: reader.value("cert"),
+        links: links_option(reader),
         sources: build_sources(reader),
         places: places_option(reader),
         warns: !reader.flag("no-warnings"),

@@ -1,6 +1,7 @@
 //! A writer that keeps control characters from a terminal.
 
 use crate::colours::{ColouredLine, PLAIN, coloured};
+use crate::utf8_scan::Utf8Scan;
 use std::alloc::Global;
 use std::io;
 use std::io::Write;
@@ -8,10 +9,8 @@ use std::io::Write;
 /// The most bytes written at a time.
 const PIECE: usize = 256;
 
-/// In UTF-8, the first byte of the control characters 128 to 159.
-const HIGH: u8 = 0xC2;
-
-/// A writer that, on a terminal, replaces control characters by `?`. Line feeds and tabs are kept.
+/// A writer that, on a terminal, replaces control characters by `?`: those below 32 except line feeds and tabs, those
+/// from 127 to 159, also as single bytes, and those that change the direction of text.
 #[derive(Drop)]
 pub struct Clean<W: Write + Drop> {
     out: W,
@@ -20,15 +19,8 @@ pub struct Clean<W: Write + Drop> {
     has_colours: bool,
     /// The allocator for JSON objects, if messages are written as such.
     json: Option<Global>,
-    /// The last byte written.
-    last: u8,
-}
-
-/// The byte to write for `byte`, which follows `last`.
-fn shown(last: u8, byte: u8) -> u8 {
-    let is_low = byte < b' ' && byte != b'\n' && byte != b'\t' || byte == 0x7F;
-    let is_high = last == HIGH && (0x80..0xA0).contains(&byte);
-    if is_low || is_high { b'?' } else { byte }
+    /// The scan of the bytes written.
+    scan: Utf8Scan,
 }
 
 impl<W: Write + Drop> Clean<W> {
@@ -39,7 +31,7 @@ impl<W: Write + Drop> Clean<W> {
             is_terminal,
             has_colours: false,
             json: None,
-            last: 0,
+            scan: Utf8Scan::new(),
         }
     }
 
@@ -50,7 +42,7 @@ impl<W: Write + Drop> Clean<W> {
             is_terminal: false,
             has_colours: false,
             json: Some(alloc),
-            last: 0,
+            scan: Utf8Scan::new(),
         }
     }
 
@@ -61,7 +53,7 @@ impl<W: Write + Drop> Clean<W> {
             is_terminal: self.is_terminal,
             has_colours,
             json: self.json,
-            last: self.last,
+            scan: self.scan,
         }
     }
 
@@ -115,14 +107,17 @@ impl<W: Write + Drop> Write for Clean<W> {
         }
         let mut piece = [0u8; PIECE];
         let count = buf.len().min(PIECE);
-        let mut last = self.last;
+        let mut scan = self.scan;
         for (place, byte) in piece.iter_mut().zip(buf) {
-            *place = shown(last, *byte);
-            last = *byte;
+            *place = if scan.takes_control(*byte) {
+                b'?'
+            } else {
+                *byte
+            };
         }
         let written = self.out.write(&piece[..count])?;
-        if written > 0 && written <= buf.len() {
-            self.last = buf[written - 1];
+        for byte in buf.iter().take(written) {
+            let _ = self.scan.takes_control(*byte);
         }
         Ok(written)
     }

@@ -274,11 +274,13 @@ impl ProgramOrder<'_> {
 }
 
 impl RunOrder<'_> {
-    /// Refuses an output, a trace or a profile that would overwrite a text, an input or another output, like
+    /// Refuses an output, a trace or a profile that would overwrite a text, a source, an input or another output, like
     /// `BuildOrder::protect_files`.
     pub fn protect_files<F: Files>(&self, rt: &F, alloc: Global) -> Result<(), Failure> {
         let mut files = CommandFiles::new(alloc);
         files.add_all(self.texts.as_slice(), FileUse::Text)?;
+        files.add_all(self.sources.files.as_slice(), FileUse::Source)?;
+        files.add_bindings(self.sources.gets.as_slice(), FileUse::Source)?;
         files.add_streams(self.inputs.as_slice(), self.outputs.as_slice())?;
         files.add_if_given(self.watch.trace, FileUse::Trace)?;
         files.add_if_given(self.watch.profile, FileUse::Profile)?;

@@ -85,6 +85,14 @@ const TEXTS: Argument = Argument {
     help: "INTCODE text files, linked in this order",
 };
 
+/// Writes files with several names in place.
+const KEEP_LINKS: Argument = Argument {
+    name: "keep-links",
+    form: Form::Flag,
+    constraint: Constraint::Free,
+    help: "Write an output that has further hard links in place, so that they lead to the new content too",
+};
+
 /// Suppresses warnings.
 const NO_WARNINGS: Argument = Argument {
     name: "no-warnings",
@@ -137,6 +145,7 @@ const BUILD: CommandSpec = CommandSpec {
             constraint: Constraint::Without(&["lean"]),
             help: "Write a text without the library, to be linked with a text that has it",
         },
+        KEEP_LINKS,
         PLACES,
         MESSAGES,
         ERRORS,
@@ -271,7 +280,8 @@ const RUN: CommandSpec = CommandSpec {
     more: "Input 1 is standard input, named SYSIN; output 1 is standard output, named SYSPRINT.\n\n\
            With --trace, --profile or --high the run does the same, only slower; the files are written even if the run\n\
            does not finish. CELL is the highest cell in which an instruction was executed, or that an instruction read\n\
-           or wrote; FRAME is the highest address at which a frame began.\n\n\
+           or wrote; FRAME is the highest address at which a frame began. With --source, the profile names the routines\n\
+           of these sources and of the library, with file and line.\n\n\
            A program gets no arguments and no environment, and has no exit status of its own.\n\n\
            Exit status: 0 the program finished, 1 refused, 2 the run ended in another way (reported on standard error),\n\
            3 invalid arguments.\n\n\
@@ -312,6 +322,24 @@ const RUN: CommandSpec = CommandSpec {
             form: Form::Option("FILE"),
             constraint: Constraint::Free,
             help: "Write to this file how often each instruction ran, and the ten hottest routines",
+        },
+        Argument {
+            name: "source",
+            form: Form::Repeated("FILE"),
+            constraint: Constraint::With("profile"),
+            help: "Name the routines of this source file, from which build wrote the texts, in the profile",
+        },
+        Argument {
+            name: "get",
+            form: Form::Repeated("NAME=PATH"),
+            constraint: Constraint::With("source"),
+            help: "Use file PATH for GET \"NAME\" in these sources",
+        },
+        Argument {
+            name: "library",
+            form: Form::Option("LIBRARY"),
+            constraint: Constraint::With("source"),
+            help: "The texts were built with this library: ext",
         },
         Argument {
             name: "high",
@@ -520,6 +548,7 @@ const CONVERT: CommandSpec = CommandSpec {
             constraint: Constraint::Free,
             help: "A file that maps names of an old library to names of this one",
         },
+        KEEP_LINKS,
         PLACES,
         MESSAGES,
     ],

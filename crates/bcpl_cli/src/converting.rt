@@ -1,7 +1,8 @@
 //! The arguments of `convert`.
 
 use crate::argument_reader::ArgumentReader;
-use crate::arguments::{Places, is_standard_output, places_option};
+use crate::arguments::{Places, is_standard_output, links_option, places_option};
+use crate::atomic_file::Links;
 
 /// Where the results of `convert` go.
 #[derive(Clone, Copy)]
@@ -36,6 +37,8 @@ pub struct ConvertOrder<'a> {
     /// The file that maps names of an old library, if any.
     pub library: Option<&'a str>,
     pub header: ConvertHeader,
+    /// What happens to further names of the files that are written.
+    pub links: Links,
     pub places: Places,
 }
 
@@ -78,6 +81,7 @@ pub fn convert_order<'a>(reader: &mut ArgumentReader<'_, 'a>) -> ConvertOrder<'a
         to: destination(reader),
         library: reader.value("library"),
         header: header_of(reader),
+        links: links_option(reader),
         places: places_option(reader),
     }
 }

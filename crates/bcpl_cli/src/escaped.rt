@@ -3,9 +3,10 @@
 use bc_word::Memory;
 use std::alloc::Global;
 use std::fmt;
+use ucd_props::is_bidi_control;
 
-/// A text whose `Display` shows control characters as `\n`, `\r`, `\t` or `\xHH`, so that a path takes one line and
-/// can't control a terminal.
+/// A text whose `Display` shows control characters as `\n`, `\r`, `\t` or `\xHH`, and those that change the direction of
+/// text as `\u{HHHH}`, so that a path takes one line and can't control a terminal.
 #[derive(Clone, Copy)]
 pub struct Escaped<'a>(pub &'a str);
 
@@ -18,6 +19,10 @@ fn write_escaped<W: fmt::Write>(f: &mut fmt::Formatter<W>, character: char) -> f
         _ if character.is_control() => {
             let code = u32::from(character);
             write!(f, "\\x{code:02x}")
+        }
+        _ if is_bidi_control(character) => {
+            let code = u32::from(character);
+            write!(f, "\\u{{{code:04x}}}")
         }
         _ => f.write_char(character),
     }

@@ -20,7 +20,7 @@ struct FileIdentity {
 }
 
 /// The folder and the name in it.
-fn parts(path: &str) -> (&str, &str) {
+pub(crate) fn parts(path: &str) -> (&str, &str) {
     match path.rsplit_once('/') {
         Some(("", name)) => ("/", name),
         Some((folder, name)) => (folder, name),

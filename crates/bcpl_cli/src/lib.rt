@@ -3,8 +3,8 @@
 //! - Arguments: `parse_arguments` turns them into an `Order`; `guess_of` and `hint` guess what an invalid one was meant
 //!   to be.
 //! - Failing: a `Failure` has the first line of the message, an explanation, and the exit status.
-//! - Files: `contents` reads one up to a limit, `AtomicFile` writes one completely or not at all, `file_kind` guesses
-//!   what one is.
+//! - Files: `contents` reads one up to a limit, `AtomicFile` writes one completely or not at all, `FilePair` two
+//!   together, `file_kind` guesses what one is.
 //! - `lean_libraries` cuts the sources of the library to the definitions that a program can reach by name, for
 //!   `bcpl build --lean`.
 #![tactic(auto)]
@@ -21,6 +21,7 @@ mod escaped;
 mod failure;
 mod file_identity;
 mod file_kinds;
+mod file_pair;
 mod get_hints;
 mod got_names;
 mod grammar;
@@ -33,6 +34,7 @@ mod loaded_sources;
 mod numbers;
 mod read_file;
 mod refusals;
+mod utf8_scan;
 mod version;
 
 pub use arguments::{
@@ -41,12 +43,13 @@ pub use arguments::{
     Places, ProgramOrder, RunOrder, ShowOrder, Sources, TreeShape, WatchOrder, is_standard_output,
     parse_arguments,
 };
-pub use atomic_file::{AtomicFile, is_one_file, named_twice};
+pub use atomic_file::{AtomicFile, Links, is_one_file, is_replaceable, named_twice};
 pub use clean::Clean;
 pub use converting::{ConvertHeader, ConvertOrder, ConvertTo};
 pub use escaped::{Escaped, shown_path};
 pub use failure::{BuildLine, Cause, Failure, Wild};
 pub use file_kinds::{FileKind, file_kind};
+pub use file_pair::FilePair;
 pub use get_hints::get_hint;
 pub use guessing::{Guess, guess_of, places_in};
 pub use hints::{Expected, hint, without_extension};

@@ -97,6 +97,7 @@ fn jobs_of<'a>(
             old,
             conversion,
             to,
+            links: order.links,
         })?;
     }
     Ok(jobs)

@@ -1,7 +1,7 @@
 //! One source of the command: its conversion, and where that goes.
 
 use bc_convert::Conversion;
-use bcpl_cli::{AtomicFile, ConvertTo, Failure};
+use bcpl_cli::{AtomicFile, ConvertTo, Failure, Links};
 use std::alloc::{AllocError, Global};
 use std::io::Write;
 use std::rt::Files;
@@ -57,6 +57,8 @@ pub struct Job<'a> {
     pub old: Vec<u8>,
     pub conversion: Conversion,
     pub to: Target,
+    /// What happens to further names of the target.
+    pub links: Links,
 }
 
 impl Job<'_> {
@@ -69,9 +71,15 @@ impl Job<'_> {
     }
 }
 
-/// Writes a file. If that fails, the file keeps its content.
-fn write_file<F: Files>(rt: &F, alloc: Global, path: &str, bytes: &[u8]) -> Result<(), Failure> {
-    let mut written = AtomicFile::begin(rt, alloc, path)?;
+/// Writes a file, as `AtomicFile` does.
+fn write_file<F: Files>(
+    rt: &F,
+    alloc: Global,
+    path: &str,
+    links: Links,
+    bytes: &[u8],
+) -> Result<(), Failure> {
+    let mut written = AtomicFile::begin(rt, alloc, path, links)?;
     match written.out().write_all(bytes) {
         Ok(()) => written.finish(rt, alloc, path),
         Err(error) => {
@@ -104,10 +112,10 @@ pub fn write_job<F: Files, O: Write + Drop>(
     let text = job.conversion.text.as_slice();
     match &job.to {
         Target::Standard => print(alloc, text, out),
-        Target::File(path) => write_file(rt, alloc, path.as_str(), text),
+        Target::File(path) => write_file(rt, alloc, path.as_str(), job.links, text),
         Target::Place(kept) => {
-            write_file(rt, alloc, kept.as_str(), job.old.as_slice())?;
-            write_file(rt, alloc, job.file, text)
+            write_file(rt, alloc, kept.as_str(), Links::Apart, job.old.as_slice())?;
+            write_file(rt, alloc, job.file, job.links, text)
         }
         Target::Nowhere => Ok(()),
     }

@@ -1,7 +1,7 @@
 //! Refuses to write over files that would be lost.
 
 use crate::job::{Job, Target};
-use bcpl_cli::{ConvertOrder, ConvertTo, Failure, is_one_file};
+use bcpl_cli::{ConvertOrder, ConvertTo, Failure, contents, is_one_file};
 use std::alloc::Global;
 use std::fs;
 use std::rt::Files;
@@ -65,6 +65,30 @@ fn spare_place<F: Files>(
     Ok(())
 }
 
+/// Whether a file is what an earlier run of the command kept of a source before it was killed: a plain file other than
+/// the source, with the source's text.
+fn is_kept<F: Files>(rt: &F, alloc: Global, kept: &str, job: &Job<'_>) -> bool {
+    let Ok(found) = fs::symlink_metadata(rt, kept) else {
+        return false;
+    };
+    if !found.is_file() || is_one_file(rt, kept, job.file) {
+        return false;
+    }
+    match contents(rt, alloc, kept) {
+        Ok(text) => text.as_slice() == job.old.as_slice(),
+        Err(_) => false,
+    }
+}
+
+/// Refuses to keep the old text of a source in an existing file, unless an earlier run kept it there.
+fn spare_kept<F: Files>(rt: &F, alloc: Global, kept: &str, job: &Job<'_>) -> Result<(), Failure> {
+    if fs::symlink_metadata(rt, kept).is_err() || is_kept(rt, alloc, kept, job) {
+        return Ok(());
+    }
+    let reason = "this file exists and would be lost; rename it first";
+    Err(Failure::file_since(alloc, kept, reason))
+}
+
 /// Refuses to write a file that would be lost. Called before any file is written.
 ///
 /// # Errors
@@ -83,11 +107,8 @@ pub fn spare<F: Files>(
         }
         match &job.to {
             Target::File(path) => spare_file(rt, alloc, order, earlier, path.as_str())?,
-            Target::Place(kept) if fs::metadata(rt, kept.as_str()).is_ok() => {
-                let reason = "this file exists and would be lost; rename it first";
-                return Err(Failure::file_since(alloc, kept.as_str(), reason));
-            }
-            Target::Place(_) | Target::Standard | Target::Nowhere => {}
+            Target::Place(kept) => spare_kept(rt, alloc, kept.as_str(), job)?,
+            Target::Standard | Target::Nowhere => {}
         }
     }
     Ok(())

@@ -2,19 +2,19 @@
 
 use bc_convert::Complaint;
 use bc_word::Memory;
-use bcpl_places::{Excerpt, column_at, line_at};
+use bcpl_places::{Excerpt, Line, LineCounter, column_at};
 use std::alloc::Global;
 
-/// Appends the lines about one complaint.
+/// Appends the lines about one complaint, which is in this line.
 fn add_complaint(
     alloc: Global,
     lines: &mut String,
     path: &str,
-    text: &[u8],
+    text: (&[u8], Line),
     complaint: Complaint,
 ) -> Result<(), Memory> {
+    let (text, line) = text;
     let at = complaint.start.min(text.len());
-    let line = line_at(text, at);
     let start = line.start.min(at);
     let column = column_at(alloc, &text[start..], at - start)?;
     let number = line.number;
@@ -41,8 +41,10 @@ pub fn add_told(
     text: &[u8],
     complaints: &[Complaint],
 ) -> Result<(), Memory> {
+    let mut counter = LineCounter::new();
     for complaint in complaints {
-        add_complaint(alloc, lines, path, text, *complaint)?;
+        let line = counter.line_at(text, complaint.start);
+        add_complaint(alloc, lines, path, (text, line), *complaint)?;
     }
     Ok(())
 }

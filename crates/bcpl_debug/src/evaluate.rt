@@ -5,7 +5,7 @@ use crate::scope::{DebugScope, Meaning};
 use bc_interpret_record::Cell;
 use bc_lex::{Source, lex};
 use bc_parse::parse;
-use bc_parse_tree::{Declaration, Definition, Dyadic, Exp, Monadic};
+use bc_parse_tree::{BinaryOp, Declaration, Definition, Exp, UnaryOp};
 use bc_word::{Memory, Op, Word, apply};
 use std::alloc::Global;
 
@@ -36,27 +36,27 @@ impl From<Memory> for EvaluationError {
     }
 }
 
-/// The operator of a dyadic operator; `None` for `!`.
-fn op_of(dyadic: &Dyadic) -> Option<Op> {
-    Some(match dyadic {
-        Dyadic::Equivalent => Op::Equivalent,
-        Dyadic::NotEquivalent => Op::NotEquivalent,
-        Dyadic::Or => Op::Or,
-        Dyadic::And => Op::And,
-        Dyadic::ShiftLeft => Op::ShiftLeft,
-        Dyadic::ShiftRight => Op::ShiftRight,
-        Dyadic::Equal => Op::Equal,
-        Dyadic::NotEqual => Op::NotEqual,
-        Dyadic::Less => Op::Less,
-        Dyadic::GreaterEqual => Op::GreaterEqual,
-        Dyadic::Greater => Op::Greater,
-        Dyadic::LessEqual => Op::LessEqual,
-        Dyadic::Add => Op::Add,
-        Dyadic::Subtract => Op::Subtract,
-        Dyadic::Multiply => Op::Multiply,
-        Dyadic::Divide => Op::Divide,
-        Dyadic::Remainder => Op::Remainder,
-        Dyadic::Index => return None,
+/// The operator of a binary operator; `None` for `!`.
+fn op_of(binary: &BinaryOp) -> Option<Op> {
+    Some(match binary {
+        BinaryOp::Equivalent => Op::Equivalent,
+        BinaryOp::NotEquivalent => Op::NotEquivalent,
+        BinaryOp::Or => Op::Or,
+        BinaryOp::And => Op::And,
+        BinaryOp::ShiftLeft => Op::ShiftLeft,
+        BinaryOp::ShiftRight => Op::ShiftRight,
+        BinaryOp::Equal => Op::Equal,
+        BinaryOp::NotEqual => Op::NotEqual,
+        BinaryOp::Less => Op::Less,
+        BinaryOp::GreaterEqual => Op::GreaterEqual,
+        BinaryOp::Greater => Op::Greater,
+        BinaryOp::LessEqual => Op::LessEqual,
+        BinaryOp::Add => Op::Add,
+        BinaryOp::Subtract => Op::Subtract,
+        BinaryOp::Multiply => Op::Multiply,
+        BinaryOp::Divide => Op::Divide,
+        BinaryOp::Remainder => Op::Remainder,
+        BinaryOp::Index => return None,
     })
 }
 
@@ -93,16 +93,16 @@ impl Evaluation<'_, '_> {
                 Meaning::Cell(address) => content(self.scope, address),
                 Meaning::Value(value) => Ok(value),
             },
-            Exp::Number(word) | Exp::Character(word) => Ok(word.get()),
+            Exp::Num(word) | Exp::Character(word) => Ok(word.get()),
             Exp::True => Ok(65535),
             Exp::False => Ok(0),
-            Exp::Monadic(operator, operand) => self.monadic(*operator, operand),
-            Exp::Dyadic(operator, left, right) => {
+            Exp::Unary(operator, operand) => self.unary(*operator, operand),
+            Exp::Bin(operator, left, right) => {
                 let left = self.value(left)?;
                 let right = self.value(right)?;
-                self.dyadic(operator, left, right)
+                self.binary(operator, left, right)
             }
-            Exp::Condition { test, this, that } => {
+            Exp::Cond { test, this, that } => {
                 if self.value(test)? != 0 {
                     self.value(this)
                 } else {
@@ -115,8 +115,8 @@ impl Evaluation<'_, '_> {
         }
     }
 
-    /// The value of a dyadic operator.
-    fn dyadic(&self, operator: &Dyadic, left: u16, right: u16) -> Result<u16, EvaluationError> {
+    /// The value of a binary operator.
+    fn binary(&self, operator: &BinaryOp, left: u16, right: u16) -> Result<u16, EvaluationError> {
         match op_of(operator) {
             Some(op) => match apply(op, Word::new(left), Word::new(right)) {
                 Some(word) => Ok(word.get()),
@@ -126,14 +126,14 @@ impl Evaluation<'_, '_> {
         }
     }
 
-    /// The value of a monadic operator.
+    /// The value of a unary operator.
     #[cycle(evaluating)]
-    fn monadic(&self, operator: Monadic, operand: &Exp<'_>) -> Result<u16, EvaluationError> {
+    fn unary(&self, operator: UnaryOp, operand: &Exp<'_>) -> Result<u16, EvaluationError> {
         match operator {
-            Monadic::Address => self.address(operand),
-            Monadic::Not => Ok(Word::new(self.value(operand)?).complemented().get()),
-            Monadic::Negate => Ok(self.value(operand)?.wrapping_neg()),
-            Monadic::Load => {
+            UnaryOp::Address => self.address(operand),
+            UnaryOp::Not => Ok(Word::new(self.value(operand)?).complemented().get()),
+            UnaryOp::Neg => Ok(self.value(operand)?.wrapping_neg()),
+            UnaryOp::Load => {
                 let address = self.value(operand)?;
                 content(self.scope, address)
             }
@@ -148,8 +148,8 @@ impl Evaluation<'_, '_> {
                 Meaning::Cell(address) => Ok(address),
                 Meaning::Value(_) => Err(EvaluationError::NoCell),
             },
-            Exp::Monadic(Monadic::Load, operand) => self.value(operand),
-            Exp::Dyadic(Dyadic::Index, left, right) => {
+            Exp::Unary(UnaryOp::Load, operand) => self.value(operand),
+            Exp::Bin(BinaryOp::Index, left, right) => {
                 let left = self.value(left)?;
                 Ok(left.wrapping_add(self.value(right)?))
             }
@@ -166,7 +166,7 @@ pub(crate) fn constant_value(
     e: &Exp<'_>,
 ) -> Option<u16> {
     match e {
-        Exp::Number(word) | Exp::Character(word) => Some(word.get()),
+        Exp::Num(word) | Exp::Character(word) => Some(word.get()),
         Exp::True => Some(65535),
         Exp::False => Some(0),
         Exp::Name(name) => {
@@ -177,14 +177,14 @@ pub(crate) fn constant_value(
             }
             None
         }
-        Exp::Monadic(Monadic::Negate, operand) => {
+        Exp::Unary(UnaryOp::Neg, operand) => {
             Some(constant_value(manifests, part, operand)?.wrapping_neg())
         }
-        Exp::Monadic(Monadic::Not, operand) => {
+        Exp::Unary(UnaryOp::Not, operand) => {
             let value = constant_value(manifests, part, operand)?;
             Some(Word::new(value).complemented().get())
         }
-        Exp::Dyadic(operator, left, right) => {
+        Exp::Bin(operator, left, right) => {
             let left = constant_value(manifests, part, left)?;
             let right = constant_value(manifests, part, right)?;
             let op = op_of(operator)?;

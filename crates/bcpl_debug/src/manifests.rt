@@ -2,10 +2,9 @@
 
 use crate::evaluate::constant_value;
 use bc_parse::parse;
-use bc_parse_tree::{
-    Block, Command, Constant, Declaration, Definition, Exp, Item, Section, Storage,
-};
+use bc_parse_tree::{Constant, Definition, Section, Storage};
 use bc_word::Memory;
+use bcpl_places::{PartVisit, TreePart, visits_of};
 use bcpl_wild::ReadMain;
 use std::alloc::Global;
 
@@ -37,200 +36,81 @@ impl Part<'_> {
     }
 }
 
-/// The walk over the trees of the sections that finds the manifests. Each function that is part of the cycle takes one tree, whose size is the
-/// measure.
+/// The manifests up to here, and where the visits are.
 #[derive(Drop)]
-struct Walk<'s> {
+struct ManifestList<'s> {
     /// The manifests, in the order of the text.
     manifests: Vec<Manifest<'s>>,
-    /// Where the walk is.
-    part: Part<'s>,
+    /// The index of the section.
+    section: usize,
+    /// The names of the routines around, the innermost last.
+    routines: Vec<&'s [u8]>,
     /// Whether an allocation failed. Then the rest is void.
     is_refused: bool,
 }
 
-impl<'s> Walk<'s> {
+impl<'s> ManifestList<'s> {
+    /// The part of the program where the visits are.
+    fn part(&self) -> Part<'s> {
+        Part {
+            section: self.section,
+            routine: match self.routines.last() {
+                Some(name) => *name,
+                None => b"",
+            },
+        }
+    }
+
     /// Adds a manifest. A value that can't be computed here is left out.
     fn add(&mut self, constant: &Constant<'s>) {
-        let Some(value) = constant_value(self.manifests.as_slice(), self.part, &constant.value)
-        else {
+        let part = self.part();
+        let Some(value) = constant_value(self.manifests.as_slice(), part, &constant.value) else {
             return;
         };
         let manifest = Manifest {
             name: constant.name,
             value,
-            section: self.part.section,
-            routine: self.part.routine,
+            section: part.section,
+            routine: part.routine,
         };
         if self.manifests.push(manifest).is_err() {
             self.is_refused = true;
         }
     }
 
-    /// Adds a list of constants, if they are manifests.
-    fn add_list(&mut self, storage: Storage, list: &[Constant<'s>]) {
-        if storage == Storage::Manifest {
-            for constant in list {
-                self.add(constant);
+    /// Enters the routine of a definition, if it has one.
+    fn enter(&mut self, definition: &Definition<'s>) {
+        if let Definition::Function(name, _, _) | Definition::Routine(name, _, _) = definition {
+            if self.routines.push(*name).is_err() {
+                self.is_refused = true;
             }
         }
     }
 
-    #[cycle(walking)]
-    fn declarations(&mut self, list: &[Declaration<'s>]) {
-        for tree in list {
-            match tree {
-                Declaration::Constants(storage, constants) => self.add_list(*storage, constants),
-                Declaration::Let(definitions) => self.definitions(definitions),
-            }
+    /// Leaves the routine of a definition, if it has one.
+    fn leave(&mut self, definition: &Definition<'s>) {
+        if let Definition::Function(_, _, _) | Definition::Routine(_, _, _) = definition {
+            let _name = self.routines.pop();
         }
     }
 
-    #[cycle(walking)]
-    fn definitions(&mut self, list: &[Definition<'s>]) {
-        for tree in list {
-            self.definition(tree);
-        }
-    }
-
-    #[cycle(walking)]
-    fn definition(&mut self, tree: &Definition<'s>) {
-        let outer = self.part.routine;
-        match tree {
-            Definition::Variables(_, values) => self.expressions(values),
-            Definition::Vector(_, _) => {}
-            Definition::Function(name, _, value) => {
-                self.part.routine = *name;
-                self.expression(value);
-                self.part.routine = outer;
-            }
-            Definition::Routine(name, _, body) => {
-                self.part.routine = *name;
-                self.block(body);
-                self.part.routine = outer;
-            }
-        }
-    }
-
-    #[cycle(walking)]
-    fn expressions(&mut self, list: &[Exp<'s>]) {
-        for e in list {
-            self.expression(e);
-        }
-    }
-
-    #[cycle(walking)]
-    fn expression(&mut self, e: &Exp<'s>) {
-        match e {
-            Exp::Valof(body) => self.block(body),
-            Exp::Monadic(_, operand) => self.expression(operand),
-            Exp::Dyadic(_, left, right) => {
-                self.expression(left);
-                self.expression(right);
-            }
-            Exp::Condition { test, this, that } => {
-                self.expression(test);
-                self.expression(this);
-                self.expression(that);
-            }
-            Exp::Call(called, values) => {
-                self.expression(called);
-                self.expressions(values);
-            }
+    /// The beginning or the end of a part.
+    fn visit(&mut self, visit: PartVisit<'_, 's>) {
+        match visit.part {
+            TreePart::Constant(Storage::Manifest, constant) if !visit.is_end => self.add(constant),
+            TreePart::Definition(definition) if visit.is_end => self.leave(definition),
+            TreePart::Definition(definition) => self.enter(definition),
             _ => {}
-        }
-    }
-
-    #[cycle(walking)]
-    fn block(&mut self, tree: &Block<'s>) {
-        self.declarations(&tree.declarations);
-        self.items(&tree.items);
-    }
-
-    #[cycle(walking)]
-    fn items(&mut self, list: &[Item<'s>]) {
-        for item in list {
-            if let Some(command) = &item.command {
-                self.command(command);
-            }
-        }
-    }
-
-    /// A command that contains no others.
-    #[cycle(walking)]
-    fn simple(&mut self, command: &Command<'s>) {
-        match command {
-            Command::Assign(places, values) => {
-                self.expressions(places);
-                self.expressions(values);
-            }
-            Command::Call(called, values) => {
-                self.expression(called);
-                self.expressions(values);
-            }
-            Command::ResultIs(value) => self.expression(value),
-            _ => {}
-        }
-    }
-
-    /// A test and a block.
-    #[cycle(walking)]
-    fn guarded(&mut self, command: &Command<'s>) {
-        match command {
-            Command::If(test, body)
-            | Command::Unless(test, body)
-            | Command::While(test, body)
-            | Command::Until(test, body) => {
-                self.expression(test);
-                self.block(body);
-            }
-            _ => self.simple(command),
-        }
-    }
-
-    /// A loop other than WHILE and UNTIL.
-    #[cycle(walking)]
-    fn repeated(&mut self, command: &Command<'s>) {
-        match command {
-            Command::Repeat(body) => self.command(body),
-            Command::RepeatWhile(body, test) | Command::RepeatUntil(body, test) => {
-                self.command(body);
-                self.expression(test);
-            }
-            Command::For {
-                start,
-                limit,
-                body,
-                ..
-            } => {
-                self.expression(start);
-                self.expression(limit);
-                self.block(body);
-            }
-            _ => self.guarded(command),
-        }
-    }
-
-    #[cycle(walking)]
-    fn command(&mut self, command: &Command<'s>) {
-        match command {
-            Command::Block(body) => self.block(body),
-            Command::Test { test, this, that } => {
-                self.expression(test);
-                self.block(this);
-                self.block(that);
-            }
-            Command::SwitchOn(of, list) => {
-                self.expression(of);
-                self.items(list);
-            }
-            _ => self.repeated(command),
         }
     }
 
     /// A section.
-    fn section(&mut self, tree: &Section<'s>) {
-        self.declarations(&tree.declarations);
+    fn section(&mut self, alloc: Global, tree: &Section<'s>) -> Result<(), Memory> {
+        let visits = visits_of(alloc, tree)?;
+        for visit in &visits {
+            self.visit(*visit);
+        }
+        Ok(())
     }
 }
 
@@ -239,28 +119,20 @@ pub(crate) fn manifests_of<'s>(
     alloc: Global,
     reads: &[ReadMain<'s>],
 ) -> Result<Vec<Manifest<'s>>, Memory> {
-    let mut walk = Walk {
+    let mut list = ManifestList {
         manifests: Vec::new(alloc),
-        part: Part {
-            section: 0,
-            routine: b"",
-        },
+        section: 0,
+        routines: Vec::new(alloc),
         is_refused: false,
     };
     for read in reads {
         if let Ok(tree) = parse(alloc, read.tokens.as_slice()) {
-            walk.section(&tree);
+            list.section(alloc, &tree)?;
         }
-        walk.part.section = walk.part.section.saturating_add(1);
+        list.section = list.section.saturating_add(1);
     }
-    let Walk {
-        manifests,
-        is_refused,
-        ..
-    } = walk;
-    if is_refused {
-        Err(Memory)
-    } else {
-        Ok(manifests)
+    if list.is_refused {
+        return Err(Memory);
     }
+    Ok(list.manifests)
 }

@@ -6,7 +6,7 @@ pub(crate) const BEFORE: &str = r#"<!DOCTYPE html>
 <head>
 <meta charset="utf-8">
 <meta name="viewport" content="width=device-width, initial-scale=1">
-<meta http-equiv="Content-Security-Policy" content="default-src 'none'; script-src 'sha256-PEh45nE/7G7TB3rxx0UVNa8gW/+cbIgQyA6lylkHawU=';
+<meta http-equiv="Content-Security-Policy" content="default-src 'none'; script-src 'sha256-7WggInSYWPYDFr3PHdpLxB/+ITsnD5PKWbJYeMJRrzE=';
   style-src 'unsafe-inline'; img-src data:; base-uri 'none'; form-action 'none'">
 <meta name="referrer" content="no-referrer">
 <title>A run, step by step</title>
@@ -448,12 +448,22 @@ h1 { font-size: 1.1rem; margin: 0; }
       return found;
     }
 
-    /** Whether a FOR is at a stop, and its variable has the cell at an address. */
-    isCounter(stop, address) {
+    /** Where a FOR is at a stop: the variables that its first line declares. */
+    countersAt(stop) {
       const { kind, file, start, end } = this.placeAt(stop);
       const frame = this.frameAt(stop);
-      if (kind !== "for" || !frame || this.routines[frame.routine].file !== file) return false;
-      return this.routines[frame.routine].variables.some((it) => frame.base + it.offset === address && start <= it.start && it.end <= end);
+      if (kind !== "for" || !frame || this.routines[frame.routine].file !== file) return [];
+      return this.routines[frame.routine].variables.filter((it) => start <= it.start && it.end <= end);
+    }
+
+    /** Whether a FOR is at a stop, and its variable has the cell at an address. */
+    isCounter(stop, address) {
+      return this.countersAt(stop).some(({ offset }) => this.frameAt(stop).base + offset === address);
+    }
+
+    /** Whether a FOR is at the current stop, and this isn't its first round: its variable has a cell. */
+    goesRound() {
+      return this.countersAt(this.at).some(({ offset }) => this.cells[this.frameAt(this.at).base + offset] !== DEAD);
     }
 
     /**
@@ -556,6 +566,8 @@ h1 { font-size: 1.1rem; margin: 0; }
     resultis: "has its result", break: "leaves the loop", loop: "goes on with the loop", endcase: "leaves the cases", return: "returns",
     goto: "jumps", finish: "finishes", let: "declares", body: "evaluates", end: "ends",
   };
+  /** The same where a loop begins. */
+  const BEGINS = { for: "begins" };
   const ENDS = { finished: "The run finished.", cut: "The recording was full here; the run went on." };
   const FAULTS = ["wild", "zero", "device"];
   /** The kinds of commands that set cells themselves. */
@@ -1055,7 +1067,8 @@ h1 { font-size: 1.1rem; margin: 0; }
       const { kind, text: sentence, lines } = run.data.end;
       const isLast = at === run.count - 1;
       const text = place.file < 0 ? "" : run.files[place.file].text(place.start, place.end).replace(/\s+/g, " ").trim();
-      const does = isLast ? sentence || ENDS[kind] || "The run ends here." : (DOES[place.kind] ?? "runs");
+      const doing = place.kind in BEGINS && !run.goesRound() ? BEGINS : DOES;
+      const does = isLast ? sentence || ENDS[kind] || "The run ends here." : (doing[place.kind] ?? "runs");
       const ending = made("b", { className: FAULTS.includes(kind) ? "bad" : "", textContent: does });
       this.about.replaceChildren(...(isLast ? [ending] : [made("i", { textContent: does }), " ", made("code", { textContent: text })]));
       this.about.title = isLast ? does : text;
@@ -1199,11 +1212,15 @@ h1 { font-size: 1.1rem; margin: 0; }
 
     // ---- Variables
 
-    /** The variables of a frame that have a cell and whose scope has its place. Of several with one name the last one counts. */
+    /**
+     * The variables of a frame that have a cell and whose scope has its place. Of several with one name the last one counts. A FOR has two
+     * roots, its first value and its limit, before the scope of its variable.
+     */
     inScope(frame) {
       const { recording: run } = this;
-      const root = this.placeOf(run.openAt(this.at).indexOf(frame))?.root ?? -1;
-      const isIn = ({ from, to, parameter }) => (root < 0 ? parameter : from <= root + 1 && root < to);
+      const { root = -1, kind } = this.placeOf(run.openAt(this.at).indexOf(frame)) ?? {};
+      const ahead = kind === "for" ? 2 : 1;
+      const isIn = ({ from, to, parameter }) => (root < 0 ? parameter : from <= root + ahead && root < to);
       const found = run.routines[frame.routine].variables.filter((it) => isIn(it) && run.cells[frame.base + it.offset] !== DEAD);
       return found.filter(({ name }, k) => !found.slice(k + 1).some((other) => other.name === name));
     }

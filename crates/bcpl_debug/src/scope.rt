@@ -1,8 +1,9 @@
 //! What names mean at a stop, in one of the calls that the run is in.
 
 use crate::names::{Names, Variable};
+use crate::places::SitePlace;
 use crate::program::DebugProgram;
-use bc_interpret_record::{Cell, Frame, Moment};
+use bc_interpret_record::{Cell, Frame, Moment, StopKind};
 
 /// A call at a stop: its names, and the cells.
 #[derive(Clone, Copy)]
@@ -51,6 +52,20 @@ pub fn cell_in(base: u32, offset: u64) -> u16 {
     u16::try_from(address).unwrap_or(0)
 }
 
+/// Whether a variable is in scope at a place. A LET and a FOR count what they declare, which has a cell only after it is declared.
+fn is_in_scope_at(place: SitePlace, variable: &Variable<'_>) -> bool {
+    if place.root == usize::MAX {
+        return variable.is_parameter;
+    }
+    // A FOR has two roots before its body: the first value and the limit. If one of them has a VALOF, there are more, and the FOR's variable
+    // counts only in the body.
+    let ahead: usize = match place.kind {
+        StopKind::For => 2,
+        _ => 1,
+    };
+    variable.from <= place.root.saturating_add(ahead) && place.root < variable.to
+}
+
 impl<'v, 's> DebugScope<'v, 's> {
     /// The index of the routine of the call.
     pub fn routine(&self) -> Option<usize> {
@@ -64,17 +79,12 @@ impl<'v, 's> DebugScope<'v, 's> {
 
     /// Whether a variable is in scope.
     fn is_in_scope(&self, variable: &Variable<'s>) -> bool {
-        let root = match self.frame {
-            Some(frame) => self
-                .names
-                .place(frame.site)
-                .map_or(usize::MAX, |place| place.root),
-            None => usize::MAX,
+        let Some(frame) = self.frame else {
+            return variable.is_parameter;
         };
-        if root == usize::MAX {
-            variable.is_parameter
-        } else {
-            variable.from <= root.saturating_add(1) && root < variable.to
+        match self.names.place(frame.site) {
+            Some(place) => is_in_scope_at(place, variable),
+            None => variable.is_parameter,
         }
     }
 

@@ -4,6 +4,7 @@ use bc_word::Memory;
 use itoa::Buffer;
 use std::alloc::Global;
 use std::str;
+use ucd_props::is_bidi_control;
 
 /// A part of a page.
 #[derive(Clone, Copy)]
@@ -71,41 +72,62 @@ impl Html {
         self.put(markup.as_bytes());
     }
 
-    /// Adds text, with the signs of markup escaped.
+    /// Adds text, with the signs of markup escaped, and a question mark for each byte of a control character and of one
+    /// that changes the direction of text.
     pub fn tell(&mut self, text: &str) {
-        for byte in text.as_bytes() {
-            match *byte {
-                b'<' => self.mark("&lt;"),
-                b'>' => self.mark("&gt;"),
-                b'&' => self.mark("&amp;"),
-                b'"' => self.mark("&quot;"),
-                byte => self.put(&[byte]),
+        for character in text.chars() {
+            match character {
+                '<' => self.mark("&lt;"),
+                '>' => self.mark("&gt;"),
+                '&' => self.mark("&amp;"),
+                '"' => self.mark("&quot;"),
+                _ => self.plain(character),
             }
         }
     }
 
+    /// Adds a character as it is, or a question mark for each byte of one that must not be shown.
+    fn plain(&mut self, character: char) {
+        if character.is_control() || is_bidi_control(character) {
+            for _ in 0..character.len_utf8() {
+                self.mark("?");
+            }
+        } else {
+            let mut bytes = [0u8; 4];
+            self.mark(character.encode_utf8(&mut bytes));
+        }
+    }
+
     /// Adds bytes as a JSON string. Escapes what could end the string or the script around it. Writes a question mark
-    /// for each control character, and for each byte from 128 on if the bytes are not valid UTF-8.
+    /// for each byte of a control character and of one that changes the direction of text, and for each byte from 128 on
+    /// if the bytes are not valid UTF-8.
     pub fn quoted(&mut self, bytes: &[u8]) {
-        let is_text = str::from_utf8(bytes).is_ok();
         self.mark("\"");
-        for byte in bytes {
-            self.sign(*byte, is_text);
+        match str::from_utf8(bytes) {
+            Ok(text) => {
+                for character in text.chars() {
+                    self.sign(character);
+                }
+            }
+            Err(_) => {
+                for byte in bytes {
+                    self.sign(if *byte < 128 { char::from(*byte) } else { '?' });
+                }
+            }
         }
         self.mark("\"");
     }
 
-    /// Adds a byte of a JSON string, whose bytes are valid UTF-8 or not.
-    fn sign(&mut self, byte: u8, is_text: bool) {
-        match byte {
-            b'"' => self.mark("\\\""),
-            b'\\' => self.mark("\\\\"),
-            b'<' => self.mark("\\u003c"),
-            b'>' => self.mark("\\u003e"),
-            b'&' => self.mark("\\u0026"),
-            b'\t' => self.mark("\\t"),
-            _ if is_shown(byte, is_text) => self.put(&[byte]),
-            _ => self.mark("?"),
+    /// Adds a character of a JSON string.
+    fn sign(&mut self, character: char) {
+        match character {
+            '"' => self.mark("\\\""),
+            '\\' => self.mark("\\\\"),
+            '<' => self.mark("\\u003c"),
+            '>' => self.mark("\\u003e"),
+            '&' => self.mark("\\u0026"),
+            '\t' => self.mark("\\t"),
+            _ => self.plain(character),
         }
     }
 
@@ -162,14 +184,5 @@ impl Html {
             return Err(Memory);
         }
         Ok(self.text)
-    }
-}
-
-/// Whether a byte of a text is written as it is. `is_text` is whether the text is valid UTF-8.
-fn is_shown(byte: u8, is_text: bool) -> bool {
-    match byte {
-        32..=126 => true,
-        128..=255 => is_text,
-        _ => false,
     }
 }

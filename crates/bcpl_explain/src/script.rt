@@ -918,11 +918,19 @@ if (typeof document !== 'undefined') (() => {
     return shown;
   }
 
-  // The root and the node that a leaf belongs to.
+  // The number of the first node below a node. Those below it have the numbers from there to its own.
+  function firstBelow(node) {
+    return node.parts.length ? firstBelow(node.parts[0]) : node.index;
+  }
+
+  // The root that a leaf belongs to, and the least node with it that has items: those of a variable belong to what uses it.
   function leafMarks(file, index) {
     for (const root of file.rootsNear(index)) {
-      const found = root.read().nodes.find((node) => node.leaves && node.leaves[0] <= index && index < node.leaves[1]);
-      if (found) return [root, found];
+      const { nodes, code } = root.read();
+      const found = nodes.find((node) => node.leaves && node.leaves[0] <= index && index < node.leaves[1]);
+      if (!found) continue;
+      const owner = nodes.find((node) => code.ranges.has(node) && node.index >= found.index && firstBelow(node) <= found.index);
+      return [root, owner ?? found];
     }
     return [null, null];
   }

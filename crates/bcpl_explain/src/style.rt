@@ -25,7 +25,7 @@ summary, button { cursor: pointer; }
 :focus-visible { outline: 2px solid var(--chosen); outline-offset: 1px; }
 button, input { font: inherit; color: inherit; background: var(--soft); border: 1px solid var(--faint); border-radius: 0.3rem; padding: 0.15rem 0.7rem; }
 .link { background: none; border: 0; padding: 0; color: var(--chosen); text-decoration: underline; font-weight: 600; text-align: left; }
-.tools { position: sticky; top: 0; z-index: 1; display: flex; flex-wrap: wrap; gap: 0.4rem; padding: 0.4rem 0; background: var(--ground);
+.tools { position: sticky; top: 0; z-index: 1; display: flex; flex-wrap: wrap; align-items: start; gap: 0.4rem; padding: 0.4rem 0; background: var(--ground);
   border-bottom: 1px solid var(--line); }
 .tools form { display: flex; flex-wrap: wrap; gap: 0.4rem; align-items: center; flex: 1; }
 .tools input { width: 14rem; max-width: 100%; }
@@ -107,6 +107,8 @@ th { font-weight: 600; }
   th, td { padding: 0.1rem 0.3rem; }
   .totals th:first-child { overflow-wrap: anywhere; }
   .tools { position: static; }
+  .tools form { flex: 1 1 100%; }
+  .tools input { flex: 1; min-width: 0; }
   .rules, .rules tbody { display: block; }
   .rules thead { display: none; }
   .rules tr { display: grid; grid-template-columns: 3rem minmax(0, 1fr); border: 1px solid var(--line); margin-top: -1px; }

@@ -1,6 +1,7 @@
 //! The listing of a linked program: each word of its image with its address, its item, and what refers to it.
 #![tactic(auto)]
 
+mod label_index;
 mod listing;
 mod page;
 mod references;

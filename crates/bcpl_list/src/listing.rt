@@ -1,5 +1,6 @@
 //! The listing as a whole: the boot code, the globals, and the segments item by item.
 
+use crate::label_index::LabelIndex;
 use crate::page::Page;
 use crate::references::{Manner, Reference, of_label, references};
 use crate::strings::{run_after, say_bytes};
@@ -57,12 +58,13 @@ struct Setting {
     segment: usize,
 }
 
-/// A segment with the address of each item and the references to its labels.
+/// A segment with the address of each item, its labels and the references to them.
 #[derive(Drop)]
 struct Listed<'p> {
     segment: usize,
     items: &'p [Item],
     addresses: Vec<usize>,
+    labels: LabelIndex,
     references: Vec<Reference>,
 }
 
@@ -90,13 +92,6 @@ fn known_name(number: u16) -> (&'static str, &'static str) {
         Some(name) => (name, ", "),
         None => ("", ""),
     }
-}
-
-/// The address of a label of a segment, if it has one.
-fn address_of(image: &Image, segment: usize, label: Word) -> Option<u16> {
-    let place = image.places.as_slice().get(segment)?;
-    let address = place.labels.address(label)?;
-    Some(address.get())
 }
 
 /// Whether an operation is a jump.
@@ -319,16 +314,16 @@ impl<'p> Listing<'p> {
     }
 
     /// Adds `word` and the address of a label, if it has one.
-    fn say_address(&mut self, segment: usize, label: Word, word: &str) {
-        if let Some(address) = address_of(self.program.image, segment, label) {
+    fn say_address(&mut self, listed: &Listed<'p>, label: Word, word: &str) {
+        if let Some(address) = listed.labels.address(label.get()) {
             self.page.say_number(word, usize::from(address));
         }
     }
 
     /// Adds the target of a jump, or the address that an operation uses.
-    fn say_target(&mut self, segment: usize, function: Function, label: Word) {
+    fn say_target(&mut self, listed: &Listed<'p>, function: Function, label: Word) {
         let word = if is_jump(function) { "to " } else { "at " };
-        self.say_address(segment, label, word);
+        self.say_address(listed, label, word);
     }
 
     /// Describes a global: its number, its name in the library, and its initial value if it is set.
@@ -346,30 +341,30 @@ impl<'p> Listing<'p> {
     }
 
     /// Describes the label or global of an operation or a word of data.
-    fn say_of(&mut self, segment: usize, item: &Item) {
+    fn say_of(&mut self, listed: &Listed<'p>, item: &Item) {
         match item {
             Item::Operation {
                 function,
                 base: Base::Label,
                 number,
                 ..
-            } => self.say_target(segment, *function, *number),
+            } => self.say_target(listed, *function, *number),
             Item::Operation {
                 base: Base::G,
                 number,
                 ..
             } => self.say_global(number.get()),
-            Item::DataLabel(label) => self.say_address(segment, *label, "at "),
+            Item::DataLabel(label) => self.say_address(listed, *label, "at "),
             _ => {}
         }
     }
 
     /// Adds an item that takes words, at this address.
-    fn add_operation(&mut self, segment: usize, item: &Item, address: usize) {
+    fn add_operation(&mut self, listed: &Listed<'p>, item: &Item, address: usize) {
         self.begin_word(address);
         self.page.begin_item();
         self.page.add_item(item);
-        self.say_of(segment, item);
+        self.say_of(listed, item);
         self.page.end_line();
         if is_long(item) {
             self.begin_word(address.saturating_add(1));
@@ -403,7 +398,7 @@ impl<'p> Listing<'p> {
                 let second = second_byte(listed, index.saturating_add(1), address);
                 self.add_bytes(*first, second, address);
             }
-            _ => self.add_operation(listed.segment, item, address),
+            _ => self.add_operation(listed, item, address),
         }
     }
 
@@ -430,6 +425,7 @@ impl<'p> Listing<'p> {
             segment,
             items,
             addresses,
+            labels: LabelIndex::new(self.alloc, self.program.image, segment)?,
             references,
         })
     }

@@ -1,6 +1,6 @@
 //! Places in the sources in human terms: file, line and column, the line itself with a mark below it, and the GETs that
-//! led to the file. Also facts on segments: sizes of items and segments, words decoded as instructions, and the library's
-//! names of globals.
+//! led to the file. The parts of a section's tree in text order. Also facts on segments: sizes of items and segments,
+//! words decoded as instructions, and the library's names of globals.
 #![tactic(auto)]
 
 mod decoded;
@@ -10,15 +10,17 @@ mod items;
 mod line;
 mod signs;
 mod sizes;
+mod visits;
 
 pub use bc_library::library_name;
 pub use decoded::{FUNCTIONS, instruction};
 pub use excerpt::Excerpt;
 pub use gets::{Get, gets_of, way_to};
 pub use items::{addresses, is_long};
-pub use line::{Line, line_at};
-pub use signs::column_at;
+pub use line::{Line, LineCounter, line_at};
+pub use signs::{ColumnCounter, column_at};
 pub use sizes::{SegmentSize, segment_words, too_large};
+pub use visits::{PartRole, PartVisit, TreePart, visits_of};
 
 /// A stretch of a source: the bytes from `start` up to `end`, excluding `end`.
 #[derive(Clone, Copy, PartialEq, Eq)]

@@ -61,3 +61,36 @@ pub fn line_at(text: &[u8], at: usize) -> Line
         end: start + rest_of_line(&text[start..]),
     }
 }
+
+/// Finds the lines of places in a text. If a place follows the last one, the lines before that one aren't counted again.
+#[derive(Clone, Copy)]
+pub struct LineCounter {
+    /// The offset of the last place.
+    at: usize,
+    /// How many line feeds come before it.
+    breaks: usize,
+}
+
+impl LineCounter {
+    /// A counter at the beginning of a text.
+    pub fn new() -> LineCounter {
+        LineCounter { at: 0, breaks: 0 }
+    }
+
+    /// The line that contains the byte at this offset, or the last line if the text is shorter.
+    pub fn line_at(&mut self, text: &[u8], at: usize) -> Line {
+        let at = at.min(text.len());
+        if at < self.at {
+            *self = LineCounter::new();
+        }
+        let from = self.at.min(at);
+        self.breaks = self.breaks.saturating_add(count_breaks(&text[from..at]));
+        self.at = at;
+        let start = line_start(&text[..at]);
+        Line {
+            number: self.breaks.saturating_add(1),
+            start,
+            end: start + rest_of_line(&text[start..]),
+        }
+    }
+}

@@ -5,6 +5,7 @@ ghost use Rattle.std.specs.Prelude.{◌≡◌, ◌+◌, ◌≤◌, length, vec_l
 use bc_word::Memory;
 use bstr::decode_lossy;
 use std::alloc::Global;
+use ucd_props::is_bidi_control;
 use unicode_width::UnicodeWidthChar;
 
 /// The distance between tab stops, in columns.
@@ -21,11 +22,11 @@ pub struct Sign {
     pub width: usize,
 }
 
-/// What is shown for a character, and how many columns that takes. A control character is shown as the replacement
-/// character.
+/// What is shown for a character, and how many columns that takes. A control character, and one that changes the
+/// direction of text, is shown as the replacement character.
 fn shown(character: char) -> (char, usize) {
     match character.width() {
-        Some(width) if character >= ' ' => (character, width),
+        Some(width) if character >= ' ' && !is_bidi_control(character) => (character, width),
         _ => (char::REPLACEMENT_CHARACTER, 1),
     }
 }
@@ -70,4 +71,68 @@ pub fn column_at(alloc: Global, line: &[u8], at: usize) -> Result<usize, Memory>
         column = column.saturating_add(sign.width);
     }
     Ok(column)
+}
+
+/// The column after these bytes of a line, the first of which is in the column `first`, counted from 0.
+fn column_after(bytes: &[u8], first: usize) -> usize {
+    let mut column = first;
+    let mut at = 0;
+    for _ in 0..bytes.len() {
+        if at >= bytes.len() {
+            break;
+        }
+        if bytes[at] == b'\t' {
+            column = column.saturating_add(TAB - column % TAB);
+            at += 1;
+        } else {
+            let (character, size) = decode_lossy(&bytes[at..]);
+            let (_, width) = shown(character);
+            column = column.saturating_add(width);
+            at = at.saturating_add(size.max(1));
+        }
+    }
+    column
+}
+
+/// Counts the columns of places in texts. If a place follows the last one in the same line, the count goes on from there.
+#[derive(Clone, Copy)]
+pub struct ColumnCounter {
+    /// The file of the last place.
+    file: usize,
+    /// The offset of its line.
+    line: usize,
+    /// Its offset.
+    at: usize,
+    /// Its column, counted from 0.
+    column: usize,
+}
+
+impl ColumnCounter {
+    /// A counter that is at the beginning of file 0.
+    pub fn new() -> ColumnCounter {
+        ColumnCounter {
+            file: 0,
+            line: 0,
+            at: 0,
+            column: 0,
+        }
+    }
+
+    /// The column of the byte at the offset `at` of this text of a file, counted from 1 as a terminal shows the line,
+    /// which begins at the offset `line`. A character begins with the byte.
+    pub fn column_at(&mut self, text: &[u8], file: usize, line: usize, at: usize) -> usize {
+        if file != self.file || line != self.line || at < self.at {
+            *self = ColumnCounter {
+                file,
+                line,
+                at: line,
+                column: 0,
+            };
+        }
+        let to = at.min(text.len());
+        let from = self.at.min(to);
+        self.column = column_after(&text[from..to], self.column);
+        self.at = to;
+        self.column.saturating_add(1)
+    }
 }

@@ -6,6 +6,7 @@ use crate::syntax::{SyntaxNode, syntax_of};
 use bc_lex_tokens::Token;
 use bc_parse_tree::{Section, leaves_of};
 use bc_word::Memory;
+use bcpl_places::ColumnCounter;
 use std::alloc::Global;
 use std::str;
 
@@ -70,17 +71,15 @@ impl<'p, 's> TreeGround<'p, 's> {
     }
 
     /// The place of a leaf.
-    fn place_of(&self, alloc: Global, leaf: &Token<'s>) -> Result<Option<NodePlace<'p>>, Memory> {
-        let Some(lines) = self.lines.get(leaf.file) else {
-            return Ok(None);
-        };
-        let column = lines.column_at(alloc, self.files.text(leaf.file), leaf.start)?;
-        Ok(Some(NodePlace {
+    fn place_of(&self, columns: &mut ColumnCounter, leaf: &Token<'s>) -> Option<NodePlace<'p>> {
+        let lines = self.lines.get(leaf.file)?;
+        let column = lines.column_of(columns, self.files.text(leaf.file), leaf);
+        Some(NodePlace {
             path: self.files.path(leaf.file),
             is_elsewhere: leaf.file != self.main,
             line: lines.number_at(leaf.start) as u64,
             column: column as u64,
-        }))
+        })
     }
 
     /// Whether a node belongs to a file of the library.
@@ -92,21 +91,21 @@ impl<'p, 's> TreeGround<'p, 's> {
     }
 
     /// A node with its text and its place.
-    fn shown(&self, alloc: Global, node: &SyntaxNode) -> Result<PlacedNode<'p, 's>, Memory> {
+    fn shown(&self, columns: &mut ColumnCounter, node: &SyntaxNode) -> PlacedNode<'p, 's> {
         let Some(leaf) = self.leaves.get(node.leaf) else {
-            return Ok(PlacedNode {
+            return PlacedNode {
                 depth: node.depth,
                 kind: node.kind,
                 text: b"",
                 place: None,
-            });
+            };
         };
-        Ok(PlacedNode {
+        PlacedNode {
             depth: node.depth,
             kind: node.kind,
             text: if node.has_text { leaf.text } else { b"" },
-            place: self.place_of(alloc, leaf)?,
-        })
+            place: self.place_of(columns, leaf),
+        }
     }
 
     /// A GET of the library's file to which a node belongs.
@@ -132,11 +131,12 @@ impl<'p, 's> TreeGround<'p, 's> {
     ) -> Result<Vec<PlacedNode<'p, 's>>, Memory> {
         let mut shown = Vec::new(alloc);
         let mut is_got = false;
+        let mut columns = ColumnCounter::new();
         for node in nodes {
             let was_got = is_got;
             is_got = self.is_of_library(node);
             if !is_got {
-                shown.push(self.shown(alloc, node)?)?;
+                shown.push(self.shown(&mut columns, node))?;
             } else if !was_got {
                 shown.push(self.got(node))?;
             }

@@ -10,7 +10,6 @@ mod marks;
 mod outline;
 mod page;
 mod rule_legend;
-mod scope_walk;
 mod scopes;
 mod shown_bytes;
 mod shown_code;

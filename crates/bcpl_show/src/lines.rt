@@ -1,7 +1,8 @@
 //! The sources of a program by index, and the lines of a text by number.
 use bc_lex::Source;
+use bc_lex_tokens::Token;
 use bc_word::Memory;
-use bcpl_places::column_at;
+use bcpl_places::ColumnCounter;
 use std::alloc::Global;
 
 /// The sources of a program and the paths to print for them.
@@ -104,9 +105,9 @@ impl Lines {
         at.saturating_sub(self.start(text, self.number_at(at)))
     }
 
-    /// The column of the byte at this offset, counted from 1 as a terminal shows it.
-    pub fn column_at(&self, alloc: Global, text: &[u8], at: usize) -> Result<usize, Memory> {
-        let start = self.start(text, self.number_at(at)).min(text.len());
-        column_at(alloc, &text[start..], at.saturating_sub(start))
+    /// The column of the first byte of a token of a file, counted from 1 as a terminal shows it. `text` is the file's.
+    pub fn column_of(&self, columns: &mut ColumnCounter, text: &[u8], token: &Token<'_>) -> usize {
+        let start = self.start(text, self.number_at(token.start));
+        columns.column_at(text, token.file, start, token.start)
     }
 }

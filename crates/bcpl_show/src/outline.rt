@@ -1,10 +1,9 @@
 //! The steps of a section's code: in which order the roots and the items of commands come, and where the source has
 //! them.
 
-use bc_parse_tree::{
-    Block, Command, Constant, Declaration, Definition, Exp, Item, Label, Section, Storage,
-};
+use bc_parse_tree::{Command, Definition, Exp, Section, Storage};
 use bc_word::Memory;
+use bcpl_places::{PartRole, PartVisit, TreePart, visits_of};
 use std::alloc::Global;
 
 /// Code that is generated in one step.
@@ -114,8 +113,6 @@ impl Purpose {
 #[derive(Drop)]
 pub struct Outline {
     alloc: Global,
-    /// The number of leaves met so far.
-    leaves: usize,
     /// The steps of each body. Routines and VALOFs have one.
     pub bodies: Vec<Vec<Step>>,
     /// The bodies of the routines, in text order.
@@ -126,102 +123,108 @@ pub struct Outline {
     pub places: Vec<usize>,
     /// For each TABLE and VALOF, its first leaf and the leaf after it, in the order in which they end.
     pub extents: Vec<(usize, usize)>,
+    /// The bodies that the walk is in, innermost last.
+    open: Vec<usize>,
     /// Whether an allocation failed. Then the outline is void.
     is_refused: bool,
-}
-
-/// The number of CASEs in a list.
-fn cases_in(list: &[Item<'_>]) -> usize {
-    let mut count: usize = 0;
-    for item in list {
-        for label in &item.labels {
-            if let Label::Case(_) = label {
-                count = count.saturating_add(1);
-            }
-        }
-    }
-    count
 }
 
 impl Outline {
     /// The steps of a section. `Memory` if an allocation fails.
     pub fn new(alloc: Global, section: &Section<'_>) -> Result<Outline, Memory> {
+        let visits = visits_of(alloc, section)?;
         let mut outline = Outline {
             alloc,
-            leaves: 0,
             bodies: Vec::new(alloc),
             routines: Vec::new(alloc),
             valofs: Vec::new(alloc),
             places: Vec::new(alloc),
             extents: Vec::new(alloc),
+            open: Vec::new(alloc),
             is_refused: false,
         };
-        let outside = outline.body();
-        outline.declarations(outside, &section.declarations);
+        let _outside = outline.enter();
+        for visit in &visits {
+            if visit.is_end {
+                outline.end(*visit);
+            } else {
+                outline.begin(*visit);
+            }
+        }
         if outline.is_refused {
             return Err(Memory);
         }
         Ok(outline)
     }
 
-    /// Passes a leaf.
-    fn leaf(&mut self) {
-        self.leaves = self.leaves.saturating_add(1);
-    }
-
-    /// Adds an empty body and returns its index.
-    fn body(&mut self) -> usize {
-        let body = self.bodies.len();
-        if self.bodies.push(Vec::new(self.alloc)).is_err() {
+    /// Notes whether an allocation failed.
+    fn note(&mut self, is_refused: bool) {
+        if is_refused {
             self.is_refused = true;
         }
+    }
+
+    /// Enters a new body and returns its index.
+    fn enter(&mut self) -> usize {
+        let body = self.bodies.len();
+        let is_refused = self.bodies.push(Vec::new(self.alloc)).is_err();
+        self.note(is_refused);
+        let is_refused = self.open.push(body).is_err();
+        self.note(is_refused);
         body
     }
 
-    /// Adds a step to a body.
-    fn step(&mut self, body: usize, leaf: usize, work: Work) {
+    /// Leaves the current body.
+    fn leave(&mut self) {
+        let _body = self.open.pop();
+    }
+
+    /// The index of the current body.
+    fn current(&self) -> usize {
+        self.open.last().copied().unwrap_or(0)
+    }
+
+    /// Adds a step to the current body.
+    fn step(&mut self, leaf: usize, work: Work) {
+        let body = self.current();
         if let Some(steps) = self.bodies.get_mut(body) {
-            if steps.push(Step { leaf, work }).is_err() {
-                self.is_refused = true;
-            }
+            let is_refused = steps.push(Step { leaf, work }).is_err();
+            self.note(is_refused);
         }
     }
 
-    /// Adds a root at this leaf.
-    fn read_root(&mut self, body: usize, leaf: usize, reading: RootLeaves) {
-        self.step(body, leaf, Work::Root(reading));
+    /// Adds items of a command itself, which the source has at this leaf.
+    fn own(&mut self, leaf: usize, count: usize, what: Purpose) {
+        self.step(leaf, Work::Own(count, what));
     }
 
-    /// Adds a root that begins at the next leaf and isn't an assignment, or assigns to the cell of the name at `address`.
-    fn root(&mut self, body: usize, address: Option<usize>) {
-        let value = self.leaves;
-        let is_written = true;
+    /// Adds a root at this leaf that isn't an assignment, or assigns to the cell of the name at `address`.
+    fn root(&mut self, leaf: usize, address: Option<usize>) {
+        let reading = RootLeaves {
+            value: leaf,
+            address,
+            is_written: true,
+        };
+        self.step(leaf, Work::Root(reading));
+    }
+
+    /// Adds an assignment to the cell of the name at this leaf. `value` is the leaf of what its value is about.
+    fn assignment(&mut self, leaf: usize, value: usize, is_written: bool) {
         let reading = RootLeaves {
             value,
-            address,
+            address: Some(leaf),
             is_written,
         };
-        self.read_root(body, value, reading);
+        self.step(leaf, Work::Root(reading));
     }
 
-    /// Adds a root at this leaf that the source doesn't spell. `value` is the leaf of what its value is about.
-    fn hidden_root(&mut self, body: usize, leaf: usize, value: usize) {
-        let address = Some(leaf);
-        let is_written = false;
-        let reading = RootLeaves {
-            value,
-            address,
-            is_written,
-        };
-        self.read_root(body, leaf, reading);
-    }
-
-    /// Sets where the value of a body's step begins, if that is the root of an assignment: at the next leaf.
-    fn value_begins(&mut self, body: usize, index: usize) {
-        let value = self.leaves;
+    /// Sets where the value of an assignment begins. Its root is one of the last `remaining` steps, the first of them.
+    fn value_begins(&mut self, remaining: usize, value: usize) {
+        let body = self.current();
         let Some(steps) = self.bodies.get_mut(body) else {
             return;
         };
+        let index = steps.len().saturating_sub(remaining);
         if let Some(step) = steps.get_mut(index) {
             if let Work::Root(reading) = &mut step.work {
                 reading.value = value;
@@ -229,369 +232,176 @@ impl Outline {
         }
     }
 
-    /// The number of steps in a body.
-    fn count_steps(&self, body: usize) -> usize {
-        match self.bodies.get(body) {
-            Some(steps) => steps.len(),
-            None => 0,
+    /// Adds the leaf of a place.
+    fn place(&mut self, leaf: usize) {
+        let is_refused = self.places.push(leaf).is_err();
+        self.note(is_refused);
+    }
+
+    /// Records a TABLE or VALOF that ends here.
+    fn extent(&mut self, visit: PartVisit<'_, '_>) {
+        let is_refused = self.extents.push((visit.first, visit.leaves)).is_err();
+        self.note(is_refused);
+    }
+
+    /// Begins a part.
+    fn begin(&mut self, visit: PartVisit<'_, '_>) {
+        let first = visit.first;
+        self.begin_role(first, visit.role);
+        match visit.part {
+            TreePart::Expression(e) => self.begin_expression(first, e),
+            TreePart::Command(command) => self.begin_command(first, command),
+            TreePart::Label(_) => self.own(first, 1, Purpose::Label),
+            TreePart::Constant(Storage::Static, _) => self.place(first),
+            TreePart::Definition(definition) => self.begin_definition(first, definition),
+            TreePart::Constant(_, _) | TreePart::Block | TreePart::Constants(_) | TreePart::Let =>
+                {}
         }
     }
 
-    /// Records that a TABLE or VALOF that began at this leaf ends before the next one.
-    fn extent(&mut self, from: usize) {
-        let to = self.leaves;
-        if self.extents.push((from, to)).is_err() {
-            self.is_refused = true;
+    /// Ends a part.
+    fn end(&mut self, visit: PartVisit<'_, '_>) {
+        let last = visit.leaves.saturating_sub(1);
+        match visit.part {
+            TreePart::Expression(e) => self.end_expression(visit, e),
+            TreePart::Command(command) => self.end_command(visit, command),
+            TreePart::Definition(definition) => self.end_definition(last, definition),
+            _ => {}
+        }
+        self.end_role(last, visit.role);
+    }
+
+    /// Adds the root that a part at this leaf is, by its role.
+    fn begin_role(&mut self, first: usize, role: PartRole) {
+        match role {
+            PartRole::Whole | PartRole::Switched(_) | PartRole::Limit(_) => self.root(first, None),
+            PartRole::Again => {
+                self.own(first.saturating_sub(1), 1, Purpose::Onward);
+                self.root(first, None);
+            }
+            PartRole::Initial(name) => self.root(first, Some(name)),
+            PartRole::Address => self.root(first, Some(first)),
+            PartRole::Assigned(remaining) => self.value_begins(remaining, first),
+            PartRole::Plain | PartRole::Then | PartRole::Else | PartRole::Do | PartRole::Alone => {}
         }
     }
 
-    /// Adds items of a command that is at the last leaf.
-    fn own(&mut self, body: usize, count: usize, what: Purpose) {
-        self.step(body, self.leaves.saturating_sub(1), Work::Own(count, what));
-    }
-
-    /// Adds a place at the next leaf.
-    fn place(&mut self) {
-        if self.places.push(self.leaves).is_err() {
-            self.is_refused = true;
-        }
-    }
-
-    /// Passes a leaf that is a place.
-    fn placed(&mut self) {
-        self.place();
-        self.leaf();
-    }
-
-    #[cycle(walking)]
-    fn expression(&mut self, e: &Exp<'_>) {
-        match e {
-            Exp::Name(_) | Exp::Number(_) | Exp::Character(_) | Exp::True | Exp::False => {
-                self.leaf();
+    /// Adds what follows a part that ends with this leaf, by its role.
+    fn end_role(&mut self, last: usize, role: PartRole) {
+        match role {
+            PartRole::Switched(cases) => {
+                let items = cases.saturating_mul(2).saturating_add(3);
+                self.own(last, items, Purpose::Switch);
             }
-            Exp::String(_) => self.placed(),
-            Exp::Table(values) => {
-                let from = self.leaves;
-                self.placed();
-                self.expressions(values);
-                self.extent(from);
+            PartRole::Limit(variable) => {
+                self.own(last, 1, Purpose::Turn);
+                self.assignment(variable, variable, false);
             }
-            Exp::Valof(block) => self.valof(block),
-            Exp::Monadic(_, operand) => self.expression(operand),
-            Exp::Dyadic(_, left, right) => {
-                self.expression(left);
-                self.expression(right);
-            }
-            Exp::Condition { test, this, that } => {
-                self.expression(test);
-                self.expression(this);
-                self.expression(that);
-            }
-            Exp::Call(called, values) => {
-                self.expression(called);
-                self.expressions(values);
-            }
-        }
-    }
-
-    #[cycle(walking)]
-    fn expressions(&mut self, list: &[Exp<'_>]) {
-        for e in list {
-            self.expression(e);
-        }
-    }
-
-    #[cycle(walking)]
-    fn valof(&mut self, block: &Block<'_>) {
-        let from = self.leaves;
-        self.leaf();
-        let body = self.body();
-        if self.valofs.push(body).is_err() {
-            self.is_refused = true;
-        }
-        self.block(body, block);
-        self.own(body, 1, Purpose::Valof);
-        self.extent(from);
-    }
-
-    /// Adds a root that consists of this expression.
-    #[cycle(walking)]
-    fn root_of(&mut self, body: usize, e: &Exp<'_>) {
-        self.root(body, None);
-        self.expression(e);
-    }
-
-    /// Adds a root for each of these values of variables. `first` is the leaf of the first variable's name.
-    #[cycle(walking)]
-    fn values(&mut self, body: usize, first: usize, list: &[Exp<'_>]) {
-        let mut name = first;
-        for e in list {
-            self.root(body, Some(name));
-            name = name.saturating_add(1);
-            self.expression(e);
-        }
-    }
-
-    /// Adds a root for each of these addresses of an assignment.
-    #[cycle(walking)]
-    fn addresses(&mut self, body: usize, list: &[Exp<'_>]) {
-        for e in list {
-            self.root(body, Some(self.leaves));
-            self.expression(e);
-        }
-    }
-
-    /// Passes the values of an assignment, whose roots are the steps from `first` on.
-    #[cycle(walking)]
-    fn assigned(&mut self, body: usize, first: usize, list: &[Exp<'_>]) {
-        let mut step = first;
-        for e in list {
-            self.value_begins(body, step);
-            step = step.saturating_add(1);
-            self.expression(e);
-        }
-    }
-
-    #[cycle(walking)]
-    fn block(&mut self, body: usize, block: &Block<'_>) {
-        self.declarations(body, &block.declarations);
-        self.items(body, &block.items);
-    }
-
-    #[cycle(walking)]
-    fn declarations(&mut self, body: usize, list: &[Declaration<'_>]) {
-        for declaration in list {
-            match declaration {
-                Declaration::Constants(storage, constants) => self.constants(*storage, constants),
-                Declaration::Let(definitions) => self.definitions(body, definitions),
-            }
-        }
-    }
-
-    #[cycle(walking)]
-    fn constants(&mut self, storage: Storage, list: &[Constant<'_>]) {
-        for constant in list {
-            if storage == Storage::Static {
-                self.place();
-            }
-            self.leaf();
-            self.expression(&constant.value);
-        }
-    }
-
-    #[cycle(walking)]
-    fn definitions(&mut self, body: usize, list: &[Definition<'_>]) {
-        for definition in list {
-            self.definition(body, definition);
-        }
-    }
-
-    /// Passes names, each of which is a leaf.
-    fn names(&mut self, names: &[&[u8]]) {
-        self.leaves = self.leaves.saturating_add(names.len());
-    }
-
-    /// Passes the name and parameters of a routine, and adds its body. Returns the index of the body.
-    fn head(&mut self, parameters: &[&[u8]]) -> usize {
-        let body = self.body();
-        if self.routines.push(body).is_err() {
-            self.is_refused = true;
-        }
-        self.place();
-        self.leaf();
-        self.own(body, 1, Purpose::Routine);
-        self.names(parameters);
-        body
-    }
-
-    #[cycle(walking)]
-    fn definition(&mut self, body: usize, definition: &Definition<'_>) {
-        match definition {
-            Definition::Variables(names, values) => {
-                let first = self.leaves;
-                self.names(names);
-                self.values(body, first, values);
-            }
-            Definition::Vector(_, last) => {
-                let name = self.leaves;
-                self.hidden_root(body, name, name.saturating_add(1));
-                self.leaf();
-                self.leaf();
-                self.expression(last);
-            }
-            Definition::Function(_, parameters, value) => {
-                let body = self.head(parameters);
-                self.root_of(body, value);
-                self.own(body, 1, Purpose::End);
-            }
-            Definition::Routine(_, parameters, block) => {
-                let body = self.head(parameters);
-                self.block(body, block);
-                self.own(body, 2, Purpose::End);
-            }
-        }
-    }
-
-    #[cycle(walking)]
-    fn items(&mut self, body: usize, list: &[Item<'_>]) {
-        for item in list {
-            for label in &item.labels {
-                self.label(body, label);
-            }
-            if let Some(command) = &item.command {
-                self.command(body, command);
-            }
-        }
-    }
-
-    #[cycle(walking)]
-    fn label(&mut self, body: usize, label: &Label<'_>) {
-        self.leaf();
-        match label {
-            Label::Case(value) => {
-                self.own(body, 1, Purpose::Label);
-                self.expression(value);
-            }
-            Label::Default => self.own(body, 1, Purpose::Label),
-            Label::Name(_) => self.own(body, 1, Purpose::Label),
-        }
-    }
-
-    /// Adds a command that is a single word.
-    fn word(&mut self, body: usize, count: usize, what: Purpose) {
-        self.leaf();
-        self.own(body, count, what);
-    }
-
-    /// Adds items of a command that is at the next leaf.
-    fn ahead(&mut self, body: usize, count: usize, what: Purpose) {
-        self.step(body, self.leaves, Work::Own(count, what));
-    }
-
-    /// Adds the end of a FOR loop. `variable` is the leaf of its variable.
-    fn turned(&mut self, body: usize, variable: usize) {
-        self.step(body, variable, Work::Own(1, Purpose::Onward));
-        self.hidden_root(body, variable, variable);
-        self.step(body, variable, Work::Own(2, Purpose::Back));
-    }
-
-    /// Adds a command that contains no others.
-    #[cycle(walking)]
-    fn single(&mut self, body: usize, command: &Command<'_>) {
-        match command {
-            Command::Assign(places, values) => {
-                let first = self.count_steps(body);
-                self.addresses(body, places);
-                self.assigned(body, first, values);
-            }
-            Command::Call(called, values) => {
-                self.root_of(body, called);
-                self.expressions(values);
-            }
-            Command::ResultIs(value) => {
-                self.leaf();
-                self.root_of(body, value);
-                self.own(body, 1, Purpose::ResultIs);
-            }
-            Command::Goto(_) => {
-                self.leaf();
-                self.word(body, 1, Purpose::Goto);
-            }
-            Command::Break => self.word(body, 1, Purpose::Break),
-            Command::Loop => self.word(body, 1, Purpose::Loop),
-            Command::EndCase => self.word(body, 1, Purpose::EndCase),
-            Command::Return => self.word(body, 2, Purpose::Return),
-            Command::Finish => self.word(body, 1, Purpose::Finish),
+            PartRole::Then => self.own(last, 2, Purpose::Past),
             _ => {}
         }
     }
 
-    /// Adds a command with a test or a choice. The other commands are in functions of their own, so that each
-    /// function in the cycle takes a single tree, whose size the termination proof needs.
-    #[cycle(walking)]
-    fn guarded(&mut self, body: usize, command: &Command<'_>) {
-        match command {
-            Command::If(test, block) | Command::Unless(test, block) => {
-                self.root_of(body, test);
-                self.block(body, block);
-                self.own(body, 1, Purpose::Join);
+    /// Begins an expression.
+    fn begin_expression(&mut self, first: usize, e: &Exp<'_>) {
+        match e {
+            Exp::String(_) | Exp::Table(_) => self.place(first),
+            Exp::Valof(_) => {
+                let body = self.enter();
+                let is_refused = self.valofs.push(body).is_err();
+                self.note(is_refused);
             }
-            Command::While(test, block) | Command::Until(test, block) => {
-                self.ahead(body, 1, Purpose::Turn);
-                self.root_of(body, test);
-                self.block(body, block);
-                self.own(body, 2, Purpose::Back);
-            }
-            Command::Test { test, this, that } => {
-                self.root_of(body, test);
-                self.block(body, this);
-                self.own(body, 2, Purpose::Past);
-                self.block(body, that);
-                self.own(body, 1, Purpose::Join);
-            }
-            Command::SwitchOn(of, list) => {
-                self.root_of(body, of);
-                let items = cases_in(list).saturating_mul(2).saturating_add(3);
-                self.own(body, items, Purpose::Switch);
-                self.items(body, list);
-                self.own(body, 1, Purpose::Switched);
-            }
-            _ => self.single(body, command),
+            _ => {}
         }
     }
 
-    /// Adds a FOR loop.
-    #[cycle(walking)]
-    fn counted(&mut self, body: usize, command: &Command<'_>) {
-        let Command::For {
-            start,
-            limit,
-            step,
-            body: block,
-            ..
-        } = command
-        else {
-            return self.guarded(body, command);
-        };
-        let variable = self.leaves;
-        self.read_root(
-            body,
-            variable,
-            RootLeaves {
-                value: variable.saturating_add(1),
-                address: Some(variable),
-                is_written: true,
-            },
-        );
-        self.leaf();
-        self.expression(start);
-        self.root_of(body, limit);
-        self.own(body, 1, Purpose::Turn);
-        self.hidden_root(body, variable, variable);
-        if let Some(by) = step {
-            self.expression(by);
+    /// Ends an expression.
+    fn end_expression(&mut self, visit: PartVisit<'_, '_>, e: &Exp<'_>) {
+        match e {
+            Exp::Table(_) => self.extent(visit),
+            Exp::Valof(_) => {
+                self.own(visit.leaves.saturating_sub(1), 1, Purpose::Valof);
+                self.leave();
+                self.extent(visit);
+            }
+            _ => {}
         }
-        self.block(body, block);
-        self.turned(body, variable);
     }
 
-    #[cycle(walking)]
-    fn command(&mut self, body: usize, command: &Command<'_>) {
-        match command {
-            Command::Block(block) => self.block(body, block),
-            Command::Repeat(repeated) => {
-                self.ahead(body, 1, Purpose::Turn);
-                self.command(body, repeated);
-                self.own(body, 2, Purpose::Back);
+    /// Begins a definition. The root of a vector isn't in the source.
+    fn begin_definition(&mut self, first: usize, definition: &Definition<'_>) {
+        match definition {
+            Definition::Variables(_, _) => {}
+            Definition::Vector(_, _) => self.assignment(first, first.saturating_add(1), false),
+            Definition::Function(_, _, _) | Definition::Routine(_, _, _) => {
+                let body = self.enter();
+                let is_refused = self.routines.push(body).is_err();
+                self.note(is_refused);
+                self.place(first);
+                self.own(first, 1, Purpose::Routine);
             }
-            Command::RepeatWhile(repeated, test) | Command::RepeatUntil(repeated, test) => {
-                self.ahead(body, 1, Purpose::Turn);
-                self.command(body, repeated);
-                self.own(body, 1, Purpose::Onward);
-                self.root_of(body, test);
-                self.own(body, 1, Purpose::After);
-            }
-            _ => self.counted(body, command),
         }
+    }
+
+    /// Ends a definition whose last leaf is `last`.
+    fn end_definition(&mut self, last: usize, definition: &Definition<'_>) {
+        match definition {
+            Definition::Variables(_, _) | Definition::Vector(_, _) => {}
+            Definition::Function(_, _, _) => {
+                self.own(last, 1, Purpose::End);
+                self.leave();
+            }
+            Definition::Routine(_, _, _) => {
+                self.own(last, 2, Purpose::End);
+                self.leave();
+            }
+        }
+    }
+
+    /// Begins a command. The root of a FOR is in the source: it is its variable and the first value.
+    fn begin_command(&mut self, first: usize, command: &Command<'_>) {
+        match command {
+            Command::Call(_, _) => self.root(first, None),
+            Command::Break => self.own(first, 1, Purpose::Break),
+            Command::Loop => self.own(first, 1, Purpose::Loop),
+            Command::EndCase => self.own(first, 1, Purpose::EndCase),
+            Command::Return => self.own(first, 2, Purpose::Return),
+            Command::Finish => self.own(first, 1, Purpose::Finish),
+            Command::Goto(_) => self.own(first.saturating_add(1), 1, Purpose::Goto),
+            Command::While(_, _)
+            | Command::Until(_, _)
+            | Command::Repeat(_)
+            | Command::RepeatWhile(_, _)
+            | Command::RepeatUntil(_, _) => self.own(first, 1, Purpose::Turn),
+            Command::For { .. } => self.assignment(first, first.saturating_add(1), true),
+            _ => {}
+        }
+    }
+
+    /// Ends a command.
+    fn end_command(&mut self, visit: PartVisit<'_, '_>, command: &Command<'_>) {
+        let last = visit.leaves.saturating_sub(1);
+        match command {
+            Command::ResultIs(_) => self.own(last, 1, Purpose::ResultIs),
+            Command::If(_, _) | Command::Unless(_, _) | Command::Test { .. } => {
+                self.own(last, 1, Purpose::Join);
+            }
+            Command::While(_, _) | Command::Until(_, _) | Command::Repeat(_) => {
+                self.own(last, 2, Purpose::Back);
+            }
+            Command::RepeatWhile(_, _) | Command::RepeatUntil(_, _) => {
+                self.own(last, 1, Purpose::After);
+            }
+            Command::SwitchOn(_, _) => self.own(last, 1, Purpose::Switched),
+            Command::For { .. } => self.turned(visit.first),
+            _ => {}
+        }
+    }
+
+    /// Adds the end of a FOR. `variable` is the leaf of its variable.
+    fn turned(&mut self, variable: usize) {
+        self.own(variable, 1, Purpose::Onward);
+        self.assignment(variable, variable, false);
+        self.own(variable, 2, Purpose::Back);
     }
 }

@@ -1,11 +1,12 @@
-//! The listing `scopes`: its text, from what the walk found.
+//! The listing `scopes`: the frame of each routine; statics, tables and strings; globals. `bc_scope_places` finds where they are.
+
 use crate::lines::{Files, Lines};
 use crate::page::{Field, Page};
-use crate::scope_walk::{Cells, Datum, Frame, Row, ScopeContext, ScopeWalk};
-use bc_core::{Core, Place};
-use bc_lex_tokens::Token;
-use bc_parse_tree::{Section, leaves_of};
-use bc_text_items::Item;
+use bc_core::{Core, Place, Routine};
+use bc_lex_tokens::{Symbol, Token, TokenKind};
+use bc_parse_tree::{Section, is_leaf, leaves_of};
+use bc_scope_places::{GlobalSite, Sites, VariableSite, sites_of};
+use bc_text_items::{Base, Item};
 use bc_word::Memory;
 use std::alloc::Global;
 
@@ -39,8 +40,34 @@ pub struct Scopes<'p, 's> {
     pub section: &'p Section<'s>,
     /// Its resolved tree.
     pub core: &'p Core,
+    /// The items of its segment.
+    pub items: &'p [Item],
     /// The other segments of the program.
     pub setters: &'p [Setter<'p>],
+}
+
+/// A routine of the section.
+#[derive(Clone, Copy)]
+struct Frame<'p> {
+    /// Its label.
+    label: u64,
+    /// The leaf of its name.
+    leaf: usize,
+    /// Its resolved tree.
+    routine: &'p Routine,
+}
+
+/// The kind of a variable's cells.
+#[derive(Clone, Copy)]
+enum Cells {
+    /// A parameter.
+    Parameter,
+    /// A variable.
+    Variable,
+    /// A variable that points to a vector, and the vector's cells. This is the greatest subscript.
+    Vector(u64),
+    /// The variable of a FOR, and its limit.
+    Counter,
 }
 
 /// The listing while it is written.
@@ -50,7 +77,22 @@ struct Listing<'p, 's> {
     scopes: Scopes<'p, 's>,
     lines: &'p Lines,
     leaves: &'p [Token<'s>],
-    walk: &'p ScopeWalk<'p, 's>,
+    /// For each leaf, whether it is the variable of a FOR.
+    counters: &'p [bool],
+    sites: &'p Sites,
+}
+
+/// For each leaf, whether it is the variable of a FOR. `Memory` if an allocation fails.
+fn counters_of(alloc: Global, tokens: &[Token<'_>]) -> Result<Vec<bool>, Memory> {
+    let mut counters = Vec::new(alloc);
+    let mut is_counter = false;
+    for token in tokens {
+        if is_leaf(token.kind) {
+            counters.push(is_counter)?;
+        }
+        is_counter = matches!(token.kind, TokenKind::Symbol(Symbol::For));
+    }
+    Ok(counters)
 }
 
 /// Whether `global` is this number.
@@ -58,6 +100,19 @@ fn is_number(global: Option<u16>, wanted: u16) -> bool {
     match global {
         Some(number) => number == wanted,
         None => false,
+    }
+}
+
+/// Whether an item uses or sets this global.
+fn names_global(item: &Item, wanted: u16) -> bool {
+    match item {
+        Item::Operation {
+            base: Base::G,
+            number,
+            ..
+        } => number.get() == wanted,
+        Item::Global { number, .. } => number.get() == wanted,
+        _ => false,
     }
 }
 
@@ -109,50 +164,82 @@ impl<'p, 's> Listing<'p, 's> {
             .add_all(&[Field::Text(":"), Field::Number(number, 0)]);
     }
 
-    /// Adds the description of a row's cells, and where the name is declared.
-    fn end_row(&mut self, row: Row<'s>) {
-        match row.cells {
+    /// The leaf of the place with this label.
+    fn leaf_of(&self, label: u64) -> usize {
+        match self.sites.label(label) {
+            Some(leaf) => leaf as usize,
+            None => usize::MAX,
+        }
+    }
+
+    /// The kind of the cells of a variable in this frame.
+    fn cells_of(&self, frame: Frame<'p>, site: VariableSite) -> Cells {
+        let leaf = site.leaf as usize;
+        let last_parameter = frame
+            .leaf
+            .saturating_add(usize::from(frame.routine.parameters));
+        if site.cells > 1 {
+            Cells::Vector(site.cells.saturating_sub(2))
+        } else if leaf <= last_parameter {
+            Cells::Parameter
+        } else if self.counters.get(leaf).copied().unwrap_or(false) {
+            Cells::Counter
+        } else {
+            Cells::Variable
+        }
+    }
+
+    /// Adds the description of a variable's cells, and the place where it is declared.
+    fn end_row(&mut self, cells: Cells, leaf: usize) {
+        match cells {
             Cells::Parameter => return self.page.add_line(&[Field::Text("parameter")]),
             Cells::Variable => self.page.add_text("variable, "),
             Cells::Counter => self.page.add_text("FOR variable and its limit, "),
             Cells::Vector(last) => self.add_vector(last),
         }
-        self.end_line(row.leaf);
+        self.end_line(leaf);
     }
 
     /// Adds the description of a vector with this greatest subscript.
-    fn add_vector(&mut self, last: u16) {
+    fn add_vector(&mut self, last: u64) {
         self.page.add_all(&[
             Field::Text("vector 0 to "),
-            Field::Number(u64::from(last), 0),
+            Field::Number(last, 0),
             Field::Text(" after its own cell, "),
         ]);
     }
 
-    /// Adds the row of a name.
-    fn add_row(&mut self, row: Row<'s>) {
-        let level = row.offset.saturating_add(row.count);
+    /// Adds the row of a variable in this frame.
+    fn add_row(&mut self, frame: Frame<'p>, site: VariableSite) {
+        let cells = self.cells_of(frame, site);
+        let count = match cells {
+            Cells::Counter => 2,
+            _ => site.cells,
+        };
+        let leaf = site.leaf as usize;
+        let name = self.text_at(leaf);
         self.page.add_all(&[
-            Field::Number(row.offset, 8),
-            Field::Number(row.count, 8),
-            Field::Number(level, 8),
+            Field::Number(site.offset, 8),
+            Field::Number(count, 8),
+            Field::Number(site.offset.saturating_add(count), 8),
             Field::Text("  "),
-            Field::Front(row.name, SHOWN),
+            Field::Front(name, SHOWN),
             Field::Column(44),
             Field::Text(" "),
         ]);
-        self.end_row(row);
+        self.end_row(cells, leaf);
     }
 
     /// Adds the heading of a frame: its routine.
-    fn add_routine(&mut self, frame: Frame<'s>) {
+    fn add_routine(&mut self, frame: Frame<'p>) {
+        let name = self.text_at(frame.leaf);
         self.page.add_all(&[
             Field::Text("routine "),
-            Field::Front(frame.name, SHOWN),
+            Field::Front(name, SHOWN),
             Field::Text(", L"),
             Field::Number(frame.label, 0),
         ]);
-        if let Some(number) = frame.global {
+        if let Some(number) = frame.routine.global {
             let number = Field::Number(u64::from(number), 0);
             self.page.add_all(&[Field::Text(", sets global "), number]);
         }
@@ -161,14 +248,15 @@ impl<'p, 's> Listing<'p, 's> {
     }
 
     /// Adds a frame with its rows.
-    fn add_frame(&mut self, index: usize, frame: Frame<'s>) {
+    fn add_frame(&mut self, frame: Frame<'p>) {
         self.add_routine(frame);
+        let sites = self.sites;
         let mut head = "  offset   cells   level  name\n";
-        for row in &self.walk.rows {
-            if row.frame == index {
+        for site in &sites.variables {
+            if site.routine == frame.label {
                 self.page.add_lines(head);
                 head = "";
-                self.add_row(*row);
+                self.add_row(frame, *site);
             }
         }
         self.page.end_line();
@@ -176,11 +264,20 @@ impl<'p, 's> Listing<'p, 's> {
 
     /// Adds all frames.
     fn add_frames(&mut self) {
-        if !self.walk.frames.is_empty() {
-            self.page.add_lines(KEPT);
-        }
-        for (index, frame) in self.walk.frames.iter().enumerate() {
-            self.add_frame(index, *frame);
+        let places = self.scopes.core.places();
+        let mut head = KEPT;
+        let mut label: u64 = 0;
+        for place in places {
+            label = label.saturating_add(1);
+            if let Place::Routine(routine) = place {
+                self.page.add_lines(head);
+                head = "";
+                self.add_frame(Frame {
+                    label,
+                    leaf: self.leaf_of(label),
+                    routine,
+                });
+            }
         }
     }
 
@@ -192,15 +289,13 @@ impl<'p, 's> Listing<'p, 's> {
         }
     }
 
-    /// Adds the static, table or string with this label.
-    fn add_place(&mut self, label: u64, text: &[u8]) {
-        let index = (label as usize).saturating_sub(1);
-        let places = self.scopes.core.places();
-        match places.get(index) {
-            Some(Place::Static(word)) => self.add_static(text, word.get()),
-            Some(Place::Table(words)) => self.add_table(words.len() as u64),
-            Some(Place::Text(_)) => self.add_string(text),
-            Some(Place::Routine(_)) | None => {}
+    /// Adds what is at a label: a static, a table or a string.
+    fn add_place(&mut self, place: &Place, text: &[u8]) {
+        match place {
+            Place::Static(word) => self.add_static(text, word.get()),
+            Place::Table(words) => self.add_table(words.len() as u64),
+            Place::Text(_) => self.add_string(text),
+            Place::Routine(_) => {}
         }
     }
 
@@ -231,34 +326,45 @@ impl<'p, 's> Listing<'p, 's> {
     }
 
     /// Adds the line of a static, a table or a string.
-    fn add_datum(&mut self, datum: Datum) {
+    fn add_datum(&mut self, label: u64, place: &Place) {
         self.page.add_all(&[
             Field::Text("  L"),
-            Field::Number(datum.label, 0),
+            Field::Number(label, 0),
             Field::Column(10),
         ]);
-        self.add_place(datum.label, self.text_at(datum.leaf));
+        let leaf = self.leaf_of(label);
+        self.add_place(place, self.text_at(leaf));
         self.page.add_text(", ");
-        self.end_line(datum.leaf);
+        self.end_line(leaf);
     }
 
     /// Adds all statics, tables and strings.
     fn add_data(&mut self) {
-        if self.walk.data.is_empty() {
-            return;
+        let places = self.scopes.core.places();
+        let mut head = "statics, tables and strings\n";
+        let mut label: u64 = 0;
+        for place in places {
+            label = label.saturating_add(1);
+            if !matches!(place, Place::Routine(_)) {
+                self.page.add_lines(head);
+                head = "";
+                self.add_datum(label, place);
+            }
         }
-        self.page.add_lines("statics, tables and strings\n");
-        for datum in &self.walk.data {
-            self.add_datum(*datum);
+        if head.is_empty() {
+            self.page.end_line();
         }
-        self.page.end_line();
     }
 
     /// The label of the section's routine that sets a global, if there is one.
     fn setting(&self, number: u16) -> Option<u64> {
-        for frame in &self.walk.frames {
-            if is_number(frame.global, number) {
-                return Some(frame.label);
+        let mut label: u64 = 0;
+        for place in self.scopes.core.places() {
+            label = label.saturating_add(1);
+            if let Place::Routine(routine) = place {
+                if is_number(routine.global, number) {
+                    return Some(label);
+                }
             }
         }
         None
@@ -287,36 +393,49 @@ impl<'p, 's> Listing<'p, 's> {
     }
 
     /// Adds the line of a global.
-    fn add_global(&mut self, known: ScopeContext<'s>) {
+    fn add_global(&mut self, site: GlobalSite) {
+        let leaf = site.leaf as usize;
+        let name = self.text_at(leaf);
         self.page.add_all(&[
-            Field::Number(u64::from(known.number), 8),
+            Field::Number(u64::from(site.number), 8),
             Field::Text("  "),
-            Field::Front(known.name, SHOWN),
+            Field::Front(name, SHOWN),
             Field::Column(44),
             Field::Text(" "),
         ]);
-        self.add_setting(known.number);
+        self.add_setting(site.number);
         self.page.add_text("; ");
-        self.end_line(known.leaf);
+        self.end_line(leaf);
     }
 
     /// Whether a global is listed: it is declared in the file, used or set.
-    fn is_told(&self, known: ScopeContext<'s>) -> bool {
-        let is_here = match self.leaves.get(known.leaf) {
+    fn is_listed(&self, site: GlobalSite) -> bool {
+        let is_here = match self.leaves.get(site.leaf as usize) {
             Some(token) => token.file == self.scopes.main,
             None => false,
         };
-        is_here || self.walk.used.iter().any(|number| *number == known.number)
+        is_here || self.is_in_items(site.number)
+    }
+
+    /// Whether the section's code uses or sets a global. The code of an expression has each global that the expression has.
+    fn is_in_items(&self, number: u16) -> bool {
+        for item in self.scopes.items {
+            if names_global(item, number) {
+                return true;
+            }
+        }
+        false
     }
 
     /// Adds the globals.
     fn add_globals(&mut self) {
+        let sites = self.sites;
         let mut head = "globals declared, used or set here\n";
-        for known in &self.walk.globals {
-            if self.is_told(*known) {
+        for site in &sites.globals {
+            if self.is_listed(*site) {
                 self.page.add_lines(head);
                 head = "";
-                self.add_global(*known);
+                self.add_global(*site);
             }
         }
     }
@@ -325,16 +444,19 @@ impl<'p, 's> Listing<'p, 's> {
 /// The listing `scopes` of a section: the frame of each routine, then statics, tables and strings, then globals.
 /// `Memory` if an allocation fails.
 pub fn scope_listing(alloc: Global, scopes: Scopes<'_, '_>) -> Result<Vec<u8>, Memory> {
-    let mut walk = ScopeWalk::new(alloc, scopes.core);
-    walk.section(scopes.section)?;
+    let Some(sites) = sites_of(alloc, scopes.section)? else {
+        return Ok(Vec::new(alloc));
+    };
     let lines = Lines::new(alloc, scopes.files.text(scopes.main))?;
     let leaves = leaves_of(alloc, scopes.tokens)?;
+    let counters = counters_of(alloc, scopes.tokens)?;
     let mut listing = Listing {
         page: Page::new(alloc),
         scopes,
         lines: &lines,
         leaves: leaves.as_slice(),
-        walk: &walk,
+        counters: counters.as_slice(),
+        sites: &sites,
     };
     listing.add_frames();
     listing.add_data();

@@ -60,7 +60,7 @@ fn write_parts<W: fmt::Write>(f: &mut fmt::Formatter<W>, list: &[CoreExp]) -> fm
 
 /// Prints an operator with its operand. `head` is the parenthesis and the operator.
 #[cycle(showing)]
-fn write_monadic<W: fmt::Write>(
+fn write_unary<W: fmt::Write>(
     f: &mut fmt::Formatter<W>,
     head: &str,
     operand: &CoreExp,
@@ -78,8 +78,8 @@ fn write_expression<W: fmt::Write>(f: &mut fmt::Formatter<W>, e: &CoreExp) -> fm
             f.write_char('!')?;
             write_expression(f, e)
         }
-        CoreExp::Neg(e) => write_monadic(f, "(NEG", e),
-        CoreExp::Not(e) => write_monadic(f, "(NOT", e),
+        CoreExp::Neg(e) => write_unary(f, "(NEG", e),
+        CoreExp::Not(e) => write_unary(f, "(NOT", e),
         CoreExp::Bin(op, left, right) => {
             f.write_char('(')?;
             f.write_str(sign(*op))?;

@@ -5,6 +5,7 @@ use bc_lex_tokens::{Symbol, Token, TokenKind};
 use bc_parse_defs::close;
 use bc_parse_tree::Part;
 use bc_word::Memory;
+use bcpl_places::ColumnCounter;
 use std::alloc::Global;
 
 /// The column of a token's kind.
@@ -71,10 +72,14 @@ fn add_meaning(page: &mut Page, token: &Token<'_>) {
 }
 
 /// Adds the line of a token.
-fn add_token(page: &mut Page, text: &[u8], lines: &Lines, token: &Token<'_>) {
-    let Ok(column) = lines.column_at(page.alloc(), text, token.start) else {
-        return page.refuse();
-    };
+fn add_token(
+    page: &mut Page,
+    text: &[u8],
+    lines: &Lines,
+    columns: &mut ColumnCounter,
+    token: &Token<'_>,
+) {
+    let column = lines.column_of(columns, text, token);
     page.add_all(&[
         Field::Number(lines.number_at(token.start) as u64, 5),
         Field::Text(":"),
@@ -159,6 +164,7 @@ pub fn token_listing(
     let mut page = Page::new(alloc);
     let nowhere = Elsewhere { path: "", count: 0 };
     let mut elsewhere = nowhere;
+    let mut columns = ColumnCounter::new();
     for (at, token) in tokens.iter().enumerate() {
         if token.file != main {
             elsewhere = elsewhere.with(&mut page, files.path(token.file));
@@ -168,7 +174,7 @@ pub fn token_listing(
             if breaks.as_slice().binary_search(&at).is_ok() {
                 add_break(&mut page);
             }
-            add_token(&mut page, text, &lines, token);
+            add_token(&mut page, text, &lines, &mut columns, token);
         }
     }
     elsewhere.add(&mut page);

@@ -5,6 +5,14 @@ use bc_word::Memory;
 use bcpl_places::library_name;
 use std::alloc::Global;
 
+/// A routine of the sources, and the address at which it begins.
+#[derive(Clone, Copy)]
+pub struct NamedRoutine<'r> {
+    pub address: u16,
+    /// Its name and where it is declared, as the profile shows them.
+    pub name: &'r str,
+}
+
 /// The address of global 0.
 const GLOBALS: usize = 8;
 
@@ -59,11 +67,26 @@ fn segment_at(image: &Image, address: u16) -> Option<usize> {
     None
 }
 
-/// Whether a part of the image begins at this address: the globals, a segment, or the stack.
-pub fn begins_part(image: &Image, address: u16) -> bool {
-    usize::from(address) == GLOBALS
-        || address == image.stack_base.get()
-        || segment_at(image, address).is_some()
+/// The number of addresses of a store.
+const ADDRESSES: usize = 65_536;
+
+/// Notes that a part of the image begins at this address.
+fn note_part(begins: &mut [bool], address: usize) {
+    if let Some(begin) = begins.get_mut(address) {
+        *begin = true;
+    }
+}
+
+/// For each address, whether a part of the image begins there: the globals, a segment, or the stack. `Memory` if an
+/// allocation fails.
+pub fn part_beginnings(alloc: Global, image: &Image) -> Result<Vec<bool>, Memory> {
+    let mut begins = vec![in alloc; false; ADDRESSES]?;
+    note_part(begins.as_mut_slice(), GLOBALS);
+    note_part(begins.as_mut_slice(), usize::from(image.stack_base.get()));
+    for place in image.places.as_slice() {
+        note_part(begins.as_mut_slice(), usize::from(place.start.get()));
+    }
+    Ok(begins)
 }
 
 /// The name of the part of the image at this address, if no label is there.
@@ -84,9 +107,25 @@ fn part_at(alloc: Global, image: &Image, address: u16) -> Result<String, Memory>
     Ok(String::from_str(alloc, said)?)
 }
 
-/// The name of the routine at this address: its segment and label, the global that has the address, and that global's
-/// name in LIBHDR. Without a label, the name of the part of the image. `Memory` if an allocation fails.
-pub fn name_at(alloc: Global, image: &Image, address: u16) -> Result<String, Memory> {
+/// The name of the first of these routines that begins at this address.
+fn named_at<'r>(routines: &[NamedRoutine<'r>], address: u16) -> Option<&'r str> {
+    for routine in routines {
+        if routine.address == address {
+            return Some(routine.name);
+        }
+    }
+    None
+}
+
+/// The name of the routine at this address: its segment and label, the global that has the address, and its name among
+/// `routines` or, if it isn't one of them, the global's name in LIBHDR. Without a label, the name of the part of the
+/// image. `Memory` if an allocation fails.
+pub fn name_at(
+    alloc: Global,
+    image: &Image,
+    routines: &[NamedRoutine<'_>],
+    address: u16,
+) -> Result<String, Memory> {
     let mut name = match label_at(image, address) {
         Some(place) => {
             let segment = place.segment;
@@ -95,11 +134,13 @@ pub fn name_at(alloc: Global, image: &Image, address: u16) -> Result<String, Mem
         }
         None => part_at(alloc, image, address)?,
     };
+    let mut known = named_at(routines, address);
     if let Some(global) = global_at(image, address) {
-        match library_name(global) {
-            Some(known) => write!(name, ", global {global}, {known}")?,
-            None => write!(name, ", global {global}")?,
-        }
+        write!(name, ", global {global}")?;
+        known = known.or(library_name(global));
+    }
+    if let Some(known) = known {
+        write!(name, ", {known}")?;
     }
     Ok(name)
 }

@@ -2,7 +2,7 @@
 
 use crate::change::cell;
 use crate::counts::Counts;
-use crate::names::{begins_part, name_at};
+use crate::names::{NamedRoutine, name_at, part_beginnings};
 use crate::watch::Watch;
 use bc_machine::Machine;
 use bc_machine_defs::Image;
@@ -25,6 +25,14 @@ struct Routine {
     from: u16,
 }
 
+/// A program that was run.
+#[derive(Clone, Copy)]
+pub struct ProfiledProgram<'p> {
+    pub image: &'p Image,
+    /// The routines that the sources name. Without sources there are none.
+    pub routines: &'p [NamedRoutine<'p>],
+}
+
 /// The count at an address.
 fn at(counts: &[u64], address: u16) -> u64 {
     match counts.get(usize::from(address)) {
@@ -36,6 +44,7 @@ fn at(counts: &[u64], address: u16) -> u64 {
 /// The routines that executed any instruction, sorted. A routine begins at each address that was called, and ends
 /// where the next routine or another part of the image begins.
 fn routines(alloc: Global, counts: &Counts, image: &Image) -> Result<Vec<Routine>, Memory> {
+    let begins = part_beginnings(alloc, image)?;
     let mut found = Vec::new(alloc);
     let mut now = Routine {
         times: 0,
@@ -44,7 +53,8 @@ fn routines(alloc: Global, counts: &Counts, image: &Image) -> Result<Vec<Routine
     };
     for address in 0..=u16::MAX {
         let calls = at(counts.calls.as_slice(), address);
-        if calls > 0 || begins_part(image, address) {
+        let is_part = matches!(begins.get(usize::from(address)), Some(true));
+        if calls > 0 || is_part {
             if now.times > 0 {
                 found.push(now)?;
             }
@@ -80,11 +90,11 @@ fn add_hottest(
     alloc: Global,
     text: &mut String,
     watch: &Watch,
-    image: &Image,
+    program: ProfiledProgram<'_>,
 ) -> Result<(), Memory> {
     text.push_str("/      times   share      calls   from  routine\n")?;
     let whole = watch.number();
-    let found = routines(alloc, watch.counts(), image)?;
+    let found = routines(alloc, watch.counts(), program.image)?;
     for routine in found.iter().rev().take(HOTTEST) {
         let times = routine.times;
         let calls = routine.calls;
@@ -92,7 +102,7 @@ fn add_hottest(
         let share = share(times, whole);
         let percent = share / 10;
         let tenths = share % 10;
-        let name = name_at(alloc, image, from)?;
+        let name = name_at(alloc, program.image, program.routines, from)?;
         writeln!(
             text,
             "{times:>12} {percent:>4}.{tenths}% {calls:>10} {from:>6}  {name}"
@@ -121,20 +131,20 @@ fn add_times(
     Ok(())
 }
 
-/// The profile of a recorded run of a machine that started with this image: the number of executed instructions, the
-/// ten routines that executed the most, with their shares, and the count of each instruction. `Memory` if an
-/// allocation fails.
+/// The profile of a recorded run of a machine that started with the image of this program: the number of executed
+/// instructions, the ten routines that executed the most, with their shares, and the count of each instruction.
+/// `Memory` if an allocation fails.
 pub fn profile(
     alloc: Global,
     watch: &Watch,
     machine: &Machine,
-    image: &Image,
+    program: ProfiledProgram<'_>,
 ) -> Result<String, Memory> {
     let mut text = String::new(alloc);
     let whole = watch.number();
     writeln!(text, "/ {whole} instructions executed")?;
     text.push_str("/\n/ the hottest routines; a routine begins at each address that was called\n")?;
-    add_hottest(alloc, &mut text, watch, image)?;
+    add_hottest(alloc, &mut text, watch, program)?;
     text.push_str(
         "/\n/ how often each instruction was executed, as it is in the store at the end\n",
     )?;

@@ -124,10 +124,14 @@ pub fn seeming_head<'s>(
     tokens: &[Token<'s>],
     index: usize,
 ) -> Option<&'s [u8]> {
+    // tried first, so that the line before is read once a line, and not once a token
+    if !is_separated(tokens, index) {
+        return None;
+    }
     let last = index.checked_sub(1)?;
     let body = line_start(tokens, last);
     let sign = body.checked_sub(1)?;
-    if !is_separated(tokens, index) || name_at(tokens, body).is_none() || !ends_head(tokens, sign) {
+    if name_at(tokens, body).is_none() || !ends_head(tokens, sign) {
         return None;
     }
     let head = first_after_bracket(tokens, sign);

@@ -1,5 +1,5 @@
-/* Preloaded into a program: the read whose number FAIL_READ gives fails, and the write whose number FAIL_WRITE gives, counted from 1.
-   With ONE_BYTE each moves one byte a call. How many reads and writes there were is written to the file that COUNT_CALLS names. */
+/* Preloaded into a program: the read whose number FAIL_READ gives fails, the write whose number FAIL_WRITE gives, and the renaming whose number
+   FAIL_RENAME gives, counted from 1. With ONE_BYTE each read or write moves one byte a call. How many reads and writes there were is written to the file that COUNT_CALLS names. */
 #define _GNU_SOURCE
 #include <errno.h>
 #include <fcntl.h>
@@ -8,7 +8,7 @@
 #include <sys/syscall.h>
 #include <unistd.h>
 
-static long reads, writes;
+static long reads, writes, renames;
 
 static long wanted(const char *name) {
     const char *number = getenv(name);
@@ -31,6 +31,14 @@ ssize_t write(int file, const void *bytes, size_t count) {
         return -1;
     }
     return syscall(SYS_write, file, bytes, moved(count));
+}
+
+int rename(const char *from, const char *to) {
+    if (++renames == wanted("FAIL_RENAME")) {
+        errno = EIO;
+        return -1;
+    }
+    return (int)syscall(SYS_rename, from, to);
 }
 
 static __attribute__((destructor)) void tell(void) {

@@ -1,8 +1,8 @@
 -- Parts and trees, written briefly for the examples.
 use Rattle.std.specs.Prelude.{ℕ, zero, suc, List, [], ◌∷◌, codes}
 use Rattle.bc_lex_tokens.specs.declared.symbol.Symbol.TheVariants as sign
-use Rattle.bc_parse_tree.specs.declared.tree.Dyadic.{Dyadic}
-use Rattle.bc_parse_tree.specs.declared.tree.Monadic.TheVariants as monadic
+use Rattle.bc_parse_tree.specs.declared.tree.BinaryOp.{BinaryOp}
+use Rattle.bc_parse_tree.specs.declared.tree.UnaryOp.TheVariants as unary
 use Rattle.bc_parse_tree.specs.Parts.{Part, A, Name}
 use Rattle.bc_parse_tree.specs.Tree.{Exp, Exps, none, more, Block, block, Declarations, no_declarations, declaration, no_definitions, definition, Labelled, no_items, item, no_labels, Command}
 use Rattle.bc_parse_tree.specs.Tree as tree
@@ -40,11 +40,11 @@ the_x = tree.Name (codes "X")
 abbrev pub the_f : Exp
 the_f = tree.Name (codes "F")
 
-abbrev pub two : Dyadic → Exp → Exp → Exp
-two o l r = tree.Dyadic o l r
+abbrev pub two : BinaryOp → Exp → Exp → Exp
+two o l r = tree.Bin o l r
 
 abbrev pub minus : Exp → Exp
-minus e = tree.Monadic monadic.Negate e
+minus e = tree.Unary unary.Neg e
 
 abbrev pub list : List Exp → Exps
 list [] = none

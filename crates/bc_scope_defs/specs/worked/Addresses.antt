@@ -3,7 +3,7 @@
 use Rattle.std.specs.Prelude.{ℕ, ◌≡◌, codes, List, [], ◌∷◌, map, Option, Some, None, refl, true, false}
 use Rattle.bc_word.specs.declared.operator.Op.TheVariants as operators
 use Rattle.bc_parse_tree.specs.declared.tree.Storage.TheVariants as storage
-use Rattle.bc_parse_tree.specs.declared.tree.Dyadic.TheVariants as dyadic
+use Rattle.bc_parse_tree.specs.declared.tree.BinaryOp.TheVariants as binary
 use Rattle.bc_parse_tree.specs.Tree.{Exp, Block, Declaration}
 use Rattle.bc_parse_tree.specs.Tree as tree
 use Rattle.bc_core.specs.Tree as core
@@ -99,13 +99,13 @@ of_not = refl
 of_address : refused (address_of (of x))
 of_address = refl
 
-of_choice : refused (tree.Condition (of x) (of x) (of x))
+of_choice : refused (tree.Cond (of x) (of x) (of x))
 of_choice = refl
 
 -- X op 1 for each operator but `!`
 of_operators : map (λ o. taken (two o (of x) (number 1)))
-    (dyadic.Equivalent ∷ dyadic.NotEquivalent ∷ dyadic.Or ∷ dyadic.And ∷ dyadic.ShiftLeft ∷ dyadic.ShiftRight ∷ dyadic.Equal ∷ dyadic.NotEqual ∷ dyadic.Less
-    ∷ dyadic.GreaterEqual ∷ dyadic.Greater ∷ dyadic.LessEqual ∷ dyadic.Add ∷ dyadic.Subtract ∷ dyadic.Multiply ∷ dyadic.Divide ∷ dyadic.Remainder ∷ [])
+    (binary.Equivalent ∷ binary.NotEquivalent ∷ binary.Or ∷ binary.And ∷ binary.ShiftLeft ∷ binary.ShiftRight ∷ binary.Equal ∷ binary.NotEqual ∷ binary.Less
+    ∷ binary.GreaterEqual ∷ binary.Greater ∷ binary.LessEqual ∷ binary.Add ∷ binary.Subtract ∷ binary.Multiply ∷ binary.Divide ∷ binary.Remainder ∷ [])
     ≡ (let no = Some ANotAssignable in no ∷ no ∷ no ∷ no ∷ no ∷ no ∷ no ∷ no ∷ no ∷ no ∷ no ∷ no ∷ no ∷ no ∷ no ∷ no ∷ no ∷ [])
 of_operators = refl
 
@@ -263,7 +263,7 @@ content_of_minus_is_none = (refl, refl)
 content_of_moved_is : operand (load (plus (address_of (of x)) (number 3)))
 content_of_moved_is = (refl, refl)
 
-content_of_lowered_is_none : no_operand (load (two dyadic.Subtract (address_of (of x)) (number 3)))
+content_of_lowered_is_none : no_operand (load (two binary.Subtract (address_of (of x)) (number 3)))
 content_of_lowered_is_none = (refl, refl)
 
 -- the result of a VALOF, of a call, and of `->`
@@ -273,7 +273,7 @@ content_of_valof_is_none = (refl, refl)
 content_of_call_is_none : no_operand (load (call f []))
 content_of_call_is_none = (refl, refl)
 
-content_of_choice_is_none : no_operand (load (tree.Condition (of x) (of x) (of y)))
+content_of_choice_is_none : no_operand (load (tree.Cond (of x) (of x) (of y)))
 content_of_choice_is_none = (refl, refl)
 
 -- Meaning

@@ -2,7 +2,7 @@
 use Rattle.std.specs.Prelude.{ℕ, ◌≡◌, codes, List, [], ◌∷◌, map, Option, Some, None, refl, true}
 use Rattle.bc_parse_tree.specs.declared.tree.Storage.{Storage}
 use Rattle.bc_parse_tree.specs.declared.tree.Storage.TheVariants as storage
-use Rattle.bc_parse_tree.specs.declared.tree.Dyadic.TheVariants as dyadic
+use Rattle.bc_parse_tree.specs.declared.tree.BinaryOp.TheVariants as binary
 use Rattle.bc_parse_tree.specs.Tree.{Exp, Declaration, Command}
 use Rattle.bc_parse_tree.specs.Tree as tree
 use Rattle.bc_core.specs.Commands as c
@@ -28,28 +28,28 @@ leaves : (worth (number 7) ≡ Some 7) × (worth (tree.Character 65) ≡ Some 65
 leaves = (refl, refl, refl, refl, refl)
 
 -- -A, NOT A, -0
-monadics : (worth (minus (of a)) ≡ Some 65531) × (worth (opposite (of a)) ≡ Some 65530) × (worth (minus (number 0)) ≡ Some 0)
-monadics = (refl, refl, refl)
+unaries : (worth (minus (of a)) ≡ Some 65531) × (worth (opposite (of a)) ≡ Some 65530) × (worth (minus (number 0)) ≡ Some 0)
+unaries = (refl, refl, refl)
 
 -- 13 op 5, for each operator but `!`: EQV NEQV | & << >> = NE < GE > LE + - * / REM
-dyadics : map (λ o. worth (two o (number 13) (of a)))
-    (dyadic.Equivalent ∷ dyadic.NotEquivalent ∷ dyadic.Or ∷ dyadic.And ∷ dyadic.ShiftLeft ∷ dyadic.ShiftRight ∷ dyadic.Equal ∷ dyadic.NotEqual ∷ dyadic.Less
-    ∷ dyadic.GreaterEqual ∷ dyadic.Greater ∷ dyadic.LessEqual ∷ dyadic.Add ∷ dyadic.Subtract ∷ dyadic.Multiply ∷ dyadic.Divide ∷ dyadic.Remainder ∷ [])
+binaries : map (λ o. worth (two o (number 13) (of a)))
+    (binary.Equivalent ∷ binary.NotEquivalent ∷ binary.Or ∷ binary.And ∷ binary.ShiftLeft ∷ binary.ShiftRight ∷ binary.Equal ∷ binary.NotEqual ∷ binary.Less
+    ∷ binary.GreaterEqual ∷ binary.Greater ∷ binary.LessEqual ∷ binary.Add ∷ binary.Subtract ∷ binary.Multiply ∷ binary.Divide ∷ binary.Remainder ∷ [])
     ≡ Some 65527 ∷ Some 8 ∷ Some 13 ∷ Some 5 ∷ Some 416 ∷ Some 0 ∷ Some 0 ∷ Some 65535 ∷ Some 0
     ∷ Some 65535 ∷ Some 65535 ∷ Some 0 ∷ Some 18 ∷ Some 8 ∷ Some 65 ∷ Some 2 ∷ Some 3 ∷ []
-dyadics = refl
+binaries = refl
 
 -- 65535 + 1 and 0 - 1 wrap; -7 / 2 is -3; -1 < 0
-wraps : (worth (plus (number 65535) (number 1)) ≡ Some 0) × (worth (two dyadic.Subtract (number 0) (number 1)) ≡ Some 65535)
+wraps : (worth (plus (number 65535) (number 1)) ≡ Some 0) × (worth (two binary.Subtract (number 0) (number 1)) ≡ Some 65535)
 wraps = (refl, refl)
 
-signed : (worth (two dyadic.Divide (minus (number 7)) (number 2)) ≡ Some 65533) × (worth (two dyadic.Less (minus (number 1)) (number 0)) ≡ Some 65535)
+signed : (worth (two binary.Divide (minus (number 7)) (number 2)) ≡ Some 65533) × (worth (two binary.Less (minus (number 1)) (number 0)) ≡ Some 65535)
 signed = (refl, refl)
 
 -- 1/0 and 1 REM 0 aren't constants, and neither is anything that contains them: 0 * (1/0), FALSE & 1/0
-zero_divisors : (worth (two dyadic.Divide (number 1) (number 0)) ≡ None) × (worth (two dyadic.Remainder (number 1) (number 0)) ≡ None)
-    × (worth (two dyadic.Multiply (number 0) (two dyadic.Divide (number 1) (number 0))) ≡ None)
-    × (worth (two dyadic.And tree.False (two dyadic.Divide (number 1) (number 0))) ≡ None)
+zero_divisors : (worth (two binary.Divide (number 1) (number 0)) ≡ None) × (worth (two binary.Remainder (number 1) (number 0)) ≡ None)
+    × (worth (two binary.Multiply (number 0) (two binary.Divide (number 1) (number 0))) ≡ None)
+    × (worth (two binary.And tree.False (two binary.Divide (number 1) (number 0))) ≡ None)
 zero_divisors = (refl, refl, refl, refl)
 
 -- B, G, F, X and a name that isn't in scope aren't constants
@@ -60,7 +60,7 @@ no_constant_names = (refl, refl, refl, refl, refl)
 no_constants : (worth (load (number 1)) ≡ None) × (worth (address_of (of x)) ≡ None) × (worth (index (number 1) (number 2)) ≡ None)
     × (worth (tree.Text (codes "\"A\"")) ≡ None) × (worth (tree.Table (list (number 1 ∷ []))) ≡ None)
     × (worth (tree.Valof (commands (tree.ResultIs (number 1) ∷ []))) ≡ None) × (worth (call f []) ≡ None)
-    × (worth (tree.Condition (number 1) (number 2) (number 3)) ≡ None)
+    × (worth (tree.Cond (number 1) (number 2) (number 3)) ≡ None)
 no_constants = (refl, refl, refl, refl, refl, refl, refl, refl)
 
 -- Where a constant is required: allowed with MANIFEST $( A = 1 $), and a fault with LET A = 1
@@ -174,7 +174,7 @@ abbrev global : Exp → Option Fault
 global k = section_fault (declarations (constants storage.Global ((a, k) ∷ []) ∷ []))
 
 global_numbers : (global (number 511) ≡ None) × (global (number 512) ≡ Some (AGlobalNumber a)) × (global (minus (number 1)) ≡ Some (AGlobalNumber a))
-    × (global (two dyadic.Divide (number 1) (number 0)) ≡ Some ANotConstant)
+    × (global (two binary.Divide (number 1) (number 0)) ≡ Some ANotConstant)
 global_numbers = (refl, refl, refl, refl)
 
 -- two globals with the same number are allowed: GLOBAL $( A:100; B:100 $)

@@ -1,6 +1,6 @@
 -- Worked examples of where commands and labels may be.
 use Rattle.std.specs.Prelude.{◌≡◌, [], ◌∷◌, Option, Some, None, refl}
-use Rattle.bc_parse_tree.specs.declared.tree.Dyadic.TheVariants as dyadic
+use Rattle.bc_parse_tree.specs.declared.tree.BinaryOp.TheVariants as binary
 use Rattle.bc_parse_tree.specs.Tree.{Exp, Block, Labels_alone, Labelled, Item, no_labels, label, Command}
 use Rattle.bc_parse_tree.specs.Tree as tree
 use Rattle.bc_scope_defs.specs.Faults.{Fault, AnUndeclared, ADeclaredTwice, ADynamicFree, ANotConstant, ACaseTwice, AMisplaced, section_fault}
@@ -222,7 +222,7 @@ label_twice_apart = refl
 
 -- the inner one counts: L: prints 1, a nested L: prints 2, and the GOTO goes to that one
 inner_counts : run (body (variable x (number 0) ∷ []) (labelled l (digit (number 1))
-    ∷ plain (tree.Compound (body [] (labelled l (digit (number 2)) ∷ plain (set x (plus (of x) (number 1))) ∷ plain (tree.If (two dyadic.Less (of x)
+    ∷ plain (tree.Compound (body [] (labelled l (digit (number 2)) ∷ plain (set x (plus (of x) (number 1))) ∷ plain (tree.If (two binary.Less (of x)
     (number 2)) (only goto_l)) ∷ []))) ∷ []))
     ≡ printed (49 ∷ 50 ∷ 50 ∷ [])
 inner_counts = refl

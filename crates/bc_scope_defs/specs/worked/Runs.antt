@@ -1,7 +1,7 @@
 -- Worked examples of what sections mean, command by command, for the trees with names.
 use Rattle.std.specs.Prelude.{ℕ, ◌≡◌, codes, map, List, [], ◌∷◌, refl}
 use Rattle.bc_parse_tree.specs.declared.tree.Storage.TheVariants as storage
-use Rattle.bc_parse_tree.specs.declared.tree.Dyadic.TheVariants as dyadic
+use Rattle.bc_parse_tree.specs.declared.tree.BinaryOp.TheVariants as binary
 use Rattle.bc_parse_tree.specs.Tree.{Exp, Definition, Item, Command}
 use Rattle.bc_parse_tree.specs.Tree as tree
 use Rattle.bc_core.specs.Outcome.{ZeroDivide}
@@ -16,7 +16,7 @@ abbrev with_x : List Command → Result
 with_x cs = run (body (variable x (number 0) ∷ []) (map plain cs))
 
 abbrev equals : ℕ → Exp
-equals n = two dyadic.Equal (of x) (number n)
+equals n = two binary.Equal (of x) (number n)
 
 abbrev when : Exp → Command → Command
 when e c = tree.If e (commands (c ∷ []))
@@ -48,9 +48,9 @@ repeat_until_loop = refl
 
 -- where loops end: WHILE X < 2 and UNTIL X = 2 test first, X := X + 1 REPEATWHILE X < 2 and REPEATUNTIL X = 2 after
 -- the command
-ends : (with_x (tree.While (two dyadic.Less (of x) (number 2)) (commands (add_one ∷ [])) ∷ digit (of x) ∷ []) ≡ printed (50 ∷ []))
+ends : (with_x (tree.While (two binary.Less (of x) (number 2)) (commands (add_one ∷ [])) ∷ digit (of x) ∷ []) ≡ printed (50 ∷ []))
     × (with_x (tree.Until (equals 2) (commands (add_one ∷ [])) ∷ digit (of x) ∷ []) ≡ printed (50 ∷ []))
-    × (with_x (tree.RepeatWhile add_one (two dyadic.Less (of x) (number 2)) ∷ digit (of x) ∷ []) ≡ printed (50 ∷ []))
+    × (with_x (tree.RepeatWhile add_one (two binary.Less (of x) (number 2)) ∷ digit (of x) ∷ []) ≡ printed (50 ∷ []))
     × (with_x (tree.RepeatUntil add_one (equals 2) ∷ digit (of x) ∷ []) ≡ printed (50 ∷ []))
 ends = (refl, refl, refl, refl)
 
@@ -84,8 +84,8 @@ tests : (tested 7 ≡ printed (49 ∷ [])) × (tested 0 ≡ printed (50 ∷ []))
 tests = (refl, refl)
 
 -- 7 -> 1, 2, and 0 -> 1, 2
-choices : (with_x (digit (tree.Condition (number 7) (number 1) (number 2)) ∷ []) ≡ printed (49 ∷ []))
-    × (with_x (digit (tree.Condition (number 0) (number 1) (number 2)) ∷ []) ≡ printed (50 ∷ []))
+choices : (with_x (digit (tree.Cond (number 7) (number 1) (number 2)) ∷ []) ≡ printed (49 ∷ []))
+    × (with_x (digit (tree.Cond (number 0) (number 1) (number 2)) ∷ []) ≡ printed (50 ∷ []))
 choices = (refl, refl)
 
 -- SWITCHON n INTO $( CASE 1: print 1; ENDCASE; DEFAULT: print 2; CASE 3: print 3 $); print 4
@@ -114,12 +114,12 @@ value_of_be : among (tree.Routine f [] (commands []) ∷ []) (digit (call f []) 
 value_of_be = refl
 
 -- LET F(X) = X = 0 -> 0, X + F(X - 1), called with 3
-recursion : among (tree.Function f (x ∷ []) (tree.Condition (equals 0) (number 0) (plus (of x) (call f (two dyadic.Subtract (of x) (number 1) ∷ [])))) ∷ [])
+recursion : among (tree.Function f (x ∷ []) (tree.Cond (equals 0) (number 0) (plus (of x) (call f (two binary.Subtract (of x) (number 1) ∷ [])))) ∷ [])
     (digit (call f (number 3 ∷ [])) ∷ []) ≡ printed (54 ∷ [])
 recursion = refl
 
 -- each call has its own X: LET F(X) BE $( IF X DO F(X - 1); print X $), called with 2
-own_parameter : among (tree.Routine f (x ∷ []) (commands (when (of x) (do_call f (two dyadic.Subtract (of x) (number 1) ∷ [])) ∷ digit (of x) ∷ [])) ∷ [])
+own_parameter : among (tree.Routine f (x ∷ []) (commands (when (of x) (do_call f (two binary.Subtract (of x) (number 1) ∷ [])) ∷ digit (of x) ∷ [])) ∷ [])
     (do_call f (number 2 ∷ []) ∷ []) ≡ printed (48 ∷ 49 ∷ 50 ∷ [])
 own_parameter = refl
 
@@ -166,12 +166,12 @@ tables : (with_x (digit (index (tree.Table (list (number 7 ∷ number 8 ∷ []))
 tables = (refl, refl)
 
 -- "A*N" has two bytes, which is its first byte: print "A*N"!0 >> 8
-strings : with_x (digit (two dyadic.ShiftRight (index (tree.Text (codes "\"A*N\"")) (number 0)) (number 8)) ∷ []) ≡ printed (50 ∷ [])
+strings : with_x (digit (two binary.ShiftRight (index (tree.Text (codes "\"A*N\"")) (number 0)) (number 8)) ∷ []) ≡ printed (50 ∷ [])
 strings = refl
 
 -- L: $( LET Y = 5; X := X + 1; IF X < 3 DO GOTO L; print X + Y $) leaves the block, whose Y is set again
 out_of_a_block : run (body (variable x (number 0) ∷ []) (labelled l (tree.Compound (body (variable y (number 5) ∷ [])
-    (plain add_one ∷ plain (when (two dyadic.Less (of x) (number 3)) (tree.Goto l)) ∷ plain (digit (plus (of x) (of y))) ∷ []))) ∷ [])) ≡ printed (56 ∷ [])
+    (plain add_one ∷ plain (when (two binary.Less (of x) (number 3)) (tree.Goto l)) ∷ plain (digit (plus (of x) (of y))) ∷ []))) ∷ [])) ≡ printed (56 ∷ [])
 out_of_a_block = refl
 
 -- GOTO into a SWITCHON's own list: SWITCHON 1 INTO $( L: print 2; ENDCASE; CASE 1: print 1; GOTO L $)
@@ -186,21 +186,21 @@ nots : (with_x (digit (opposite (minus (number 2))) ∷ []) ≡ printed (49 ∷ 
 nots = (refl, refl, refl)
 
 -- IF 1 & 2 DO .. holds, since both are true; the value of 1 & 2 is 0
-ands : (with_x (when (two dyadic.And (number 1) (number 2)) marks ∷ []) ≡ printed (49 ∷ [])) × (with_x (digit (two dyadic.And (number 1) (number 2))
+ands : (with_x (when (two binary.And (number 1) (number 2)) marks ∷ []) ≡ printed (49 ∷ [])) × (with_x (digit (two binary.And (number 1) (number 2))
     ∷ []) ≡ printed (48 ∷ []))
 ands = (refl, refl)
 
 -- the right operand of `&` and of the bar isn't evaluated if the left one decides: IF 0 & 1/0 DO .., IF 1 | 1/0 DO
 -- ..; elsewhere it is
 abbrev fault : Exp
-fault = two dyadic.Divide (number 1) (number 0)
+fault = two binary.Divide (number 1) (number 0)
 
-decided : (with_x (when (two dyadic.And (number 0) fault) marks ∷ []) ≡ printed []) × (with_x (when (two dyadic.Or (number 1) fault) marks ∷ [])
+decided : (with_x (when (two binary.And (number 0) fault) marks ∷ []) ≡ printed []) × (with_x (when (two binary.Or (number 1) fault) marks ∷ [])
     ≡ printed (49 ∷ []))
-    × (with_x (when (two dyadic.And (number 1) fault) marks ∷ []) ≡ Ended ([] ∷ []) ZeroDivide) × (with_x (set x (two dyadic.And (number 0) fault) ∷ [])
+    × (with_x (when (two binary.And (number 1) fault) marks ∷ []) ≡ Ended ([] ∷ []) ZeroDivide) × (with_x (set x (two binary.And (number 0) fault) ∷ [])
     ≡ Ended ([] ∷ []) ZeroDivide)
 decided = (refl, refl, refl, refl)
 
 -- 7 REM 0
-remainder : with_x (set x (two dyadic.Remainder (number 7) (number 0)) ∷ []) ≡ Ended ([] ∷ []) ZeroDivide
+remainder : with_x (set x (two binary.Remainder (number 7) (number 0)) ∷ []) ≡ Ended ([] ∷ []) ZeroDivide
 remainder = refl

@@ -48,7 +48,7 @@ sums : (frame_with (set x (plus (of x) (of y))) ≡ 6 ∷ []) × (frame_with (se
 sums = (refl, refl, refl)
 
 -- -X, !X and X -> Y, Y hold nothing
-unheld : (frame_with (set x (tree.Condition (of x) (of y) (of y))) ≡ 4 ∷ []) × (frame_with (set x (load (of y))) ≡ 4 ∷ [])
+unheld : (frame_with (set x (tree.Cond (of x) (of y) (of y))) ≡ 4 ∷ []) × (frame_with (set x (load (of y))) ≡ 4 ∷ [])
 unheld = (refl, refl)
 
 -- F(), F(1), F(1, 2, 3) at the level 4: the links of the new frame are at 4 and 5, its arguments from 6 on

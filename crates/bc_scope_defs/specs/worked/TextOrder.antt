@@ -1,7 +1,7 @@
 -- Worked examples of text order: which of two faults comes first.
 use Rattle.std.specs.Prelude.{◌≡◌, [], ◌∷◌, Option, Some, None, refl}
 use Rattle.bc_parse_tree.specs.declared.tree.Storage.TheVariants as storage
-use Rattle.bc_parse_tree.specs.declared.tree.Dyadic.TheVariants as dyadic
+use Rattle.bc_parse_tree.specs.declared.tree.BinaryOp.TheVariants as binary
 use Rattle.bc_parse_tree.specs.Tree.{Exp, Definition, Command}
 use Rattle.bc_parse_tree.specs.Tree as tree
 use Rattle.bc_scope_defs.specs.Scope.{Name}
@@ -23,10 +23,10 @@ outside d = section_fault (declarations (lets (d ∷ []) ∷ []))
 operands : first_is (do_call start (plus (of a) (of b) ∷ [])) a
 operands = refl
 
-choices : first_is (do_call start (tree.Condition (of a) (of b) (of x) ∷ [])) a
+choices : first_is (do_call start (tree.Cond (of a) (of b) (of x) ∷ [])) a
 choices = refl
 
-second_part : first_is (do_call start (tree.Condition (number 1) (of b) (of x) ∷ [])) b
+second_part : first_is (do_call start (tree.Cond (number 1) (of b) (of x) ∷ [])) b
 second_part = refl
 
 -- the routine comes before its arguments: A(B); START(A, B)
@@ -71,7 +71,7 @@ expressions_first : (outside (variables (a ∷ []) (of y ∷ [])) ≡ Some (AnUn
 expressions_first = (refl, refl)
 
 -- LET V = VEC Y, LET V = VEC 1/0, LET V = VEC 1
-vectors : (outside (tree.Vector v (of y)) ≡ Some (AnUndeclared y)) × (outside (tree.Vector v (two dyadic.Divide (number 1) (number 0))) ≡ Some ANotConstant)
+vectors : (outside (tree.Vector v (of y)) ≡ Some (AnUndeclared y)) × (outside (tree.Vector v (two binary.Divide (number 1) (number 0))) ≡ Some ANotConstant)
     × (outside (tree.Vector v (number 1)) ≡ Some AMisplaced)
 vectors = (refl, refl, refl)
 
@@ -96,7 +96,7 @@ entries : (two_entries (number 512) (number 1) ≡ Some (AGlobalNumber a)) × (t
 entries = (refl, refl)
 
 -- GLOBAL $( A:Y; A:1 $), GLOBAL $( A:1/0; A:1 $), GLOBAL $( A:1; A:Y $)
-entries_of_names : (two_entries (of y) (number 1) ≡ Some (AnUndeclared y)) × (two_entries (two dyadic.Divide (number 1) (number 0)) (number 1)
+entries_of_names : (two_entries (of y) (number 1) ≡ Some (AnUndeclared y)) × (two_entries (two binary.Divide (number 1) (number 0)) (number 1)
     ≡ Some ANotConstant)
     × (two_entries (number 1) (of y) ≡ Some (ADeclaredTwice a))
 entries_of_names = (refl, refl, refl)
@@ -118,7 +118,7 @@ for_body : first_is (all_of_for (number 1) (number 2) (number 3)) y
 for_body = refl
 
 -- a K that isn't a constant comes before the body: FOR I = 1 TO 2 BY 1/0 DO Y := 1
-step_before_body : fault_of (all_of_for (number 1) (number 2) (two dyadic.Divide (number 1) (number 0))) ≡ Some ANotConstant
+step_before_body : fault_of (all_of_for (number 1) (number 2) (two binary.Divide (number 1) (number 0))) ≡ Some ANotConstant
 step_before_body = refl
 
 -- RESULTIS A, and RESULTIS 1, outside a VALOF; IF A DO BREAK, and IF 1 DO BREAK
@@ -151,7 +151,7 @@ case_first = refl
 abbrev in_block : Exp → Option Fault
 in_block k = fault_in (body [] (cased k tree.Return ∷ []))
 
-cases : (in_block (of y) ≡ Some (AnUndeclared y)) × (in_block (two dyadic.Divide (number 1) (number 0)) ≡ Some ANotConstant) × (in_block (number 1)
+cases : (in_block (of y) ≡ Some (AnUndeclared y)) × (in_block (two binary.Divide (number 1) (number 0)) ≡ Some ANotConstant) × (in_block (number 1)
     ≡ Some AMisplaced)
 cases = (refl, refl, refl)
 
@@ -177,9 +177,9 @@ declarations_first = refl
 
 -- TABLE A, B; TABLE 1/0, B
 tables : (fault_of (do_call start (tree.Table (list (of a ∷ of b ∷ [])) ∷ [])) ≡ Some (AnUndeclared a))
-    × (fault_of (do_call start (tree.Table (list (two dyadic.Divide (number 1) (number 0) ∷ of b ∷ [])) ∷ [])) ≡ Some ANotConstant)
+    × (fault_of (do_call start (tree.Table (list (two binary.Divide (number 1) (number 0) ∷ of b ∷ [])) ∷ [])) ≡ Some ANotConstant)
 tables = (refl, refl)
 
 -- in one constant a name that isn't in scope comes first: TABLE 1/0 + B
-within_constant : first_is (do_call start (tree.Table (list (plus (two dyadic.Divide (number 1) (number 0)) (of b) ∷ [])) ∷ [])) b
+within_constant : first_is (do_call start (tree.Table (list (plus (two binary.Divide (number 1) (number 0)) (of b) ∷ [])) ∷ [])) b
 within_constant = refl

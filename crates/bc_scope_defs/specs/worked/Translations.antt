@@ -2,7 +2,7 @@
 use Rattle.std.specs.Prelude.{◌≡◌, true, false, codes, [], ◌∷◌, None, refl}
 use Rattle.bc_word.specs.declared.operator.Op.TheVariants as operators
 use Rattle.bc_parse_tree.specs.declared.tree.Storage.TheVariants as storage
-use Rattle.bc_parse_tree.specs.declared.tree.Dyadic.TheVariants as dyadic
+use Rattle.bc_parse_tree.specs.declared.tree.BinaryOp.TheVariants as binary
 use Rattle.bc_parse_tree.specs.Tree.{Exp, Labels_alone, Labelled, no_labels, label, Command}
 use Rattle.bc_parse_tree.specs.Tree as tree
 use Rattle.bc_core.specs.Tree as core
@@ -31,7 +31,7 @@ ifs = (refl, refl)
 
 -- IF NOT X DO keeps the NOT, IF NOT X = Y DO becomes IF X NE Y DO
 nots : (translated (tree.If (opposite (of x)) (commands [])) ≡ c.If true (core.Not (at 2)) nothing)
-    × (translated (tree.If (opposite (two dyadic.Equal (of x) (of y))) (commands [])) ≡ c.If true (core.Bin operators.NotEqual (at 2) (at 3)) nothing)
+    × (translated (tree.If (opposite (two binary.Equal (of x) (of y))) (commands [])) ≡ c.If true (core.Bin operators.NotEqual (at 2) (at 3)) nothing)
 nots = (refl, refl)
 
 -- TEST X THEN BREAK ELSE LOOP

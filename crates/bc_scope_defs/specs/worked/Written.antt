@@ -1,8 +1,8 @@
 -- Sections, written briefly for the examples, with their faults, frames and runs.
 use Rattle.std.specs.Prelude.{ℕ, ◌+◌, List, [], ◌∷◌, ◌++◌, Option}
 use Rattle.bc_parse_tree.specs.declared.tree.Storage.TheVariants as storage
-use Rattle.bc_parse_tree.specs.declared.tree.Dyadic.TheVariants as dyadic
-use Rattle.bc_parse_tree.specs.declared.tree.Monadic.TheVariants as monadic
+use Rattle.bc_parse_tree.specs.declared.tree.BinaryOp.TheVariants as binary
+use Rattle.bc_parse_tree.specs.declared.tree.UnaryOp.TheVariants as unary
 use Rattle.bc_parse_tree.specs.Tree.{Exp, Block, Declaration, Declarations, Labelled, Item, no_labels, label, Command}
 use Rattle.bc_parse_tree.specs.Tree as tree
 use Rattle.bc_machine_defs.specs.StreamStart.{start_streams}
@@ -32,22 +32,22 @@ fault_of c = fault_in (commands (c ∷ []))
 -- Expressions
 
 abbrev pub load : Exp → Exp
-load e = tree.Monadic monadic.Load e
+load e = tree.Unary unary.Load e
 
 abbrev pub address_of : Exp → Exp
-address_of e = tree.Monadic monadic.Address e
+address_of e = tree.Unary unary.Address e
 
 abbrev pub minus : Exp → Exp
-minus e = tree.Monadic monadic.Negate e
+minus e = tree.Unary unary.Neg e
 
 abbrev pub opposite : Exp → Exp
-opposite e = tree.Monadic monadic.Not e
+opposite e = tree.Unary unary.Not e
 
 abbrev pub plus : Exp → Exp → Exp
-plus d e = two dyadic.Add d e
+plus d e = two binary.Add d e
 
 abbrev pub index : Exp → Exp → Exp
-index d e = two dyadic.Index d e
+index d e = two binary.Index d e
 
 -- Commands
 

@@ -10,7 +10,7 @@ fn at(alloc: Global, offset: u16) -> Result<CoreExp, Memory> {
     Ok(CoreExp::Load(Box::new(alloc, CoreExp::Frame(offset))?))
 }
 
-/// A dyadic operator.
+/// A binary operator.
 fn bin(alloc: Global, op: Op, left: CoreExp, right: CoreExp) -> Result<CoreExp, Memory> {
     let left = Box::new(alloc, left)?;
     Ok(CoreExp::Bin(op, left, Box::new(alloc, right)?))
@@ -21,7 +21,7 @@ fn value(level: u16, expression: CoreExp) -> Root {
     Root::Value { level, expression }
 }
 
-/// A dyadic operator with the variables at these offsets.
+/// A binary operator with the variables at these offsets.
 fn of_two(alloc: Global, op: Op, left: u16, right: u16) -> Result<CoreExp, Memory> {
     let left = at(alloc, left)?;
     bin(alloc, op, left, at(alloc, right)?)

@@ -18,7 +18,7 @@ use Rattle.bc_scope_translate.specs.Finding.{item_found, found_items, head_level
 use Rattle.bc_scope_translate.proofs.Along.{exps_on, declarations_on, definitions_on, items_on}
 use Rattle.bc_scope_translate.proofs.Finding.{left_over, then_found, parts_found, list_found, side_on, drop_one, taken_back}
 use Rattle.bc_scope_translate.proofs.Definitions.{found_definitions_are}
-use Rattle.bc_scope_translate.proofs.Views.{constants_view, let_view, block_seen, dyadic_view, condition_view, call_view, do_view, assign_view, test_view, switchon_view, guarded, repeated, counted}
+use Rattle.bc_scope_translate.proofs.Views.{constants_view, let_view, block_seen, binary_view, condition_view, call_view, do_view, assign_view, test_view, switchon_view, guarded, repeated, counted}
 use Rattle.bc_scope_translate.proofs.places_and_valofs.+finding.Goals as goal
 
 pub arguments-loop-e-preserved : goal.arguments-loop-e-preserved
@@ -116,37 +116,37 @@ items-loop-tree-preserved t c =
       w.2 ∙ v.2,
     )
 
-pub expression-returns-in_ok-expression-in-Dyadic : goal.expression-returns-in_ok-expression-in-Dyadic
-expression-returns-in_ok-expression-in-Dyadic t c =
+pub expression-returns-in_ok-expression-in-Bin : goal.expression-returns-in_ok-expression-in-Bin
+expression-returns-in_ok-expression-in-Bin t c =
     let E = scope_view c.args.scope.now in
     let at0 = numbers_view c.args.found.now.at in
     let s = c.args.level in
-    let i : c.args.e.now ≡ exps.Dyadic c.in-Dyadic.field-0 c.in-Dyadic.left c.in-Dyadic.right = c.in-Dyadic.is in
-    let v = ap exp_view i ∙ dyadic_view c.in-Dyadic.field-0 c.in-Dyadic.left c.in-Dyadic.right in
-    let x = exp_view c.in-Dyadic.left.value in
-    let y = exp_view c.in-Dyadic.right.value in
-    let a = c.in_ok-above-in-Dyadic.ensures in
-    let w = rw (a, c.deref-in-Dyadic.ensures) at c.in_ok-expression-in-Dyadic.ensures in
-    let u = rw (w.2, w.1, a, c.deref-in-Dyadic-2.ensures) at c.expression-in-Dyadic-2.ensures in
-    parts_found c.expression-in-Dyadic-2.result c.args.found.now c.expression-in-Dyadic.new.found c.expression-in-Dyadic-2.new.found _ _ (found E at0 x (s + 1)) (found E (following at0 x) y (s + 1)) _ _ _ (ap (following at0) v) (ap (λ e. found E at0 e s) v) w.0 u
+    let i : c.args.e.now ≡ exps.Bin c.in-Bin.field-0 c.in-Bin.left c.in-Bin.right = c.in-Bin.is in
+    let v = ap exp_view i ∙ binary_view c.in-Bin.field-0 c.in-Bin.left c.in-Bin.right in
+    let x = exp_view c.in-Bin.left.value in
+    let y = exp_view c.in-Bin.right.value in
+    let a = c.in_ok-above-in-Bin.ensures in
+    let w = rw (a, c.deref-in-Bin.ensures) at c.in_ok-expression-in-Bin.ensures in
+    let u = rw (w.2, w.1, a, c.deref-in-Bin-2.ensures) at c.expression-in-Bin-2.ensures in
+    parts_found c.expression-in-Bin-2.result c.args.found.now c.expression-in-Bin.new.found c.expression-in-Bin-2.new.found _ _ (found E at0 x (s + 1)) (found E (following at0 x) y (s + 1)) _ _ _ (ap (following at0) v) (ap (λ e. found E at0 e s) v) w.0 u
 
-pub expression-returns-in_ok-expression-in-Condition-2 : goal.expression-returns-in_ok-expression-in-Condition-2
-expression-returns-in_ok-expression-in-Condition-2 t c =
+pub expression-returns-in_ok-expression-in-Cond-2 : goal.expression-returns-in_ok-expression-in-Cond-2
+expression-returns-in_ok-expression-in-Cond-2 t c =
     let E = scope_view c.args.scope.now in
     let at0 = numbers_view c.args.found.now.at in
     let s = c.args.level in
-    let i : c.args.e.now ≡ exps.Condition c.in-Condition.test c.in-Condition.this c.in-Condition.that = c.in-Condition.is in
-    let v = ap exp_view i ∙ condition_view c.in-Condition.test c.in-Condition.this c.in-Condition.that in
-    let x = exp_view c.in-Condition.test.value in
-    let y = exp_view c.in-Condition.this.value in
-    let z = exp_view c.in-Condition.that.value in
-    let w = rw c.deref-in-Condition.ensures at c.in_ok-expression-in-Condition.ensures in
-    let u = rw (w.2, w.1, c.deref-in-Condition-2.ensures) at c.in_ok-expression-in-Condition-2.ensures in
-    let l = rw (u.2, u.1, c.deref-in-Condition-3.ensures) at c.expression-in-Condition-3.ensures in
+    let i : c.args.e.now ≡ exps.Cond c.in-Cond.test c.in-Cond.this c.in-Cond.that = c.in-Cond.is in
+    let v = ap exp_view i ∙ condition_view c.in-Cond.test c.in-Cond.this c.in-Cond.that in
+    let x = exp_view c.in-Cond.test.value in
+    let y = exp_view c.in-Cond.this.value in
+    let z = exp_view c.in-Cond.that.value in
+    let w = rw c.deref-in-Cond.ensures at c.in_ok-expression-in-Cond.ensures in
+    let u = rw (w.2, w.1, c.deref-in-Cond-2.ensures) at c.in_ok-expression-in-Cond-2.ensures in
+    let l = rw (u.2, u.1, c.deref-in-Cond-3.ensures) at c.expression-in-Cond-3.ensures in
     let at1 = following at0 x in
     let at2 = following at1 y in
-    let m = then_found c.expression-in-Condition-3.result c.expression-in-Condition.new.found c.expression-in-Condition-2.new.found c.expression-in-Condition-3.new.found (following at2 z) (found E at1 y s) (found E at2 z s) _ _ u.0 l in
-    parts_found c.expression-in-Condition-3.result c.args.found.now c.expression-in-Condition.new.found c.expression-in-Condition-3.new.found _ _ (found E at0 x s) (found E at1 y s ++ found E at2 z s) _ _ _ (ap (following at0) v) (ap (λ e. found E at0 e s) v) w.0 m
+    let m = then_found c.expression-in-Cond-3.result c.expression-in-Cond.new.found c.expression-in-Cond-2.new.found c.expression-in-Cond-3.new.found (following at2 z) (found E at1 y s) (found E at2 z s) _ _ u.0 l in
+    parts_found c.expression-in-Cond-3.result c.args.found.now c.expression-in-Cond.new.found c.expression-in-Cond-3.new.found _ _ (found E at0 x s) (found E at1 y s ++ found E at2 z s) _ _ _ (ap (following at0) v) (ap (λ e. found E at0 e s) v) w.0 m
 
 pub expression-returns-in_ok-expression-in-Call : goal.expression-returns-in_ok-expression-in-Call
 expression-returns-in_ok-expression-in-Call t c =

@@ -1,6 +1,6 @@
 use Rattle.std.proofs.Common.{List, subst}
-use Rattle.bc_interpret_record.specs.declared.change.Change.{Change}
-use Rattle.bc_interpret_record.specs.Changes.{Walks}
+use Rattle.bc_interpret_store.specs.declared.change.Change.{Change}
+use Rattle.bc_interpret_store.specs.Changes.{Walks}
 use Rattle.bc_interpret_record.proofs.recording.Recording.walk.Goals as goal
 
 pub returns : goal.returns

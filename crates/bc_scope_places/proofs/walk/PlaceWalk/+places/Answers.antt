@@ -7,11 +7,11 @@ use Rattle.bc_scope_places.proofs.walk.PlaceWalk.+places.Goals as goal
 pub table-constants-requires : goal.table-constants-requires
 table-constants-requires t c = (omega (arith, c.decreases), tt)
 
-pub dyadic-expression-requires : goal.dyadic-expression-requires
-dyadic-expression-requires t c = (omega (arith, c.decreases), tt)
+pub binary-expression-requires : goal.binary-expression-requires
+binary-expression-requires t c = (omega (arith, c.decreases), tt)
 
-pub dyadic-expression-requires-2 : goal.dyadic-expression-requires-2
-dyadic-expression-requires-2 t c = (omega (arith, c.decreases), tt)
+pub binary-expression-requires-2 : goal.binary-expression-requires-2
+binary-expression-requires-2 t c = (omega (arith, c.decreases), tt)
 
 pub condition-expression-requires : goal.condition-expression-requires
 condition-expression-requires t c = (omega (arith, c.decreases), tt)
@@ -28,8 +28,8 @@ rooted-expression-requires t c = (omega (arith, c.decreases), tt)
 pub valof-block-requires : goal.valof-block-requires
 valof-block-requires t c = (omega (arith, c.decreases), tt)
 
-pub monadic-expression-requires : goal.monadic-expression-requires
-monadic-expression-requires t c = (omega (arith, c.decreases), tt)
+pub unary-expression-requires : goal.unary-expression-requires
+unary-expression-requires t c = (omega (arith, c.decreases), tt)
 
 pub call-expression-requires : goal.call-expression-requires
 call-expression-requires t c = (omega (arith, c.decreases), tt)

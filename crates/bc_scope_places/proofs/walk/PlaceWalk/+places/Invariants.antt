@@ -14,8 +14,8 @@ decreases-rooted l = 16 * exp_size (exp_view l.e.now) + 1
 abbrev pub decreases-table : goal.decreases-table
 decreases-table l = 16 * exps_size (exps_view l.values.now) + 3
 
-abbrev pub decreases-dyadic : goal.decreases-dyadic
-decreases-dyadic l = 16 * (exp_size (exp_view l.left.now) + exp_size (exp_view l.right.now)) + 1
+abbrev pub decreases-binary : goal.decreases-binary
+decreases-binary l = 16 * (exp_size (exp_view l.left.now) + exp_size (exp_view l.right.now)) + 1
 
 abbrev pub decreases-condition : goal.decreases-condition
 decreases-condition l = 16 * (exp_size (exp_view l.test.now) + exp_size (exp_view l.this.now) + exp_size (exp_view l.that.now)) + 1
@@ -23,8 +23,8 @@ decreases-condition l = 16 * (exp_size (exp_view l.test.now) + exp_size (exp_vie
 abbrev pub decreases-valof : goal.decreases-valof
 decreases-valof l = 16 * block_size (block_view l.body.now) + 8
 
-abbrev pub decreases-monadic : goal.decreases-monadic
-decreases-monadic l = 16 * exp_size (exp_view l.operand.now) + 1
+abbrev pub decreases-unary : goal.decreases-unary
+decreases-unary l = 16 * exp_size (exp_view l.operand.now) + 1
 
 abbrev pub decreases-call : goal.decreases-call
 decreases-call l = 16 * (exp_size (exp_view l.called.now) + exps_size (exps_view l.values.now)) + 2
