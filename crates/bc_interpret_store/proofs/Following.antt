@@ -66,15 +66,15 @@ agrees_all n limit now cells g h = record { each = λ a p q. g.each a (h a p q) 
 pub but_less : (left later : List ℕ) (a : ℕ) (before after cells : List Cell) → left ≡ a ∷ later → AgreesBut left before cells → Updates a cells before after
     → length after ≡ length before → AgreesBut later after cells
 but_less left later a before after cells is h u e =
-  let P : List ℕ → Type 0 = λ l. AgreesBut l before cells in
-  let g : AgreesBut (a ∷ later) before cells = subst P is h in
-  record {
-  each = λ b m l k.
-      elim (cases_eq b a) [
-        | inl same ↦ subst (λ (x : ℕ). get_or after x Dead ≡ get_or cells x Dead) (sym same) (u.here (omega (arith, l, same)))
-        | inr other ↦ u.others b other ∙ g.each b (other, m) (omega arith) k
-      ];
-}
+    let P : List ℕ → Type 0 = λ l. AgreesBut l before cells in
+    let g : AgreesBut (a ∷ later) before cells = subst P is h in
+    record {
+      each = λ b m l k.
+          elim (cases_eq b a) [
+            | inl same ↦ subst (λ (x : ℕ). get_or after x Dead ≡ get_or cells x Dead) (sym same) (u.here (omega (arith, l, same)))
+            | inr other ↦ u.others b other ∙ g.each b (other, m) (omega arith) k
+          ];
+    }
 
 -- no logged address is left
 pub but_none : (log : List ℕ) (now cells : List Cell) → length log ≡ 0 → AgreesBut log now cells → Agrees 65536 now cells

@@ -31,7 +31,10 @@ fn is_removable<F: Files>(rt: &F, path: &str, beside: &str) -> bool {
     let Ok(folder) = fs::metadata(rt, folder) else {
         return false;
     };
-    match (fs::symlink_metadata(rt, path), fs::symlink_metadata(rt, beside)) {
+    match (
+        fs::symlink_metadata(rt, path),
+        fs::symlink_metadata(rt, beside),
+    ) {
         (Ok(old), Ok(new)) => folder.mode() & STICKY == 0 || old.uid() == new.uid(),
         _ => false,
     }
