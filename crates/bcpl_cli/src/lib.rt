@@ -45,7 +45,7 @@ pub use arguments::{
 };
 pub use atomic_file::{AtomicFile, Links, is_one_file, is_regular, named_twice};
 pub use clean::Clean;
-pub use converting::{ConvertHeader, ConvertOrder, ConvertTo};
+pub use converting::{ConvertDialect, ConvertHeader, ConvertOrder, ConvertTo};
 pub use escaped::{Escaped, shown_path};
 pub use failure::{BuildLine, Cause, Failure, Wild};
 pub use file_kinds::{FileKind, file_kind};
