@@ -1,4 +1,4 @@
-//! What is kept of a file that a GET named, so that later GETs of it copy its tokens. Without this, n files could make 2^n GETs.
+//! What is kept of a file that a GET named, so that later GETs of it copy its tokens. Without this, a few files with n GETs each could make n^8 GETs.
 ghost use Rattle.std.specs.Prelude.{◌≡◌, ◌≤◌, IfSome};
 ghost use Rattle.std.specs.List.{Contains};
 
