@@ -1,0 +1,5 @@
+pub mod Routines
+pub mod Extension
+pub mod Laws
+pub mod Texts
+pub mod TextLaws
