@@ -386,6 +386,9 @@ const INTERPRET: CommandSpec = CommandSpec {
            the same with the built text: that is a theorem. The run stops at the first wild cell: reading a\n\
            cell that was never set, reading or writing a cell that does not exist, or calling something that is not a\n\
            routine. What happened and where is printed unless --places never is given, on a terminal or not.\n\n\
+           With --strict the run also stops at what is lawful and nearly always a mistake: an index that leaves a vector,\n\
+           a table or a string, counted from its start, even if it hits a cell; a global that no source names, or that\n\
+           nothing set; a write into a string. This is no theorem, and it doesn't find all such mistakes.\n\n\
            A turn is a call, a GOTO, or one jump back in a loop. Streams work as in `run`.\n\n\
            A program gets no arguments and no environment, and has no exit status of its own.\n\n\
            Exit status: 0 the program finished, 1 refused, 2 the run ended in another way, 3 invalid arguments.\n\n\
@@ -396,6 +399,12 @@ const INTERPRET: CommandSpec = CommandSpec {
             form: Form::Number("N"),
             constraint: Constraint::Free,
             help: "Stop after N turns [default: 100000000]",
+        },
+        Argument {
+            name: "strict",
+            form: Form::Flag,
+            constraint: Constraint::Free,
+            help: "Stop also at accesses that are lawful and nearly always mistakes",
         },
         LIBRARY,
         GET,
