@@ -7,9 +7,13 @@ use bcpl_messages::{Draft, Fill, Message};
 use bcpl_wild::{Stand, Standing, WildProgram, placed_message};
 use std::alloc::Global;
 
-/// The help for an index that leaves its vector, table or string.
+/// The help for an index that leaves its vector.
 const OUTSIDE: &str =
     "VEC n has the cells 0 to n; --strict reports an index that leaves them, even if it hits a cell of something else";
+
+/// The help for an index that leaves its table or string.
+const OUTSIDE_CONSTANT: &str =
+    "TABLE 1, 2, 3 has the cells 0 to 2; character I of the string S is GETBYTE(S, I)";
 
 /// The help for a global that no source names.
 const NO_GLOBAL: &str =
@@ -45,7 +49,8 @@ fn object_text(
         );
     }
     match constant_at(draft, program, outside.start) {
-        Some(text) => draft.filled("the constant {}", &[Fill::Text(text.as_str())]),
+        Some(text) if text == b"TABLE".as_slice() => draft.filled("a TABLE", &[]),
+        Some(text) => draft.filled("the string {}", &[Fill::Shown(text)]),
         None => draft.filled("a table or string", &[]),
     }
 }
@@ -105,7 +110,8 @@ fn sentence_of(
 /// What to do about a mistake.
 fn help_on(mistake: Mistake) -> &'static str {
     match mistake {
-        Mistake::Outside(_) => OUTSIDE,
+        Mistake::Outside(outside) if outside.is_vector => OUTSIDE,
+        Mistake::Outside(_) => OUTSIDE_CONSTANT,
         Mistake::NoGlobal(_) => NO_GLOBAL,
         Mistake::Constant(_) => CONSTANT,
         Mistake::UnsetGlobal(_) => UNSET_GLOBAL,
