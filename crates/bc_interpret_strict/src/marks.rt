@@ -149,10 +149,11 @@ impl Marks {
         }
     }
 
-    /// Where the run is that has these continuations.
+    /// Where the run is once it has only these continuations left.
     ///
     /// `Memory` if an allocation fails.
-    pub fn trail(&self, rests: &[Rest<'_>]) -> Result<Trail, Memory> {
+    pub fn trail(&mut self, rests: &[Rest<'_>]) -> Result<Trail, Memory> {
+        self.forget(rests.len());
         let trace = self.calls()?;
         let mut standings = trace.standings(self.alloc, rests, MOST)?;
         self.add_branches(rests, &mut standings);

@@ -29,27 +29,21 @@ pub(crate) struct Watcher {
     pub found: Option<Found>,
 }
 
-/// The number of continuations without those at their end that free cells.
-fn count_without_closes(rests: &[Rest<'_>]) -> usize {
-    let mut count = rests.len();
-    for rest in rests.iter().rev() {
-        if !matches!(rest, Rest::Closes(_, _)) {
-            return count;
-        }
-        count = count.saturating_sub(1);
+/// These continuations without those at their end that free cells.
+fn without_closes<'r, 'c>(rests: &'r [Rest<'c>]) -> &'r [Rest<'c>] {
+    let mut left = rests;
+    while let [before @ .., Rest::Closes(_, _)] = left {
+        left = before;
     }
-    count
+    left
 }
 
-/// Whether the last of the first `count` continuations takes an address, to read or to write there.
-fn takes_address(rests: &[Rest<'_>], count: usize) -> bool {
-    match count.checked_sub(1) {
-        Some(index) => matches!(
-            rests.get(index),
-            Some(Rest::Number(NumberRest::Loads) | Rest::Value(ValueRest::Stored(_)))
-        ),
-        None => false,
-    }
+/// Whether the innermost continuation takes an address, to read or to write there.
+fn takes_address(rests: &[Rest<'_>]) -> bool {
+    matches!(
+        rests.last(),
+        Some(Rest::Number(NumberRest::Loads) | Rest::Value(ValueRest::Stored(_)))
+    )
 }
 
 impl Watcher {
@@ -96,14 +90,16 @@ impl Watcher {
 
     /// The mistake that is made if a number is given to these continuations, if it is one.
     fn see_number(&mut self, number: u16, rests: &[Rest<'_>]) -> Option<Mistake> {
-        let top = count_without_closes(rests).checked_sub(1)?;
-        match rests.get(top)? {
+        let [before @ .., last] = rests else {
+            return None;
+        };
+        match last {
             Rest::Number(NumberRest::Loads) => self.objects.read(number),
             Rest::Value(ValueRest::Stored(_)) => self.objects.write(number),
-            Rest::Number(NumberRest::Operated(Op::Add, base)) if takes_address(rests, top) => {
+            Rest::Number(NumberRest::Operated(Op::Add, base)) if takes_address(before) => {
                 self.objects.outside(*base, number)
             }
-            Rest::Number(NumberRest::Operated(Op::Subtract, base)) if takes_address(rests, top) => {
+            Rest::Number(NumberRest::Operated(Op::Subtract, base)) if takes_address(before) => {
                 self.objects
                     .outside(*base, Word::new(number).negated().get())
             }
@@ -113,10 +109,12 @@ impl Watcher {
 
     /// Ends the run if a number that is given to these continuations is a mistake.
     fn check(&mut self, number: u16, rests: &[Rest<'_>]) -> Result<(), Memory> {
-        let Some(mistake) = self.see_number(number, rests) else {
+        // the number of a call leaves the call before it is given
+        let left = without_closes(rests);
+        let Some(mistake) = self.see_number(number, left) else {
             return Ok(());
         };
-        let trail = self.marks.trail(rests)?;
+        let trail = self.marks.trail(left)?;
         self.found = Some(Found { mistake, trail });
         Err(Memory)
     }

@@ -80,16 +80,15 @@ pub(crate) fn vector_at(
     Some(draft.filled("the vector {} of {}", &[name, routine]))
 }
 
-/// The table or string that begins at an address, as a part of a sentence.
-pub(crate) fn constant_at(
+/// The string that begins at an address, or the word TABLE.
+pub(crate) fn constant_at<'s>(
     draft: &mut Draft,
-    program: &WildProgram<'_, '_>,
+    program: &WildProgram<'_, 's>,
     address: u16,
-) -> Option<String> {
+) -> Option<&'s [u8]> {
     let PlaceLabel { section, label } = label_at(program.image, address)?;
     let read = main_at(draft, program, section)?;
-    let text = read.text(read.sites.label(label)?)?;
-    Some(draft.filled("{}", &[Fill::Shown(text)]))
+    read.text(read.sites.label(label)?)
 }
 
 /// The name that a main gives a global.

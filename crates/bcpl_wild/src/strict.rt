@@ -8,9 +8,13 @@ use bc_word::Memory;
 use bcpl_messages::{Draft, Fill, Message};
 use std::alloc::Global;
 
-/// The help for an index that leaves its vector, table or string.
+/// The help for an index that leaves its vector.
 const OUTSIDE: &str =
     "VEC n has the cells 0 to n; --strict reports an index that leaves them, even if it hits a cell of something else";
+
+/// The help for an index that leaves its table or string.
+const OUTSIDE_CONSTANT: &str =
+    "TABLE 1, 2, 3 has the cells 0 to 2; character I of the string S is GETBYTE(S, I)";
 
 /// The help for a global that no source names.
 const NO_GLOBAL: &str =
@@ -46,7 +50,8 @@ fn object_text(
         );
     }
     match constant_at(draft, program, outside.start) {
-        Some(text) => draft.filled("the constant {}", &[Fill::Text(text.as_str())]),
+        Some(text) if text == b"TABLE".as_slice() => draft.filled("a TABLE", &[]),
+        Some(text) => draft.filled("the string {}", &[Fill::Shown(text)]),
         None => draft.filled("a table or string", &[]),
     }
 }
@@ -106,7 +111,8 @@ fn sentence_of(
 /// What to do about a mistake.
 fn help_on(mistake: Mistake) -> &'static str {
     match mistake {
-        Mistake::Outside(_) => OUTSIDE,
+        Mistake::Outside(outside) if outside.is_vector => OUTSIDE,
+        Mistake::Outside(_) => OUTSIDE_CONSTANT,
         Mistake::NoGlobal(_) => NO_GLOBAL,
         Mistake::Constant(_) => CONSTANT,
         Mistake::UnsetGlobal(_) => UNSET_GLOBAL,
