@@ -511,6 +511,9 @@ const CONVERT: CommandSpec = CommandSpec {
            Several FILEs, headers included, are treated as one program: if one of them needs EXTHDR, every file that gets\n\
            the library's header gets EXTHDR. Each line of OLD has a name from the library that the sources were written\n\
            for, blanks, and its name in this library.\n\n\
+           A source that builds as it is stays byte for byte, unless --dialect names the system it was written for:\n\
+           then it is converted too. With 1967 V*(I) is a subscript, with 1979 a product; with alto @ becomes !. Don't\n\
+           convert a result again with --dialect.\n\n\
            Exit status: 0 all converted, 1 refused or something is left to do by hand, 3 invalid arguments.\n\n\
            Examples:\n  bcpl convert --out queens.bcpl queens.old\n\
            \x20 bcpl convert --in-place header main.bcpl tables.bcpl",
@@ -550,6 +553,12 @@ const CONVERT: CommandSpec = CommandSpec {
             form: Form::Option("HEADER"),
             constraint: Constraint::Free,
             help: "Make sources get this header: libhdr or exthdr [default: the one they need]",
+        },
+        Argument {
+            name: "dialect",
+            form: Form::Option("SYSTEM"),
+            constraint: Constraint::Free,
+            help: "Take sources for those of this system: 1967, 1979 or alto [default: what they show]",
         },
         Argument {
             name: "library",

@@ -1,10 +1,11 @@
 //! The message for an access that ended a strict run.
 
+use crate::message::{Stand, WildProgram, placed_message};
 use crate::naming::{constant_at, global_named, vector_at};
 use bc_interpret_strict::{Mistake, Outside};
+use bc_interpret_trace::Standing;
 use bc_word::Memory;
 use bcpl_messages::{Draft, Fill, Message};
-use bcpl_wild::{Stand, Standing, WildProgram, placed_message};
 use std::alloc::Global;
 
 /// The help for an index that leaves its vector.

@@ -1,10 +1,12 @@
 //! What the sources call the vectors, tables, strings and globals of a run.
 
+use crate::message::WildProgram;
+use crate::placed::{ReadMain, read};
+use bc_interpret_trace::Standing;
 use bc_machine_defs::Image;
 use bc_scope_places::BodyOf;
 use bc_word::Memory;
 use bcpl_messages::{Draft, Fill};
-use bcpl_wild::{ReadMain, Standing, WildProgram, read};
 use std::alloc::Global;
 
 /// The number of globals.
