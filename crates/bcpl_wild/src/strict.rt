@@ -1,7 +1,8 @@
 //! The message for an access that ended a strict run.
 
 use crate::message::{Stand, WildProgram, placed_message};
-use crate::naming::{constant_at, global_named, vector_at};
+use crate::naming::{constant_at, vector_at};
+use crate::owner::name_of_global;
 use bc_interpret_strict::{Mistake, Outside};
 use bc_interpret_trace::Standing;
 use bc_word::Memory;
@@ -80,7 +81,7 @@ fn outside_sentence(
 
 /// The sentence on a global that nothing set.
 fn unset_global_sentence(draft: &mut Draft, program: &WildProgram<'_, '_>, number: u16) -> String {
-    let name = global_named(draft, program, number);
+    let name = name_of_global(draft, program, number);
     draft.filled(
         "the global {} is read in this expression, but nothing set it",
         &[Fill::Shown(name.unwrap_or(b""))],
