@@ -32,8 +32,11 @@ pub(crate) struct Watcher {
 /// These continuations without those at their end that free cells.
 fn without_closes<'r, 'c>(rests: &'r [Rest<'c>]) -> &'r [Rest<'c>] {
     let mut left = rests;
-    while let [before @ .., Rest::Closes(_, _)] = left {
-        left = before;
+    for _each in 0..rests.len() {
+        match left {
+            [before @ .., Rest::Closes(_, _)] => left = before,
+            _ => return left,
+        }
     }
     left
 }
