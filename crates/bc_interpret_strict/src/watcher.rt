@@ -29,16 +29,21 @@ pub(crate) struct Watcher {
     pub found: Option<Found>,
 }
 
+/// The number of continuations without those at their end that free cells.
+fn count_without_closes(rests: &[Rest<'_>]) -> usize {
+    let mut count = rests.len();
+    for rest in rests.iter().rev() {
+        if !matches!(rest, Rest::Closes(_, _)) {
+            return count;
+        }
+        count = count.saturating_sub(1);
+    }
+    count
+}
+
 /// These continuations without those at their end that free cells.
 fn without_closes<'r, 'c>(rests: &'r [Rest<'c>]) -> &'r [Rest<'c>] {
-    let mut left = rests;
-    for _each in 0..rests.len() {
-        match left {
-            [before @ .., Rest::Closes(_, _)] => left = before,
-            _ => return left,
-        }
-    }
-    left
+    rests.get(..count_without_closes(rests)).unwrap_or(rests)
 }
 
 /// Whether the innermost continuation takes an address, to read or to write there.
