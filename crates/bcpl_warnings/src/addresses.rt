@@ -9,10 +9,14 @@ use bcpl_messages::Draft;
 /// The declaration whose address an expression is, if that is of a routine's frame.
 fn local_of(known: &Known<'_, '_>, at: usize) -> Option<usize> {
     let fact = known.kinds.fact(at);
-    match fact.kind {
-        Kind::Vector | Kind::Local => Some(known.kinds.names.get(fact.of?)?.node),
-        _ => None,
+    let of = fact.of?;
+    if !matches!(fact.kind, Kind::Vector | Kind::Local) {
+        return None;
     }
+    let Some(declared) = known.kinds.names.get(of) else {
+        return None;
+    };
+    Some(declared.node)
 }
 
 /// Warns that the address of a local is returned.

@@ -197,8 +197,9 @@ fn parameters(known: &Known<'_, '_>, routine: usize) -> Option<usize> {
         if !matches!(tree.form(node), Form::Parameter) {
             break;
         }
-        if known.kinds.names.at(node)?.is_addressed {
-            return None;
+        match known.kinds.names.at(node) {
+            Some(parameter) if !parameter.is_addressed => {}
+            _ => return None,
         }
         count = count.saturating_add(1);
     }

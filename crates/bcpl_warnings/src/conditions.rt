@@ -17,14 +17,19 @@ fn relation_at(known: &Known<'_, '_>, at: usize) -> Option<BinaryOp> {
 }
 
 /// Warns of `X & 1 = 0`: the relation of two constants is the second operand. Returns whether it is.
-fn warns_of_precedence(draft: &mut Draft, known: &Known<'_, '_>, at: usize, sign: BinaryOp) -> bool {
+fn warns_of_precedence(
+    draft: &mut Draft,
+    known: &Known<'_, '_>,
+    at: usize,
+    sign: BinaryOp,
+) -> bool {
     let tree = known.tree;
     let second = tree.second(at);
     let Some(relation) = relation_at(known, second) else {
         return false;
     };
     let (left, right) = (tree.first(second), tree.second(second));
-    if known.kinds.value(left).is_none() || known.kinds.value(right).is_none() {
+    if !known.is_constant(second) || known.kinds.kind(tree.first(at)) == Kind::Truth {
         return false;
     }
     let first = known.shown(tree.first(at));
@@ -46,7 +51,12 @@ fn warns_of_precedence(draft: &mut Draft, known: &Known<'_, '_>, at: usize, sign
 }
 
 /// Warns of `CH = 'a' | 'b'`: a constant is the second operand, and a relation the first. Returns whether it is.
-fn warns_of_alternative(draft: &mut Draft, known: &Known<'_, '_>, at: usize, sign: BinaryOp) -> bool {
+fn warns_of_alternative(
+    draft: &mut Draft,
+    known: &Known<'_, '_>,
+    at: usize,
+    sign: BinaryOp,
+) -> bool {
     let tree = known.tree;
     let (first, second) = (tree.first(at), tree.second(at));
     let Some(relation) = relation_at(known, first) else {
@@ -165,7 +175,11 @@ fn warns_of_routine(draft: &mut Draft, known: &Known<'_, '_>, at: usize, sign: B
     };
     let is_arithmetic = matches!(
         sign,
-        BinaryOp::Add | BinaryOp::Subtract | BinaryOp::Multiply | BinaryOp::Divide | BinaryOp::Remainder
+        BinaryOp::Add
+            | BinaryOp::Subtract
+            | BinaryOp::Multiply
+            | BinaryOp::Divide
+            | BinaryOp::Remainder
     );
     let is_compared = is_relation(sign)
         && matches!(
@@ -223,7 +237,12 @@ fn warns_of_sum(draft: &mut Draft, known: &Known<'_, '_>, at: usize) -> bool {
 }
 
 /// Warns of a dyadic operator. Returns whether it does.
-pub fn warns_of_dyadic(draft: &mut Draft, known: &Known<'_, '_>, at: usize, sign: BinaryOp) -> bool {
+pub fn warns_of_dyadic(
+    draft: &mut Draft,
+    known: &Known<'_, '_>,
+    at: usize,
+    sign: BinaryOp,
+) -> bool {
     if warns_of_routine(draft, known, at, sign) {
         return true;
     }

@@ -4,15 +4,16 @@ use crate::enclosing::{condition_of, condition_terms, listed};
 use crate::known::Known;
 use crate::names::Sort;
 use crate::node::Form;
+use crate::tree::Tree;
 use bcpl_messages::{Draft, Fill};
 
-/// Whether a section has a command that ends the run.
-fn has_finish(known: &Known<'_, '_>) -> bool {
-    for at in 0..known.tree.len() {
-        let is_end = match known.tree.form(at) {
+/// Whether a section has a command that may end the run.
+pub fn has_finish(tree: &Tree<'_>) -> bool {
+    for at in 0..tree.len() {
+        let is_end = match tree.form(at) {
             Form::Finish | Form::Goto => true,
             Form::Name => {
-                let name = known.tree.text(at);
+                let name = tree.text(at);
                 name == b"STOP".as_slice() || name == b"LONGJUMP".as_slice()
             }
             _ => false,
@@ -56,7 +57,7 @@ fn may_finish(known: &Known<'_, '_>, at: usize) -> bool {
             }
         }
     }
-    has_own && has_finish(known)
+    has_own && known.has_finish
 }
 
 /// Warns of a loop whose condition has variables that nothing in the loop changes, if nothing else leaves it. Returns

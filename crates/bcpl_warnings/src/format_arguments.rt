@@ -100,7 +100,9 @@ fn wanted_by(letter: u8) -> Wanted {
 /// The format of a call of the library's WRITEF; `None` if the call is of something else, or memory ran out.
 fn format_of(draft: &mut Draft, known: &Known<'_, '_>, at: usize) -> Option<Format> {
     let tree = known.tree;
-    let declared = known.kinds.names.at(tree.first(at))?;
+    let Some(declared) = known.kinds.names.at(tree.first(at)) else {
+        return None;
+    };
     if declared.sort != Sort::Global
         || tree.text(declared.node) != b"WRITEF".as_slice()
         || declared.is_assigned

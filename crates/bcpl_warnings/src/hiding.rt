@@ -17,7 +17,10 @@ fn is_variable(sort: Sort) -> bool {
 
 /// The node that declares what a declaration hides, if that is a variable.
 fn hidden_by(known: &Known<'_, '_>, declared: &Declared) -> Option<usize> {
-    let outer = known.kinds.names.get(declared.before?)?;
+    let before = declared.before?;
+    let Some(outer) = known.kinds.names.get(before) else {
+        return None;
+    };
     if outer.end >= declared.end && is_variable(outer.sort) {
         Some(outer.node)
     } else {

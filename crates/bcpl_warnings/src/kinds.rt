@@ -36,7 +36,9 @@ pub fn is_relation(sign: BinaryOp) -> bool {
 /// What the values of an operator are, by those of its operands.
 fn kind_of(sign: BinaryOp, left: Kind, right: Kind) -> Kind {
     match sign {
-        BinaryOp::And | BinaryOp::Or | BinaryOp::Equivalent | BinaryOp::NotEquivalent => left.or(right),
+        BinaryOp::And | BinaryOp::Or | BinaryOp::Equivalent | BinaryOp::NotEquivalent => left.or(
+            right,
+        ),
         BinaryOp::Multiply | BinaryOp::Divide | BinaryOp::Remainder => Kind::Number,
         BinaryOp::ShiftLeft | BinaryOp::ShiftRight if left.is_plain() => Kind::Number,
         BinaryOp::Add | BinaryOp::Subtract if left.is_plain() && right.is_plain() => Kind::Number,

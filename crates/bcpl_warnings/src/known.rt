@@ -2,6 +2,7 @@
 
 use crate::flow::Flow;
 use crate::kinds::Kinds;
+use crate::names::Sort;
 use crate::node::Form;
 use crate::tree::Tree;
 use bc_lex::Source;
@@ -21,6 +22,8 @@ pub struct Known<'m, 's> {
     pub kinds: &'m Kinds<'s>,
     /// Where control goes.
     pub flow: &'m Flow,
+    /// Whether the main has a command that may end the run.
+    pub has_finish: bool,
 }
 
 /// How far up in the tree a search goes.
@@ -82,6 +85,36 @@ impl<'s> Known<'_, 's> {
         false
     }
 
+    /// Whether a node uses no names but those of constants.
+    pub fn is_constant(&self, at: usize) -> bool {
+        for node in at..self.tree.end(at) {
+            if matches!(self.tree.form(node), Form::Name) && !self.is_manifest(node) {
+                return false;
+            }
+        }
+        true
+    }
+
+    /// Whether a node is the name of a constant.
+    fn is_manifest(&self, at: usize) -> bool {
+        match self.kinds.names.at(at) {
+            Some(declared) => declared.sort == Sort::Constant,
+            None => false,
+        }
+    }
+
+    /// Whether the value that is known of a node is its value wherever it is computed: it is constant, or the node is
+    /// under no condition that may depend on it.
+    pub fn is_certain(&self, at: usize) -> bool {
+        if self.is_constant(at) {
+            return true;
+        }
+        match self.routine_of(at) {
+            Some(routine) => self.is_in_each_round(routine, at),
+            None => false,
+        }
+    }
+
     /// The nearest node above that is a VALOF.
     pub fn valof_of(&self, at: usize) -> Option<usize> {
         let mut node = at;
@@ -110,15 +143,15 @@ impl<'s> Known<'_, 's> {
         None
     }
 
-    /// Whether a FOR does what is in this node in each of its rounds, as far as one can see.
-    pub fn is_in_each_round(&self, counting: usize, at: usize) -> bool {
-        if self.flow.has_jump(self.tree, counting) {
+    /// Whether each round of a FOR, or each call of a routine, does what is in this node, as far as one can see.
+    pub fn is_in_each_round(&self, outer: usize, at: usize) -> bool {
+        if self.flow.has_jump(self.tree, outer) {
             return false;
         }
         let mut node = at;
         for _ in 0..HIGHEST {
             node = self.tree.parent(node);
-            if node == counting {
+            if node == outer {
                 return true;
             }
             let is_always_done = matches!(
@@ -136,7 +169,10 @@ impl<'s> Known<'_, 's> {
                     | Form::Bin(_)
             );
             if !is_always_done
-                || matches!(self.tree.form(node), Form::Bin(BinaryOp::And | BinaryOp::Or))
+                || matches!(
+                    self.tree.form(node),
+                    Form::Bin(BinaryOp::And | BinaryOp::Or)
+                )
             {
                 return false;
             }

@@ -3,6 +3,7 @@
 use crate::flow::Cases;
 use crate::known::Known;
 use crate::node::Form;
+use crate::tree::Tree;
 use bcpl_messages::Draft;
 use bcpl_places::Span;
 
@@ -55,9 +56,37 @@ fn begins_comment(text: &[u8]) -> bool {
     false
 }
 
-/// Whether a CASE that falls through is probably a mistake.
-fn is_odd(cases: Cases) -> bool {
-    cases.stops == 0 || cases.falls <= cases.stops
+/// The item before this one in the list of a SWITCHON.
+fn item_before(tree: &Tree<'_>, switch: usize, at: usize) -> usize {
+    let mut item = tree.second(switch);
+    for _ in switch..at {
+        let next = tree.end(item);
+        if next >= at {
+            break;
+        }
+        item = next;
+    }
+    item
+}
+
+/// Whether an item is all that belongs to its labels, and assigns something: then it probably prepares what follows, as
+/// in `CASE '-': NEGATIVE := TRUE`.
+fn is_preparation(tree: &Tree<'_>, item: usize) -> bool {
+    if !matches!(tree.form(tree.first(item)), Form::Case | Form::Default) {
+        return false;
+    }
+    for node in item..tree.end(item) {
+        if matches!(tree.form(node), Form::Assign) && tree.parent(node) == item {
+            return true;
+        }
+    }
+    false
+}
+
+/// Whether the first CASE that is reached from the one before is probably a mistake.
+fn is_odd(tree: &Tree<'_>, switch: usize, at: usize, cases: &Cases) -> bool {
+    cases.stops == 0
+        || cases.falls <= cases.stops && !is_preparation(tree, item_before(tree, switch, at))
 }
 
 /// Warns of the first CASE of a SWITCHON that is reached from the one before, if that is probably a mistake. Returns
@@ -68,7 +97,7 @@ pub fn warns_of_cases(draft: &mut Draft, known: &Known<'_, '_>, at: usize) -> bo
     let cases = known.flow.cases(switch);
     if !matches!(tree.form(switch), Form::SwitchOn)
         || cases.first != Some(at)
-        || !is_odd(cases)
+        || !is_odd(tree, switch, at, &cases)
         || has_comment(known, at)
     {
         return false;

@@ -5,23 +5,18 @@ use crate::arithmetic::{warns_of_compared_digit, warns_of_digit, warns_of_produc
 use crate::calls::warns_of_call;
 use crate::conditions::{is_not, warns_of_dyadic, warns_of_name, warns_of_not};
 use crate::endless::warns_of_endless;
-use crate::flow::Flow;
 use crate::format_arguments::warns_of_format;
 use crate::habits::{
     warns_of_breaks, warns_of_first_byte, warns_of_lost_vector, warns_of_two_reads,
     warns_of_unused_value,
 };
 use crate::hiding::{warns_of_copies, warns_of_hiding};
-use crate::kinds::Kinds;
 use crate::known::Known;
 use crate::lists::{warns_of_cases, warns_of_valof};
 use crate::loops::warns_of_for;
 use crate::node::Form;
 use crate::subscripts::{warns_of_divisor, warns_of_index, warns_of_shift};
-use crate::tree::Tree;
 use crate::warning::warnings;
-use bc_lex::lex;
-use bc_parse::parse;
 use bc_parse_tree::BinaryOp;
 use bc_word::Memory;
 use bcpl_messages::{Draft, Message, Named, told_lines};
@@ -91,7 +86,7 @@ fn warn_of_more(draft: &mut Draft, known: &Known<'_, '_>, at: usize) {
 }
 
 /// Adds the first warning that applies to a node.
-fn warn_at(draft: &mut Draft, known: &Known<'_, '_>, at: usize) {
+pub(crate) fn warn_of_use(draft: &mut Draft, known: &Known<'_, '_>, at: usize) {
     match known.tree.form(at) {
         Form::Call => warn_of_call(draft, known, at),
         Form::Bin(sign) => warn_of_operator(draft, known, at, sign),
@@ -122,55 +117,6 @@ fn warn_at(draft: &mut Draft, known: &Known<'_, '_>, at: usize) {
     }
 }
 
-/// Adds the warnings on a main to a list.
-fn add_all(
-    alloc: Global,
-    messages: &mut Vec<Message>,
-    known: &Known<'_, '_>,
-    main: usize,
-) -> Result<(), Memory> {
-    for at in 0..known.tree.len() {
-        if known.tree.file(at) >= known.library {
-            let mut draft = Draft::new(alloc, main);
-            warn_at(&mut draft, known, at);
-            if let Some(message) = draft.end()? {
-                messages.push(message)?;
-            }
-        }
-    }
-    Ok(())
-}
-
-/// Adds the warnings on how values are used in a main. A main that is refused gets none.
-fn add_main(
-    alloc: Global,
-    messages: &mut Vec<Message>,
-    named: Named<'_, '_>,
-    library: usize,
-    main: usize,
-) -> Result<(), Memory> {
-    if main < library || main >= named.sources.len() {
-        return Ok(());
-    }
-    let Ok(tokens) = lex(alloc, named.sources, main) else {
-        return Ok(());
-    };
-    let Ok(section) = parse(alloc, tokens.as_slice()) else {
-        return Ok(());
-    };
-    let tree = Tree::of(alloc, tokens.as_slice(), &section)?;
-    let mut kinds = Kinds::of(alloc, &tree, library)?;
-    let flow = Flow::of(alloc, &tree, &mut kinds)?;
-    let known = Known {
-        sources: named.sources,
-        library,
-        tree: &tree,
-        kinds: &kinds,
-        flow: &flow,
-    };
-    add_all(alloc, messages, &known, main)
-}
-
 /// The warnings on the mains of an accepted program, in text order. The first `library` sources are the library's, and
 /// get none. Returns `Memory` if an allocation fails.
 pub fn all_warnings(
@@ -180,9 +126,6 @@ pub fn all_warnings(
     mains: &[usize],
 ) -> Result<Vec<Message>, Memory> {
     let mut messages = warnings(alloc, named, library, mains)?;
-    for main in mains {
-        add_main(alloc, &mut messages, named, library, *main)?;
-    }
     messages.sort_by_key(|message| place_of(message))?;
     Ok(messages)
 }

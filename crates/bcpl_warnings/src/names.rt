@@ -315,7 +315,9 @@ impl<'s> Names<'s> {
         let latest = self.last.get(name).copied()?;
         let mut found = Some(latest);
         for _ in 0..self.declared.len() {
-            let declared = self.declared.get(found?)?;
+            let Some(declared) = self.declared.get(found?) else {
+                return None;
+            };
             if at < declared.end {
                 break;
             }

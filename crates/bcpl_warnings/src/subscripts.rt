@@ -19,7 +19,9 @@ struct Outside {
 
 /// The number of a FOR's variable that is outside, if a node names one and each round comes to it.
 fn counted_outside(known: &Known<'_, '_>, at: usize, greatest: u16) -> Option<Outside> {
-    let declared = known.kinds.names.at(at)?;
+    let Some(declared) = known.kinds.names.at(at) else {
+        return None;
+    };
     if declared.sort != Sort::Counter || declared.is_assigned || declared.is_addressed {
         return None;
     }
@@ -39,7 +41,7 @@ fn counted_outside(known: &Known<'_, '_>, at: usize, greatest: u16) -> Option<Ou
 /// The subscript that is outside, if the expression is known to have one. Negative ones are greater than any cell.
 fn outside_at(known: &Known<'_, '_>, at: usize, greatest: u16) -> Option<Outside> {
     match known.kinds.value(at) {
-        Some(number) if number.get() > greatest => Some(Outside {
+        Some(number) if number.get() > greatest && known.is_certain(at) => Some(Outside {
             number,
             is_counted: false,
         }),
@@ -120,7 +122,7 @@ pub fn warns_of_index(draft: &mut Draft, known: &Known<'_, '_>, at: usize) -> bo
 pub fn warns_of_divisor(draft: &mut Draft, known: &Known<'_, '_>, at: usize) -> bool {
     let divisor = known.tree.second(at);
     let is_zero = matches!(known.kinds.value(divisor), Some(word) if word.get() == 0);
-    if !is_zero {
+    if !is_zero || !known.is_certain(divisor) {
         return false;
     }
     known.begin(draft, at, at);
@@ -133,7 +135,7 @@ pub fn warns_of_divisor(draft: &mut Draft, known: &Known<'_, '_>, at: usize) -> 
 pub fn warns_of_shift(draft: &mut Draft, known: &Known<'_, '_>, at: usize) -> bool {
     let places = known.tree.second(at);
     let is_large = matches!(known.kinds.value(places), Some(word) if word.get() > 15);
-    if !is_large {
+    if !is_large || !known.is_certain(places) {
         return false;
     }
     known.begin(draft, at, at);
