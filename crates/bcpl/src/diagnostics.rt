@@ -3,11 +3,12 @@
 use bc_build::{BuildError, ParseError, ScopeFault, build};
 use bc_text_items::{Item, Segment};
 use bc_word::Memory;
-use bcpl_advice::{FurtherFault, advised, further_faults};
+use bcpl_advice::{FurtherFault, advised, further_faults, likely_meaning};
 use bcpl_cli::BuildLine;
-use bcpl_messages::{Message, Named, message_of, told_lines};
+use bcpl_messages::{Message, Named, Note, message_of, shown, told_lines};
+use bcpl_places::Span;
 use bcpl_reports::{Label, Severity, message_line, text_objects};
-use bcpl_warnings::{all_warnings, likely_starts, warning_lines};
+use bcpl_warnings::{all_warnings, likely_starts, unknown_names, warning_lines};
 use std::alloc::Global;
 
 /// The largest number of refused files that are explained, unless all are.
@@ -65,6 +66,64 @@ pub fn error_lines(
     told_lines(alloc, program.named, &message)
 }
 
+/// The text at a place.
+fn text_at<'s>(program: &Program<'_, 's>, span: Span) -> &'s [u8] {
+    match program.named.sources.get(span.file) {
+        Some(source) => source.text.get(span.start..span.end).unwrap_or(b""),
+        None => b"",
+    }
+}
+
+/// The end of the sentence on the last name that is listed, if `left` further names aren't.
+fn said_of_more(alloc: Global, left: usize) -> Result<String, Memory> {
+    if left == 0 {
+        return Ok(String::new(alloc));
+    }
+    Ok(format!(in alloc; "; --errors all lists {left} more")?)
+}
+
+/// Adds to a message on a name that isn't declared the places of the others, and what is probably meant by each.
+fn add_unknown(
+    alloc: Global,
+    program: &Program<'_, '_>,
+    main: usize,
+    message: &mut Message,
+) -> Result<(), Memory> {
+    let sources = program.named.sources;
+    let names = unknown_names(alloc, sources, main)?;
+    let most = program.most(MOST_ERRORS).saturating_sub(1);
+    let listed = names.len().saturating_sub(1).min(most);
+    let left = names.len().saturating_sub(1).saturating_sub(listed);
+    let more = said_of_more(alloc, left)?;
+    for (number, span) in names.iter().enumerate().skip(1).take(most) {
+        let more = if number == listed { more.as_str() } else { "" };
+        let text = text_at(program, *span);
+        let name = shown(alloc, text)?;
+        let meaning = likely_meaning(alloc, sources, main, text)?;
+        let meaning = meaning.as_str();
+        let sentence = format!(in alloc; "{name} isn't declared either{meaning}{more}")?;
+        message.notes.push(Note {
+            span: *span,
+            sentence,
+        })?;
+    }
+    Ok(())
+}
+
+/// The message with advice and with further names that aren't declared.
+fn completed(
+    alloc: Global,
+    program: &Program<'_, '_>,
+    fault: &BuildError,
+    message: Message,
+) -> Result<Message, Memory> {
+    let mut message = advised(alloc, program.named.sources, fault, message)?;
+    if let BuildError::Scope(main, ScopeFault::Undeclared(_)) = fault {
+        add_unknown(alloc, program, *main, &mut message)?;
+    }
+    Ok(message)
+}
+
 /// Adds the explanations of the further faults of a main that the parser refused.
 fn add_further(
     text: &mut String,
@@ -101,7 +160,7 @@ fn lines_of(
     let code = format!(in alloc; "{line}")?;
     match message_of(alloc, program.named.sources, program.mains, fault)? {
         Some(message) => {
-            let message = advised(alloc, program.named.sources, fault, message)?;
+            let message = completed(alloc, program, fault, message)?;
             let mut text = error_lines(alloc, program, code.as_str(), message)?;
             add_further(&mut text, alloc, program, fault)?;
             Ok(text)

@@ -15,30 +15,30 @@ use bc_machine_defs::End;
 use bc_text_items::Segment;
 use bc_word::Memory;
 use bcpl_cli::{Cause, Clean, Failure, InterpretOrder, ProgramOrder, Wild, load_sources};
-use bcpl_messages::Message;
+use bcpl_messages::{Message, Note};
+use bcpl_places::Span;
+use bcpl_warnings::loop_around;
 use bcpl_wild::{Met, Stand, placed_message, wild_message};
 use std::alloc::Global;
 use std::io::{Read, Write};
 use std::rt::Files;
 
-/// Runs `interpret`. Refusals are explained and warnings printed if `streams.explains`; an abnormal end of the run is
-/// always explained.
+/// Runs `interpret`. Refusals are explained and warnings printed if `console.streams.explains`; an abnormal end of the
+/// run is always explained.
 pub fn interpret_files<F: Files, R: Read + Drop, O: Write + Drop, E: Write + Drop>(
     rt: &F,
     alloc: Global,
     order: &InterpretOrder<'_>,
-    streams: RunStreams<R, O>,
-    err: &mut Clean<E>,
+    console: RunConsole<'_, R, O, E>,
 ) -> Result<(), Failure> {
     let files = load_sources(rt, alloc, &order.program.sources)?;
     order.program.protect_files(rt, alloc, files.as_slice())?;
     let gathered = Gathered::new(alloc, &order.program.sources, files.as_slice())?;
-    let console = RunConsole { streams, err };
     if order.is_strict {
         return interpret_strictly(rt, alloc, order, &gathered, console);
     }
     let run = interpretation_of(rt, alloc, order, &gathered, console)?;
-    result_of(alloc, &gathered.program(), &run)
+    result_of(alloc, &gathered.program(), &run, gathered.library)
 }
 
 /// Prints the warnings about a program that was built to these segments, unless they are suppressed.
@@ -122,18 +122,19 @@ fn unclosed(alloc: Global) -> Failure {
     unfinished(alloc, Failure::new(Cause::Ended(End::Device)))
 }
 
-/// The result of a run as the result of the command.
+/// The result of a run as the result of the command. The first `library` sources are the library's.
 pub fn result_of(
     alloc: Global,
     program: &Program<'_, '_>,
     run: &Interpretation,
+    library: usize,
 ) -> Result<(), Failure> {
     match run.interpreted.outcome {
         Outcome::Ended(Ending::Finished) if run.is_closed => Ok(()),
         Outcome::Ended(Ending::Finished) => Err(unclosed(alloc)),
         Outcome::Device => Err(device_failure(alloc, program, run)),
         Outcome::Ended(Ending::ZeroDivide) => Err(zero_divide_failure(alloc, program, run)),
-        Outcome::Going => Err(turns_spent_failure(alloc, program, run)),
+        Outcome::Going => Err(turns_spent_failure(alloc, program, run, library)),
         Outcome::Wild(access) => Err(wild_failure(alloc, program, run, access)),
     }
 }
@@ -175,28 +176,79 @@ fn zero_divide_failure(alloc: Global, program: &Program<'_, '_>, run: &Interpret
     explained_failure(alloc, program, Cause::Ended(End::ZeroDivide), message)
 }
 
+/// The loop around a place that isn't in the library, if there is one.
+fn loop_at(
+    alloc: Global,
+    program: &Program<'_, '_>,
+    library: usize,
+    place: Span,
+) -> Result<Option<Note>, Memory> {
+    if place.file < library {
+        return Ok(None);
+    }
+    for main in program.mains {
+        let found = loop_around(alloc, program.named.sources, *main, place)?;
+        if found.is_some() {
+            return Ok(found);
+        }
+    }
+    Ok(None)
+}
+
+/// The loop that a run was in, in the newest of its calls that is in one.
+fn loop_of(
+    alloc: Global,
+    program: &Program<'_, '_>,
+    library: usize,
+    message: &Message,
+) -> Result<Option<Note>, Memory> {
+    if let Some(place) = message.span {
+        let found = loop_at(alloc, program, library, place)?;
+        if found.is_some() {
+            return Ok(found);
+        }
+    }
+    for call in &message.notes {
+        let found = loop_at(alloc, program, library, call.span)?;
+        if found.is_some() {
+            return Ok(found);
+        }
+    }
+    Ok(None)
+}
+
 /// The help for a run that used up its turns.
 const TURNS_SPENT: &str =
     "--turns N allows more; make sure that the loop or the recursion ends; bcpl debug FILE.. shows the values";
 
-/// The explanation of a run that used up its turns: where it was, and the calls that led there.
+/// The explanation of a run that used up its turns: where it was, the calls that led there, and the loop that it was in.
 fn turns_spent_message(
     alloc: Global,
     program: &Program<'_, '_>,
     run: &Interpretation,
+    library: usize,
 ) -> Result<Message, Memory> {
     let sentence = "the run was here when it used up its turns";
-    let message = end_message(alloc, program, run, sentence)?;
+    let mut message = end_message(alloc, program, run, sentence)?;
+    let note = loop_of(alloc, program, library, &message)?;
+    if let Some(note) = note {
+        message.notes.push(note)?;
+    }
     message.helped(alloc, Some(TURNS_SPENT))
 }
 
 /// The failure of a run that used up its turns.
-fn turns_spent_failure(alloc: Global, program: &Program<'_, '_>, run: &Interpretation) -> Failure {
+fn turns_spent_failure(
+    alloc: Global,
+    program: &Program<'_, '_>,
+    run: &Interpretation,
+    library: usize,
+) -> Failure {
     explained_failure(
         alloc,
         program,
         Cause::TurnsSpent,
-        turns_spent_message(alloc, program, run),
+        turns_spent_message(alloc, program, run, library),
     )
 }
 

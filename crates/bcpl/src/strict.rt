@@ -103,5 +103,5 @@ pub fn interpret_strictly<F: Files, R: Read + Drop, O: Write + Drop, E: Write + 
         interpreted: Interpreted { outcome, trail },
         is_closed,
     };
-    result_of(alloc, &program, &whole)
+    result_of(alloc, &program, &whole, gathered.library)
 }

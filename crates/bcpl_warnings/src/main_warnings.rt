@@ -1,13 +1,121 @@
-//! The warnings on the mains of an accepted program, and their lines.
+//! The warnings on the mains of an accepted program: those that the tokens show, and those on how values are used.
 
+use crate::addresses::{warns_of_assignment, warns_of_result};
+use crate::arithmetic::{warns_of_compared_digit, warns_of_digit, warns_of_product};
+use crate::calls::warns_of_call;
+use crate::conditions::{is_not, warns_of_dyadic, warns_of_name, warns_of_not};
+use crate::endless::warns_of_endless;
+use crate::format_arguments::warns_of_format;
+use crate::habits::{
+    warns_of_breaks, warns_of_first_byte, warns_of_lost_vector, warns_of_two_reads,
+    warns_of_unused_value,
+};
+use crate::hiding::{warns_of_copies, warns_of_hiding};
+use crate::known::Known;
+use crate::lists::{warns_of_cases, warns_of_valof};
+use crate::loops::warns_of_for;
+use crate::node::Form;
+use crate::subscripts::{warns_of_divisor, warns_of_index, warns_of_shift};
 use crate::warning::warnings;
+use bc_parse_tree::BinaryOp;
 use bc_word::Memory;
-use bcpl_messages::{Message, Named, told_lines};
+use bcpl_messages::{Draft, Message, Named, told_lines};
 use indexmap::IndexSet;
 use std::alloc::Global;
 
 /// At most this many warnings are printed.
 const MOST: usize = 10;
+
+/// Warns of an operator with two operands.
+fn warn_of_operator(draft: &mut Draft, known: &Known<'_, '_>, at: usize, sign: BinaryOp) {
+    if warns_of_dyadic(draft, known, at, sign) || warns_of_compared_digit(draft, known, at, sign) {
+        return;
+    }
+    match sign {
+        BinaryOp::Multiply => {
+            warns_of_product(draft, known, at);
+        }
+        BinaryOp::Add => {
+            warns_of_digit(draft, known, at);
+        }
+        BinaryOp::Index => {
+            warns_of_index(draft, known, at);
+        }
+        BinaryOp::Divide | BinaryOp::Remainder => {
+            warns_of_divisor(draft, known, at);
+        }
+        BinaryOp::ShiftLeft | BinaryOp::ShiftRight => {
+            warns_of_shift(draft, known, at);
+        }
+        _ => {}
+    }
+}
+
+/// Adds a warning on a call.
+fn warn_of_call(draft: &mut Draft, known: &Known<'_, '_>, at: usize) {
+    if !warns_of_call(draft, known, at) && !warns_of_format(draft, known, at) {
+        warns_of_first_byte(draft, known, at);
+    }
+}
+
+/// Adds a warning on a command or a declaration.
+fn warn_of_more(draft: &mut Draft, known: &Known<'_, '_>, at: usize) {
+    match known.tree.form(at) {
+        Form::While | Form::Until => {
+            if !warns_of_endless(draft, known, at) {
+                warns_of_two_reads(draft, known, at);
+            }
+        }
+        Form::RepeatWhile | Form::RepeatUntil => {
+            warns_of_endless(draft, known, at);
+        }
+        Form::SwitchOn => {
+            warns_of_breaks(draft, known, at);
+        }
+        Form::Do => {
+            warns_of_unused_value(draft, known, at);
+        }
+        Form::Variable => {
+            warns_of_hiding(draft, known, at);
+        }
+        Form::Routine => {
+            warns_of_copies(draft, known, at);
+        }
+        _ => {}
+    }
+}
+
+/// Adds the first warning that applies to a node.
+pub(crate) fn warn_of_use(draft: &mut Draft, known: &Known<'_, '_>, at: usize) {
+    match known.tree.form(at) {
+        Form::Call => warn_of_call(draft, known, at),
+        Form::Bin(sign) => warn_of_operator(draft, known, at, sign),
+        Form::Unary(sign) if is_not(sign) => {
+            warns_of_not(draft, known, at);
+        }
+        Form::Name => {
+            warns_of_name(draft, known, at);
+        }
+        Form::For => {
+            warns_of_for(draft, known, at);
+        }
+        Form::Valof => {
+            warns_of_valof(draft, known, at);
+        }
+        Form::Item => {
+            warns_of_cases(draft, known, at);
+        }
+        Form::ResultIs => {
+            warns_of_result(draft, known, at);
+        }
+        Form::Assign => {
+            if !warns_of_assignment(draft, known, at) {
+                warns_of_lost_vector(draft, known, at);
+            }
+        }
+        _ => warn_of_more(draft, known, at),
+    }
+}
 
 /// The warnings on the mains of an accepted program, in text order. The first `library` sources are the library's, and
 /// get none. Returns `Memory` if an allocation fails.

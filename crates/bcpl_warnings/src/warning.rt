@@ -3,15 +3,21 @@
 use crate::arguments::{Missing, missing_arguments};
 use crate::comments::swallowed_do;
 use crate::declared::Declarations;
+use crate::endless::has_finish;
+use crate::flow::Flow;
 use crate::formats::{Lacking, lacking_arguments, unknown_format};
 use crate::globals::{is_library_assigned, library_global, number_twice};
+use crate::kinds::Kinds;
+use crate::known::Known;
 use crate::labels::{Idle, idle_label};
+use crate::main_warnings::warn_of_use;
 use crate::mixed::is_mixed;
 use crate::results::has_no_result;
 use crate::routines::Routines;
 use crate::separated::{Looks, is_repeat_in_front, misread, seeming_head};
 use crate::starts::{Likeness, likeness_at};
 use crate::strings::has_backslash;
+use crate::tree::Tree;
 use crate::unreachable::unreached;
 use crate::unset::{Settings, unset_global};
 use crate::values::is_used;
@@ -19,6 +25,7 @@ use crate::vectors::is_vector_called;
 use bc_lex::{Source, lex};
 use bc_lex_tokens::Token;
 use bc_library::is_of_library;
+use bc_parse::parse;
 use bc_word::Memory;
 use bcpl_messages::{Draft, Fill, Message, Named};
 use bcpl_places::Span;
@@ -483,12 +490,48 @@ impl<'p, 's> Telling<'p, 's> {
         lex(self.alloc, sources, main).ok()
     }
 
-    /// Adds the warnings on an accepted main.
-    fn add_main(&mut self, settings: &Settings, main: usize) -> Result<(), Memory> {
-        match self.tokens(main) {
-            Some(tokens) => self.add_tokens(settings, main, tokens.as_slice()),
+    /// Adds the warning on how the values of a node are used, if there is one.
+    fn add_node(&mut self, known: &Known<'_, '_>, main: usize, at: usize) -> Result<(), Memory> {
+        if known.tree.file(at) < self.library {
+            return Ok(());
+        }
+        let mut draft = Draft::new(self.alloc, main);
+        warn_of_use(&mut draft, known, at);
+        match draft.end()? {
+            Some(message) => self.add(message),
             None => Ok(()),
         }
+    }
+
+    /// Adds the warnings on how values are used in a main with these tokens. One that the parser refuses gets none.
+    fn add_uses(&mut self, main: usize, tokens: &[Token<'s>]) -> Result<(), Memory> {
+        let Ok(section) = parse(self.alloc, tokens) else {
+            return Ok(());
+        };
+        let tree = Tree::of(self.alloc, tokens, &section)?;
+        let mut kinds = Kinds::of(self.alloc, &tree, self.library)?;
+        let flow = Flow::of(self.alloc, &tree, &mut kinds)?;
+        let known = Known {
+            sources: self.named.sources,
+            library: self.library,
+            tree: &tree,
+            kinds: &kinds,
+            flow: &flow,
+            has_finish: has_finish(&tree),
+        };
+        for at in 0..tree.len() {
+            self.add_node(&known, main, at)?;
+        }
+        Ok(())
+    }
+
+    /// Adds the warnings on an accepted main.
+    fn add_main(&mut self, settings: &Settings, main: usize) -> Result<(), Memory> {
+        let Some(tokens) = self.tokens(main) else {
+            return Ok(());
+        };
+        self.add_tokens(settings, main, tokens.as_slice())?;
+        self.add_uses(main, tokens.as_slice())
     }
 
     /// Adds a warning if the routine at the token with this index is probably meant to be START.
@@ -513,7 +556,7 @@ impl<'p, 's> Telling<'p, 's> {
     }
 }
 
-/// The warnings on the mains of an accepted program that their tokens show, main by main in text order. The first
+/// The warnings on the mains of an accepted program, main by main, first those that the tokens show. The first
 /// `library` sources are the library's, and get no warnings. Returns `Memory` if an allocation fails.
 pub(crate) fn warnings(
     alloc: Global,

@@ -1,0 +1,298 @@
+//! Warnings on relations and conditions that are probably meant otherwise.
+
+use crate::calls::{large, only_character, say_signed, warns_of_large};
+use crate::kind::Kind;
+use crate::kinds::is_relation;
+use crate::known::{Known, sign_of};
+use crate::node::Form;
+use bc_parse_tree::{BinaryOp, UnaryOp};
+use bcpl_messages::{Draft, Fill};
+
+/// The operator of a relation; `None` if the node isn't one.
+fn relation_at(known: &Known<'_, '_>, at: usize) -> Option<BinaryOp> {
+    match known.tree.form(at) {
+        Form::Bin(sign) if is_relation(sign) => Some(sign),
+        _ => None,
+    }
+}
+
+/// Warns of `X & 1 = 0`: the relation of two constants is the second operand. Returns whether it is.
+fn warns_of_precedence(
+    draft: &mut Draft,
+    known: &Known<'_, '_>,
+    at: usize,
+    sign: BinaryOp,
+) -> bool {
+    let tree = known.tree;
+    let second = tree.second(at);
+    let Some(relation) = relation_at(known, second) else {
+        return false;
+    };
+    let (left, right) = (tree.first(second), tree.second(second));
+    if !known.is_constant(second) || known.kinds.kind(tree.first(at)) == Kind::Truth {
+        return false;
+    }
+    let first = known.shown(tree.first(at));
+    let parts = [
+        first,
+        Fill::Text(sign_of(sign)),
+        known.shown(left),
+        Fill::Text(sign_of(relation)),
+        known.shown(right),
+    ];
+    known.begin(draft, at, at);
+    draft.say(
+        "{} binds tighter than {}: ",
+        &[Fill::Text(sign_of(relation)), Fill::Text(sign_of(sign))],
+    );
+    draft.say("this is {} {} ({} {} {})", &parts);
+    draft.help("write ({} {} {}) {} {}", &parts);
+    true
+}
+
+/// Warns of `CH = 'a' | 'b'`: a constant is the second operand, and a relation the first. Returns whether it is.
+fn warns_of_alternative(
+    draft: &mut Draft,
+    known: &Known<'_, '_>,
+    at: usize,
+    sign: BinaryOp,
+) -> bool {
+    let tree = known.tree;
+    let (first, second) = (tree.first(at), tree.second(at));
+    let Some(relation) = relation_at(known, first) else {
+        return false;
+    };
+    let is_meant = match tree.form(second) {
+        Form::Character(_) => true,
+        Form::Number(word) => word.get() != 0 && sign == BinaryOp::Or,
+        _ => false,
+    };
+    if !is_meant || known.kinds.kind(tree.second(first)) == Kind::Truth {
+        return false;
+    }
+    known.begin(draft, at, at);
+    draft.say(
+        "{} {} is a condition by itself here, and always true",
+        &[Fill::Text(sign_of(sign)), known.shown(second)],
+    );
+    let left = known.shown(tree.first(first));
+    let equals = Fill::Text(sign_of(relation));
+    draft.help(
+        "write {} {} {} {} {} {} {}",
+        &[
+            left,
+            equals,
+            known.shown(tree.second(first)),
+            Fill::Text(sign_of(sign)),
+            left,
+            equals,
+            known.shown(second),
+        ],
+    );
+    true
+}
+
+/// Whether a node is a string that is written out.
+fn is_string(known: &Known<'_, '_>, at: usize) -> bool {
+    matches!(known.tree.form(at), Form::String)
+}
+
+/// Warns of a relation that compares the addresses of strings. Returns whether it does.
+fn warns_of_strings(draft: &mut Draft, known: &Known<'_, '_>, at: usize) -> bool {
+    let tree = known.tree;
+    let (left, right) = (tree.first(at), tree.second(at));
+    let are_both = known.kinds.kind(left) == Kind::String
+        && known.kinds.kind(right) == Kind::String;
+    let literal = if is_string(known, right) {
+        right
+    } else if is_string(known, left) {
+        left
+    } else if are_both {
+        at
+    } else {
+        return false;
+    };
+    match only_character(known.text(literal, literal)) {
+        Some(inside) if !are_both && literal != at => {
+            known.begin(draft, literal, literal);
+            draft.say(
+                "{} is a string, and its address is compared here",
+                &[known.shown(literal)],
+            );
+            draft.help(
+                "the character is in single quotes: '{}'",
+                &[Fill::Shown(inside)],
+            );
+        }
+        _ => {
+            known.begin(draft, at, at);
+            draft.say("this compares the addresses of two strings", &[]);
+            draft.help(
+                "COMPSTRING of EXTHDR compares what is in them: COMPSTRING(S, T) = 0 if they are equal",
+                &[],
+            );
+        }
+    }
+    true
+}
+
+/// Warns of a truth value that is compared with a number other than TRUE and FALSE. Returns whether one is.
+fn warns_of_truth(draft: &mut Draft, known: &Known<'_, '_>, at: usize) -> bool {
+    let tree = known.tree;
+    let (left, right) = (tree.first(at), tree.second(at));
+    let (truth, number) = if known.kinds.kind(left) == Kind::Truth {
+        (left, right)
+    } else {
+        (right, left)
+    };
+    let is_other = match known.kinds.value(number) {
+        Some(word) => word.get() != 0 && word.get() != 65535,
+        None => false,
+    };
+    if known.kinds.kind(truth) != Kind::Truth || !known.kinds.kind(number).is_plain() || !is_other {
+        return false;
+    }
+    known.begin(draft, at, at);
+    draft.say(
+        "{} is a truth value, and never {}: TRUE is -1, and FALSE is 0",
+        &[known.shown(truth), known.shown(number)],
+    );
+    draft.help(
+        "write {} or NOT {} as the condition",
+        &[known.shown(truth), known.shown(truth)],
+    );
+    true
+}
+
+/// Warns of a routine's name that is compared with a number, or is an operand of arithmetic. Returns whether one is.
+fn warns_of_routine(draft: &mut Draft, known: &Known<'_, '_>, at: usize, sign: BinaryOp) -> bool {
+    let tree = known.tree;
+    let (left, right) = (tree.first(at), tree.second(at));
+    let (routine, other) = if known.kinds.kind(left) == Kind::Routine {
+        (left, right)
+    } else {
+        (right, left)
+    };
+    let is_arithmetic = matches!(
+        sign,
+        BinaryOp::Add
+            | BinaryOp::Subtract
+            | BinaryOp::Multiply
+            | BinaryOp::Divide
+            | BinaryOp::Remainder
+    );
+    let is_compared = is_relation(sign)
+        && matches!(
+            known.kinds.kind(other),
+            Kind::Number | Kind::Character | Kind::Truth | Kind::String
+        );
+    if known.kinds.kind(routine) != Kind::Routine || !is_arithmetic && !is_compared {
+        return false;
+    }
+    say_routine(draft, known, routine);
+    true
+}
+
+/// Warns that a name is a routine's address.
+fn say_routine(draft: &mut Draft, known: &Known<'_, '_>, at: usize) {
+    let name = known.shown(at);
+    known.begin(draft, at, at);
+    draft.say(
+        "{} is a routine, and without parentheses it isn't called",
+        &[name],
+    );
+    draft.help("a call is written {}() or {}(A, B)", &[name, name]);
+}
+
+/// Warns of a relation. Returns whether it does.
+fn warns_of_relation(draft: &mut Draft, known: &Known<'_, '_>, at: usize, sign: BinaryOp) -> bool {
+    if warns_of_strings(draft, known, at) || warns_of_truth(draft, known, at) {
+        return true;
+    }
+    if matches!(sign, BinaryOp::Equal | BinaryOp::NotEqual) {
+        return false;
+    }
+    let (left, right) = (known.tree.first(at), known.tree.second(at));
+    if large(known, left).is_some() && large(known, right).is_some() {
+        return false;
+    }
+    warns_of_large(draft, known, left) || warns_of_large(draft, known, right)
+}
+
+/// Warns of two strings that are added. Returns whether they are.
+fn warns_of_sum(draft: &mut Draft, known: &Known<'_, '_>, at: usize) -> bool {
+    let tree = known.tree;
+    if known.kinds.kind(tree.first(at)) != Kind::String
+        || known.kinds.kind(tree.second(at)) != Kind::String
+    {
+        return false;
+    }
+    known.begin(draft, at, at);
+    draft.say("this adds the addresses of two strings", &[]);
+    draft.help(
+        "no operator joins strings; write one after the other, or copy them byte by byte with PUTBYTE",
+        &[],
+    );
+    true
+}
+
+/// Warns of a dyadic operator. Returns whether it does.
+pub fn warns_of_dyadic(
+    draft: &mut Draft,
+    known: &Known<'_, '_>,
+    at: usize,
+    sign: BinaryOp,
+) -> bool {
+    if warns_of_routine(draft, known, at, sign) {
+        return true;
+    }
+    match sign {
+        BinaryOp::And | BinaryOp::Or => {
+            warns_of_precedence(draft, known, at, sign)
+                || warns_of_alternative(draft, known, at, sign)
+        }
+        BinaryOp::Add => warns_of_sum(draft, known, at),
+        _ if is_relation(sign) => warns_of_relation(draft, known, at, sign),
+        _ => false,
+    }
+}
+
+/// Warns of NOT of a number that isn't a truth value, where the result is used as one. Returns whether it does.
+pub fn warns_of_not(draft: &mut Draft, known: &Known<'_, '_>, at: usize) -> bool {
+    let tree = known.tree;
+    let operand = tree.first(at);
+    let fact = known.kinds.fact(operand);
+    let Some(word) = fact.value else {
+        return false;
+    };
+    let is_flag = matches!(tree.form(operand), Form::Name)
+        && word.get() == 1
+        && !matches!(tree.form_of_parent(at), Form::Bin(_) | Form::Entry(_));
+    let is_meant = known.is_condition(at) || is_flag;
+    if fact.kind != Kind::Number || word.get() == 0 || word.get() == 65535 || !is_meant {
+        return false;
+    }
+    known.begin(draft, at, at);
+    draft.say("NOT {} is ", &[Fill::Number(u64::from(word.get()))]);
+    say_signed(draft, word.complemented());
+    draft.say(", which is true", &[]);
+    draft.help(
+        "NOT inverts each bit; for truth values, use TRUE and FALSE",
+        &[],
+    );
+    true
+}
+
+/// Warns of a routine's name that is a condition. Returns whether it is one.
+pub fn warns_of_name(draft: &mut Draft, known: &Known<'_, '_>, at: usize) -> bool {
+    if known.kinds.kind(at) != Kind::Routine || !known.is_condition(at) {
+        return false;
+    }
+    say_routine(draft, known, at);
+    true
+}
+
+/// Whether a monadic operator is NOT.
+pub fn is_not(sign: UnaryOp) -> bool {
+    matches!(sign, UnaryOp::Not)
+}

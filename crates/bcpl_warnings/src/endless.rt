@@ -1,0 +1,95 @@
+//! Warnings on loops whose condition nothing in the loop changes.
+
+use crate::enclosing::{condition_of, condition_terms, listed};
+use crate::known::Known;
+use crate::names::Sort;
+use crate::node::Form;
+use crate::tree::Tree;
+use bcpl_messages::{Draft, Fill};
+
+/// Whether a section has a command that may end the run.
+pub fn has_finish(tree: &Tree<'_>) -> bool {
+    for at in 0..tree.len() {
+        let is_end = match tree.form(at) {
+            Form::Finish | Form::Goto => true,
+            Form::Name => {
+                let name = tree.text(at);
+                name == b"STOP".as_slice() || name == b"LONGJUMP".as_slice()
+            }
+            _ => false,
+        };
+        if is_end {
+            return true;
+        }
+    }
+    false
+}
+
+/// Whether a called expression is a routine of the library that returns.
+fn is_library_routine(known: &Known<'_, '_>, called: usize) -> bool {
+    match known.kinds.names.at(called) {
+        Some(declared) => {
+            declared.is_library && known.tree.text(declared.node) != b"STOP".as_slice()
+        }
+        None => false,
+    }
+}
+
+/// Whether a called expression is a routine of the section.
+fn is_own_routine(known: &Known<'_, '_>, called: usize) -> bool {
+    match known.kinds.names.at(called) {
+        Some(declared) => declared.sort == Sort::Routine,
+        None => false,
+    }
+}
+
+/// Whether a call in this node may end the run.
+fn may_finish(known: &Known<'_, '_>, at: usize) -> bool {
+    let tree = known.tree;
+    let mut has_own = false;
+    for node in at..tree.end(at) {
+        if matches!(tree.form(node), Form::Call) {
+            let called = tree.first(node);
+            if is_own_routine(known, called) {
+                has_own = true;
+            } else if !is_library_routine(known, called) {
+                return true;
+            }
+        }
+    }
+    has_own && known.has_finish
+}
+
+/// Warns of a loop whose condition has variables that nothing in the loop changes, if nothing else leaves it. Returns
+/// whether it does.
+pub fn warns_of_endless(draft: &mut Draft, known: &Known<'_, '_>, at: usize) -> bool {
+    let tree = known.tree;
+    let Some(condition) = condition_of(tree, at) else {
+        return false;
+    };
+    if known.flow.has_jump(tree, at) || may_finish(known, at) {
+        return false;
+    }
+    let alloc = draft.alloc();
+    let Ok(on) = condition_terms(alloc, tree, &known.kinds.names, at, condition) else {
+        draft.refuse();
+        return false;
+    };
+    if on.may_change || on.names.is_empty() {
+        return false;
+    }
+    let Ok(list) = listed(alloc, on.names.as_slice()) else {
+        draft.refuse();
+        return false;
+    };
+    known.begin(draft, condition, condition);
+    draft.say(
+        "nothing in this loop changes {}, so its condition stays as it is",
+        &[Fill::Text(list.as_str())],
+    );
+    draft.help(
+        "change a variable of the condition in the loop, or leave it by BREAK",
+        &[],
+    );
+    true
+}

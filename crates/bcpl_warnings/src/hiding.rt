@@ -1,0 +1,162 @@
+//! Warnings on assignments that were meant for something else: a variable that hides another one and is never read, and
+//! a routine that changes only its own parameters.
+
+use crate::known::Known;
+use crate::names::{Declared, Sort};
+use crate::node::Form;
+use bcpl_messages::{Draft, Fill};
+use bcpl_places::Span;
+
+/// Whether a declaration of this sort is of a variable, as seen from a block in the same routine or file.
+fn is_variable(sort: Sort) -> bool {
+    matches!(
+        sort,
+        Sort::Variable | Sort::Counter | Sort::Parameter | Sort::Static
+    )
+}
+
+/// The node that declares what a declaration hides, if that is a variable.
+fn hidden_by(known: &Known<'_, '_>, declared: &Declared) -> Option<usize> {
+    let before = declared.before?;
+    let Some(outer) = known.kinds.names.get(before) else {
+        return None;
+    };
+    if outer.end >= declared.end && is_variable(outer.sort) {
+        Some(outer.node)
+    } else {
+        None
+    }
+}
+
+/// Whether a node reads the variable with this index.
+fn is_read_at(known: &Known<'_, '_>, at: usize, index: usize) -> bool {
+    let is_place = matches!(known.tree.form_of_parent(at), Form::Places);
+    match known.kinds.names.index_at(at) {
+        Some(other) => other == index && !is_place,
+        None => false,
+    }
+}
+
+/// Whether the variable with this index is read from this node on, up to the end of its scope.
+fn is_read_from(known: &Known<'_, '_>, from: usize, index: usize, end: usize) -> bool {
+    for at in from..end {
+        if is_read_at(known, at, index) {
+            return true;
+        }
+    }
+    false
+}
+
+/// Warns of a variable that hides another one and is never read after its declaration. Returns whether it is one.
+pub fn warns_of_hiding(draft: &mut Draft, known: &Known<'_, '_>, at: usize) -> bool {
+    let tree = known.tree;
+    let Some(index) = known.kinds.names.index_at(at) else {
+        return false;
+    };
+    let Some(declared) = known.kinds.names.get(index) else {
+        return false;
+    };
+    let Some(outer) = hidden_by(known, &declared) else {
+        return false;
+    };
+    let after = tree.end(tree.parent(tree.parent(at)));
+    if declared.sort != Sort::Variable || is_read_from(known, after, index, declared.end) {
+        return false;
+    }
+    let name = Fill::Shown(tree.text(declared.node));
+    known.begin(draft, at, at);
+    draft.say("this is another {}, which is never read", &[name]);
+    if let Some(token) = tree.leaf(outer) {
+        let place = Span {
+            file: token.file,
+            start: token.start,
+            end: token.end,
+        };
+        draft.note(place, "it hides the {} that is declared here", &[name]);
+    }
+    draft.help(
+        "to assign to the one that exists, leave out LET and write :=",
+        &[],
+    );
+    true
+}
+
+/// What an assignment's left side is.
+#[derive(Clone, Copy, PartialEq, Eq)]
+enum AssignedPlace {
+    Parameter,
+    Variable,
+    Other,
+}
+
+/// What the expression at this node is as a left side.
+fn target_at(known: &Known<'_, '_>, at: usize) -> AssignedPlace {
+    let Some(declared) = known.kinds.names.at(at) else {
+        return AssignedPlace::Other;
+    };
+    match (known.tree.form(at), declared.sort) {
+        (Form::Name, Sort::Parameter) => AssignedPlace::Parameter,
+        (Form::Name, Sort::Variable) => AssignedPlace::Variable,
+        _ => AssignedPlace::Other,
+    }
+}
+
+/// Whether a form may do something besides assigning.
+fn may_do_more(form: Form) -> bool {
+    matches!(
+        form,
+        Form::Call
+            | Form::Valof
+            | Form::Goto
+            | Form::Finish
+            | Form::Repeat
+            | Form::RepeatWhile
+            | Form::RepeatUntil
+            | Form::While
+            | Form::Until
+            | Form::For
+    )
+}
+
+/// Whether a routine does nothing but assign to its parameters and variables, and to a parameter at least.
+fn has_no_effect(known: &Known<'_, '_>, at: usize) -> bool {
+    let tree = known.tree;
+    let mut has_parameter = false;
+    for node in at..tree.end(at) {
+        if may_do_more(tree.form(node)) {
+            return false;
+        }
+        if matches!(tree.form_of_parent(node), Form::Places) {
+            match target_at(known, node) {
+                AssignedPlace::Parameter => has_parameter = true,
+                AssignedPlace::Variable => {}
+                AssignedPlace::Other => return false,
+            }
+        }
+    }
+    has_parameter
+}
+
+/// Warns of a routine without an effect, because it assigns only to copies. Returns whether it is one.
+pub fn warns_of_copies(draft: &mut Draft, known: &Known<'_, '_>, at: usize) -> bool {
+    let Some(token) = known.tree.leaf(at) else {
+        return false;
+    };
+    if !has_no_effect(known, at) {
+        return false;
+    }
+    draft.place(Span {
+        file: token.file,
+        start: token.start,
+        end: token.end,
+    });
+    draft.say(
+        "warning: {} has no effect: it assigns only to its parameters, which are copies of the arguments",
+        &[Fill::Shown(token.text)],
+    );
+    draft.help(
+        "pass addresses, as in SWAP(@X, @Y), and assign to !A in the routine",
+        &[],
+    );
+    true
+}

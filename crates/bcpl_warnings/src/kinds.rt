@@ -1,0 +1,397 @@
+//! What each expression is, found from its parts and from what its names were given. Two passes are made: the second
+//! one knows what the first one met of variables that are assigned, and of parameters.
+
+use crate::kind::{Fact, Kind};
+use crate::names::{Declared, Names, Sort};
+use crate::node::Form;
+use crate::tree::Tree;
+use bc_parse_tree::{BinaryOp, Storage, UnaryOp};
+use bc_scope_names::operator;
+use bc_word::{Memory, Word, apply};
+use std::alloc::Global;
+
+/// What is known of the nodes of a section.
+#[derive(Drop)]
+pub struct Kinds<'s> {
+    /// The declarations.
+    pub names: Names<'s>,
+    facts: Vec<Fact>,
+    /// Whether this is the second pass.
+    is_second: bool,
+}
+
+/// Whether an operator is a relation.
+pub fn is_relation(sign: BinaryOp) -> bool {
+    matches!(
+        sign,
+        BinaryOp::Equal
+            | BinaryOp::NotEqual
+            | BinaryOp::Less
+            | BinaryOp::LessEqual
+            | BinaryOp::Greater
+            | BinaryOp::GreaterEqual
+    )
+}
+
+/// What the values of an operator are, by those of its operands.
+fn kind_of(sign: BinaryOp, left: Kind, right: Kind) -> Kind {
+    match sign {
+        BinaryOp::And | BinaryOp::Or | BinaryOp::Equivalent | BinaryOp::NotEquivalent => left.or(
+            right,
+        ),
+        BinaryOp::Multiply | BinaryOp::Divide | BinaryOp::Remainder => Kind::Number,
+        BinaryOp::ShiftLeft | BinaryOp::ShiftRight if left.is_plain() => Kind::Number,
+        BinaryOp::Add | BinaryOp::Subtract if left.is_plain() && right.is_plain() => Kind::Number,
+        _ if is_relation(sign) => Kind::Truth,
+        _ => Kind::Unknown,
+    }
+}
+
+/// The value of an operator, if those of its operands are known.
+fn value_of(sign: BinaryOp, left: Option<Word>, right: Option<Word>) -> Option<Word> {
+    apply(operator(sign)?, left?, right?)
+}
+
+/// The negative of a value.
+fn negated(value: Option<Word>) -> Option<Word> {
+    Some(value?.negated())
+}
+
+/// A value with each bit inverted.
+fn complemented(value: Option<Word>) -> Option<Word> {
+    Some(value?.complemented())
+}
+
+/// A value as a number.
+fn number_of(value: Option<Word>) -> Option<u16> {
+    Some(value?.get())
+}
+
+impl<'s> Kinds<'s> {
+    /// What is known of the nodes of a section. Returns `Memory` if an allocation fails.
+    pub fn of(alloc: Global, tree: &Tree<'s>, library: usize) -> Result<Kinds<'s>, Memory> {
+        let mut kinds = Kinds {
+            names: Names::of(alloc, tree, library)?,
+            facts: Vec::new(alloc),
+            is_second: false,
+        };
+        for _ in 0..tree.len() {
+            kinds.facts.push(Fact::unknown())?;
+        }
+        kinds.pass(tree);
+        kinds.is_second = true;
+        kinds.pass(tree);
+        Ok(kinds)
+    }
+
+    /// Visits all nodes, children before parents.
+    fn pass(&mut self, tree: &Tree<'s>) {
+        for at in tree.closed() {
+            let fact = self.found(tree, *at);
+            if let Some(known) = self.facts.get_mut(*at) {
+                *known = fact;
+            }
+            self.give(tree, *at);
+        }
+    }
+
+    /// What is known of a node.
+    pub fn fact(&self, at: usize) -> Fact {
+        match self.facts.get(at) {
+            Some(fact) => *fact,
+            None => Fact::unknown(),
+        }
+    }
+
+    /// What a node is.
+    pub fn kind(&self, at: usize) -> Kind {
+        self.fact(at).kind
+    }
+
+    /// The value of a node, if it is known.
+    pub fn value(&self, at: usize) -> Option<Word> {
+        self.fact(at).value
+    }
+
+    /// Finds what an expression is from its parts.
+    fn found(&self, tree: &Tree<'s>, at: usize) -> Fact {
+        match tree.form(at) {
+            Form::Name => self.named(at),
+            Form::Number(word) => Fact {
+                literal: Some(at),
+                ..Fact::constant(Kind::Number, Some(word))
+            },
+            Form::Character(word) => Fact::constant(Kind::Character, Some(word)),
+            Form::String => Fact::plain(Kind::String),
+            Form::True => Fact::constant(Kind::Truth, Some(Word::new(65535))),
+            Form::False => Fact::constant(Kind::Truth, Some(Word::new(0))),
+            Form::Table => Fact {
+                greatest: greatest_of(tree, at),
+                ..Fact::plain(Kind::Table)
+            },
+            Form::Unary(sign) => self.monadic(tree, at, sign),
+            Form::Bin(sign) => self.dyadic(tree, at, sign),
+            Form::Cond => {
+                let this = self.kind(tree.second(at));
+                Fact::plain(this.or(self.kind(tree.third(at))))
+            }
+            Form::Call => Fact::plain(self.given(tree, at)),
+            _ => Fact::unknown(),
+        }
+    }
+
+    /// What a monadic operator gives.
+    fn monadic(&self, tree: &Tree<'s>, at: usize, sign: UnaryOp) -> Fact {
+        let operand = tree.first(at);
+        let fact = self.fact(operand);
+        match sign {
+            UnaryOp::Neg if fact.kind.is_plain() => {
+                Fact::constant(Kind::Number, negated(fact.value))
+            }
+            UnaryOp::Not if fact.kind == Kind::Truth || fact.kind == Kind::Number => {
+                Fact::constant(fact.kind, complemented(fact.value))
+            }
+            UnaryOp::Address if self.is_local(operand) => {
+                Fact::of(Kind::Local, self.names.index_at(operand))
+            }
+            _ => Fact::unknown(),
+        }
+    }
+
+    /// Whether a node is the name of something in a routine's frame.
+    fn is_local(&self, at: usize) -> bool {
+        match self.names.at(at) {
+            Some(declared) => matches!(
+                declared.sort,
+                Sort::Variable | Sort::Counter | Sort::Vector | Sort::Parameter
+            ),
+            None => false,
+        }
+    }
+
+    /// What a dyadic operator gives.
+    fn dyadic(&self, tree: &Tree<'s>, at: usize, sign: BinaryOp) -> Fact {
+        let left = self.fact(tree.first(at));
+        let right = self.fact(tree.second(at));
+        Fact::constant(
+            kind_of(sign, left.kind, right.kind),
+            value_of(sign, left.value, right.value),
+        )
+    }
+
+    /// What a call gives.
+    fn given(&self, tree: &Tree<'s>, at: usize) -> Kind {
+        let Some(declared) = self.names.at(tree.first(at)) else {
+            return Kind::Unknown;
+        };
+        let is_routine = declared.sort == Sort::Routine || declared.is_library;
+        if is_routine && !declared.is_assigned {
+            declared.gives
+        } else {
+            Kind::Unknown
+        }
+    }
+
+    /// What a name means as a value.
+    fn named(&self, at: usize) -> Fact {
+        let index = self.names.index_at(at);
+        let Some(declared) = self.names.at(at) else {
+            return Fact::unknown();
+        };
+        match declared.sort {
+            Sort::Constant => declared.first,
+            Sort::Routine if !declared.is_assigned => Fact::of(Kind::Routine, index),
+            Sort::Global if declared.is_library && !declared.is_assigned => {
+                Fact::of(Kind::Routine, index)
+            }
+            Sort::Vector if !declared.is_assigned && !declared.is_addressed => Fact {
+                of: index,
+                ..declared.first
+            },
+            Sort::Variable | Sort::Static | Sort::Counter | Sort::Parameter => self.held(&declared),
+            _ => Fact::unknown(),
+        }
+    }
+
+    /// What a variable holds.
+    fn held(&self, declared: &Declared) -> Fact {
+        if declared.is_addressed {
+            Fact::unknown()
+        } else if !declared.is_assigned && declared.sort != Sort::Parameter {
+            declared.first
+        } else if self.is_second {
+            Fact::plain(match declared.all {
+                Some(kind) => kind,
+                None => Kind::Unknown,
+            })
+        } else {
+            Fact::unknown()
+        }
+    }
+
+    /// Records what a declaration, an assignment or a call gives to names.
+    fn give(&mut self, tree: &Tree<'s>, at: usize) {
+        match tree.form(at) {
+            Form::Entry(storage) => self.entry(tree, at, storage),
+            Form::Variables => self.variables(tree, at),
+            Form::Vector => self.vector(tree, at),
+            Form::For => self.counter(tree, at),
+            Form::Assign => self.assignment(tree, at),
+            Form::Call => self.arguments(tree, at),
+            Form::Function => self.function(tree, at),
+            _ => {}
+        }
+    }
+
+    /// Records the first value of a name.
+    fn begin(&mut self, index: Option<usize>, first: Fact) {
+        let kind = first.kind;
+        if let Some(index) = index {
+            self.names.set_first(index, first);
+        }
+        self.add(index, kind);
+    }
+
+    /// Records a further value of a name.
+    fn add(&mut self, index: Option<usize>, kind: Kind) {
+        if let Some(index) = index
+            && !self.is_second
+        {
+            self.names.add_kind(index, kind);
+        }
+    }
+
+    /// An entry of a list of constants.
+    fn entry(&mut self, tree: &Tree<'s>, at: usize, storage: Storage) {
+        let fact = self.fact(tree.first(at));
+        let index = self.names.index_at(at);
+        match storage {
+            Storage::Manifest => self.begin(index, fact),
+            Storage::Static => self.begin(index, Fact::plain(fact.kind)),
+            Storage::Global => {
+                if let Some(index) = index {
+                    self.names.set_number(index, number_of(fact.value));
+                }
+            }
+        }
+    }
+
+    /// Variables with their initial values.
+    fn variables(&mut self, tree: &Tree<'s>, at: usize) {
+        let end = tree.end(at);
+        let mut value = tree.first(at);
+        for node in tree.first(at)..end {
+            if !matches!(tree.form(node), Form::Variable) {
+                break;
+            }
+            value = tree.end(node);
+        }
+        for node in tree.first(at)..end {
+            if !matches!(tree.form(node), Form::Variable) || value >= end {
+                break;
+            }
+            let index = self.names.index_at(node);
+            let fact = self.fact(value);
+            self.begin(index, fact);
+            value = tree.end(value);
+        }
+    }
+
+    /// A vector.
+    fn vector(&mut self, tree: &Tree<'s>, at: usize) {
+        let greatest = number_of(self.value(tree.first(at)));
+        let fact = Fact {
+            greatest,
+            ..Fact::plain(Kind::Vector)
+        };
+        let index = self.names.index_at(at);
+        self.begin(index, fact);
+    }
+
+    /// The variable of a FOR, which is declared before its block.
+    fn counter(&mut self, tree: &Tree<'s>, at: usize) {
+        let node = tree.first(at);
+        let kind = if self.kind(tree.end(node)).is_plain() {
+            Kind::Number
+        } else {
+            Kind::Unknown
+        };
+        let index = self.names.index_at(node);
+        self.begin(index, Fact::plain(kind));
+    }
+
+    /// An assignment.
+    fn assignment(&mut self, tree: &Tree<'s>, at: usize) {
+        let places = tree.first(at);
+        let values = tree.second(at);
+        let mut place = tree.first(places);
+        let mut value = tree.first(values);
+        for _ in places..values {
+            if place >= values {
+                break;
+            }
+            if let Form::Name = tree.form(place) {
+                let index = self.names.index_at(place);
+                let kind = self.kind(value);
+                self.add(index, kind);
+            }
+            place = tree.end(place);
+            value = tree.end(value);
+        }
+    }
+
+    /// The arguments of a call, which the parameters are given.
+    fn arguments(&mut self, tree: &Tree<'s>, at: usize) {
+        let Some(declared) = self.names.at(tree.first(at)) else {
+            return;
+        };
+        if declared.sort != Sort::Routine {
+            return;
+        }
+        let end = tree.end(at);
+        let mut argument = tree.second(at);
+        for parameter in tree.first(declared.node)..tree.end(declared.node) {
+            if !matches!(tree.form(parameter), Form::Parameter) || argument >= end {
+                break;
+            }
+            let kind = if declared.is_passed || declared.is_assigned || declared.sets_global {
+                Kind::Unknown
+            } else {
+                self.kind(argument)
+            };
+            let index = self.names.index_at(parameter);
+            self.add(index, kind);
+            argument = tree.end(argument);
+        }
+    }
+
+    /// What a routine returns.
+    fn function(&mut self, tree: &Tree<'s>, at: usize) {
+        let mut value = tree.first(at);
+        for node in tree.first(at)..tree.end(at) {
+            value = node;
+            if !matches!(tree.form(node), Form::Parameter) {
+                break;
+            }
+        }
+        let gives = self.kind(value);
+        if let Some(index) = self.names.index_at(at) {
+            self.names.set_gives(index, gives);
+        }
+    }
+}
+
+/// The greatest subscript of a table.
+fn greatest_of(tree: &Tree<'_>, at: usize) -> Option<u16> {
+    let end = tree.end(at);
+    let mut child = tree.first(at);
+    let mut count: u16 = 0;
+    for _ in at..end {
+        if child >= end {
+            break;
+        }
+        count = count.saturating_add(1);
+        child = tree.end(child);
+    }
+    count.checked_sub(1)
+}

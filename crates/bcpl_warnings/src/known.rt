@@ -1,0 +1,206 @@
+//! What the checks of a main look at.
+
+use crate::flow::Flow;
+use crate::kinds::Kinds;
+use crate::names::Sort;
+use crate::node::Form;
+use crate::tree::Tree;
+use bc_lex::Source;
+use bc_parse_tree::{BinaryOp, UnaryOp};
+use bcpl_messages::{Draft, Fill};
+
+/// A main, and what was found out about it.
+#[derive(Clone, Copy)]
+pub struct Known<'m, 's> {
+    /// The sources of the program.
+    pub sources: &'m [Source<'s>],
+    /// How many of them are the library's.
+    pub library: usize,
+    /// The nodes of the main.
+    pub tree: &'m Tree<'s>,
+    /// What they are.
+    pub kinds: &'m Kinds<'s>,
+    /// Where control goes.
+    pub flow: &'m Flow,
+    /// Whether the main has a command that may end the run.
+    pub has_finish: bool,
+}
+
+/// How far up in the tree a search goes.
+const HIGHEST: usize = 100;
+
+impl<'s> Known<'_, 's> {
+    /// The text of the source from the first leaf of one node to the last one of another.
+    pub fn text(&self, from: usize, to: usize) -> &'s [u8] {
+        let Some(span) = self.tree.span(from, to) else {
+            return b"";
+        };
+        match self.sources.get(span.file) {
+            Some(source) => match source.text.get(span.start..span.end) {
+                Some(text) => text,
+                None => b"",
+            },
+            None => b"",
+        }
+    }
+
+    /// A node's text, as a part of a sentence.
+    pub fn shown(&self, at: usize) -> Fill<'s> {
+        Fill::Shown(self.text(at, at))
+    }
+
+    /// Begins a warning at these nodes.
+    pub fn begin(&self, draft: &mut Draft, from: usize, to: usize) {
+        if let Some(span) = self.tree.span(from, to) {
+            draft.place(span);
+        }
+        draft.say("warning: ", &[]);
+    }
+
+    /// Whether a node is the test of a command or of a conditional expression.
+    fn is_test(&self, at: usize) -> bool {
+        let tree = self.tree;
+        match tree.form_of_parent(at) {
+            Form::If | Form::Unless | Form::While | Form::Until | Form::Test | Form::Cond =>
+                tree.is_first(at),
+            Form::RepeatWhile | Form::RepeatUntil => !tree.is_first(at),
+            _ => false,
+        }
+    }
+
+    /// Whether a node is a condition: a test, or a part of one that `&`, `|` and NOT join.
+    pub fn is_condition(&self, at: usize) -> bool {
+        let mut node = at;
+        for _ in 0..HIGHEST {
+            if self.is_test(node) {
+                return true;
+            }
+            match self.tree.form_of_parent(node) {
+                Form::Bin(BinaryOp::And | BinaryOp::Or) | Form::Unary(UnaryOp::Not) => {
+                    node = self.tree.parent(node);
+                }
+                _ => return false,
+            }
+        }
+        false
+    }
+
+    /// Whether a node uses no names but those of constants.
+    pub fn is_constant(&self, at: usize) -> bool {
+        for node in at..self.tree.end(at) {
+            if matches!(self.tree.form(node), Form::Name) && !self.is_manifest(node) {
+                return false;
+            }
+        }
+        true
+    }
+
+    /// Whether a node is the name of a constant.
+    fn is_manifest(&self, at: usize) -> bool {
+        match self.kinds.names.at(at) {
+            Some(declared) => declared.sort == Sort::Constant,
+            None => false,
+        }
+    }
+
+    /// Whether the value that is known of a node is its value wherever it is computed: it is constant, or the node is
+    /// under no condition that may depend on it.
+    pub fn is_certain(&self, at: usize) -> bool {
+        if self.is_constant(at) {
+            return true;
+        }
+        match self.routine_of(at) {
+            Some(routine) => self.is_in_each_round(routine, at),
+            None => false,
+        }
+    }
+
+    /// The nearest node above that is a VALOF.
+    pub fn valof_of(&self, at: usize) -> Option<usize> {
+        let mut node = at;
+        for _ in 0..HIGHEST {
+            node = self.tree.parent(node);
+            match self.tree.form(node) {
+                Form::Valof => return Some(node),
+                Form::Function | Form::Routine | Form::Nothing => return None,
+                _ => {}
+            }
+        }
+        None
+    }
+
+    /// The routine that a node is in.
+    pub fn routine_of(&self, at: usize) -> Option<usize> {
+        let mut node = at;
+        for _ in 0..HIGHEST {
+            node = self.tree.parent(node);
+            match self.tree.form(node) {
+                Form::Function | Form::Routine => return Some(node),
+                Form::Nothing => return None,
+                _ => {}
+            }
+        }
+        None
+    }
+
+    /// Whether each round of a FOR, or each call of a routine, does what is in this node, as far as one can see.
+    pub fn is_in_each_round(&self, outer: usize, at: usize) -> bool {
+        if self.flow.has_jump(self.tree, outer) {
+            return false;
+        }
+        let mut node = at;
+        for _ in 0..HIGHEST {
+            node = self.tree.parent(node);
+            if node == outer {
+                return true;
+            }
+            let is_always_done = matches!(
+                self.tree.form(node),
+                Form::Block
+                    | Form::Item
+                    | Form::Do
+                    | Form::Call
+                    | Form::Assign
+                    | Form::Places
+                    | Form::Values
+                    | Form::Let
+                    | Form::Variables
+                    | Form::Unary(_)
+                    | Form::Bin(_)
+            );
+            if !is_always_done
+                || matches!(
+                    self.tree.form(node),
+                    Form::Bin(BinaryOp::And | BinaryOp::Or)
+                )
+            {
+                return false;
+            }
+        }
+        false
+    }
+}
+
+/// How an operator is written.
+pub fn sign_of(sign: BinaryOp) -> &'static str {
+    match sign {
+        BinaryOp::Equivalent => "EQV",
+        BinaryOp::NotEquivalent => "NEQV",
+        BinaryOp::Or => "|",
+        BinaryOp::And => "&",
+        BinaryOp::ShiftLeft => "<<",
+        BinaryOp::ShiftRight => ">>",
+        BinaryOp::Equal => "=",
+        BinaryOp::NotEqual => "~=",
+        BinaryOp::Less => "<",
+        BinaryOp::GreaterEqual => ">=",
+        BinaryOp::Greater => ">",
+        BinaryOp::LessEqual => "<=",
+        BinaryOp::Add => "+",
+        BinaryOp::Subtract => "-",
+        BinaryOp::Multiply => "*",
+        BinaryOp::Divide => "/",
+        BinaryOp::Remainder => "REM",
+        BinaryOp::Index => "!",
+    }
+}

@@ -1,0 +1,116 @@
+//! Warnings on where control goes: a VALOF that can end without RESULTIS, and a CASE that falls through.
+
+use crate::flow::Cases;
+use crate::known::Known;
+use crate::node::Form;
+use crate::tree::Tree;
+use bcpl_messages::Draft;
+use bcpl_places::Span;
+
+/// Warns of a VALOF that can end without RESULTIS. One that has none gets another warning. Returns whether it can.
+pub fn warns_of_valof(draft: &mut Draft, known: &Known<'_, '_>, at: usize) -> bool {
+    let tree = known.tree;
+    let results = known.flow.before(tree.end(at)).results;
+    let has_result = known.flow.before(at).results < results;
+    if !has_result || !known.flow.is_reached(tree.first(at)) {
+        return false;
+    }
+    if let Some(token) = tree.leaf(at) {
+        draft.place(Span {
+            file: token.file,
+            start: token.start,
+            end: token.end,
+        });
+    }
+    draft.say("warning: this VALOF can end without a RESULTIS", &[]);
+    draft.help(
+        "its value is 0 then; end it with a RESULTIS for what is left",
+        &[],
+    );
+    true
+}
+
+/// Whether there is a comment before a node, after the leaf before it.
+fn has_comment(known: &Known<'_, '_>, at: usize) -> bool {
+    let (Some(before), Some(leaf)) = (known.tree.leaf_before(at), known.tree.leaf(at)) else {
+        return false;
+    };
+    let Some(source) = known.sources.get(leaf.file) else {
+        return false;
+    };
+    let Some(text) = source.text.get(before.end..leaf.start) else {
+        return false;
+    };
+    before.file == leaf.file && begins_comment(text)
+}
+
+/// Whether a comment begins in this text between two tokens.
+fn begins_comment(text: &[u8]) -> bool {
+    for (at, _) in text.iter().enumerate() {
+        if let Some(rest) = text.get(at..)
+            && (rest.starts_with(b"//") || rest.starts_with(b"/*") || rest.starts_with(b"||"))
+        {
+            return true;
+        }
+    }
+    false
+}
+
+/// The item before this one in the list of a SWITCHON.
+fn item_before(tree: &Tree<'_>, switch: usize, at: usize) -> usize {
+    let mut item = tree.second(switch);
+    for _ in switch..at {
+        let next = tree.end(item);
+        if next >= at {
+            break;
+        }
+        item = next;
+    }
+    item
+}
+
+/// Whether an item is all that belongs to its labels, and assigns something: then it probably prepares what follows, as
+/// in `CASE '-': NEGATIVE := TRUE`.
+fn is_preparation(tree: &Tree<'_>, item: usize) -> bool {
+    if !matches!(tree.form(tree.first(item)), Form::Case | Form::Default) {
+        return false;
+    }
+    for node in item..tree.end(item) {
+        if matches!(tree.form(node), Form::Assign) && tree.parent(node) == item {
+            return true;
+        }
+    }
+    false
+}
+
+/// Whether the first CASE that is reached from the one before is probably a mistake.
+fn is_odd(tree: &Tree<'_>, switch: usize, at: usize, cases: &Cases) -> bool {
+    cases.stops == 0
+        || cases.falls <= cases.stops && !is_preparation(tree, item_before(tree, switch, at))
+}
+
+/// Warns of the first CASE of a SWITCHON that is reached from the one before, if that is probably a mistake. Returns
+/// whether it does.
+pub fn warns_of_cases(draft: &mut Draft, known: &Known<'_, '_>, at: usize) -> bool {
+    let tree = known.tree;
+    let switch = tree.parent(at);
+    let cases = known.flow.cases(switch);
+    if !matches!(tree.form(switch), Form::SwitchOn)
+        || cases.first != Some(at)
+        || !is_odd(tree, switch, at, &cases)
+        || has_comment(known, at)
+    {
+        return false;
+    }
+    let label = tree.first(at);
+    known.begin(draft, label, label);
+    draft.say(
+        "control falls from the commands before into this {}",
+        &[known.shown(label)],
+    );
+    draft.help(
+        "end the commands before with ENDCASE; if you mean to fall through, say so in a comment before the label",
+        &[],
+    );
+    true
+}

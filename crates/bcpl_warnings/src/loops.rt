@@ -1,0 +1,156 @@
+//! Warnings on FOR loops that do nothing or never end, and the numbers that one counts through.
+
+use crate::calls::is_negative;
+use crate::known::Known;
+use crate::node::Form;
+use bc_word::Word;
+use bcpl_messages::Draft;
+
+/// The numbers of a FOR.
+#[derive(Clone, Copy)]
+pub struct Counting {
+    /// The node of the start.
+    start_at: usize,
+    /// The node of the limit.
+    limit_at: usize,
+    /// The node of the step, or of the limit if there is none.
+    last_at: usize,
+    start: Option<Word>,
+    limit: Option<Word>,
+    /// The step, 1 if there is none.
+    step: Option<Word>,
+}
+
+/// The greatest number.
+const MOST: u16 = 32767;
+
+/// The least number.
+const LEAST: u16 = 32768;
+
+/// The word -1.
+const MINUS_ONE: u16 = 65535;
+
+/// The rank of a word among the signed numbers.
+fn rank(word: Word) -> u16 {
+    word.get().wrapping_add(LEAST)
+}
+
+/// The numbers of a FOR.
+pub fn counting_of(known: &Known<'_, '_>, at: usize) -> Counting {
+    let tree = known.tree;
+    let start_at = tree.second(at);
+    let limit_at = tree.third(at);
+    let step_at = tree.end(limit_at);
+    let has_step = !matches!(tree.form(step_at), Form::Block);
+    Counting {
+        start_at,
+        limit_at,
+        last_at: if has_step { step_at } else { limit_at },
+        start: known.kinds.value(start_at),
+        limit: known.kinds.value(limit_at),
+        step: if has_step {
+            known.kinds.value(step_at)
+        } else {
+            Some(Word::new(1))
+        },
+    }
+}
+
+impl Counting {
+    /// The least and the greatest number that is counted, if the FOR has a round, all is constant, and the step is 1
+    /// or -1.
+    pub fn range(&self) -> Option<(Word, Word)> {
+        let (start, limit, step) = (self.start?, self.limit?, self.step?);
+        if step.get() == 1 && rank(start) <= rank(limit) {
+            Some((start, limit))
+        } else if step.get() == MINUS_ONE && rank(limit) <= rank(start) {
+            Some((limit, start))
+        } else {
+            None
+        }
+    }
+
+    /// Whether the start and the limit are written out, without names.
+    fn is_literal(&self, known: &Known<'_, '_>) -> bool {
+        let from = known.flow.before(self.start_at).names;
+        let to = known.flow.before(known.tree.end(self.limit_at)).names;
+        from == to
+    }
+}
+
+/// Warns of a FOR without a round. Returns whether it has none.
+fn warns_of_nothing(draft: &mut Draft, known: &Known<'_, '_>, counting: &Counting) -> bool {
+    let (Some(start), Some(limit), Some(step)) = (counting.start, counting.limit, counting.step)
+    else {
+        return false;
+    };
+    if !counting.is_literal(known) {
+        return false;
+    }
+    let parts = [
+        known.shown(counting.start_at),
+        known.shown(counting.limit_at),
+    ];
+    if !is_negative(step) && step.get() != 0 && rank(start) > rank(limit) {
+        known.begin(draft, counting.start_at, counting.last_at);
+        draft.say(
+            "this FOR does nothing: it counts up, and {} is greater than {}",
+            &parts,
+        );
+        draft.help("to count down, write BY -1 after the limit", &[]);
+        true
+    } else if is_negative(step) && rank(start) < rank(limit) {
+        known.begin(draft, counting.start_at, counting.last_at);
+        draft.say(
+            "this FOR does nothing: it counts down, and {} is less than {}",
+            &parts,
+        );
+        draft.help("to count up, leave out BY", &[]);
+        true
+    } else {
+        false
+    }
+}
+
+/// Why a FOR doesn't end, and what to do.
+fn endless(counting: &Counting) -> Option<(&'static str, &'static str)> {
+    let step = counting.step?;
+    if step.get() == 0 {
+        return Some((
+            "this FOR never ends: BY 0 doesn't change its variable",
+            "to count by 1, leave out BY",
+        ));
+    }
+    let limit = counting.limit?;
+    if !is_negative(step) && limit.get() == MOST {
+        Some((
+            "this FOR never ends: no number is greater than 32767",
+            "after 32767 comes -32768; count to 32766, or leave the loop by BREAK",
+        ))
+    } else if is_negative(step) && limit.get() == LEAST {
+        Some((
+            "this FOR never ends: no number is less than -32768",
+            "before -32768 comes 32767; count to -32767, or leave the loop by BREAK",
+        ))
+    } else {
+        None
+    }
+}
+
+/// Warns of a FOR. Returns whether it does.
+pub fn warns_of_for(draft: &mut Draft, known: &Known<'_, '_>, at: usize) -> bool {
+    let counting = counting_of(known, at);
+    if warns_of_nothing(draft, known, &counting) {
+        return true;
+    }
+    let Some((sentence, help)) = endless(&counting) else {
+        return false;
+    };
+    if known.flow.has_jump(known.tree, at) {
+        return false;
+    }
+    known.begin(draft, counting.start_at, counting.last_at);
+    draft.say(sentence, &[]);
+    draft.help(help, &[]);
+    true
+}

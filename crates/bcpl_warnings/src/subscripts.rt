@@ -1,0 +1,145 @@
+//! Warnings on subscripts outside of a vector, words of strings, zero divisors, and shifts by 16 or more.
+
+use crate::calls::say_signed;
+use crate::kind::{Fact, Kind};
+use crate::known::Known;
+use crate::loops::counting_of;
+use crate::names::Sort;
+use crate::node::Form;
+use bc_parse_tree::BinaryOp;
+use bc_word::Word;
+use bcpl_messages::{Draft, Fill};
+
+/// A subscript that is outside, and whether it is the last or first one of a FOR.
+#[derive(Clone, Copy)]
+struct Outside {
+    number: Word,
+    is_counted: bool,
+}
+
+/// The number of a FOR's variable that is outside, if a node names one and each round comes to it.
+fn counted_outside(known: &Known<'_, '_>, at: usize, greatest: u16) -> Option<Outside> {
+    let Some(declared) = known.kinds.names.at(at) else {
+        return None;
+    };
+    if declared.sort != Sort::Counter || declared.is_assigned || declared.is_addressed {
+        return None;
+    }
+    let counting = known.tree.parent(declared.node);
+    let (least, most) = counting_of(known, counting).range()?;
+    let number = if most.get() > greatest { most } else { least };
+    if number.get() > greatest && known.is_in_each_round(counting, at) {
+        Some(Outside {
+            number,
+            is_counted: true,
+        })
+    } else {
+        None
+    }
+}
+
+/// The subscript that is outside, if the expression is known to have one. Negative ones are greater than any cell.
+fn outside_at(known: &Known<'_, '_>, at: usize, greatest: u16) -> Option<Outside> {
+    match known.kinds.value(at) {
+        Some(number) if number.get() > greatest && known.is_certain(at) => Some(Outside {
+            number,
+            is_counted: false,
+        }),
+        Some(_) => None,
+        None => counted_outside(known, at, greatest),
+    }
+}
+
+/// Warns of a subscript outside of a vector or table. Returns whether it is.
+fn warns_of_subscript(draft: &mut Draft, known: &Known<'_, '_>, at: usize, vector: &Fact) -> bool {
+    let tree = known.tree;
+    let Some(greatest) = vector.greatest else {
+        return false;
+    };
+    let Some(found) = outside_at(known, tree.second(at), greatest) else {
+        return false;
+    };
+    known.begin(draft, at, at);
+    let name = known.shown(tree.first(at));
+    if found.is_counted {
+        draft.say("{} comes to ", &[known.shown(tree.second(at))]);
+        say_signed(draft, found.number);
+        draft.say(" here, but ", &[]);
+    }
+    draft.say(
+        if greatest == 0 {
+            "{} has only the cell 0"
+        } else {
+            "{} has only the cells 0 to {}"
+        },
+        &[name, Fill::Number(u64::from(greatest))],
+    );
+    draft.help(
+        "VEC N has the cells 0 to N; what is after them belongs to other variables",
+        &[],
+    );
+    true
+}
+
+/// Warns of a word of a string that is taken for a character. Returns whether it is.
+fn warns_of_string(draft: &mut Draft, known: &Known<'_, '_>, at: usize) -> bool {
+    let tree = known.tree;
+    let is_plain = matches!(tree.form(tree.second(at)), Form::Number(_) | Form::Name);
+    let is_unpacked = matches!(
+        tree.form_of_parent(at),
+        Form::Bin(BinaryOp::ShiftRight | BinaryOp::ShiftLeft | BinaryOp::And)
+    );
+    if !is_plain || is_unpacked {
+        return false;
+    }
+    known.begin(draft, at, at);
+    draft.say(
+        "{} is a string, and a word of it holds two characters",
+        &[known.shown(tree.first(at))],
+    );
+    draft.help(
+        "the character with the number {} is GETBYTE({}, {})",
+        &[
+            known.shown(tree.second(at)),
+            known.shown(tree.first(at)),
+            known.shown(tree.second(at)),
+        ],
+    );
+    true
+}
+
+/// Warns of `!` between two operands. Returns whether it does.
+pub fn warns_of_index(draft: &mut Draft, known: &Known<'_, '_>, at: usize) -> bool {
+    let fact = known.kinds.fact(known.tree.first(at));
+    match fact.kind {
+        Kind::Vector | Kind::Table => warns_of_subscript(draft, known, at, &fact),
+        Kind::String => warns_of_string(draft, known, at),
+        _ => false,
+    }
+}
+
+/// Warns of a zero divisor. Returns whether there is one.
+pub fn warns_of_divisor(draft: &mut Draft, known: &Known<'_, '_>, at: usize) -> bool {
+    let divisor = known.tree.second(at);
+    let is_zero = matches!(known.kinds.value(divisor), Some(word) if word.get() == 0);
+    if !is_zero || !known.is_certain(divisor) {
+        return false;
+    }
+    known.begin(draft, at, at);
+    draft.say("this divides by 0", &[]);
+    draft.help("a run that comes here ends", &[]);
+    true
+}
+
+/// Warns of a shift by more than a word has bits. Returns whether it is one.
+pub fn warns_of_shift(draft: &mut Draft, known: &Known<'_, '_>, at: usize) -> bool {
+    let places = known.tree.second(at);
+    let is_large = matches!(known.kinds.value(places), Some(word) if word.get() > 15);
+    if !is_large || !known.is_certain(places) {
+        return false;
+    }
+    known.begin(draft, at, at);
+    draft.say("a word has 16 bits, so this shift gives 0", &[]);
+    draft.help("shift by 0 to 15 places", &[]);
+    true
+}
