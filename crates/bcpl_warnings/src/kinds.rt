@@ -67,17 +67,21 @@ fn number_of(value: Option<Word>) -> Option<u16> {
     Some(value?.get())
 }
 
+/// Nothing is known of this many nodes.
+fn unknown_facts(alloc: Global, count: usize) -> Result<Vec<Fact>, Memory> {
+    let mut facts = Vec::new(alloc);
+    facts.resize(count, Fact::unknown())?;
+    Ok(facts)
+}
+
 impl<'s> Kinds<'s> {
     /// What is known of the nodes of a section. Returns `Memory` if an allocation fails.
     pub fn of(alloc: Global, tree: &Tree<'s>, library: usize) -> Result<Kinds<'s>, Memory> {
         let mut kinds = Kinds {
             names: Names::of(alloc, tree, library)?,
-            facts: Vec::new(alloc),
+            facts: unknown_facts(alloc, tree.len())?,
             is_second: false,
         };
-        for _ in 0..tree.len() {
-            kinds.facts.push(Fact::unknown())?;
-        }
         kinds.pass(tree);
         kinds.is_second = true;
         kinds.pass(tree);
