@@ -1,4 +1,5 @@
-"""What the scripts of this folder share: the crates, what they cost, the installed kit, and what a build is doing."""
+"""What the scripts of this folder share: the crates, what they cost, the installed kit, what a build is doing, and the module that is kept."""
+import hashlib
 import os
 import re
 import subprocess
@@ -88,3 +89,11 @@ def crate_of(pid):
         return None
     found = re.search(rb"\0--crate-name\0(\w+)\0", words)
     return found[1].decode() if found and b"\0--lib\0" not in words else None
+
+
+def kept_module():
+    """Where this machine keeps the LLVM module of the program of these sources and this kit, which the gate puts there. It need not exist."""
+    sources = subprocess.run([os.path.join(TOP, "tools", "sources"), "bcpl"], check=True, stdout=subprocess.PIPE, text=True).stdout.strip()
+    name = hashlib.sha256(f"{sources} {kit()}".encode()).hexdigest()
+    folder = os.environ.get("XDG_CACHE_HOME") or os.path.join(os.path.expanduser("~"), ".cache")
+    return os.path.join(folder, "kibvorg", f"module-{name}.bc")

@@ -101,10 +101,12 @@ pub enum Fault {
     OuterValue,
     /// A header that wasn't found, in a source that may be lawful.
     UnseenHeader,
+    /// Something that an older system may read in another way, in a source that builds as it is.
+    OldMeaning,
 }
 
 /// The message and the remedy for each fault, in the order of the faults.
-static WORDS: [(&str, &str); 48] = [
+static WORDS: [(&str, &str); 49] = [
     (
         "a jump can't leave a routine in this dialect",
         "instead of LEVEL and LONGJUMP, set a flag that each routine checks after a call",
@@ -296,6 +298,10 @@ static WORDS: [(&str, &str); 48] = [
     (
         "this header was not found, and with it the source may be lawful, so nothing was changed",
         "convert the header together with this source, or put it into the same folder",
+    ),
+    (
+        "an older system may read this in another way, but the source builds as it is, so nothing was changed",
+        "if it was written for an older system, name that by --dialect",
     ),
 ];
 

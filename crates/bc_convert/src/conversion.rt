@@ -139,22 +139,30 @@ fn found(
 
 /// The facts about the whole program, as they apply to a source whose own dialect is `shown`.
 fn shown_with(source: TokenizedText<'_>, shown: Dialect, options: Options<'_>) -> Program {
-    match options.program {
+    let program = match options.program {
         Some(program) => program.seen_from(shown),
         None => Program::shown(source, shown, options.library),
+    };
+    match options.system {
+        Some(system) => program.written_for(system),
+        None => program,
     }
 }
 
 /// Collects the notes on a source of a program.
 fn find(source: TokenizedText<'_>, notes: &mut Notes, options: Options<'_>, program: Program) {
+    find_changes(source, notes, options, program);
     match options.lawful {
-        Lawful::No => find_changes(source, notes, options, program),
-        Lawful::Header => find_headers(source, notes, options, program),
-        Lawful::Whole => find_formats(source, notes, options),
-        Lawful::Unseen => {
-            find_changes(source, notes, options, program);
-            leave_unseen(source, notes);
+        Lawful::No => {}
+        Lawful::Header => {
+            leave_lawful(source, notes);
+            find_headers(source, notes, options, program);
         }
+        Lawful::Whole => {
+            leave_lawful(source, notes);
+            find_formats(source, notes, options);
+        }
+        Lawful::Unseen => leave_unseen(source, notes),
     }
     find_doubts(source, notes, options);
     find_stars(source, notes, program);
@@ -175,6 +183,18 @@ fn find_headers(
     }
     if let Header::Basic = header {
         find_formats(source, notes, options);
+    }
+}
+
+/// Drops all notes on a lawful source. The first token that was to be changed, other than the name of the library's header,
+/// is reported.
+fn leave_lawful(source: TokenizedText<'_>, notes: &mut Notes) {
+    let mut tokens = 0..source.tokens.len();
+    let changed = tokens.find(|index| notes.is_changed(*index) && !gets_header(source, *index));
+    notes.drop_changes();
+    notes.drop_complaints();
+    if let Some(index) = changed {
+        notes.complain(source, index, Fault::OldMeaning);
     }
 }
 
@@ -214,7 +234,7 @@ fn find_changes(
     find_parted_jumps(source, notes);
     find_valof_jumps(source, notes);
     find_statics(source, notes);
-    find_old_meanings(source, notes);
+    find_old_meanings(source, notes, dialect);
     tell_library(source, notes, options, program);
 }
 

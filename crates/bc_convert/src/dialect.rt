@@ -18,6 +18,8 @@ pub struct Dialect {
     pub has_star_subscripts: bool,
     /// Strings are in single quotes, as characters are.
     pub has_quoted_strings: bool,
+    /// `@` gives the contents of a cell. No source shows this by itself.
+    pub has_alto_contents: bool,
 }
 
 impl Dialect {
@@ -34,6 +36,7 @@ impl Dialect {
             has_small_library: has_small_words || has_small_library(source),
             has_star_subscripts: assigns_to_star(source),
             has_quoted_strings: has_quoted_strings(source),
+            has_alto_contents: false,
         }
     }
 

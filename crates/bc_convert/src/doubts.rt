@@ -2,6 +2,7 @@
 
 use crate::bytes::span;
 use crate::complaint::Fault;
+use crate::dialect::Dialect;
 use crate::formats::{Format, format_at, gets_header};
 use crate::kind::Kind;
 use crate::names::{declares_routine, is_for, is_number};
@@ -152,9 +153,11 @@ fn find_octal_escapes(source: TokenizedText<'_>, notes: &mut Notes) {
     }
 }
 
-/// Reports what means something else in the dialect of the Alto, and what may be octal.
-pub fn find_old_meanings(source: TokenizedText<'_>, notes: &mut Notes) {
-    find_contents(source, notes);
+/// Reports what means something else in the dialect of the Alto, unless the source has that, and what may be octal.
+pub fn find_old_meanings(source: TokenizedText<'_>, notes: &mut Notes, dialect: Dialect) {
+    if !dialect.has_alto_contents {
+        find_contents(source, notes);
+    }
     find_octal_number(source, notes);
     find_octal_escapes(source, notes);
 }

@@ -50,7 +50,7 @@ pub use conversion::{Conversion, convert};
 pub use formats::is_library_header;
 pub use lexing::lex;
 pub use library::library_name;
-pub use options::{Header, Lawful, NameList, Options, Renaming, renamings};
+pub use options::{Header, Lawful, NameList, Options, Renaming, System, renamings};
 pub use program::Program;
 pub use replacement::Replacement;
 pub use settled::settle;

@@ -265,6 +265,13 @@ impl Notes {
         self.slots.iter().any(|slot| !slot.is_untouched())
     }
 
+    /// Whether the token at an index changes.
+    pub fn is_changed(&self, index: usize) -> bool {
+        self.slots
+            .get(index)
+            .is_some_and(|slot| !slot.is_untouched())
+    }
+
     /// Notes a label.
     pub fn note_label(&mut self, source: TokenizedText<'_>, index: usize) {
         self.set_role(index, Role::Label);
@@ -346,7 +353,10 @@ impl Notes {
 
     /// Drops all changes.
     pub fn drop_changes(&mut self) {
-        self.slots = Vec::new(self.alloc);
+        let alloc = self.alloc;
+        for slot in &mut self.slots {
+            *slot = Slot::new(alloc);
+        }
     }
 
     /// Drops all complaints.

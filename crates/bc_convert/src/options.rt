@@ -22,6 +22,17 @@ pub enum Header {
     Further,
 }
 
+/// A system whose dialect can be named. What is special in it holds then, whatever a source shows.
+#[derive(Clone, Copy, PartialEq, Eq)]
+pub enum System {
+    /// The compilers of 1967: `V*(I)` is a subscript.
+    Of1967,
+    /// Those of 1979: `V*(I)` is a product.
+    Of1979,
+    /// The Alto: `@` gives the contents of a cell.
+    Alto,
+}
+
 /// Whether a source needs a conversion.
 #[derive(Clone, Copy, PartialEq, Eq)]
 pub enum Lawful {
@@ -46,6 +57,8 @@ pub struct Options<'o> {
     pub program: Option<Program>,
     /// Whether the source needs a conversion.
     pub lawful: Lawful,
+    /// The system for which the source was written; `None` if the source must show its dialect.
+    pub system: Option<System>,
 }
 
 /// The renamings of a list of names, and the faults in its lines.

@@ -4,7 +4,7 @@ use crate::dialect::Dialect;
 use crate::formats::{Format, bit_at, format_at, gets_header, is_further_string};
 use crate::kind::Kind;
 use crate::names::{declares, declares_routine, is_declared, is_entry, is_for};
-use crate::options::{Header, Renaming};
+use crate::options::{Header, Renaming, System};
 use crate::reading::Reading;
 use crate::source::TokenizedText;
 use bc_word::Memory;
@@ -135,6 +135,24 @@ impl Program {
     pub fn seen_from(self, dialect: Dialect) -> Program {
         Program {
             dialect: dialect.among(self.dialect),
+            ..self
+        }
+    }
+
+    /// What the program shows if its sources were written for this system.
+    pub fn written_for(self, system: System) -> Program {
+        let (has_star_subscripts, has_stars) = match system {
+            System::Of1967 => (true, true),
+            System::Of1979 => (false, false),
+            System::Alto => (self.dialect.has_star_subscripts, self.has_stars),
+        };
+        Program {
+            dialect: Dialect {
+                has_star_subscripts,
+                has_alto_contents: system == System::Alto,
+                ..self.dialect
+            },
+            has_stars,
             ..self
         }
     }

@@ -250,6 +250,7 @@ fn respell_sign(
         Kind::Query => notes.replace(index, b"0"),
         Kind::Underline => notes.replace(index, b":="),
         Kind::Not => replace_if_other(source, notes, index, b"~"),
+        Kind::Address if dialect.has_alto_contents => notes.replace(index, b"!"),
         Kind::Relation => respell_relation(source, notes, index),
         Kind::OpenRound => replace_if_other(source, notes, index, b"("),
         Kind::CloseRound => replace_if_other(source, notes, index, b")"),

@@ -1,6 +1,7 @@
 pub mod Strings
 pub mod Loops
 pub mod Turns
+pub mod Repeating
 pub mod Runs
 pub mod Quoting
 pub mod Gapping

@@ -8,6 +8,7 @@ pub mod Search
 pub mod Errors
 pub mod Lexing
 pub mod Found
+pub mod Repeated
 pub mod Gaps
 pub mod Quotes
 pub mod Tags

@@ -8,6 +8,7 @@ mod fault;
 mod lexeme;
 mod number;
 mod quoted;
+mod read_file;
 mod reading;
 mod run;
 mod source;

@@ -1,5 +1,5 @@
 //! The public call `lex`, and the loop that reads a file and the files that its GETs name.
-ghost use Rattle.std.specs.Prelude.{◌≡◌, ◌<◌, ◌≤◌, ◌⊎◌, List, length, IfOk, IfErr, MatchResult, IsTrue};
+ghost use Rattle.std.specs.Prelude.{◌≡◌, ◌<◌, ◌≤◌, ◌⊎◌, true, List, length, IfOk, IfErr, MatchResult, IsTrue};
 ghost use Rattle.bc_lex_tokens.specs.Token.{Lexeme, kind_of, lexeme_of, lexemes_of};
 ghost use Rattle.bc_lex.specs.Files.{files_of, text_of};
 ghost use Rattle.bc_lex.specs.Lexing.{ReadsAs, skipped, string_end_of, lexeme_at, target_of, is_get as is_get_word, item_of, pushed, file_to_end, deeper_of, read_of};
@@ -7,11 +7,13 @@ ghost use Rattle.bc_lex.specs.Gaps.{begins, breaks};
 ghost use Rattle.bc_lex.specs.declared.error.LexError.{LexError};
 ghost use Rattle.bc_lex.specs.Tokens.{HasTokens, HasFault};
 ghost use Rattle.bc_lex.specs.Found.{found, IsWithin};
+ghost use Rattle.bc_lex.specs.Repeated.{pushed_all, between, AreRight};
 
 use crate::blank::gap;
 use crate::error::LexError;
 use crate::lexeme::lexeme;
 use crate::quoted::string;
+use crate::read_file::{ReadFile, earlier_reading};
 use crate::run::following;
 use crate::source::{Source, source_named, text_at};
 use bc_lex_tokens::{Symbol, Token, TokenKind};
@@ -180,24 +182,52 @@ fn push<'s>(tokens: &mut Vec<Token<'s>>, token: Token<'s>) -> Result<(), LexErro
     Ok(())
 }
 
-/// Reads a file to its end and appends its tokens. `line` says whether its first token counts as following a line break, and
-/// `levels` how deep GETs may nest in it.
-#[tactic(auto, unfolding(crate::specs::Lexing::file_to_end, crate::specs::Lexing::deeper_of))]
-fn read_file<'s>(
-    sources: &[Source<'s>],
-    levels: usize,
+/// Appends the tokens from index `start` to index `end` again. Fails as `push` does.
+fn push_again<'s>(tokens: &mut Vec<Token<'s>>, start: usize, end: usize) -> Result<(), LexError>
+    requires order { start ≤ end }
+    requires within { end ≤ length tokens.old.items }
+    ensures { ReadsAs (λ _. lexemes_of tokens.new.items) result (pushed_all (between (lexemes_of tokens.old.items) start end) (lexemes_of tokens.old.items)) }
+{
+    for index in start..end {
+        let token = tokens[index];
+        push(tokens, token)?;
+    }
+    Ok(())
+}
+
+/// A file that is to be read.
+#[derive(Clone, Copy, Debug)]
+struct FileToRead {
+    /// The index of the file.
     file: usize,
+    /// How deep GETs may nest in it.
+    levels: usize,
+    /// Whether its first token counts as following a line break.
     line: bool,
+}
+
+/// Reads a file to its end and appends its tokens. `files` are those that GETs named before.
+#[cycle(reading)]
+#[tactic(auto, unfolding(crate::specs::Lexing::file_to_end, crate::specs::Lexing::deeper_of))]
+fn read_to_end<'s>(
+    sources: &[Source<'s>],
+    this: FileToRead,
+    files: &mut Vec<ReadFile>,
     tokens: &mut Vec<Token<'s>>,
 ) -> Result<(), LexError>
-    requires { file < length sources.now }
-    ensures { ReadsAs (λ _. lexemes_of tokens.new.items) result (file_to_end (deeper_of (files_of sources.now) levels) (files_of sources.now) file line
-        (lexemes_of tokens.old.items)) }
+    requires file { this.file < length sources.now }
+    requires right { AreRight (files_of sources.now) (lexemes_of tokens.old.items) files.old.items }
+    ensures value { ReadsAs (λ _. lexemes_of tokens.new.items) result (file_to_end (deeper_of (files_of sources.now) this.levels) (files_of sources.now)
+        this.file this.line (lexemes_of tokens.old.items)) }
+    ensures right { IfOk result (λ _. AreRight (files_of sources.now) (lexemes_of tokens.new.items) files.new.items) }
 {
-    let mut place = Position { at: 0, line };
+    let mut place = Position {
+        at: 0,
+        line: this.line,
+    };
     // Each iteration moves on by at least one byte.
-    for _ in 0..text_at(sources, file).len() {
-        match find(sources, file, place)? {
+    for _ in 0..text_at(sources, this.file).len() {
+        match find(sources, this.file, place)? {
             Found::End => return Ok(()),
             Found::Token(token) => {
                 push(tokens, token)?;
@@ -211,10 +241,10 @@ fn read_file<'s>(
                 named,
                 following,
             } => {
-                if levels == 0 {
-                    return Err(LexError::GetTooDeep(file, start));
+                if this.levels == 0 {
+                    return Err(LexError::GetTooDeep(this.file, start));
                 }
-                read_file(sources, levels - 1, named, true, tokens)?;
+                read_named(sources, this.levels - 1, named, files, tokens)?;
                 place = Position {
                     at: following,
                     line: true,
@@ -225,14 +255,56 @@ fn read_file<'s>(
     Ok(())
 }
 
+/// Appends the tokens of a file that a GET names, in which GETs may nest `levels` deep. If it was read to its end where they could nest
+/// as deep or less, its tokens are copied. So it is read at most once for each depth.
+#[cycle(reading)]
+fn read_named<'s>(
+    sources: &[Source<'s>],
+    levels: usize,
+    file: usize,
+    files: &mut Vec<ReadFile>,
+    tokens: &mut Vec<Token<'s>>,
+) -> Result<(), LexError>
+    requires file { file < length sources.now }
+    requires right { AreRight (files_of sources.now) (lexemes_of tokens.old.items) files.old.items }
+    ensures value { ReadsAs (λ _. lexemes_of tokens.new.items) result (file_to_end (deeper_of (files_of sources.now) levels) (files_of sources.now)
+        file true (lexemes_of tokens.old.items)) }
+    ensures right { IfOk result (λ _. AreRight (files_of sources.now) (lexemes_of tokens.new.items) files.new.items) }
+{
+    if let Some(read) = earlier_reading(files, file, levels) {
+        return push_again(tokens, read.start, read.end);
+    }
+    let start = tokens.len();
+    let this = FileToRead {
+        file,
+        levels,
+        line: true,
+    };
+    read_to_end(sources, this, files, tokens)?;
+    let end = tokens.len();
+    files.push(ReadFile {
+        file,
+        levels,
+        start,
+        end,
+    })?;
+    Ok(())
+}
+
 /// Reads a source, and the files that its GETs name.
 #[tactic(auto, unfolding(crate::specs::Lexing::read_of))]
 fn read<'s>(alloc: Global, sources: &[Source<'s>], main: usize) -> Result<Vec<Token<'s>>, LexError>
     requires { main < length sources.now }
     ensures { ReadsAs (λ v. lexemes_of v.items) result (read_of (files_of sources.now) main) }
 {
+    let mut files = Vec::new(alloc);
     let mut tokens = Vec::new(alloc);
-    read_file(sources, MOST_LEVELS, main, false, &mut tokens)?;
+    let this = FileToRead {
+        file: main,
+        levels: MOST_LEVELS,
+        line: false,
+    };
+    read_to_end(sources, this, &mut files, &mut tokens)?;
     Ok(tokens)
 }
 

@@ -17,8 +17,8 @@ use bc_text::{TextError, print};
 use bc_text_items::Segment;
 use bc_word::Memory;
 use bcpl_cli::{
-    AtomicFile, BuildOrder, Cause, Failure, FilePair, LinkedLibrary, Links, Sources,
-    is_replaceable, is_standard_output, load_sources,
+    AtomicFile, BuildOrder, Cause, Failure, FilePair, LinkedLibrary, Links, Sources, is_regular,
+    is_standard_output, load_sources,
 };
 use std::alloc::{AllocError, Global};
 use std::io;
@@ -262,8 +262,9 @@ fn write_pair<'p, F: Files>(
     }
 }
 
-/// Writes the text and the certificate, if one is ordered. What goes to standard output, a device or a pipe can't be
-/// taken back, so such a text is written completely before the certificate is begun.
+/// Writes the text and the certificate, if one is ordered. An old text is replaced together with its certificate. If
+/// there is none, the text is written completely before the certificate is begun; so is what goes to standard output, a
+/// device or a pipe, which can't be taken back.
 fn write_files<F: Files, O: Write + Drop>(
     rt: &F,
     alloc: Global,
@@ -277,11 +278,11 @@ fn write_files<F: Files, O: Write + Drop>(
     let Some(certificate) = order.certificate else {
         return write_text(rt, alloc, order, segments, out);
     };
-    if is_standard_output(order.out) || !is_replaceable(rt, order.out) {
+    if !is_standard_output(order.out) && is_regular(rt, order.out) {
+        write_pair(rt, alloc, (order.out, certificate), order.links, built)
+    } else {
         write_text(rt, alloc, order, segments, out)?;
         write_certificate(rt, alloc, certificate, order.links, built)
-    } else {
-        write_pair(rt, alloc, (order.out, certificate), order.links, built)
     }
 }
 

@@ -6,6 +6,7 @@ use crate::output::{print_messages, unfinished};
 use crate::running::{Streams, streams_of};
 use crate::source_files::Gathered;
 use crate::standard::{RunConsole, RunStreams};
+use crate::strict::interpret_strictly;
 use bc_build::{Built, build};
 use bc_interpret_sources::{
     BuiltProgram as Sections, Cause as Access, Ending, Interpreted, Outcome, interpret,
@@ -33,6 +34,9 @@ pub fn interpret_files<F: Files, R: Read + Drop, O: Write + Drop, E: Write + Dro
     order.program.protect_files(rt, alloc, files.as_slice())?;
     let gathered = Gathered::new(alloc, &order.program.sources, files.as_slice())?;
     let console = RunConsole { streams, err };
+    if order.is_strict {
+        return interpret_strictly(rt, alloc, order, &gathered, console);
+    }
     let run = interpretation_of(rt, alloc, order, &gathered, console)?;
     result_of(alloc, &gathered.program(), &run)
 }
@@ -54,12 +58,12 @@ pub fn print_warnings<E: Write + Drop>(
 
 /// A program that was built, and run by its meaning.
 #[derive(Drop)]
-struct Interpretation {
-    built: Built,
+pub struct Interpretation {
+    pub built: Built,
     /// The result of the run.
-    interpreted: Interpreted,
+    pub interpreted: Interpreted,
     /// Whether its streams were closed without error.
-    is_closed: bool,
+    pub is_closed: bool,
 }
 
 /// Builds a program, prints its warnings, and runs it by its meaning.
@@ -119,7 +123,7 @@ fn unclosed(alloc: Global) -> Failure {
 }
 
 /// The result of a run as the result of the command.
-fn result_of(
+pub fn result_of(
     alloc: Global,
     program: &Program<'_, '_>,
     run: &Interpretation,
@@ -146,7 +150,7 @@ fn lines_of(
 }
 
 /// A failure with this explanation, or one of `Memory` if there was no memory for it.
-fn explained_failure(
+pub fn explained_failure(
     alloc: Global,
     program: &Program<'_, '_>,
     cause: Cause,

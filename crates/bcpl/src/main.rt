@@ -24,6 +24,7 @@ mod running;
 mod showing;
 mod source_files;
 mod standard;
+mod strict;
 mod texts;
 mod unused_gets;
 mod watched_run;

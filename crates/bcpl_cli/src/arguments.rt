@@ -176,6 +176,8 @@ pub struct GoOrder<'a> {
 pub struct InterpretOrder<'a> {
     /// The number of turns after which the run is cut off.
     pub turns: u64,
+    /// Whether lawful accesses that are probably mistakes end the run.
+    pub is_strict: bool,
     pub program: ProgramOrder<'a>,
 }
 
@@ -569,6 +571,7 @@ fn go_order<'a>(reader: &mut ArgumentReader<'_, 'a>) -> GoOrder<'a> {
 fn interpret_order<'a>(reader: &mut ArgumentReader<'_, 'a>) -> InterpretOrder<'a> {
     InterpretOrder {
         turns: reader.number("turns", DEFAULT_TURNS),
+        is_strict: reader.flag("strict"),
         program: program_order(reader),
     }
 }

@@ -224,9 +224,9 @@ fn opened<F: Files>(
     }
 }
 
-/// Whether a file can be replaced or created as a whole: it isn't a device, a pipe, a folder or a link.
-pub fn is_replaceable<F: Files>(rt: &F, path: &str) -> bool {
-    !matches!(path_kind(rt, path), PathKind::Other)
+/// Whether there is a regular file with this path. A link is none.
+pub fn is_regular<F: Files>(rt: &F, path: &str) -> bool {
+    matches!(path_kind(rt, path), PathKind::Plain(_))
 }
 
 /// Copies the new file `beside` over the content of the file with this path, and removes the new one.

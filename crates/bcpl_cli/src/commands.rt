@@ -386,6 +386,9 @@ const INTERPRET: CommandSpec = CommandSpec {
            the same with the built text: that is a theorem. The run stops at the first wild cell: reading a\n\
            cell that was never set, reading or writing a cell that does not exist, or calling something that is not a\n\
            routine. What happened and where is printed unless --places never is given, on a terminal or not.\n\n\
+           With --strict the run also stops at what is lawful and nearly always a mistake: an index that leaves a vector,\n\
+           a table or a string, counted from its start, even if it hits a cell; a global that no source names, or that\n\
+           nothing set; a write into a string. This is no theorem, and it doesn't find all such mistakes.\n\n\
            A turn is a call, a GOTO, or one jump back in a loop. Streams work as in `run`.\n\n\
            A program gets no arguments and no environment, and has no exit status of its own.\n\n\
            Exit status: 0 the program finished, 1 refused, 2 the run ended in another way, 3 invalid arguments.\n\n\
@@ -396,6 +399,12 @@ const INTERPRET: CommandSpec = CommandSpec {
             form: Form::Number("N"),
             constraint: Constraint::Free,
             help: "Stop after N turns [default: 100000000]",
+        },
+        Argument {
+            name: "strict",
+            form: Form::Flag,
+            constraint: Constraint::Free,
+            help: "Stop also at accesses that are lawful and nearly always mistakes",
         },
         LIBRARY,
         GET,
@@ -502,6 +511,9 @@ const CONVERT: CommandSpec = CommandSpec {
            Several FILEs, headers included, are treated as one program: if one of them needs EXTHDR, every file that gets\n\
            the library's header gets EXTHDR. Each line of OLD has a name from the library that the sources were written\n\
            for, blanks, and its name in this library.\n\n\
+           A source that builds as it is stays byte for byte, unless --dialect names the system it was written for:\n\
+           then it is converted too. With 1967 V*(I) is a subscript, with 1979 a product; with alto @ becomes !. Don't\n\
+           convert a result again with --dialect.\n\n\
            Exit status: 0 all converted, 1 refused or something is left to do by hand, 3 invalid arguments.\n\n\
            Examples:\n  bcpl convert --out queens.bcpl queens.old\n\
            \x20 bcpl convert --in-place header main.bcpl tables.bcpl",
@@ -541,6 +553,12 @@ const CONVERT: CommandSpec = CommandSpec {
             form: Form::Option("HEADER"),
             constraint: Constraint::Free,
             help: "Make sources get this header: libhdr or exthdr [default: the one they need]",
+        },
+        Argument {
+            name: "dialect",
+            form: Form::Option("SYSTEM"),
+            constraint: Constraint::Free,
+            help: "Take sources for those of this system: 1967, 1979 or alto [default: what they show]",
         },
         Argument {
             name: "library",

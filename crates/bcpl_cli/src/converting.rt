@@ -28,6 +28,19 @@ pub enum ConvertHeader {
     Needed,
 }
 
+/// The system for which the sources were written, if it is named.
+#[derive(Clone, Copy)]
+pub enum ConvertDialect {
+    /// None: a source that builds as it is stays, and others show their dialect.
+    Shown,
+    /// The compilers of 1967.
+    Of1967,
+    /// Those of 1979.
+    Of1979,
+    /// The Alto's.
+    Alto,
+}
+
 /// The arguments of `convert`.
 #[derive(Drop)]
 pub struct ConvertOrder<'a> {
@@ -37,6 +50,7 @@ pub struct ConvertOrder<'a> {
     /// The file that maps names of an old library, if any.
     pub library: Option<&'a str>,
     pub header: ConvertHeader,
+    pub dialect: ConvertDialect,
     /// What happens to further names of the files that are written.
     pub links: Links,
     pub places: Places,
@@ -54,6 +68,21 @@ fn header_of(reader: &mut ArgumentReader<'_, '_>) -> ConvertHeader {
         Some(value) => reader.refuse(value, HEADER_ACCEPTS),
     }
     ConvertHeader::Needed
+}
+
+/// What `--dialect` accepts.
+const DIALECT_ACCEPTS: &str = "--dialect takes 1967, 1979 or alto, for example --dialect 1979";
+
+/// The value of `--dialect`. An invalid value is noted in `reader`.
+fn dialect_of(reader: &mut ArgumentReader<'_, '_>) -> ConvertDialect {
+    match reader.value("dialect") {
+        None => {}
+        Some("1967") => return ConvertDialect::Of1967,
+        Some("1979") => return ConvertDialect::Of1979,
+        Some("alto") => return ConvertDialect::Alto,
+        Some(value) => reader.refuse(value, DIALECT_ACCEPTS),
+    }
+    ConvertDialect::Shown
 }
 
 /// Where the results go.
@@ -81,6 +110,7 @@ pub fn convert_order<'a>(reader: &mut ArgumentReader<'_, 'a>) -> ConvertOrder<'a
         to: destination(reader),
         library: reader.value("library"),
         header: header_of(reader),
+        dialect: dialect_of(reader),
         links: links_option(reader),
         places: places_option(reader),
     }

@@ -33,6 +33,19 @@ pub enum Wild {
     FrameTooLarge(u64),
 }
 
+/// An access that ends a strict run.
+#[derive(Clone, Copy)]
+pub enum Strict {
+    /// The cell at this address was accessed, outside of the vector, table or string from whose start the index counts.
+    Outside(u16),
+    /// The global with this number was accessed through an address, and no source names it.
+    NoGlobal(u16),
+    /// A word of a string, at this address, was to be written.
+    Constant(u16),
+    /// The global with this number was read, and nothing had set it.
+    UnsetGlobal(u16),
+}
+
 /// Why a command failed. Its `Display` text is what follows `bcpl: ` in the first line.
 #[derive(Drop)]
 pub struct Failure {
@@ -66,6 +79,8 @@ pub enum Cause {
     TurnsSpent,
     /// A run by the meaning met a wild cell.
     Wild(Wild),
+    /// A strict run met an access that is probably a mistake.
+    Strict(Strict),
     /// This many things in an old source can't be converted automatically.
     ByHand(usize),
     /// An allocation failed.
@@ -136,7 +151,7 @@ impl Failure {
         ensures { result ≡ cause_status self.now.cause }
     {
         match &self.cause {
-            Cause::Ended(_) | Cause::TurnsSpent | Cause::Wild(_) => 2,
+            Cause::Ended(_) | Cause::TurnsSpent | Cause::Wild(_) | Cause::Strict(_) => 2,
             _ => 1,
         }
     }
@@ -146,7 +161,11 @@ impl Failure {
     pub fn is_always_explained(&self) -> bool {
         matches!(
             &self.cause,
-            Cause::ByHand(_) | Cause::Wild(_) | Cause::TurnsSpent | Cause::Ended(_)
+            Cause::ByHand(_)
+                | Cause::Wild(_)
+                | Cause::Strict(_)
+                | Cause::TurnsSpent
+                | Cause::Ended(_)
         )
     }
 
@@ -232,6 +251,16 @@ fn write_wild<W: fmt::Write>(f: &mut fmt::Formatter<W>, wild: Wild) -> fmt::Resu
     }
 }
 
+/// Prints an access that ends a strict run.
+fn write_strict<W: fmt::Write>(f: &mut fmt::Formatter<W>, strict: Strict) -> fmt::Result {
+    match strict {
+        Strict::Outside(address) => write!(f, "strict 1 Outside {address}"),
+        Strict::NoGlobal(number) => write!(f, "strict 2 NoGlobal {number}"),
+        Strict::Constant(address) => write!(f, "strict 3 Constant {address}"),
+        Strict::UnsetGlobal(number) => write!(f, "strict 4 UnsetGlobal {number}"),
+    }
+}
+
 /// The first line of a refused build, without `bcpl: `.
 #[derive(Clone, Copy)]
 pub struct BuildLine<'a>(pub &'a BuildError);
@@ -256,6 +285,7 @@ impl fmt::Display for Failure {
             Cause::Ended(end) => write_end(f, *end),
             Cause::TurnsSpent => write!(f, "ended TurnsSpent"),
             Cause::Wild(wild) => write_wild(f, *wild),
+            Cause::Strict(strict) => write_strict(f, *strict),
             Cause::ByHand(count) => write!(f, "convert 1 ByHand {count}"),
             Cause::Memory => write!(f, "memory"),
         }

@@ -43,11 +43,11 @@ pub use arguments::{
     Places, ProgramOrder, RunOrder, ShowOrder, Sources, TreeShape, WatchOrder, is_standard_output,
     parse_arguments,
 };
-pub use atomic_file::{AtomicFile, Links, is_one_file, is_replaceable, named_twice};
+pub use atomic_file::{AtomicFile, Links, is_one_file, is_regular, named_twice};
 pub use clean::Clean;
-pub use converting::{ConvertHeader, ConvertOrder, ConvertTo};
+pub use converting::{ConvertDialect, ConvertHeader, ConvertOrder, ConvertTo};
 pub use escaped::{Escaped, shown_path};
-pub use failure::{BuildLine, Cause, Failure, Wild};
+pub use failure::{BuildLine, Cause, Failure, Strict, Wild};
 pub use file_kinds::{FileKind, file_kind};
 pub use file_pair::FilePair;
 pub use get_hints::get_hint;

@@ -4,8 +4,10 @@ use crate::job::{Job, Target, write_job};
 use crate::lawful::{Given, lawful_files};
 use crate::protected_files::spare;
 use crate::summary::{add_told, told_of};
-use bc_convert::{Header, Lawful, NameList, Options, Program, Renaming, convert, renamings};
-use bcpl_cli::{Cause, ConvertHeader, ConvertOrder, Failure, Places, contents};
+use bc_convert::{
+    Header, Lawful, NameList, Options, Program, Renaming, System, convert, renamings,
+};
+use bcpl_cli::{Cause, ConvertDialect, ConvertHeader, ConvertOrder, Failure, Places, contents};
 use std::alloc::Global;
 use std::io::Write;
 use std::rt::Files;
@@ -78,7 +80,17 @@ fn program_of(
     Ok(whole)
 }
 
-/// The conversion of each source, and where it goes.
+/// The system for which the sources were written.
+fn system_of(dialect: ConvertDialect) -> Option<System> {
+    match dialect {
+        ConvertDialect::Shown => None,
+        ConvertDialect::Of1967 => Some(System::Of1967),
+        ConvertDialect::Of1979 => Some(System::Of1979),
+        ConvertDialect::Alto => Some(System::Alto),
+    }
+}
+
+/// The conversion of each source, and where it goes. Files that `lawful` doesn't have need a conversion.
 fn jobs_of<'a>(
     alloc: Global,
     order: &ConvertOrder<'a>,
@@ -151,12 +163,16 @@ pub fn convert_file<F: Files, O: Write + Drop>(
         },
         program: program_of(alloc, texts.as_slice(), library)?,
         lawful: Lawful::No,
+        system: system_of(order.dialect),
     };
     let given = Given {
         paths: order.files.as_slice(),
         texts: texts.as_slice(),
     };
-    let lawful = lawful_files(rt, alloc, given, options.header.is_some())?;
+    let lawful = match options.system {
+        None => lawful_files(rt, alloc, given, options.header.is_some())?,
+        Some(_) => Vec::new(alloc),
+    };
     let jobs = jobs_of(alloc, order, texts, lawful.as_slice(), options)?;
     spare(rt, alloc, order, jobs.as_slice())?;
     for job in &jobs {

@@ -2,21 +2,18 @@
 
 use bc_convert::Complaint;
 use bc_word::Memory;
-use bcpl_places::{Excerpt, Line, LineCounter, column_at};
+use bcpl_places::{ColumnCounter, Excerpt, Line, LineCounter};
 use std::alloc::Global;
 
-/// Appends the lines about one complaint, which is in this line.
+/// Appends the lines about one complaint, which is in this line and column.
 fn add_complaint(
     alloc: Global,
     lines: &mut String,
     path: &str,
-    text: (&[u8], Line),
+    place: (&[u8], Line, usize),
     complaint: Complaint,
 ) -> Result<(), Memory> {
-    let (text, line) = text;
-    let at = complaint.start.min(text.len());
-    let start = line.start.min(at);
-    let column = column_at(alloc, &text[start..], at - start)?;
+    let (text, line, column) = place;
     let number = line.number;
     let fault = complaint.fault;
     writeln!(lines, "{path}:{number}:{column}: {fault}")?;
@@ -42,9 +39,11 @@ pub fn add_told(
     complaints: &[Complaint],
 ) -> Result<(), Memory> {
     let mut counter = LineCounter::new();
+    let mut columns = ColumnCounter::new();
     for complaint in complaints {
         let line = counter.line_at(text, complaint.start);
-        add_complaint(alloc, lines, path, (text, line), *complaint)?;
+        let column = columns.column_at(text, 0, line.start, complaint.start);
+        add_complaint(alloc, lines, path, (text, line, column), *complaint)?;
     }
     Ok(())
 }

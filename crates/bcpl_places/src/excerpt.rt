@@ -12,6 +12,10 @@ const MOST: usize = 88;
 /// How many characters before the mark are shown of a line that is too long.
 const IN_FRONT: usize = 40;
 
+/// How many bytes of a line around the beginning of the mark are read at most, on each side. They have more characters than
+/// are shown.
+const NEAR: usize = 400;
+
 /// A line of a source with a mark below a stretch of it, displayed as two lines of text. A line that is too long is cut
 /// off around the stretch.
 #[derive(Drop)]
@@ -53,12 +57,15 @@ impl Excerpt {
         start: usize,
         end: usize,
     ) -> Result<Excerpt, Memory> {
-        let line_end = line.end.min(text.len());
-        let line_start = line.start.min(line_end);
+        let line_end = line.end.min(text.len()).min(start.saturating_add(NEAR));
+        let line_start = line.start.max(start.saturating_sub(NEAR)).min(line_end);
+        let is_read_from_start = line_start <= line.start;
+        let is_read_to_end = line_end >= line.end.min(text.len());
         let signs = signs_of(alloc, &text[line_start..line_end])?;
         let first = count_before(signs.as_slice(), start.saturating_sub(line_start));
         let following = count_before(signs.as_slice(), end.saturating_sub(line_start)).max(first);
-        let is_long = width_of(signs.as_slice()) > MOST;
+        let is_whole = is_read_from_start && is_read_to_end;
+        let is_long = !is_whole || width_of(signs.as_slice()) > MOST;
         let from = if is_long {
             first.saturating_sub(IN_FRONT)
         } else {
@@ -75,8 +82,8 @@ impl Excerpt {
         Ok(Excerpt {
             number: line.number,
             shown: Vec::from_slice(alloc, &signs.as_slice()[from..to])?,
-            is_cut_before: from > 0,
-            is_cut_after: to < signs.len(),
+            is_cut_before: from > 0 || !is_read_from_start,
+            is_cut_after: to < signs.len() || !is_read_to_end,
             before: width_of(&signs.as_slice()[from..first]),
             marked: width_of(&signs.as_slice()[first..following]).max(1),
         })

@@ -62,19 +62,26 @@ pub fn line_at(text: &[u8], at: usize) -> Line
     }
 }
 
-/// Finds the lines of places in a text. If a place follows the last one, the lines before that one aren't counted again.
+/// Finds the lines of places in a text. If a place follows the last one, the lines before that one aren't counted again, and
+/// its own line isn't looked for again.
 #[derive(Clone, Copy)]
 pub struct LineCounter {
     /// The offset of the last place.
     at: usize,
     /// How many line feeds come before it.
     breaks: usize,
+    /// The line of the last place, if there was one.
+    line: Option<Line>,
 }
 
 impl LineCounter {
     /// A counter at the beginning of a text.
     pub fn new() -> LineCounter {
-        LineCounter { at: 0, breaks: 0 }
+        LineCounter {
+            at: 0,
+            breaks: 0,
+            line: None,
+        }
     }
 
     /// The line that contains the byte at this offset, or the last line if the text is shorter.
@@ -83,14 +90,21 @@ impl LineCounter {
         if at < self.at {
             *self = LineCounter::new();
         }
+        if let Some(line) = self.line
+            && at <= line.end
+        {
+            return line;
+        }
         let from = self.at.min(at);
         self.breaks = self.breaks.saturating_add(count_breaks(&text[from..at]));
         self.at = at;
         let start = line_start(&text[..at]);
-        Line {
+        let line = Line {
             number: self.breaks.saturating_add(1),
             start,
             end: start + rest_of_line(&text[start..]),
-        }
+        };
+        self.line = Some(line);
+        line
     }
 }

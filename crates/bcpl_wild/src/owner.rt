@@ -87,7 +87,7 @@ fn name_in<'s>(read: &ReadMain<'s>, number: u16) -> Option<&'s [u8]> {
 }
 
 /// The first name that any main gives a global.
-fn name_of_global<'s>(
+pub(crate) fn name_of_global<'s>(
     draft: &mut Draft,
     program: &WildProgram<'_, 's>,
     number: u16,
@@ -139,7 +139,7 @@ fn of_primitives(draft: &mut Draft, program: &WildProgram<'_, '_>, address: u16)
 }
 
 /// The main of a segment.
-fn main_of<'s>(
+pub(crate) fn main_of<'s>(
     draft: &mut Draft,
     program: &WildProgram<'_, 's>,
     segment: usize,
