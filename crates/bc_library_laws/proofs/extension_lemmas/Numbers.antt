@@ -1,9 +1,11 @@
 -- What PUTNUMBER, WRITED and WRITEU do: the digits are found from the last one on, and written from the first one on.
-use Rattle.std.proofs.Common.{◌≡◌, Bool, ⊎_elim, ℕ, zero, suc, ◌+◌, ◌-◌, ◌*◌, ◌/◌, ◌%◌, ◌<◌, ◌≤◌, ◌==◌, List, [], ◌∷◌, ◌++◌, length, true, false, refl, sym, ap, ◌∙◌, arith}
+use Rattle.std.proofs.Common.{◌≡◌, ◌≢◌, Bool, ⊎_elim, ℕ, zero, suc, ◌+◌, ◌-◌, ◌*◌, ◌/◌, ◌%◌, ◌<◌, ◌≤◌, ◌==◌, List, [], ◌∷◌, ◌++◌, length, true, false, refl, sym, ap, subst, ◌∙◌, arith}
+use Rattle.std.proofs.lemmas.Bool.{cases_lt}
+use Rattle.std.proofs.lemmas.Bool.Decides.{nat_tests}
 use Rattle.std.proofs.lemmas.Fmt.{decimal_by_steps, length-decimal-le}
 use Rattle.std.proofs.lemmas.List.{get_or-set_same, get_or-set_other, length-append, length-set}
 use Rattle.std.specs.Fmt.{decimal}
-use Rattle.std.specs.Prelude.{slice_set, nat_le, int_lt, int_div, cond, ◌*ℤ◌}
+use Rattle.std.specs.Prelude.{slice_set, nat_le, nat_lt, negsuc, int_lt, int_div, cond, ◌*ℤ◌}
 use Rattle.bc_word.specs.Words.{signed, holds, wrapped, negated}
 use Rattle.bc_word.specs.declared.operator.Op.TheVariants.{Add, Subtract, Multiply, Divide, Equal, ShiftRight}
 use Rattle.bc_machine_defs.specs.Streams.{Content}
@@ -22,11 +24,11 @@ use Rattle.bc_core.specs.Laws.{DeadFrom, is_live}
 use Rattle.bc_core.specs.Meaning.{calls, context}
 use Rattle.bc_library_laws.specs.Library.{at, commands, list, write_char}
 use Rattle.bc_library_laws.specs.Laws.{state, after_writes}
-use Rattle.bc_library_laws.proofs.Words.{is_positive, not_less, less}
+use Rattle.bc_library_laws.proofs.Words.{is_positive, is_negative, not_less, less}
 use Rattle.bc_library_laws.proofs.Steps.{Has, wrch, fits_true, differ}
 use Rattle.bc_library_laws.specs.extension.Routines.{cell}
-use Rattle.bc_library_laws.specs.extension.Laws.{Able, laid, in_field, blanks, turns_in_field}
-use Rattle.bc_library_laws.proofs.extension_lemmas.Tests.{yes_lt, no_lt, unlike_test}
+use Rattle.bc_library_laws.specs.extension.Laws.{Able, laid, in_field, blanks, turns_in_field, not_negative}
+use Rattle.bc_library_laws.proofs.extension_lemmas.Tests.{unlike_test}
 use Rattle.bc_library_laws.proofs.extension_lemmas.Octal.{before, less_one, product}
 use Rattle.bc_library_laws.proofs.extension_lemmas.Frames.{laid_length, laid_below, laid_at, laid_set, laid_more, laid_free, set_before, reads, writes, read_at, write_at, read_under, opens, laid_back, laid_close, able_after, able_over, writes_live}
 use Rattle.bc_library_laws.proofs.extension_lemmas.Finding.{HasFurther}
@@ -235,19 +237,38 @@ called address further f n h w digits top cells able five few =
     (able_over address further (f + 6) (f + 6) (f + 11) 13 8 digits (low_cells f n h w cells) (able_after address further f (f + 6) 19 13 (Set n ∷ Set h ∷ Set w ∷ Set ((f + 6) % 65536) ∷ []) cells able (omega arith) (omega arith))
     (omega arith) (omega (arith, five)) (omega arith)) (omega arith) (omega (arith, few)) (omega arith)
 
-blank_loop : (P : List Placed) (address further : ℕ → ℕ) → Has P address → (V : ℕ → ℕ → ℕ → Run ℕ) → (f n h w k x t : ℕ) (digits cells : List Cell) → Able address further cells f 19 → length digits ≡ 5 → w < 32767
-    → (left i m : ℕ) (streams : Content) (K T : ℕ) → left ≡ suc w - i → i < 32768 → (0 < left → m ≡ suc x) → left ≤ K → T ≡ 2 * left + t
+-- as a limit, the word w is this number of characters
+abbrev Bounds : (w field : ℕ) → Type 0
+Bounds w field = (field < 32767) × ((i : ℕ) → 0 < i → i < 32768 → int_lt (signed w) (signed i) ≡ nat_lt field i)
+
+pub bounds_of : (w : ℕ) → w < 65536 → w ≢ 32767 → Bounds w (not_negative w)
+bounds_of w word ne = ⊎_elim
+    (λ lt. let is : not_negative w ≡ w = (let test : nat_lt w 32768 ≡ true = grind (arith, nat_tests, lt) in rw test refl) in
+    subst (λ z. Bounds w z) (sym is) (omega (arith, lt, ne), λ i some small. rw (is_positive w lt, is_positive i small) refl))
+    (λ ge. let is : not_negative w ≡ 0 = (let test : nat_lt w 32768 ≡ false = grind (arith, nat_tests, ge) in rw test refl) in
+    subst (λ z. Bounds w z) (sym is) (omega arith, λ i some small. under i some small (omega (arith, ge)))) (cases_lt w 32768) where
+      back : 65535 - (65535 - w) ≡ w
+      back = omega (arith, word)
+
+      under : (i : ℕ) → 0 < i → i < 32768 → 65535 - w < 32768 → int_lt (signed w) (signed i) ≡ nat_lt 0 i
+      under i some small lt =
+          let minus : signed w ≡ negsuc (65535 - w) = ap signed (sym back) ∙ is_negative (65535 - w) lt in
+          let test : nat_lt 0 i ≡ true = grind (arith, nat_tests, some) in
+          rw (minus, is_positive i small, test) refl
+
+blank_loop : (P : List Placed) (address further : ℕ → ℕ) → Has P address → (V : ℕ → ℕ → ℕ → Run ℕ) → (f n h w field k x t : ℕ) (digits cells : List Cell) → Able address further cells f 19 → length digits ≡ 5 → Bounds w field
+    → (left i m : ℕ) (streams : Content) (K T : ℕ) → left ≡ suc field - i → 0 < i → i < 32768 → (0 < left → m ≡ suc x) → left ≤ K → T ≡ 2 * left + t
     → rounds (suc K) (blank_round (context further (calls P m) V) f w) tt (state (in_frame f n h w digits (Set k ∷ Set i ∷ []) cells) streams T)
     ≡ Done Past (state (in_frame f n h w digits (Set k ∷ Set (i + left) ∷ []) cells) (after_writes (blanks left) streams) t)
-blank_loop P address further has V f n h w k x t digits cells able five fits zero i m streams K T left_is small deep fuel eT =
+blank_loop P address further has V f n h w field k x t digits cells able five bounds zero i m streams K T left_is some small deep fuel eT =
     let f1 = facts f n h w digits (Set k ∷ Set i ∷ []) cells five (omega arith) able.ready.whole able.ready.room in
-    let past : int_lt (signed w) (signed i) ≡ true = yes_lt w i (omega (arith, fits)) small (omega (arith, left_is)) in
+    let past : int_lt (signed w) (signed i) ≡ true = (let test : nat_lt field i ≡ true = grind (arith, nat_tests, left_is) in bounds.1 i some small ∙ test) in
     let turns : T ≡ t = omega (arith, eT) in
     let same : i + 0 ≡ i = omega arith in
     rw (turns, same, f1.top_is 12 1 refl (omega arith), past) refl
-blank_loop P address further has V f n h w k x t digits cells able five fits (suc left) i m streams K T left_is small deep fuel eT =
+blank_loop P address further has V f n h w field k x t digits cells able five bounds (suc left) i m streams K T left_is some small deep fuel eT =
     let f1 = facts f n h w digits (Set k ∷ Set i ∷ []) cells five (omega arith) able.ready.whole able.ready.room in
-    let going : int_lt (signed w) (signed i) ≡ false = no_lt w i (omega (arith, fits)) small (omega (arith, left_is)) in
+    let going : int_lt (signed w) (signed i) ≡ false = (let test : nat_lt field i ≡ false = grind (arith, nat_tests, left_is) in bounds.1 i some small ∙ test) in
     let up = called address further f n h w digits (Set k ∷ Set i ∷ []) cells able five (omega arith) in
     let write = wrch P has.wrch (in_frame f n h w digits (Set k ∷ Set i ∷ []) cells) streams (f + 14) x (suc (2 * left + t)) 32 up.ready.whole up.ready.free (omega (arith, up.ready.room)) in
     let more : (i + 1) % 65536 ≡ i + 1 = omega (arith, small) in
@@ -256,7 +277,7 @@ blank_loop P address further has V f n h w k x t digits cells able five fits (su
     let again : K ≡ suc (K - 1) = omega (arith, fuel) in
     let same : i + suc left ≡ i + 1 + left = omega arith in
     rw (deep (omega arith), turns, again, same, f1.top_is 12 1 refl (omega arith), going, up.ready.write_char, write, f1.top_is 12 1 refl (omega arith), f1.top_is 12 1 refl (omega arith), stored)
-    (blank_loop P address further has V f n h w k x t digits cells able five fits left (i + 1) (suc x) (after_write 32 streams) (K - 1) (2 * left + t) (omega (arith, left_is)) (omega (arith, left_is, fits)) (λ lt. refl) (omega (arith, fuel)) refl)
+    (blank_loop P address further has V f n h w field k x t digits cells able five bounds left (i + 1) (suc x) (after_write 32 streams) (K - 1) (2 * left + t) (omega (arith, left_is)) (omega arith) (let narrow = bounds.0 in omega (arith, left_is, narrow)) (λ lt. refl) (omega (arith, fuel)) refl)
 
 -- one iteration of the FOR that writes the digits
 abbrev write_round : (C : Context) → (f : ℕ) → Unit {0} → LoopRound
@@ -348,10 +369,10 @@ written_both : (xs ys : List ℕ) (streams : Content) → after_writes (xs ++ ys
 written_both [] ys streams = refl
 written_both (x ∷ xs) ys streams = written_both xs ys (after_write x streams)
 
-pub number_does : (P : List Placed) (address further : ℕ → ℕ) → Has P address → (e : HasFurther P further) → (b : Bool) (n w : ℕ) (cells : List Cell) (streams : Content) (f x t N T : ℕ)
-    → Able address further cells f 19 → n < 65536 → w < 32767 → N ≡ suc (suc x) → T ≡ suc (length (decimal n) - 1 + (2 * (w - (size_of_sign b + length (decimal n))) + (size_of_sign b + (2 * length (decimal n) + t))))
-    → calls P N (further 24) (n ∷ flag b ∷ w ∷ []) f (state cells streams T) ≡ Done 0 (state cells (after_writes (blanks (w - (size_of_sign b + length (decimal n))) ++ (sign b ++ decimal n)) streams) t)
-number_does P address further has e b n w cells streams f x t N T able word narrow eN eT =
+pub number_does : (P : List Placed) (address further : ℕ → ℕ) → Has P address → (e : HasFurther P further) → (b : Bool) (n w field : ℕ) (cells : List Cell) (streams : Content) (f x t N T : ℕ)
+    → Able address further cells f 19 → n < 65536 → Bounds w field → N ≡ suc (suc x) → T ≡ suc (length (decimal n) - 1 + (2 * (field - (size_of_sign b + length (decimal n))) + (size_of_sign b + (2 * length (decimal n) + t))))
+    → calls P N (further 24) (n ∷ flag b ∷ w ∷ []) f (state cells streams T) ≡ Done 0 (state cells (after_writes (blanks (field - (size_of_sign b + length (decimal n))) ++ (sign b ++ decimal n)) streams) t)
+number_does P address further has e b n w field cells streams f x t N T able word bounds eN eT =
     let room : f + 19 ≤ 65536 = able.ready.room in
     let whole : length cells ≡ 65536 = able.ready.whole in
     let fits : nat_le (f + 19) 65536 ≡ true = fits_true _ _ room in
@@ -368,32 +389,32 @@ number_does P address further has e b n w cells streams f x t N T able word narr
     let f0 = facts f n (flag b) w (Unset ∷ Unset ∷ Unset ∷ Unset ∷ Unset ∷ []) (Unset ∷ []) cells refl (omega arith) whole room in
     let finds = finds_digits (context further (calls P (suc x)) (e.valofs (calls P (suc x)))) f (flag b) w cells streams whole able.ready.free room n word in
     let some : 0 < length (decimal n) = finds.0 in
-    let found = finds.1 word 0 (Unset ∷ Unset ∷ Unset ∷ Unset ∷ Unset ∷ []) (length (decimal n) - 1 + (2 * (w - (size_of_sign b + length (decimal n))) + (size_of_sign b + (2 * length (decimal n) + t)))) (length (decimal n) - 1 + (2 * (w - (size_of_sign b + length (decimal n))) + (size_of_sign b + (2 * length (decimal n) + t)))) (2 * (w - (size_of_sign b + length (decimal n))) + (size_of_sign b + (2 * length (decimal n) + t))) refl all_live (omega (arith, few)) (omega (arith, some)) (omega (arith, some)) in
+    let found = finds.1 word 0 (Unset ∷ Unset ∷ Unset ∷ Unset ∷ Unset ∷ []) (length (decimal n) - 1 + (2 * (field - (size_of_sign b + length (decimal n))) + (size_of_sign b + (2 * length (decimal n) + t)))) (length (decimal n) - 1 + (2 * (field - (size_of_sign b + length (decimal n))) + (size_of_sign b + (2 * length (decimal n) + t)))) (2 * (field - (size_of_sign b + length (decimal n))) + (size_of_sign b + (2 * length (decimal n) + t))) refl all_live (omega (arith, few)) (omega (arith, some)) (omega (arith, some)) in
     let zero_is : 0 + length (decimal n) ≡ length (decimal n) = omega arith in
-    let digits_found : rounds (suc (length (decimal n) - 1 + (2 * (w - (size_of_sign b + length (decimal n))) + (size_of_sign b + (2 * length (decimal n) + t))))) (digit_round (context further (calls P (suc x)) (e.valofs (calls P (suc x)))) f) tt (state (in_frame f n (flag b) w (Unset ∷ Unset ∷ Unset ∷ Unset ∷ Unset ∷ []) (Set 0 ∷ []) cells) streams (length (decimal n) - 1 + (2 * (w - (size_of_sign b + length (decimal n))) + (size_of_sign b + (2 * length (decimal n) + t))))) ≡ Done Past (state (in_frame f 0 (flag b) w found.0.after (Set (length (decimal n)) ∷ []) cells) streams (2 * (w - (size_of_sign b + length (decimal n))) + (size_of_sign b + (2 * length (decimal n) + t)))) =
-    found.1 ∙ ap (λ z. Done Past (state (in_frame f 0 (flag b) w found.0.after (Set z ∷ []) cells) streams (2 * (w - (size_of_sign b + length (decimal n))) + (size_of_sign b + (2 * length (decimal n) + t))))) zero_is in
+    let digits_found : rounds (suc (length (decimal n) - 1 + (2 * (field - (size_of_sign b + length (decimal n))) + (size_of_sign b + (2 * length (decimal n) + t))))) (digit_round (context further (calls P (suc x)) (e.valofs (calls P (suc x)))) f) tt (state (in_frame f n (flag b) w (Unset ∷ Unset ∷ Unset ∷ Unset ∷ Unset ∷ []) (Set 0 ∷ []) cells) streams (length (decimal n) - 1 + (2 * (field - (size_of_sign b + length (decimal n))) + (size_of_sign b + (2 * length (decimal n) + t))))) ≡ Done Past (state (in_frame f 0 (flag b) w found.0.after (Set (length (decimal n)) ∷ []) cells) streams (2 * (field - (size_of_sign b + length (decimal n))) + (size_of_sign b + (2 * length (decimal n) + t)))) =
+    found.1 ∙ ap (λ z. Done Past (state (in_frame f 0 (flag b) w found.0.after (Set z ∷ []) cells) streams (2 * (field - (size_of_sign b + length (decimal n))) + (size_of_sign b + (2 * length (decimal n) + t))))) zero_is in
     let under : DeadFrom (f + 11) (laid (f + 6) found.0.after (low_cells f 0 (flag b) w cells)) =
     laid_free (f + 6) (f + 11) found.0.after (low_cells f 0 (flag b) w cells) (laid_free (f + 2) (f + 6) (Set 0 ∷ Set (flag b) ∷ Set w ∷ Set ((f + 6) % 65536) ∷ []) cells free2 (omega arith)) (let five = found.0.five in omega (arith, five)) in
     let opened12 : slice_set (in_frame f 0 (flag b) w found.0.after (Set (length (decimal n)) ∷ []) cells) (f + 12) Unset ≡ (in_frame f 0 (flag b) w found.0.after (Set (length (decimal n)) ∷ Unset ∷ []) cells) = opens (f + 11) (f + 12) (Set (length (decimal n)) ∷ []) (laid (f + 6) found.0.after (low_cells f 0 (flag b) w cells)) (omega arith) in
     let closed12 : (i : ℕ) → closed 1 (f + 12) (in_frame f 0 (flag b) w found.0.after (Set (length (decimal n)) ∷ Set i ∷ []) cells) ≡ (in_frame f 0 (flag b) w found.0.after (Set (length (decimal n)) ∷ []) cells) =
     (λ i. laid_close (f + 11) (f + 12) 1 (Set (length (decimal n)) ∷ []) (Set i ∷ []) (laid (f + 6) found.0.after (low_cells f 0 (flag b) w cells)) under (omega arith) refl) in
     let f1 = facts f 0 (flag b) w found.0.after (Set (length (decimal n)) ∷ Unset ∷ []) cells found.0.five (omega arith) whole room in
-    let starts = start_value (context further (calls P (suc x)) (e.valofs (calls P (suc x)))) f 0 w (length (decimal n)) b found.0.after (Unset ∷ []) cells streams (2 * (w - (size_of_sign b + length (decimal n))) + (size_of_sign b + (2 * length (decimal n) + t))) (omega (arith, few)) f1 in
+    let starts = start_value (context further (calls P (suc x)) (e.valofs (calls P (suc x)))) f 0 w (length (decimal n)) b found.0.after (Unset ∷ []) cells streams (2 * (field - (size_of_sign b + length (decimal n))) + (size_of_sign b + (2 * length (decimal n) + t))) (omega (arith, few)) f1 in
     let f2 = facts f 0 (flag b) w found.0.after (Set (length (decimal n)) ∷ Set (length (decimal n) + size_of_sign b + 1) ∷ []) cells found.0.five (omega arith) whole room in
     let tiny : size_of_sign b ≤ 1 = size_small b in
-    let blanks_do = blank_loop P address further has (e.valofs (calls P (suc x))) f 0 (flag b) w (length (decimal n)) x (size_of_sign b + (2 * length (decimal n) + t)) found.0.after cells able found.0.five narrow (w - (size_of_sign b + length (decimal n))) (length (decimal n) + size_of_sign b + 1) (suc x) streams (2 * (w - (size_of_sign b + length (decimal n))) + (size_of_sign b + (2 * length (decimal n) + t))) (2 * (w - (size_of_sign b + length (decimal n))) + (size_of_sign b + (2 * length (decimal n) + t)))
-    (omega (arith, narrow)) (omega (arith, few, tiny)) (λ lt. refl) (omega arith) refl in
-    let signed_does = sign_does P address further has (e.valofs (calls P (suc x))) f 0 w (length (decimal n)) x (2 * length (decimal n) + t) b found.0.after cells (after_writes (blanks (w - (size_of_sign b + length (decimal n)))) streams) able found.0.five in
+    let blanks_do = blank_loop P address further has (e.valofs (calls P (suc x))) f 0 (flag b) w field (length (decimal n)) x (size_of_sign b + (2 * length (decimal n) + t)) found.0.after cells able found.0.five bounds (field - (size_of_sign b + length (decimal n))) (length (decimal n) + size_of_sign b + 1) (suc x) streams (2 * (field - (size_of_sign b + length (decimal n))) + (size_of_sign b + (2 * length (decimal n) + t))) (2 * (field - (size_of_sign b + length (decimal n))) + (size_of_sign b + (2 * length (decimal n) + t)))
+    (let narrow = bounds.0 in omega (arith, narrow)) (omega arith) (omega (arith, few, tiny)) (λ lt. refl) (omega arith) refl in
+    let signed_does = sign_does P address further has (e.valofs (calls P (suc x))) f 0 w (length (decimal n)) x (2 * length (decimal n) + t) b found.0.after cells (after_writes (blanks (field - (size_of_sign b + length (decimal n)))) streams) able found.0.five in
     let last : slice_set (in_frame f 0 (flag b) w found.0.after (Set (length (decimal n)) ∷ Unset ∷ []) cells) ((f + 12) % 65536) (Set ((length (decimal n) + 65535) % 65536)) ≡ (in_frame f 0 (flag b) w found.0.after (Set (length (decimal n)) ∷ Set (before (length (decimal n))) ∷ []) cells) =
     rw (less_one (length (decimal n)) (omega (arith, few))) (f1.set_top 12 1 (Set (before (length (decimal n)))) refl (omega arith)) in
-    let digits_do = write_loop P address further has (e.valofs (calls P (suc x))) f 0 (flag b) w (length (decimal n)) x t found.0.after cells able found.0.five (decimal n) (after_writes (sign b) (after_writes (blanks (w - (size_of_sign b + length (decimal n)))) streams)) (2 * length (decimal n) + t) (2 * length (decimal n) + t) found.0.held few (omega arith) refl in
+    let digits_do = write_loop P address further has (e.valofs (calls P (suc x))) f 0 (flag b) w (length (decimal n)) x t found.0.after cells able found.0.five (decimal n) (after_writes (sign b) (after_writes (blanks (field - (size_of_sign b + length (decimal n)))) streams)) (2 * length (decimal n) + t) (2 * length (decimal n) + t) found.0.held few (omega arith) refl in
     let closed11 : closed 1 (f + 11) (in_frame f 0 (flag b) w found.0.after (Set (length (decimal n)) ∷ []) cells) ≡ laid (f + 6) found.0.after (low_cells f 0 (flag b) w cells) = laid_back (f + 11) 1 (Set (length (decimal n)) ∷ []) (laid (f + 6) found.0.after (low_cells f 0 (flag b) w cells)) under refl in
     let closed6 : closed 6 (f + 5) (laid (f + 6) found.0.after (low_cells f 0 (flag b) w cells)) ≡ laid (f + 2) (Set 0 ∷ Set (flag b) ∷ Set w ∷ []) cells =
     ap (λ z. closed 6 (f + 5) z) (laid_more (f + 2) (f + 6) (Set 0 ∷ Set (flag b) ∷ Set w ∷ Set ((f + 6) % 65536) ∷ []) found.0.after cells (omega arith))
     ∙ laid_close (f + 2) (f + 5) 6 (Set 0 ∷ Set (flag b) ∷ Set w ∷ []) (Set ((f + 6) % 65536) ∷ found.0.after) cells free2 (omega arith) (let five = found.0.five in omega (arith, five)) in
     let closed3 : closed 3 (f + 2) (laid (f + 2) (Set 0 ∷ Set (flag b) ∷ Set w ∷ []) cells) ≡ cells = laid_back (f + 2) 3 (Set 0 ∷ Set (flag b) ∷ Set w ∷ []) cells free2 refl in
-    let all_written : after_writes (blanks (w - (size_of_sign b + length (decimal n))) ++ (sign b ++ decimal n)) streams ≡ after_writes (decimal n) (after_writes (sign b) (after_writes (blanks (w - (size_of_sign b + length (decimal n)))) streams)) =
-    written_both (blanks (w - (size_of_sign b + length (decimal n)))) (sign b ++ decimal n) streams ∙ written_both (sign b) (decimal n) (after_writes (blanks (w - (size_of_sign b + length (decimal n)))) streams) in
+    let all_written : after_writes (blanks (field - (size_of_sign b + length (decimal n))) ++ (sign b ++ decimal n)) streams ≡ after_writes (decimal n) (after_writes (sign b) (after_writes (blanks (field - (size_of_sign b + length (decimal n)))) streams)) =
+    written_both (blanks (field - (size_of_sign b + length (decimal n)))) (sign b ++ decimal n) streams ∙ written_both (sign b) (decimal n) (after_writes (blanks (field - (size_of_sign b + length (decimal n)))) streams) in
     rw (
       eN,
       eT,
@@ -412,7 +433,7 @@ number_does P address further has e b n w cells streams f x t N T able word narr
       f1.set_top 12 1 (Set (length (decimal n) + size_of_sign b + 1)) refl (omega arith),
       f2.low_is 4 (omega arith) (omega arith),
       blanks_do,
-      closed12 (length (decimal n) + size_of_sign b + 1 + (w - (size_of_sign b + length (decimal n)))),
+      closed12 (length (decimal n) + size_of_sign b + 1 + (field - (size_of_sign b + length (decimal n)))),
       signed_does,
       opened12,
       f1.top_is 11 0 refl (omega arith),
@@ -427,40 +448,40 @@ number_does P address further has e b n w cells streams f x t N T able word narr
     ) refl
 
 -- WRITEU
-pub unsigned_does : (P : List Placed) (address further : ℕ → ℕ) → Has P address → (e : HasFurther P further) → (n w : ℕ) (cells : List Cell) (streams : Content) (f x t N T : ℕ)
-    → Able address further cells f 23 → n < 65536 → w < 32767 → N ≡ suc (suc (suc x)) → T ≡ suc (suc (turns_in_field 0 (length (decimal n)) w + t))
-    → calls P N (further 26) (n ∷ w ∷ []) f (state cells streams T) ≡ Done 0 (state cells (after_writes (in_field w (decimal n)) streams) t)
-unsigned_does P address further has e n w cells streams f x t N T able word narrow eN eT =
+pub unsigned_does : (P : List Placed) (address further : ℕ → ℕ) → Has P address → (e : HasFurther P further) → (n w field : ℕ) (cells : List Cell) (streams : Content) (f x t N T : ℕ)
+    → Able address further cells f 23 → n < 65536 → Bounds w field → N ≡ suc (suc (suc x)) → T ≡ suc (suc (turns_in_field 0 (length (decimal n)) field + t))
+    → calls P N (further 26) (n ∷ w ∷ []) f (state cells streams T) ≡ Done 0 (state cells (after_writes (in_field field (decimal n)) streams) t)
+unsigned_does P address further has e n w field cells streams f x t N T able word bounds eN eT =
     let room : f + 23 ≤ 65536 = able.ready.room in
     let fits : nat_le (f + 9) 65536 ≡ true = fits_true _ _ (omega (arith, room)) in
     let n_is : cell_at (laid (f + 2) (Set n ∷ Set w ∷ []) cells) ((f + 2) % 65536) ≡ Set n = reads f 2 (Set n ∷ Set w ∷ []) cells (omega arith) (omega arith) able.ready.whole (omega (arith, room)) in
     let w_is : cell_at (laid (f + 2) (Set n ∷ Set w ∷ []) cells) ((f + 3) % 65536) ≡ Set w = reads f 3 (Set n ∷ Set w ∷ []) cells (omega arith) (omega arith) able.ready.whole (omega (arith, room)) in
     let up = able_after address further f (f + 4) 23 19 (Set n ∷ Set w ∷ []) cells able (omega arith) (omega arith) in
     let none : 0 + length (decimal n) ≡ length (decimal n) = omega arith in
-    let puts = number_does P address further has e false n w (laid (f + 2) (Set n ∷ Set w ∷ []) cells) streams (f + 4) x t (suc (suc x)) (suc (turns_in_field 0 (length (decimal n)) w + t)) up word narrow refl (omega arith) in
+    let puts = number_does P address further has e false n w field (laid (f + 2) (Set n ∷ Set w ∷ []) cells) streams (f + 4) x t (suc (suc x)) (suc (turns_in_field 0 (length (decimal n)) field + t)) up word bounds refl (omega arith) in
     let given : closed 2 (f + 2) (laid (f + 2) (Set n ∷ Set w ∷ []) cells) ≡ cells = laid_back (f + 2) 2 (Set n ∷ Set w ∷ []) cells (λ q le. able.ready.free q (omega (arith, le))) refl in
     rw (eN, eT, e.writeu, fits, n_is, w_is, puts, none, given) refl
 
 -- WRITED of a number that isn't negative
-pub positive_does : (P : List Placed) (address further : ℕ → ℕ) → Has P address → (e : HasFurther P further) → (n w : ℕ) (cells : List Cell) (streams : Content) (f x t N T : ℕ)
-    → Able address further cells f 23 → n < 32768 → w < 32767 → N ≡ suc (suc (suc x)) → T ≡ suc (suc (turns_in_field 0 (length (decimal n)) w + t))
-    → calls P N (further 25) (n ∷ w ∷ []) f (state cells streams T) ≡ Done 0 (state cells (after_writes (in_field w (decimal n)) streams) t)
-positive_does P address further has e n w cells streams f x t N T able small narrow eN eT =
+pub positive_does : (P : List Placed) (address further : ℕ → ℕ) → Has P address → (e : HasFurther P further) → (n w field : ℕ) (cells : List Cell) (streams : Content) (f x t N T : ℕ)
+    → Able address further cells f 23 → n < 32768 → Bounds w field → N ≡ suc (suc (suc x)) → T ≡ suc (suc (turns_in_field 0 (length (decimal n)) field + t))
+    → calls P N (further 25) (n ∷ w ∷ []) f (state cells streams T) ≡ Done 0 (state cells (after_writes (in_field field (decimal n)) streams) t)
+positive_does P address further has e n w field cells streams f x t N T able small bounds eN eT =
     let room : f + 23 ≤ 65536 = able.ready.room in
     let fits : nat_le (f + 9) 65536 ≡ true = fits_true _ _ (omega (arith, room)) in
     let n_is : cell_at (laid (f + 2) (Set n ∷ Set w ∷ []) cells) ((f + 2) % 65536) ≡ Set n = reads f 2 (Set n ∷ Set w ∷ []) cells (omega arith) (omega arith) able.ready.whole (omega (arith, room)) in
     let w_is : cell_at (laid (f + 2) (Set n ∷ Set w ∷ []) cells) ((f + 3) % 65536) ≡ Set w = reads f 3 (Set n ∷ Set w ∷ []) cells (omega arith) (omega arith) able.ready.whole (omega (arith, room)) in
     let up = able_after address further f (f + 4) 23 19 (Set n ∷ Set w ∷ []) cells able (omega arith) (omega arith) in
     let none : 0 + length (decimal n) ≡ length (decimal n) = omega arith in
-    let puts = number_does P address further has e false n w (laid (f + 2) (Set n ∷ Set w ∷ []) cells) streams (f + 4) x t (suc (suc x)) (suc (turns_in_field 0 (length (decimal n)) w + t)) up (omega (arith, small)) narrow refl (omega arith) in
+    let puts = number_does P address further has e false n w field (laid (f + 2) (Set n ∷ Set w ∷ []) cells) streams (f + 4) x t (suc (suc x)) (suc (turns_in_field 0 (length (decimal n)) field + t)) up (omega (arith, small)) bounds refl (omega arith) in
     let given : closed 2 (f + 2) (laid (f + 2) (Set n ∷ Set w ∷ []) cells) ≡ cells = laid_back (f + 2) 2 (Set n ∷ Set w ∷ []) cells (λ q le. able.ready.free q (omega (arith, le))) refl in
     rw (eN, eT, e.writed, fits, n_is, not_less n small, n_is, w_is, puts, none, given) refl
 
 -- WRITED of a negative one
-pub negative_does : (P : List Placed) (address further : ℕ → ℕ) → Has P address → (e : HasFurther P further) → (k w : ℕ) (cells : List Cell) (streams : Content) (f x t N T : ℕ)
-    → Able address further cells f 23 → k < 32768 → w < 32767 → N ≡ suc (suc (suc x)) → T ≡ suc (suc (turns_in_field 1 (length (decimal (suc k))) w + t))
-    → calls P N (further 25) ((65535 - k) ∷ w ∷ []) f (state cells streams T) ≡ Done 0 (state cells (after_writes (in_field w (45 ∷ decimal (suc k))) streams) t)
-negative_does P address further has e k w cells streams f x t N T able small narrow eN eT =
+pub negative_does : (P : List Placed) (address further : ℕ → ℕ) → Has P address → (e : HasFurther P further) → (k w field : ℕ) (cells : List Cell) (streams : Content) (f x t N T : ℕ)
+    → Able address further cells f 23 → k < 32768 → Bounds w field → N ≡ suc (suc (suc x)) → T ≡ suc (suc (turns_in_field 1 (length (decimal (suc k))) field + t))
+    → calls P N (further 25) ((65535 - k) ∷ w ∷ []) f (state cells streams T) ≡ Done 0 (state cells (after_writes (in_field field (45 ∷ decimal (suc k))) streams) t)
+negative_does P address further has e k w field cells streams f x t N T able small bounds eN eT =
     let room : f + 23 ≤ 65536 = able.ready.room in
     let fits : nat_le (f + 9) 65536 ≡ true = fits_true _ _ (omega (arith, room)) in
     let n_is : cell_at (laid (f + 2) (Set (65535 - k) ∷ Set w ∷ []) cells) ((f + 2) % 65536) ≡ Set (65535 - k) = reads f 2 (Set (65535 - k) ∷ Set w ∷ []) cells (omega arith) (omega arith) able.ready.whole (omega (arith, room)) in
@@ -468,7 +489,7 @@ negative_does P address further has e k w cells streams f x t N T able small nar
     let up = able_after address further f (f + 4) 23 19 (Set (65535 - k) ∷ Set w ∷ []) cells able (omega arith) (omega arith) in
     let opposite : negated (65535 - k) ≡ suc k = omega (arith, small) in
     let one : 1 + length (decimal (suc k)) ≡ suc (length (decimal (suc k))) = omega arith in
-    let puts = number_does P address further has e true (suc k) w (laid (f + 2) (Set (65535 - k) ∷ Set w ∷ []) cells) streams (f + 4) x t (suc (suc x)) (suc (turns_in_field 1 (length (decimal (suc k))) w + t)) up (omega (arith, small)) narrow refl (omega arith) in
+    let puts = number_does P address further has e true (suc k) w field (laid (f + 2) (Set (65535 - k) ∷ Set w ∷ []) cells) streams (f + 4) x t (suc (suc x)) (suc (turns_in_field 1 (length (decimal (suc k))) field + t)) up (omega (arith, small)) bounds refl (omega arith) in
     let given : closed 2 (f + 2) (laid (f + 2) (Set (65535 - k) ∷ Set w ∷ []) cells) ≡ cells = laid_back (f + 2) 2 (Set (65535 - k) ∷ Set w ∷ []) cells (λ q le. able.ready.free q (omega (arith, le))) refl in
     rw (eN, eT, e.writed, fits, n_is, less k small, n_is, opposite, w_is, puts, one, given) refl
 

@@ -1,5 +1,5 @@
 -- What WRITEOCT and WRITEHEX do: their FOR, by induction over the remaining digits.
-use Rattle.std.proofs.Common.{◌≡◌, ⊎_elim, ℕ, zero, suc, ◌+◌, ◌*◌, ◌/◌, ◌%◌, ◌^◌, ◌<◌, ◌≤◌, List, [], ◌∷◌, length, map, true, false, refl, sym, ◌∙◌, subst, arith}
+use Rattle.std.proofs.Common.{◌≡◌, ⊎_elim, ℕ, zero, suc, ◌+◌, ◌-◌, ◌*◌, ◌/◌, ◌%◌, ◌^◌, ◌<◌, ◌≤◌, List, [], ◌∷◌, length, map, true, false, refl, sym, ◌∙◌, subst, arith}
 use Rattle.std.proofs.lemmas.Bool.{cases_lt}
 use Rattle.std.proofs.lemmas.Bool.Decides.{nat_tests}
 use Rattle.std.proofs.lemmas.Nat.{and_mask, pow_below, shr_below}
@@ -20,7 +20,7 @@ use Rattle.bc_core.specs.Command.{perform_block, step_of_for}
 use Rattle.bc_core.specs.Meaning.{calls, context}
 use Rattle.bc_library_laws.specs.Library.{at, commands, list, write_char}
 use Rattle.bc_library_laws.specs.Laws.{state, after_writes}
-use Rattle.bc_library_laws.proofs.Words.{is_positive, not_less}
+use Rattle.bc_library_laws.proofs.Words.{is_positive, not_less, less}
 use Rattle.bc_library_laws.proofs.extension_lemmas.Tests.{yes_lt, no_lt}
 use Rattle.bc_library_laws.proofs.Steps.{Has, wrch, fits_true}
 use Rattle.bc_library_laws.specs.extension.Laws.{Able, laid, last_digits, hex_character}
@@ -107,6 +107,31 @@ octal_does P address further h e w count cells streams f m n t N T able word few
     let given2 : closed 2 (f + 2) (laid (f + 2) (Set w ∷ Set count ∷ []) cells) ≡ cells = laid_back (f + 2) 2 (Set w ∷ Set count ∷ []) cells (λ q le. able.ready.free q (omega (arith, le))) refl in
     let turns : T ≡ suc (2 * count + t) = omega (arith, eT) in
     rw (eN, turns, e.writeoct, fits, opened, count_is, fresh, started, rounds_do, given1, given2) refl
+
+-- WRITEOCT of a negative count
+pub octal_none : (P : List Placed) (address further : ℕ → ℕ) → (e : HasFurther P further) → (w count : ℕ) (cells : List Cell) (streams : Content) (f m t N T : ℕ)
+    → Able address further cells f 13 → 32768 < count → count < 65536 → N ≡ suc m → T ≡ 1 + t
+    → calls P N (further 27) (w ∷ count ∷ []) f (state cells streams T) ≡ Done 0 (state cells streams t)
+octal_none P address further e w count cells streams f m t N T able large word eN eT =
+    let room : f + 13 ≤ 65536 = able.ready.room in
+    let fits : nat_le (f + 13) 65536 ≡ true = fits_true _ _ room in
+    let opened : slice_set (laid (f + 2) (Set w ∷ Set count ∷ []) cells) (f + 4) Unset ≡ laid (f + 2) (Set w ∷ Set count ∷ Unset ∷ []) cells =
+    opens (f + 2) (f + 4) (Set w ∷ Set count ∷ []) cells (omega arith) in
+    let fresh : cell_at (laid (f + 2) (Set w ∷ Set count ∷ Unset ∷ []) cells) ((f + 4) % 65536) ≡ Unset =
+    reads f 4 (Set w ∷ Set count ∷ Unset ∷ []) cells (omega arith) (omega arith) able.ready.whole (omega (arith, room)) in
+    let count_is : cell_at (laid (f + 2) (Set w ∷ Set count ∷ Unset ∷ []) cells) ((f + 3) % 65536) ≡ Set count =
+    reads f 3 (Set w ∷ Set count ∷ Unset ∷ []) cells (omega arith) (omega arith) able.ready.whole (omega (arith, room)) in
+    let less_than : (count + 65535) % 65536 ≡ 65535 - (65536 - count) = omega (arith, large, word) in
+    let started : slice_set (laid (f + 2) (Set w ∷ Set count ∷ Unset ∷ []) cells) ((f + 4) % 65536) (Set ((count + 65535) % 65536)) ≡ laid (f + 2) (Set w ∷ Set count ∷ Set (65535 - (65536 - count)) ∷ []) cells =
+    rw less_than (writes f 4 (Set w ∷ Set count ∷ Unset ∷ []) cells (Set (65535 - (65536 - count))) (omega arith) (omega arith) (omega (arith, room))) in
+    let i_is : cell_at (laid (f + 2) (Set w ∷ Set count ∷ Set (65535 - (65536 - count)) ∷ []) cells) ((f + 4) % 65536) ≡ Set (65535 - (65536 - count)) =
+    reads f 4 (Set w ∷ Set count ∷ Set (65535 - (65536 - count)) ∷ []) cells (omega arith) (omega arith) able.ready.whole (omega (arith, room)) in
+    let ends : int_lt (signed (65535 - (65536 - count))) (signed 0) ≡ true = less (65536 - count) (omega (arith, large)) in
+    let given1 : closed 1 (f + 4) (laid (f + 2) (Set w ∷ Set count ∷ Set (65535 - (65536 - count)) ∷ []) cells) ≡ laid (f + 2) (Set w ∷ Set count ∷ []) cells =
+    laid_close (f + 2) (f + 4) 1 (Set w ∷ Set count ∷ []) (Set (65535 - (65536 - count)) ∷ []) cells (λ q le. able.ready.free q (omega (arith, le))) (omega arith) refl in
+    let given2 : closed 2 (f + 2) (laid (f + 2) (Set w ∷ Set count ∷ []) cells) ≡ cells = laid_back (f + 2) 2 (Set w ∷ Set count ∷ []) cells (λ q le. able.ready.free q (omega (arith, le))) refl in
+    let turns : T ≡ suc t = omega (arith, eT) in
+    rw (eN, turns, e.writeoct, fits, opened, count_is, fresh, started, i_is, ends, given1, given2) refl
 
 -- the character that WRITEHEX computes for its variable
 hex_value : (C : Context) (f d : ℕ) (cells : List Cell) (streams : Content) (t : ℕ) → d < 16 → cell_at cells ((f + 6) % 65536) ≡ Set d
@@ -206,3 +231,28 @@ hex_does P address further h e w count cells streams f m n t N T able word few e
     let given2 : closed 2 (f + 2) (laid (f + 2) (Set w ∷ Set count ∷ []) cells) ≡ cells = laid_back (f + 2) 2 (Set w ∷ Set count ∷ []) cells (λ q le. able.ready.free q (omega (arith, le))) refl in
     let turns : T ≡ suc (2 * count + t) = omega (arith, eT) in
     rw (eN, turns, e.writehex, fits, opened, count_is, fresh, started, rounds_do, given1, given2) refl
+
+-- WRITEHEX of a negative count
+pub hex_none : (P : List Placed) (address further : ℕ → ℕ) → (e : HasFurther P further) → (w count : ℕ) (cells : List Cell) (streams : Content) (f m t N T : ℕ)
+    → Able address further cells f 12 → 32768 < count → count < 65536 → N ≡ suc m → T ≡ 1 + t
+    → calls P N (further 29) (w ∷ count ∷ []) f (state cells streams T) ≡ Done 0 (state cells streams t)
+hex_none P address further e w count cells streams f m t N T able large word eN eT =
+    let room : f + 12 ≤ 65536 = able.ready.room in
+    let fits : nat_le (f + 12) 65536 ≡ true = fits_true _ _ room in
+    let opened : slice_set (laid (f + 2) (Set w ∷ Set count ∷ []) cells) (f + 4) Unset ≡ laid (f + 2) (Set w ∷ Set count ∷ Unset ∷ []) cells =
+    opens (f + 2) (f + 4) (Set w ∷ Set count ∷ []) cells (omega arith) in
+    let fresh : cell_at (laid (f + 2) (Set w ∷ Set count ∷ Unset ∷ []) cells) ((f + 4) % 65536) ≡ Unset =
+    reads f 4 (Set w ∷ Set count ∷ Unset ∷ []) cells (omega arith) (omega arith) able.ready.whole (omega (arith, room)) in
+    let count_is : cell_at (laid (f + 2) (Set w ∷ Set count ∷ Unset ∷ []) cells) ((f + 3) % 65536) ≡ Set count =
+    reads f 3 (Set w ∷ Set count ∷ Unset ∷ []) cells (omega arith) (omega arith) able.ready.whole (omega (arith, room)) in
+    let less_than : (count + 65535) % 65536 ≡ 65535 - (65536 - count) = omega (arith, large, word) in
+    let started : slice_set (laid (f + 2) (Set w ∷ Set count ∷ Unset ∷ []) cells) ((f + 4) % 65536) (Set ((count + 65535) % 65536)) ≡ laid (f + 2) (Set w ∷ Set count ∷ Set (65535 - (65536 - count)) ∷ []) cells =
+    rw less_than (writes f 4 (Set w ∷ Set count ∷ Unset ∷ []) cells (Set (65535 - (65536 - count))) (omega arith) (omega arith) (omega (arith, room))) in
+    let i_is : cell_at (laid (f + 2) (Set w ∷ Set count ∷ Set (65535 - (65536 - count)) ∷ []) cells) ((f + 4) % 65536) ≡ Set (65535 - (65536 - count)) =
+    reads f 4 (Set w ∷ Set count ∷ Set (65535 - (65536 - count)) ∷ []) cells (omega arith) (omega arith) able.ready.whole (omega (arith, room)) in
+    let ends : int_lt (signed (65535 - (65536 - count))) (signed 0) ≡ true = less (65536 - count) (omega (arith, large)) in
+    let given1 : closed 1 (f + 4) (laid (f + 2) (Set w ∷ Set count ∷ Set (65535 - (65536 - count)) ∷ []) cells) ≡ laid (f + 2) (Set w ∷ Set count ∷ []) cells =
+    laid_close (f + 2) (f + 4) 1 (Set w ∷ Set count ∷ []) (Set (65535 - (65536 - count)) ∷ []) cells (λ q le. able.ready.free q (omega (arith, le))) (omega arith) refl in
+    let given2 : closed 2 (f + 2) (laid (f + 2) (Set w ∷ Set count ∷ []) cells) ≡ cells = laid_back (f + 2) 2 (Set w ∷ Set count ∷ []) cells (λ q le. able.ready.free q (omega (arith, le))) refl in
+    let turns : T ≡ suc t = omega (arith, eT) in
+    rw (eN, turns, e.writehex, fits, opened, count_is, fresh, started, i_is, ends, given1, given2) refl

@@ -72,17 +72,22 @@ last_digits bits (suc i) n = n / 2 ^ (bits * i) % 2 ^ bits ∷ last_digits bits 
 abbrev pub hex_character : ℕ → ℕ
 hex_character d = cond (nat_lt d 10) (48 + d) (55 + d)
 
--- WRITEOCT writes the last digits of a word in octal, as many as it is asked for, at most 21,846
+-- a word as a number that isn't negative: 0 in place of a negative one
+abbrev pub not_negative : ℕ → ℕ
+not_negative word = cond (nat_lt word 32768) word 0
+
+-- WRITEOCT writes the last digits of a word in octal, as many as it is asked for, at most 21,846; none for a negative count but -32,768
 abbrev pub WriteoctWritesItsDigits : Type 0
 WriteoctWritesItsDigits =
-    (w count : ℕ) → w < 65536 → count ≤ 21846
-    → Call 27 (w ∷ count ∷ []) 13 (1 + 2 * count) anything 0 unchanged (map (λ d. 48 + d) (last_digits 3 count w))
+    (w count : ℕ) → w < 65536 → count < 65536 → count ≢ 32768 → not_negative count ≤ 21846
+    → Call 27 (w ∷ count ∷ []) 13 (1 + 2 * not_negative count) anything 0 unchanged (map (λ d. 48 + d) (last_digits 3 (not_negative count) w))
 
--- WRITEHEX writes the last digits of a word in hexadecimal, as many as it is asked for, at most 16,384
+-- WRITEHEX writes the last digits of a word in hexadecimal, as many as it is asked for, at most 16,384; none for a negative count but
+-- -32,768
 abbrev pub WritehexWritesItsDigits : Type 0
 WritehexWritesItsDigits =
-    (w count : ℕ) → w < 65536 → count ≤ 16384
-    → Call 29 (w ∷ count ∷ []) 12 (1 + 2 * count) anything 0 unchanged (map hex_character (last_digits 4 count w))
+    (w count : ℕ) → w < 65536 → count < 65536 → count ≢ 32768 → not_negative count ≤ 16384
+    → Call 29 (w ∷ count ∷ []) 12 (1 + 2 * not_negative count) anything 0 unchanged (map hex_character (last_digits 4 (not_negative count) w))
 
 -- a character, as a capital letter if it is a small one
 abbrev pub capital : ℕ → ℕ
@@ -138,14 +143,16 @@ abbrev pub turns_of_signed : (width : ℕ) → ℤ → ℕ
 turns_of_signed width (pos n) = turns_in_field 0 (length (decimal n)) width
 turns_of_signed width (negsuc n) = turns_in_field 1 (length (decimal (suc n))) width
 
--- WRITEU writes a word in decimal at the right of a field, which has at most 32,766 characters
+-- WRITEU writes a word in decimal at the right of a field of any width but 32,767; a negative width counts as 0
 abbrev pub WriteuWritesItsNumber : Type 0
 WriteuWritesItsNumber =
-    (w width : ℕ) → w < 65536 → width < 32767
-    → Call 26 (w ∷ width ∷ []) 23 (2 + turns_in_field 0 (length (decimal w)) width) anything 0 unchanged (in_field width (decimal w))
+    (w width : ℕ) → w < 65536 → width < 65536 → width ≢ 32767
+    → Call 26 (w ∷ width ∷ []) 23 (2 + turns_in_field 0 (length (decimal w)) (not_negative width)) anything 0 unchanged
+    (in_field (not_negative width) (decimal w))
 
 -- WRITED writes a word as a signed number in decimal at the right of such a field
 abbrev pub WritedWritesItsNumber : Type 0
 WritedWritesItsNumber =
-    (w width : ℕ) → w < 65536 → width < 32767
-    → Call 25 (w ∷ width ∷ []) 23 (2 + turns_of_signed width (signed w)) anything 0 unchanged (in_field width (signed_decimal (signed w)))
+    (w width : ℕ) → w < 65536 → width < 65536 → width ≢ 32767
+    → Call 25 (w ∷ width ∷ []) 23 (2 + turns_of_signed (not_negative width) (signed w)) anything 0 unchanged
+    (in_field (not_negative width) (signed_decimal (signed w)))

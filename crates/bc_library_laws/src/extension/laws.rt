@@ -20,7 +20,8 @@ pub fn compstring_compares_strings()
     ensures { CompstringComparesStrings }
 {}
 
-/// `WRITED(w, width)` writes w as a signed number in decimal, at the right of a field of at most 32,766 characters.
+/// `WRITED(w, width)` writes w as a signed number in decimal, at the right of a field of any width but 32,767. A negative width counts
+/// as 0.
 pub fn writed_writes_its_number()
     ensures { WritedWritesItsNumber }
 {}
@@ -30,12 +31,12 @@ pub fn writeu_writes_its_number()
     ensures { WriteuWritesItsNumber }
 {}
 
-/// `WRITEOCT(w, count)` writes the last `count` octal digits of w, at most 21,846.
+/// `WRITEOCT(w, count)` writes the last `count` octal digits of w, at most 21,846; none for a negative count but -32,768.
 pub fn writeoct_writes_its_digits()
     ensures { WriteoctWritesItsDigits }
 {}
 
-/// `WRITEHEX(w, count)` writes the last `count` hexadecimal digits of w, at most 16,384.
+/// `WRITEHEX(w, count)` writes the last `count` hexadecimal digits of w, at most 16,384; none for a negative count but -32,768.
 pub fn writehex_writes_its_digits()
     ensures { WritehexWritesItsDigits }
 {}
