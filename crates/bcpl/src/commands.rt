@@ -15,7 +15,7 @@ use crate::listing::list;
 use crate::output::{print_lines, print_messages};
 use crate::running::{Ran, run, run_input};
 use crate::showing::show;
-use crate::standard::{Console, RunConsole, RunStreams, Standard, Terminals, explains_at};
+use crate::standard::{Console, RunStreams, Standard, Terminals, explains_at};
 use crate::watched_run::print_high;
 use bcpl_cli::{
     ArgumentError, AssembleOrder, BuildOrder, CheckOrder, Clean, ConvertOrder, DebugOrder,
@@ -146,11 +146,7 @@ fn go_command<F: Files, R: Read + Drop, O: Write + Drop, E: Write + Drop>(
         is_terminal,
         explains,
     };
-    let console = RunConsole {
-        streams,
-        err: &mut err,
-    };
-    let done = go(rt, alloc, order, console);
+    let done = go(rt, alloc, order, streams, &mut err);
     out.end_line(done.is_err(), &mut err);
     let done = with_hints(rt, alloc, done, files);
     let explains = explains_answer(&done, order.program.places, err.is_terminal());
@@ -177,11 +173,7 @@ fn interpret_command<F: Files, R: Read + Drop, O: Write + Drop, E: Write + Drop>
         is_terminal,
         explains,
     };
-    let console = RunConsole {
-        streams,
-        err: &mut err,
-    };
-    let done = interpret_files(rt, alloc, order, console);
+    let done = interpret_files(rt, alloc, order, streams, &mut err);
     out.end_line(done.is_err(), &mut err);
     let done = with_hints(rt, alloc, done, files);
     let explains = explains_answer(&done, order.program.places, err.is_terminal());

@@ -6,10 +6,10 @@ use crate::interpreting::{print_warnings, program_streams};
 use crate::output::unfinished;
 use crate::running::closed;
 use crate::source_files::Gathered;
-use crate::standard::{RunConsole, RunStreams};
+use crate::standard::RunStreams;
 use bc_build::build;
 use bc_machine_defs::{End, Image};
-use bcpl_cli::{Failure, GoOrder, load_sources};
+use bcpl_cli::{Clean, Failure, GoOrder, load_sources};
 use bcpl_trace::run_image;
 use std::alloc::Global;
 use std::io::{Read, Write};
@@ -33,14 +33,14 @@ fn run_built<F: Files, R: Read + Drop, O: Write + Drop>(
 }
 
 /// Runs `go`: builds a program, prints its warnings, and runs it. Refusals are explained and warnings printed if
-/// `console.streams.explains`; a run that doesn't finish gets the command that shows where.
+/// `streams.explains`; a run that doesn't finish gets the command that shows where.
 pub fn go<F: Files, R: Read + Drop, O: Write + Drop, E: Write + Drop>(
     rt: &F,
     alloc: Global,
     order: &GoOrder<'_>,
-    console: RunConsole<'_, R, O, E>,
+    streams: RunStreams<R, O>,
+    err: &mut Clean<E>,
 ) -> Result<(), Failure> {
-    let RunConsole { streams, err } = console;
     let given = &order.program.sources;
     let files = load_sources(rt, alloc, given)?;
     order.program.protect_files(rt, alloc, files.as_slice())?;

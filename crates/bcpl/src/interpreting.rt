@@ -23,17 +23,19 @@ use std::alloc::Global;
 use std::io::{Read, Write};
 use std::rt::Files;
 
-/// Runs `interpret`. Refusals are explained and warnings printed if `console.streams.explains`; an abnormal end of the
-/// run is always explained.
+/// Runs `interpret`. Refusals are explained and warnings printed if `streams.explains`; an abnormal end of the run is
+/// always explained.
 pub fn interpret_files<F: Files, R: Read + Drop, O: Write + Drop, E: Write + Drop>(
     rt: &F,
     alloc: Global,
     order: &InterpretOrder<'_>,
-    console: RunConsole<'_, R, O, E>,
+    streams: RunStreams<R, O>,
+    err: &mut Clean<E>,
 ) -> Result<(), Failure> {
     let files = load_sources(rt, alloc, &order.program.sources)?;
     order.program.protect_files(rt, alloc, files.as_slice())?;
     let gathered = Gathered::new(alloc, &order.program.sources, files.as_slice())?;
+    let console = RunConsole { streams, err };
     if order.is_strict {
         return interpret_strictly(rt, alloc, order, &gathered, console);
     }
