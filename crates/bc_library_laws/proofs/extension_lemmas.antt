@@ -9,4 +9,7 @@ pub mod Packing
 pub mod Numbers
 pub mod Joined
 pub mod Lexed
+pub mod Characters
+pub mod Reading
+pub mod Splitting
 pub mod Built

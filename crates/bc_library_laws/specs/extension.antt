@@ -2,5 +2,6 @@
 pub mod Routines
 pub mod Extension
 pub mod Laws
+pub mod Reading
 pub mod Texts
 pub mod TextLaws

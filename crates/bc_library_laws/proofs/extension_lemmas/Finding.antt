@@ -9,7 +9,7 @@ use Rattle.bc_core.specs.Command.{perform_block}
 use Rattle.bc_core.specs.Meaning.{Call, Entered, OfSection, callee_among, entered_at, entered_of, context, body_value, valof_value, valofs_from}
 use Rattle.bc_library_laws.specs.Library.{library}
 use Rattle.bc_library_laws.proofs.Finding.{itself, unlike}
-use Rattle.bc_library_laws.specs.extension.Routines.{unpackstring, writeoct, writehex, capitalch, compstring, compstring_body, packstring, packstring_body, putnumber, writed, writeu}
+use Rattle.bc_library_laws.specs.extension.Routines.{unpackstring, writeoct, writehex, capitalch, compstring, compstring_body, packstring, packstring_body, putnumber, writed, writeu, kept, kept_body, rdch, rdch_body, readn, readn_body}
 use Rattle.bc_library_laws.specs.extension.Extension.{extension}
 
 -- the place at an index, the first of which is 0
@@ -116,6 +116,12 @@ pub record HasFurther (program : List Placed) (further : ℕ → ℕ) : Type 0 w
   pub packstring : entered_at program (further 35) ≡ entering_valof further inside_packstring 2 13 packstring_body
   pub inside_compstring : Call → ℕ → ℕ → ℕ → Run ℕ
   pub compstring : entered_at program (further 34) ≡ entering_valof further inside_compstring 2 16 compstring_body
+  pub inside_kept : Call → ℕ → ℕ → ℕ → Run ℕ
+  pub kept : entered_at program (further 6) ≡ entering_valof further inside_kept 1 7 kept_body
+  pub inside_rdch : Call → ℕ → ℕ → ℕ → Run ℕ
+  pub rdch : entered_at program (further 8) ≡ entering_valof further inside_rdch 0 6 rdch_body
+  pub inside_readn : Call → ℕ → ℕ → ℕ → Run ℕ
+  pub readn : entered_at program (further 23) ≡ entering_valof further inside_readn 0 10 readn_body
 
 pub has_further : (cores : List Core) (address further : ℕ → ℕ) (places : List (ℕ → ℕ)) (base : ℕ)
     → IsMap (library ∷ extension ∷ cores) (record { places = address ∷ further ∷ places; stack_base = base })
@@ -134,4 +140,10 @@ has_further cores address further places base m = record {
   packstring = found extension cores address further places base 34 35 packstring m (omega arith) refl;
   inside_compstring = λ call. valofs_from further call 8 (valofs_after 8 extension.valofs);
   compstring = found extension cores address further places base 33 34 compstring m (omega arith) refl;
+  inside_kept = λ call. valofs_from further call 1 (valofs_after 1 extension.valofs);
+  kept = found extension cores address further places base 5 6 kept m (omega arith) refl;
+  inside_rdch = λ call. valofs_from further call 2 (valofs_after 2 extension.valofs);
+  rdch = found extension cores address further places base 7 8 rdch m (omega arith) refl;
+  inside_readn = λ call. valofs_from further call 7 (valofs_after 7 extension.valofs);
+  readn = found extension cores address further places base 22 23 readn m (omega arith) refl;
 }
