@@ -112,14 +112,15 @@
   /** A recorded run, with the state at one of its stops; `seek` changes which. */
   class Recording {
     constructor(data) {
-      if (data.version !== 1) throw new RangeError(`its version is ${data.version}, and this page reads version 1`);
+      if (data.version !== 2) throw new RangeError(`its version is ${data.version}, and this page reads version 2`);
       this.data = data;
       this.files = data.files.map((file) => new SourceFile(file));
       this.routines = data.routines;
       this.dropped = data.dropped;
       this.cells = new Int32Array(CELLS);
       for (const [address, ...states] of data.before.cells) this.cells.set(states, address);
-      /** All frames that were ever open: `{ routine, base, place, parent, depth }`; `place` is that of the command that made the call. */
+      /** All frames that were ever open: `{ routine, base, place, parent, depth, last }`; `place` is that of the command that made the call, and
+       * `last` the last place in it so far. */
       this.frames = [];
       this.read(new Numbers(Uint8Array.from(atob(data.stops), (letter) => letter.charCodeAt(0))));
       this.addLines();
@@ -128,7 +129,8 @@
     }
 
     enter(routine, base, place, parent) {
-      this.frames.push({ routine, base, place, parent, depth: parent < 0 ? 0 : this.frames[parent].depth + 1 });
+      if (parent >= 0) this.frames[parent].last = place;
+      this.frames.push({ routine, base, place, parent, depth: parent < 0 ? 0 : this.frames[parent].depth + 1, last: place });
       return this.frames.length - 1;
     }
 
@@ -141,13 +143,18 @@
       let taken = this.data.before.taken;
       let open = -1;
       for (const [routine, base, place] of this.data.before.frames) open = this.enter(routine, base, place, open);
+      let place = 0;
       for (let stop = 0; !numbers.isAtEnd; stop += 1) {
         const head = numbers.next();
+        place += withSign(Math.floor(head / 16));
         if (head & 1) open = this.readFrames(numbers, open);
-        if (head & 2) this.readChanges(numbers, changes, stop);
-        if (head & 4) for (let more = numbers.next(); more > 0; more -= 1) output.push(numbers.byte());
-        if (head & 8) taken += numbers.next();
-        made.place.push(Math.floor(head / 16));
+        if (head & 6) this.readChanges(numbers, changes, stop, (head & 6) / 2, open);
+        if (head & 8) {
+          for (let more = numbers.next(); more > 0; more -= 1) output.push(numbers.byte());
+          taken += numbers.next();
+        }
+        if (open >= 0) this.frames[open].last = place;
+        made.place.push(place);
         made.frame.push(open);
         made.from.push(changes.stop.length);
         made.written.push(output.length);
@@ -167,19 +174,21 @@
       const moves = numbers.next();
       for (let left = Math.floor(moves / 4); left > 0 && open >= 0; left -= 1) open = this.frames[open].parent;
       for (let entered = moves % 4 === 3 ? 3 + numbers.next() : moves % 4; entered > 0; entered -= 1) {
-        const [routine, base, place] = [numbers.next(), numbers.next(), numbers.next()];
-        open = this.enter(routine, base, place, open);
+        const caller = open < 0 ? { base: 0, last: 0 } : this.frames[open];
+        const head = numbers.next();
+        const base = caller.base + withSign(numbers.next());
+        open = this.enter(Math.floor(head / 2), base, head & 1 ? numbers.next() : caller.last, open);
       }
       return open;
     }
 
-    readChanges(numbers, changes, stop) {
-      let last = 0;
-      for (let more = numbers.next(); more > 0; more -= 1) {
+    readChanges(numbers, changes, stop, count, open) {
+      let last = open < 0 ? 0 : this.frames[open].base;
+      for (let more = count === 3 ? 3 + numbers.next() : count; more > 0; more -= 1) {
         const head = numbers.next();
-        const first = last + withSign(Math.floor(head / 2));
+        const first = last + withSign(Math.floor(head / 4));
         last = first + (head & 1 ? numbers.next() + 1 : 0);
-        const state = numbers.next();
+        const state = head & 2 ? 0 : numbers.next();
         if (first < 0 || last >= CELLS) throw new RangeError("a change is of a cell that doesn't exist");
         for (let address = first; address <= last; address += 1) this.change(changes, stop, address, state);
       }

@@ -206,5 +206,10 @@
 ;;;###autoload
 (add-to-list 'auto-mode-alist '("\\.bcpl\\'" . bcpl-mode))
 
+;; Eglot starts the language server by M-x eglot.
+(defvar eglot-server-programs)
+(with-eval-after-load 'eglot
+  (add-to-list 'eglot-server-programs (list 'bcpl-mode bcpl-program "lsp")))
+
 (provide 'bcpl-mode)
 ;;; bcpl-mode.el ends here

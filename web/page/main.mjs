@@ -7,6 +7,7 @@ import { Debug } from "./debug.mjs";
 import { counted, delayed, element, made, save, tabKeys, textOf } from "./dom.mjs";
 import { Editor } from "./editor.mjs";
 import { Find } from "./find.mjs";
+import { Format } from "./format.mjs";
 import { Inside } from "./inside.mjs";
 import { Kept } from "./kept.mjs";
 import { namesGot } from "./language.mjs";
@@ -42,6 +43,7 @@ class App {
     this.convert = new Convert(this);
     this.learn = new Learn(this, () => loadData("pages.json"));
     this.find = new Find(this.editor);
+    this.format = new Format(this);
     this.kept = new Kept(this);
     this.keepLater = delayed(() => this.kept.keep(this.state()), 500);
   }
@@ -73,6 +75,7 @@ class App {
     this.output.showButtons();
     this.tell("Ready.");
     await this.problems.check();
+    await this.format.show();
     const version = await this.compiler.ask(["--version"], []);
     element("version").textContent = textOf(version.out).trim().replace("\n", ", ");
   }
@@ -271,6 +274,7 @@ class App {
     element("go-examples").addEventListener("click", () => this.showPanel("start"));
     element("go-tutorial").addEventListener("click", () => this.goTo("docs/tutorial.md"));
     element("go-proved").addEventListener("click", () => this.goTo("docs/PROVED.md"));
+    element("tame").addEventListener("click", () => this.goTo("docs/tame.md"));
     element("go-language").addEventListener("click", () => this.goTo("docs/language.md"));
     element("show-keys").addEventListener("click", () => element("keys").showModal());
     element("share").addEventListener("click", () => this.share());

@@ -5,6 +5,9 @@ import { readDiagnostics, spanInLine } from "./diagnostics.mjs";
 /** So many milliseconds after the last change the sources are checked. */
 const PAUSE = 150;
 
+/** A check that took longer is not followed by the one for wild cells. */
+const SLOW = 1000;
+
 const BUILT = /^ok (\d+) (\d+) (\d+)$/m;
 
 /** What is said of a diagnostic, in words. */
@@ -72,6 +75,14 @@ export class Problems {
     const [segments, entries, base] = numbers ?? [];
     const built = numbers ? { text: answer.files.get("out.int"), segments, entries, base, words, content, certificate: null } : null;
     this.take(readDiagnostics(textOf(answer.errors)), built, null);
+    if (built && this.milliseconds < SLOW) await this.showTame(changes);
+  }
+
+  /** Shows whether it is known that no run of the program can meet a wild cell. */
+  async showTame(changes) {
+    const { words, content } = this.built;
+    const { status } = await this.app.compiler.ask(["tame", ...words], content);
+    if (changes === this.changes) element("tame").hidden = status !== 0;
   }
 
   /** The certificate of what was built, or null. It is written when it is first needed: checks while one types are quicker without it. */
@@ -102,6 +113,7 @@ export class Problems {
 
   show(sentence) {
     element("checked").textContent = sentence;
+    element("tame").hidden = true;
     element("problem-list").replaceChildren(...this.diagnostics.map((diagnostic) => made("li", {}, this.button(diagnostic))));
     this.showMarks();
     this.app.tabs.showSeverities(this.diagnostics);

@@ -87,6 +87,11 @@ export class Project {
     return this.needsExtension() ? [...gets, "--library", "ext"] : gets;
   }
 
+  /** The arguments that say what GET finds, for a command that links nothing. */
+  formatWords() {
+    return this.withRole("header").flatMap((file) => [`--get=${file.stream}=${file.name}`]);
+  }
+
   /** The arguments that bind inputs to files. `outputs` are the names of further outputs. */
   streamWords(outputs) {
     const inputs = this.withRole("data").flatMap((file) => [`--in=${file.stream}=${file.name}`]);

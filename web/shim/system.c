@@ -74,6 +74,10 @@ long lseek(int file, long offset, int origin) { return answer(host_lseek(file, o
 int isatty(int file) { return host_isatty(file); }
 int rename(const char *from, const char *to) { return (int)answer(host_rename(from, to)); }
 int unlink(const char *path) { return (int)answer(host_unlink(path)); }
+/* No host has folders to be read or made, so `convert --project` is refused. */
+int rattle_open_dir_at(int folder, const char *path) { return (int)answer(-1); }
+long getdents64(int folder, void *to, size_t room) { return answer(-1); }
+int mkdir(const char *path, unsigned mode) { return (int)answer(-1); }
 /* No host makes hard links; the program does without. */
 int link(const char *from, const char *to) { return (int)answer(-1); }
 int chmod(const char *path, unsigned mode) { return (int)answer(host_chmod(path, mode)); }

@@ -22,9 +22,11 @@ use crate::ranges::{entries_are_small, segments_are_items, words_are_words};
 use bc_cert_write::Workings;
 use bc_gen::{Generated, generate};
 use bc_lex::{Source, lex};
+use bc_lex_tokens::Token;
 use bc_link::link;
 use bc_machine_defs::Image;
 use bc_parse::parse;
+use bc_parse_tree::Section;
 use bc_rules_defs::Entry;
 use bc_run::after_primitives;
 use bc_scope::resolve;
@@ -44,8 +46,38 @@ pub struct Built {
     pub image: Image,
 }
 
-/// Compiles one main: lexes, parses and resolves it, and generates its items and entries.
-fn compiled(alloc: Global, sources: &[Source<'_>], main: usize) -> Result<Generated, BuildError>
+/// What a main was lexed and parsed to.
+#[derive(Drop)]
+pub struct Parsed<'s> {
+    /// The tokens of the main, with those of the files that its GETs insert.
+    pub tokens: Vec<Token<'s>>,
+    /// The section that these tokens spell.
+    pub section: Section<'s>,
+}
+
+/// Appends what a main was parsed to if `keeps`, and frees it otherwise, so that the generator can use its memory.
+fn keep_or_free<'s>(
+    keeps: bool,
+    parsed: &mut Vec<Parsed<'s>>,
+    tokens: Vec<Token<'s>>,
+    section: Section<'s>,
+) -> Result<(), BuildError>
+    ensures refused { IfErr result (λ e. e ≡ BuildError.Memory) }
+{
+    if keeps {
+        parsed.push(Parsed { tokens, section })?;
+    }
+    Ok(())
+}
+
+/// Compiles one main: lexes, parses and resolves it, and generates its items and entries. If `keeps`, appends what it was parsed to.
+fn compiled<'s>(
+    alloc: Global,
+    sources: &[Source<'s>],
+    main: usize,
+    keeps: bool,
+    parsed: &mut Vec<Parsed<'s>>,
+) -> Result<Generated, BuildError>
     requires { main < length sources.now }
     ensures compiled { IfOk result (λ g. IsCompiled (files_of sources.now) main g.items g.entries.items) }
     ensures worked { IfOk result (λ g. AllZip WorkedOut (map entry_view g.entries.items) g.workings.items) }
@@ -63,9 +95,7 @@ fn compiled(alloc: Global, sources: &[Source<'_>], main: usize) -> Result<Genera
         Ok(core) => core,
         Err(fault) => return Err(scope_refusal(alloc, main, fault)),
     };
-    // Free these now, so that the generator can use their memory.
-    drop(section);
-    drop(tokens);
+    keep_or_free(keeps, parsed, tokens, section)?;
     match generate(alloc, &core) {
         Ok(generated) => Ok(generated),
         Err(fault) => Err(BuildError::Gen(main, fault)),
@@ -114,6 +144,46 @@ fn linked(
     })
 }
 
+/// Builds a program, as `build` does. If `keeps`, appends to `parsed` what each main was parsed to.
+fn build_mains<'s>(
+    alloc: Global,
+    sources: &[Source<'s>],
+    mains: &[usize],
+    keeps: bool,
+    parsed: &mut Vec<Parsed<'s>>,
+) -> Result<Built, BuildError>
+    requires { All (λ main. main < length sources.now) mains.now }
+    ensures built { IfOk result (IsBuilt (files_of sources.now) mains.now) }
+    ensures runs { IfOk result (λ built. (sections : List Declarations) → AreAccepted (files_of sources.now) mains.now sections
+        → RunsAsMeant sections built.image) }
+    ensures least { IfOk result (λ built. AreLeast built.segments.items (map entry_view built.entries.items)) }
+    ensures certified { IfOk result (λ built. IsCertified (map entry_view built.entries.items)) }
+    ensures worked { IfOk result (λ built. AllZip WorkedOut (map entry_view built.entries.items) built.workings.items) }
+    ensures size { IfOk result (λ built. (sections : List Declarations) → AreAccepted (files_of sources.now) mains.now sections
+        → HasSize sections built.image) }
+    ensures text { IfOk result (λ built. ReadsAs built.segments.items built.image) }
+    ensures refused { IfErr result (IsRefused (files_of sources.now) mains.now) }
+{
+    bc_gen_laws::labels::laws::labels_stand_once();
+    bc_scope_laws::laws::sections_fit();
+    bc_right::sections::laws::sections_run();
+    bc_right::programs::laws::linked_map_is_map();
+    let mut segments = Vec::new(alloc);
+    let mut entries = Vec::new(alloc);
+    let mut workings = Vec::new(alloc);
+    for (number, main) in mains.iter().enumerate() {
+        let Generated {
+            items,
+            entries: coded,
+            workings: mut worked,
+        } = compiled(alloc, sources, *main, keeps, parsed)?;
+        segments.push(items)?;
+        add_entries(&mut entries, number as u64, coded)?;
+        workings.append(&mut worked)?;
+    }
+    linked(alloc, segments, entries, workings)
+}
+
 /// Builds a program. `mains` are indexes into `sources`; the other sources are read only if a GET names them. Each main is lexed, parsed,
 /// resolved and translated in turn, and then the segments are linked after the primitives. The list of mains may be empty.
 ///
@@ -148,22 +218,28 @@ pub fn build(alloc: Global, sources: &[Source<'_>], mains: &[usize]) -> Result<B
     // ran out.
     ensures refused { IfErr result (IsRefused (files_of sources.now) mains.now) }
 {
-    bc_gen_laws::labels::laws::labels_stand_once();
-    bc_scope_laws::laws::sections_fit();
-    bc_right::sections::laws::sections_run();
-    bc_right::programs::laws::linked_map_is_map();
-    let mut segments = Vec::new(alloc);
-    let mut entries = Vec::new(alloc);
-    let mut workings = Vec::new(alloc);
-    for (number, main) in mains.iter().enumerate() {
-        let Generated {
-            items,
-            entries: coded,
-            workings: mut worked,
-        } = compiled(alloc, sources, *main)?;
-        segments.push(items)?;
-        add_entries(&mut entries, number as u64, coded)?;
-        workings.append(&mut worked)?;
-    }
-    linked(alloc, segments, entries, workings)
+    build_mains(alloc, sources, mains, false, &mut Vec::new(alloc))
+}
+
+/// Builds a program as `build` does, with the same contract, and appends to `parsed` what each main was lexed and parsed to, in the
+/// order of the mains. After a refusal, `parsed` has the mains that the resolver accepted up to there.
+pub fn build_keeping<'s>(
+    alloc: Global,
+    sources: &[Source<'s>],
+    mains: &[usize],
+    parsed: &mut Vec<Parsed<'s>>,
+) -> Result<Built, BuildError>
+    requires { All (λ main. main < length sources.now) mains.now }
+    ensures built { IfOk result (IsBuilt (files_of sources.now) mains.now) }
+    ensures runs { IfOk result (λ built. (sections : List Declarations) → AreAccepted (files_of sources.now) mains.now sections
+        → RunsAsMeant sections built.image) }
+    ensures least { IfOk result (λ built. AreLeast built.segments.items (map entry_view built.entries.items)) }
+    ensures certified { IfOk result (λ built. IsCertified (map entry_view built.entries.items)) }
+    ensures worked { IfOk result (λ built. AllZip WorkedOut (map entry_view built.entries.items) built.workings.items) }
+    ensures size { IfOk result (λ built. (sections : List Declarations) → AreAccepted (files_of sources.now) mains.now sections
+        → HasSize sections built.image) }
+    ensures text { IfOk result (λ built. ReadsAs built.segments.items built.image) }
+    ensures refused { IfErr result (IsRefused (files_of sources.now) mains.now) }
+{
+    build_mains(alloc, sources, mains, true, parsed)
 }

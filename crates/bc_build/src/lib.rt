@@ -16,4 +16,4 @@ pub use bc_link::LinkError;
 pub use bc_machine_defs::Image;
 pub use bc_parse::ParseError;
 pub use build_error::{BuildError, ScopeFault};
-pub use building::{Built, build};
+pub use building::{Built, Parsed, build, build_keeping};

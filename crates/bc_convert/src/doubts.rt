@@ -8,8 +8,9 @@ use crate::kind::Kind;
 use crate::names::{declares_routine, is_for, is_number};
 use crate::notes::Notes;
 use crate::numbers::value_of_number;
+use crate::old_names::OldNames;
 use crate::operands::is_adjacent;
-use crate::options::{Options, Renaming};
+use crate::options::Options;
 use crate::program::Program;
 use crate::source::TokenizedText;
 
@@ -30,7 +31,7 @@ pub fn find_doubts(source: TokenizedText<'_>, notes: &mut Notes, options: Option
 }
 
 /// Whether START is declared with a parameter at an index.
-fn has_parameter(source: TokenizedText<'_>, index: usize, library: &[Renaming<'_>]) -> bool {
+fn has_parameter(source: TokenizedText<'_>, index: usize, library: &OldNames<'_>) -> bool {
     is_for(source.bytes(index), library, b"START")
         && declares_routine(source, index)
         && source.kind(index.saturating_add(2)) == Kind::Name

@@ -2,8 +2,8 @@
 
 use crate::bytes::span;
 use crate::kind::Kind;
-use crate::names::{has_routine, is_for, renamed};
-use crate::options::Renaming;
+use crate::names::{has_routine, is_for};
+use crate::old_names::OldNames;
 use crate::source::TokenizedText;
 use crate::spelling::inside;
 use bc_library_ext::further_bit;
@@ -24,7 +24,7 @@ pub enum Format {
 pub fn format_at(
     source: TokenizedText<'_>,
     index: usize,
-    library: &[Renaming<'_>],
+    library: &OldNames<'_>,
 ) -> Option<Format> {
     let opening = index.saturating_add(1);
     let format = index.saturating_add(2);
@@ -134,12 +134,12 @@ pub fn is_further_string(source: TokenizedText<'_>, index: usize) -> bool {
 }
 
 /// The bit of the name at an index, if only EXTHDR has it, else 0. Names of an old library count as their new names.
-pub fn bit_at(source: TokenizedText<'_>, index: usize, library: &[Renaming<'_>]) -> u64 {
+pub fn bit_at(source: TokenizedText<'_>, index: usize, library: &OldNames<'_>) -> u64 {
     let word = source.bytes(index);
     if source.kind(index) != Kind::Name {
         return 0;
     }
-    match renamed(library, word) {
+    match library.renamed(word) {
         Some(new) => further_bit(new),
         None => further_bit(word),
     }

@@ -6,7 +6,8 @@ use crate::kind::Kind;
 use crate::library::library_name;
 use crate::name_facts::NameFacts;
 use crate::numbers::{decimal, value_of_number};
-use crate::options::{Options, Renaming};
+use crate::old_names::OldNames;
+use crate::options::Options;
 use crate::source::TokenizedText;
 use crate::words::reserved;
 use bc_word::Memory;
@@ -33,19 +34,9 @@ pub fn with_dots(alloc: Global, bytes: &[u8], number: u32) -> Result<Vec<u8>, Me
     Ok(text)
 }
 
-/// The new name of an old library's name, if it is listed.
-pub fn renamed<'o>(library: &[Renaming<'o>], bytes: &[u8]) -> Option<&'o [u8]> {
-    for renaming in library {
-        if renaming.old.eq_ignore_ascii_case(bytes) {
-            return Some(renaming.new);
-        }
-    }
-    None
-}
-
 /// Whether a word is this name of the library, in either case, or is renamed to it.
-pub fn is_for(word: &[u8], library: &[Renaming<'_>], name: &[u8]) -> bool {
-    match renamed(library, word) {
+pub fn is_for(word: &[u8], library: &OldNames<'_>, name: &[u8]) -> bool {
+    match library.renamed(word) {
         Some(new) => new == name,
         None => word.eq_ignore_ascii_case(name),
     }
@@ -124,7 +115,7 @@ fn new_name<'o>(
     dialect: Dialect,
     options: Options<'o>,
 ) -> Option<&'o [u8]> {
-    if let Some(new) = renamed(options.library, source.bytes(index)) {
+    if let Some(new) = options.library.renamed(source.bytes(index)) {
         return Some(new);
     }
     if let Some(new) = for_library(source, index, dialect) {

@@ -2,16 +2,10 @@
 
 use crate::complaint::{Complaint, Fault};
 use crate::library::is_library_name;
+use crate::old_names::OldNames;
 use crate::program::Program;
 use bc_word::Memory;
 use std::alloc::Global;
-
-/// A name of an old library, and its name in this one.
-#[derive(Clone, Copy)]
-pub struct Renaming<'o> {
-    pub old: &'o [u8],
-    pub new: &'o [u8],
-}
 
 /// The library's header that a source gets.
 #[derive(Clone, Copy)]
@@ -50,7 +44,7 @@ pub enum Lawful {
 #[derive(Clone, Copy)]
 pub struct Options<'o> {
     /// The old names that have other names here.
-    pub library: &'o [Renaming<'o>],
+    pub library: &'o OldNames<'o>,
     /// The header that sources get; `None` if it depends on what they need.
     pub header: Option<Header>,
     /// The facts about the whole program; `None` if this source is the whole program.
@@ -64,7 +58,7 @@ pub struct Options<'o> {
 /// The renamings of a list of names, and the faults in its lines.
 #[derive(Drop)]
 pub struct NameList<'o> {
-    pub list: Vec<Renaming<'o>>,
+    pub list: OldNames<'o>,
     pub complaints: Vec<Complaint>,
 }
 
@@ -77,7 +71,7 @@ pub struct NameList<'o> {
 /// `Memory` if an allocation failed.
 pub fn renamings<'o>(alloc: Global, text: &'o [u8]) -> Result<NameList<'o>, Memory> {
     let mut names = NameList {
-        list: Vec::new(alloc),
+        list: OldNames::new(alloc),
         complaints: Vec::new(alloc),
     };
     let mut start: usize = 0;
@@ -95,9 +89,8 @@ fn add_line<'o>(names: &mut NameList<'o>, start: usize, line: &'o [u8]) -> Resul
     if old.is_empty() || old.starts_with(b"//".as_slice()) || old.starts_with(b"||".as_slice()) {
         return Ok(());
     }
-    let renaming = Renaming { old, new };
-    match fault_of(names.list.as_slice(), renaming) {
-        None => names.list.push(renaming)?,
+    match fault_of(&names.list, old, new) {
+        None => names.list.add(old, new)?,
         Some(fault) => {
             let blanks = line.len().saturating_sub(line.trim_ascii_start().len());
             let start = start.saturating_add(blanks);
@@ -112,15 +105,12 @@ fn add_line<'o>(names: &mut NameList<'o>, start: usize, line: &'o [u8]) -> Resul
 }
 
 /// The fault of a renaming that follows these.
-fn fault_of(earlier: &[Renaming<'_>], renaming: Renaming<'_>) -> Option<Fault> {
-    if renaming.new.is_empty() {
+fn fault_of(earlier: &OldNames<'_>, old: &[u8], new: &[u8]) -> Option<Fault> {
+    if new.is_empty() {
         Some(Fault::NameAlone)
-    } else if earlier
-        .iter()
-        .any(|other| other.old.eq_ignore_ascii_case(renaming.old))
-    {
+    } else if earlier.renamed(old).is_some() {
         Some(Fault::NameTwice)
-    } else if !is_library_name(renaming.new) {
+    } else if !is_library_name(new) {
         Some(Fault::NoLibraryName)
     } else {
         None

@@ -4,7 +4,8 @@ use crate::dialect::Dialect;
 use crate::formats::{Format, bit_at, format_at, gets_header, is_further_string};
 use crate::kind::Kind;
 use crate::names::{declares, declares_routine, is_declared, is_entry, is_for};
-use crate::options::{Header, Renaming, System};
+use crate::old_names::OldNames;
+use crate::options::{Header, System};
 use crate::reading::Reading;
 use crate::source::TokenizedText;
 use bc_word::Memory;
@@ -38,7 +39,7 @@ pub struct Program {
 }
 
 /// Whether the name at an index is INITVEC, or GETVEC declared by the source as a routine.
-fn makes_pool(source: TokenizedText<'_>, index: usize, library: &[Renaming<'_>]) -> bool {
+fn makes_pool(source: TokenizedText<'_>, index: usize, library: &OldNames<'_>) -> bool {
     let word = source.bytes(index);
     is_for(word, library, b"INITVEC")
         || is_for(word, library, b"GETVEC") && declares_routine(source, index)
@@ -50,13 +51,13 @@ impl Program {
     /// # Errors
     ///
     /// `Memory` if an allocation failed.
-    pub fn of(alloc: Global, text: &[u8], library: &[Renaming<'_>]) -> Result<Program, Memory> {
+    pub fn of(alloc: Global, text: &[u8], library: &OldNames<'_>) -> Result<Program, Memory> {
         let reading = Reading::new(alloc, text)?;
         Ok(Program::shown(reading.source(text), reading.dialect, library))
     }
 
     /// What a classified source shows.
-    pub fn shown(source: TokenizedText<'_>, dialect: Dialect, library: &[Renaming<'_>]) -> Program {
+    pub fn shown(source: TokenizedText<'_>, dialect: Dialect, library: &OldNames<'_>) -> Program {
         let mut program = Program {
             dialect,
             needs_further: false,
@@ -81,7 +82,7 @@ impl Program {
     }
 
     /// Takes the name at an index into account.
-    fn note_name(&mut self, source: TokenizedText<'_>, index: usize, library: &[Renaming<'_>]) {
+    fn note_name(&mut self, source: TokenizedText<'_>, index: usize, library: &OldNames<'_>) {
         match format_at(source, index, library) {
             Some(Format::Further) => self.needs_further = true,
             Some(Format::Hidden) => self.hides_format = true,

@@ -15,8 +15,7 @@ use Rattle.bc_interpret_defs.specs.Weight.{weight, Lessens}
 use Rattle.bc_interpret_defs.specs.Running.{Moves}
 use Rattle.bc_interpret_defs.proofs.Running.{steps_keep, steps_lessen}
 use Rattle.bc_interpret_defs.specs.Causes as met
-use Rattle.bc_interpret_defs.specs.Causes.{StandsIn}
-use Rattle.bc_interpret_defs.specs.Meeting.{Meets, ByArgument, after_steps, ComesTo}
+use Rattle.bc_interpret_defs.specs.Meeting.{IsWildBy, Meets, ByArgument, after_steps, ComesTo}
 use Rattle.bc_interpret_pure.specs.declared.context.Cause.{Cause}
 use Rattle.bc_interpret_pure.specs.Causes.{cause_of}
 use Rattle.bc_interpret_steps.specs.declared.forms.Work.{Work}
@@ -42,7 +41,7 @@ use Rattle.bc_interpret.specs.declared.run.Outcome as outcome
 use Rattle.bc_interpret.specs.declared.run.Outcome.TheVariants as outs
 use Rattle.bc_interpret.specs.declared.serve.Served.{Served}
 use Rattle.bc_interpret.specs.Results.{IsResult, Names}
-use Rattle.bc_interpret.specs.Serving.{Serves, Numbers, Works}
+use Rattle.bc_interpret.specs.Serving.{Serves, Numbers, Blames, Works}
 use Rattle.bc_interpret.specs.Moving.{HasProgram, at_of, weight_of, StepIs, RanIs, left_from, left_of, next_of, MovesBy, Comes, Keeps, Leads, Tracks, TookTurn, Advanced}
 
 no_streams : Content
@@ -75,7 +74,7 @@ served_lessens program a old q f v rests1 mid new h k =
 
 pub served_wild : (program : List Placed) (n : ℕ) (a : machine.At) (old : State) (q : Primitive) (f : ℕ) (c : Cause) (rests1 : List Rest) (mid new : State) (before after : Content) → StepIs program a old (progress.Serve q f) rests1 mid → Serves (λ st. left 1 (f + 2) (primitive_work (primitive_of q) f st)) mid before (forms.Wild c) new after → old.turns < n → left_from program n a old before ≡ meanings.Wild
 served_wild program n a old q f c rests1 mid new before after h s l =
-    through program n a old before _ (h.1.served.comes before ∙ ap (λ o. followed o (λ x. give (machine.Number x) (stack rests1))) s.0) l
+    through program n a old before _ (h.1.served.comes before ∙ ap (λ o. followed o (λ x. give (machine.Number x) (stack rests1))) s) l
 
 pub answered : (program : List Placed) (n : ℕ) (a : machine.At) (old : State) (rests1 : List Rest) (new : State) (streams : Content) → StepIs program a old progress.Answered rests1 new → left_from program n a old streams ≡ meanings.Ended (output_of streams) outcomes.Finished
 answered program n a old rests1 new streams h =
@@ -117,11 +116,13 @@ served_leads program a old q f v rests1 mid new before after c h s g =
     (h.1.served.comes before ∙ ap (λ o. followed o (λ x. give (machine.Number x) (stack rests1))) s) g
 
 served_met : (program : List Placed) (a : machine.At) (old : State) (q : Primitive) (f : ℕ) (c : Cause) (rests1 : List Rest) (mid new : State) (before after : Content) → StepIs program a old (progress.Serve q f) rests1 mid → Serves (λ st. left 1 (f + 2) (primitive_work (primitive_of q) f st)) mid before (forms.Wild c) new after
-    → Names program a (state_of old before) (outs.Wild c)
-served_met program a old q f c rests1 mid new before after h s =
+    → Blames (primitive_work (primitive_of q) f) mid (forms.Wild c) → Names program a (state_of old before) (outs.Wild c)
+served_met program a old q f c rests1 mid new before after h s blamed =
     let call = h.1 in
-    at_once program a (state_of old before) (cause_of c) (call.served.comes before ∙ ap (λ o. followed o (λ x. give (machine.Number x) (stack rests1))) s.0)
-    (ByArgument call.value call.arguments call.frame (primitive_of q) call.calls call.served.is_primitive (subst (StandsIn (cause_of c)) call.served.has_argument s.1))
+    let there : IsWildBy (primitive_work (primitive_of q) call.frame) mid.store (cause_of c) = subst (λ z. IsWildBy (primitive_work (primitive_of q) z) mid.store (cause_of c)) call.served.frame blamed in
+    let passed_on = subst (λ z. IsWildBy (primitive_work (primitive_of q) call.frame) z (cause_of c)) call.served.has_argument there in
+    at_once program a (state_of old before) (cause_of c) (call.served.comes before ∙ ap (λ o. followed o (λ x. give (machine.Number x) (stack rests1))) s)
+    (ByArgument call.value call.arguments call.frame (primitive_of q) call.calls call.served.is_primitive call.served.fits passed_on)
 
 -- steps that change nothing
 
@@ -233,7 +234,7 @@ put_next stacks w = record stacks { next = progress.On w }
 
 served_number : (table : List Callable) (w : Work) (old new : Run) (q : Primitive) (f v : ℕ) (stacks : Stacks) (mid : State) (known tells : Type 0) (before after : Content) (failures risen : ℕ) → HasProgram table
     → ((program : List Placed) → IsTable program table → RanIs program w old.stacks.rests.items old.state (progress.Serve q f) stacks.rests.items mid)
-    → Works (λ st. left 1 (f + 2) (primitive_work (primitive_of q) f st)) mid new.state known tells before after failures risen (forms.Number v)
+    → Works (primitive_work (primitive_of q) f) (λ st. left 1 (f + 2) (primitive_work (primitive_of q) f st)) mid new.state known tells before after failures risen (forms.Number v)
     → Advanced table w old (record new { stacks = put_next stacks (works.Number v) }) known tells before after failures risen On
 served_number table w old new q f v stacks mid known tells before after failures risen p s x = record {
   keeps = λ k program t n l. let r = s program t in
@@ -253,7 +254,7 @@ served_number table w old new q f v stacks mid known tells before after failures
 
 pub served_advances : (table : List Callable) (w : Work) (old new : Run) (q : Primitive) (f : ℕ) (stacks : Stacks) (mid : State) (known tells : Type 0) (before after : Content) (failures risen : ℕ) (served : Served) (moved : Moved) → HasProgram table
     → ((program : List Placed) → IsTable program table → RanIs program w old.stacks.rests.items old.state (progress.Serve q f) stacks.rests.items mid)
-    → Works (λ st. left 1 (f + 2) (primitive_work (primitive_of q) f st)) mid new.state known tells before after failures risen served
+    → Works (primitive_work (primitive_of q) f) (λ st. left 1 (f + 2) (primitive_work (primitive_of q) f st)) mid new.state known tells before after failures risen served
     → MovesBy served moved new.stacks stacks
     → Advanced table w old new known tells before after failures risen moved
 served_advances table w old new q f stacks mid known tells before after failures risen (forms.Number v) moved p s x m =
@@ -267,7 +268,7 @@ served_advances table w old new q f stacks mid known tells before after failures
           ∙ served_wild program n r.middle old.state q f c stacks.rests.items mid new.state before after r.comes (x.exact k) l;
       tracks = λ k program t. let r = s program t in
           passes_lead program (at_of w old.stacks.rests.items) r.along r.middle old.state before (cause_of c) r.passes
-          (served_met program r.middle old.state q f c stacks.rests.items mid new.state before after r.comes (x.exact k));
+          (served_met program r.middle old.state q f c stacks.rests.items mid new.state before after r.comes (x.exact k) x.blamed);
       lessened = tt;
       kept = x.kept;
       failed = λ e. absurd cc;

@@ -1,14 +1,37 @@
 -- For proofs: the store at the start of a run.
-use Rattle.std.specs.Prelude.{ℕ, ◌≡◌, ◌<◌, ◌≤◌, Bool, cond, List, ◌++◌, length, slice_get, Option, Some, None}
+use Rattle.std.specs.Prelude.{ℕ, ◌≡◌, ◌+◌, ◌<◌, Bool, cond, List, [], ◌∷◌, ◌++◌, length, slice_set, Option, Some, None}
 use Rattle.bc_core.specs.Commands.{Place}
-use Rattle.bc_core.specs.Map.{Placed, Standing, standing, standing_from, held_by}
-use Rattle.bc_core.specs.Start.{sets, setting, data_word, start_cells, or_else}
-use Rattle.bc_core.specs.Store.{Cell, Dead, cell_at}
-use Rattle.bc_core.specs.Words.{data_words}
+use Rattle.bc_core.specs.Map.{Placed, Holding, ARoutine, Words, Standing, standing, standing_from, held_by}
+use Rattle.bc_core.specs.Start.{sets, setting, data_word, data_cell, start_cells, or_else}
+use Rattle.bc_core.specs.Store.{Cell, Dead, Set, cell_at}
 
--- the first place of the section that has a word at this address has this one, or none has one
-abbrev pub HasData : Placed → ℕ → Option ℕ → Type 0
-HasData s a found = (rest : List Standing) → data_word (standing_from s.address 1 s.core.places ++ rest) a ≡ or_else found (data_word rest a)
+-- these words are written to the cells from this address on
+abbrev pub written : List ℕ → ℕ → List Cell → List Cell
+written [] a cells = cells
+written (w ∷ ws) a cells = written ws (a + 1) (slice_set cells a (Set w))
+
+-- the words of what is at a place; a routine has none
+abbrev pub words_in : Holding → List ℕ
+words_in (ARoutine global) = []
+words_in (Words ws) = ws
+
+-- the places of a section
+abbrev pub places_in : Placed → List Standing
+places_in s = standing_from s.address 1 s.core.places
+
+-- the words of places are written; those of the first place last, since they win
+abbrev pub filled_with : List Standing → List Cell → List Cell
+filled_with [] cells = cells
+filled_with (s ∷ ss) cells = written (words_in s.holding) s.address (filled_with ss cells)
+
+-- so many cells, all dead
+pub record AreDead (n : ℕ) (cells : List Cell) : Type 0 where
+  pub size : length cells ≡ n
+  pub each : (a : ℕ) → a < n → cell_at cells a ≡ Dead
+
+-- in these cells each word of the program's places is at its address, and all other cells are dead
+abbrev pub HasData : List Placed → List Cell → Type 0
+HasData program cells = (a : ℕ) → a < 65536 → cell_at cells a ≡ data_cell (data_word (standing program) a)
 
 -- the first routine of the section that sets this global is at this address, or none sets it
 abbrev pub HasSetting : Placed → ℕ → Option ℕ → Type 0
@@ -17,19 +40,6 @@ HasSetting s n found = (rest : List Standing) → setting (standing_from s.addre
 -- whether a place sets the global to its own address
 abbrev pub Sets : Place → ℕ → Bool → Type 0
 Sets place n told = (address : ℕ) → sets (held_by place) address n ≡ cond told (Some address) None
-
--- from this index on a place has no word
-abbrev pub EndsBy : Place → ℕ → Type 0
-EndsBy p n = (k : ℕ) → n ≤ k → slice_get (data_words p) k ≡ None
-
--- live cells mark addresses: an address that isn't marked wasn't marked before, and has the property Unmarked
-pub record Marks (Unmarked : ℕ → Type 0) (old new : List Cell) : Type 0 where
-  pub size : length new ≡ length old
-  pub rest : (a : ℕ) → a < length old → cell_at new a ≡ Dead → (cell_at old a ≡ Dead) × Unmarked a
-
--- at an address that isn't marked, no place of the program has a word
-abbrev pub CoversData : List Placed → List Cell → Type 0
-CoversData program marks = (a : ℕ) → a < 65536 → cell_at marks a ≡ Dead → data_word (standing program) a ≡ None
 
 -- these are the cells at the start of the program's run; unfoldable, since `start_cells` takes 65,536 steps to unfold
 unfoldable pub IsStart : List Placed → List Cell → Type 0

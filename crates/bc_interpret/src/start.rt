@@ -2,21 +2,21 @@
 //!
 //! `Memory` is returned if an allocation fails, or if a number is too large for its type, which no section of an accepted source causes.
 
-ghost use Rattle.std.specs.Prelude.{◌≡◌, ◌+◌, ◌*◌, ◌∷◌, length, map, None, slice_get, slice_index, IfOk, OnOk};
+ghost use Rattle.std.specs.Prelude.{◌≡◌, ◌+◌, ◌*◌, ◌∷◌, length, map, slice_get, slice_index, slice_set, IfOk, OnOk};
 ghost use Rattle.bc_core.specs.View.{place_of};
 ghost use Rattle.bc_core.specs.Words.{string_words, data_words};
-ghost use Rattle.bc_core.specs.Map.{standing, held_by};
+ghost use Rattle.bc_core.specs.Map.{standing};
 ghost use Rattle.bc_core.specs.Primitive.{primitives, address_among};
-ghost use Rattle.bc_core.specs.Start.{global_cell, setting, data_word, start_cell as cell_at_start, word_of as word_in, cells_from};
+ghost use Rattle.bc_core.specs.Start.{setting, start_cell as cell_at_start, cells_from};
 ghost use Rattle.bc_core.specs.Store.{Set};
 ghost use Rattle.bc_interpret_store.specs.Cells.{cell_view};
 ghost use Rattle.bc_interpret_steps.specs.Sections.{placed_of, program_of};
-ghost use Rattle.bc_interpret.specs.Starting.{HasData, HasSetting, Sets, IsStart, EndsBy, Marks, CoversData};
+ghost use Rattle.bc_interpret.specs.Starting.{HasData, HasSetting, Sets, IsStart, AreDead, written, places_in, filled_with};
 
 use crate::table::{address_of, label_after};
 use bc_core::Place;
 use bc_interpret_steps::{Section, addresses};
-use bc_interpret_store::{Cell, Store};
+use bc_interpret_store::{Cell, Store, cell_at};
 use bc_word::Memory;
 use std::alloc::Global;
 
@@ -75,112 +75,85 @@ fn word_of(place: &Place, index: u16) -> Result<Option<u16>, Memory>
     }
 }
 
-/// The word at this address, given a place that begins at address `from`; `None` if the place has no word there.
-fn word_at(place: &Place, from: u16, address: u16) -> Result<Option<u16>, Memory>
-    ensures { IfOk result (λ word. word ≡ word_in (held_by (place_of place.now)) from address) }
+/// The next index of a word; `Memory` if there is none, which no accepted source causes.
+fn index_after(index: u16) -> Result<u16, Memory>
+    ensures { IfOk result (λ r. r ≡ index + 1) }
 {
-    if address < from {
-        return Ok(None);
-    }
-    Ok(word_of(place, address - from)?)
+    index.checked_add(1).ok_or(Memory)
 }
 
-/// The word at this address, of the first place of the section that has one there.
-fn data_in(section: &Section<'_>, address: u16) -> Result<Option<u16>, Memory>
-    ensures { IfOk result (λ word. HasData (placed_of section.now) address word) }
+/// The address of the word at this index of words that begin at address `from`, which may be past the last cell.
+fn address_within(from: u16, index: u16) -> usize
+    ensures { result ≡ from + index }
 {
-    let mut label = 1;
+    usize::from(from) + usize::from(index)
+}
+
+/// Puts a word at this address. Does nothing past the last cell.
+#[tactic(auto, using(bc_interpret_store::proofs::Cells::cell_put, bc_interpret_store::proofs::Cells::beyond))]
+fn put(cells: &mut Vec<Cell>, address: usize, word: u16)
+    ensures { map cell_view cells.new.items ≡ slice_set (map cell_view cells.old.items) address (Set word) }
+{
+    if address >= cells.len() {
+        return;
+    }
+    cells[address] = Cell::Set(word);
+}
+
+/// Puts the words of a place that begins at address `from`.
+fn put_place(place: &Place, from: u16, cells: &mut Vec<Cell>) -> Result<(), Memory>
+    ensures { OnOk result (map cell_view cells.new.items ≡ written (data_words (place_of place.now)) from (map cell_view cells.old.items)) }
+{
+    let mut index = 0;
+    while let Some(word) = word_of(place, index)? {
+        let address = address_within(from, index);
+        put(cells, address, word);
+        index = index_after(index)?;
+    }
+    Ok(())
+}
+
+/// Puts the words of all places of a section, those of the first place last, since they win.
+fn put_section(section: &Section<'_>, cells: &mut Vec<Cell>) -> Result<(), Memory>
+    ensures { OnOk result (map cell_view cells.new.items ≡ filled_with (places_in (placed_of section.now)) (map cell_view cells.old.items)) }
+{
     let mut left = section.places;
-    while let [place, following @ ..] = left {
-        let found = word_at(place, address_of(section, label), address)?;
-        if found.is_some() {
-            return Ok(found);
-        }
-        label = label_after(label)?;
-        left = following;
+    while let Some((place, earlier)) = left.split_last() {
+        let from = address_of(section, left.len());
+        put_place(place, from, cells)?;
+        left = earlier;
     }
-    Ok(None)
+    Ok(())
 }
 
-/// The word at this address, of the first place of the program that has one there.
-fn data_at(sections: &[Section<'_>], address: u16) -> Result<Option<u16>, Memory>
-    ensures { IfOk result (λ word. word ≡ data_word (standing (program_of sections.now)) address) }
+/// Puts the words of all places of the program, those of the first section last.
+fn put_data(sections: &[Section<'_>], cells: &mut Vec<Cell>) -> Result<(), Memory>
+    ensures { OnOk result (map cell_view cells.new.items ≡ filled_with (standing (program_of sections.now)) (map cell_view cells.old.items)) }
 {
-    let mut left = sections;
-    while let [section, following @ ..] = left {
-        let found = data_in(section, address)?;
-        if found.is_some() {
-            return Ok(found);
-        }
-        left = following;
+    let mut left = sections.len();
+    while left > 0 {
+        left -= 1;
+        put_section(&sections[left], cells)?;
     }
-    Ok(None)
+    Ok(())
 }
 
-/// An upper bound for the number of words of a place.
-#[tactic(auto, using(crate::proofs::Starting::table_ends, crate::proofs::Starting::static_ends))]
-fn words_of(place: &Place) -> usize
-    ensures { EndsBy (place_of place.now) result }
-{
-    match place {
-        Place::Routine(_) => 0,
-        Place::Static(_) => 1,
-        Place::Table(words) => words.len(),
-        Place::Text(bytes) => bytes.len() / 2 + 1,
-    }
-}
-
-/// 65,536 dead cells. A cell that is made live marks its address.
-fn no_marks(alloc: Global) -> Result<Store, Memory>
-    ensures { IfOk result (λ marks. length marks ≡ 65536) }
+/// 65,536 dead cells.
+fn dead_cells(alloc: Global) -> Result<Vec<Cell>, Memory>
+    ensures { IfOk result (λ cells. AreDead 65536 (map cell_view cells.items)) }
 {
     let mut cells = Vec::new(alloc);
     cells.resize(65536, Cell::Dead)?;
-    Ok(Store::new(cells))
+    Ok(cells)
 }
 
-/// Marks all addresses at which places of a section have words.
-#[tactic(auto, using(crate::proofs::Starting::marks_begin, crate::proofs::Starting::marks_more))]
-fn mark_section(section: &Section<'_>, marks: &mut Store) -> Result<(), Memory>
-    ensures { OnOk result (Marks (λ a. HasData (placed_of section.now) a None) marks.old marks.new) }
+/// The words of all places of the program, each at its address. All other cells are dead.
+fn data_of(alloc: Global, sections: &[Section<'_>]) -> Result<Vec<Cell>, Memory>
+    ensures { IfOk result (λ cells. HasData (program_of sections.now) (map cell_view cells.items)) }
 {
-    let mut label = 1;
-    let mut left = section.places;
-    while let Some((place, following)) = left.split_first() {
-        let from = usize::from(address_of(section, label));
-        marks.open(words_of(place), from);
-        label = label_after(label)?;
-        left = following;
-    }
-    Ok(())
-}
-
-/// Marks all addresses at which places of the program have words.
-#[tactic(auto, using(crate::proofs::Starting::marks_begin, crate::proofs::Starting::marks_after))]
-fn mark_data(sections: &[Section<'_>], marks: &mut Store) -> Result<(), Memory>
-    ensures { OnOk result (Marks (λ a. data_word (standing (program_of sections.now)) a ≡ None) marks.old marks.new) }
-{
-    let mut left = sections;
-    while let [section, following @ ..] = left {
-        mark_section(section, marks)?;
-        left = following;
-    }
-    Ok(())
-}
-
-/// `data_at`, but searches only if the address is marked, since most aren't.
-fn data_where_marked(
-    sections: &[Section<'_>],
-    marks: &Store,
-    address: u16,
-) -> Result<Option<u16>, Memory>
-    requires { CoversData (program_of sections.now) marks.now }
-    ensures { IfOk result (λ word. word ≡ data_word (standing (program_of sections.now)) address) }
-{
-    match marks.at(address) {
-        Cell::Dead => Ok(None),
-        Cell::Unset | Cell::Set(_) => Ok(data_at(sections, address)?),
-    }
+    let mut cells = dead_cells(alloc)?;
+    put_data(sections, &mut cells)?;
+    Ok(cells)
 }
 
 /// Whether a place is a routine that sets this global to its address.
@@ -242,8 +215,9 @@ fn setting_of(sections: &[Section<'_>], global: u16) -> Result<Option<u16>, Memo
 }
 
 /// The cell at this address at the start of the run.
-fn start_cell(sections: &[Section<'_>], marks: &Store, address: u16) -> Result<Cell, Memory>
-    requires { CoversData (program_of sections.now) marks.now }
+#[tactic(auto, using(bc_interpret_store::proofs::Cells::cell_seen))]
+fn start_cell(sections: &[Section<'_>], words: &Vec<Cell>, address: u16) -> Result<Cell, Memory>
+    requires { HasData (program_of sections.now) (map cell_view words.now.items) }
     ensures { IfOk result (λ cell. cell_view cell ≡ cell_at_start (standing (program_of sections.now)) address) }
 {
     if address >= 8 && address < 520 {
@@ -252,10 +226,7 @@ fn start_cell(sections: &[Section<'_>], marks: &Store, address: u16) -> Result<C
             None => Ok(Cell::Set(0)),
         };
     }
-    match data_where_marked(sections, marks, address)? {
-        Some(word) => Ok(Cell::Set(word)),
-        None => Ok(Cell::Dead),
-    }
+    Ok(cell_at(words, address))
 }
 
 /// A number as an address; `Memory` if it is above 65,535.
@@ -269,16 +240,16 @@ fn address_of_number(number: u32) -> Result<u16, Memory>
 fn start_cells(
     alloc: Global,
     sections: &[Section<'_>],
-    marks: &Store,
+    words: &Vec<Cell>,
     count: u32,
 ) -> Result<Vec<Cell>, Memory>
-    requires { CoversData (program_of sections.now) marks.now }
+    requires { HasData (program_of sections.now) (map cell_view words.now.items) }
     ensures { IfOk result (λ cells. map cell_view cells.items ≡ cells_from count 0 (standing (program_of sections.now))) }
 {
     let mut cells = Vec::with_capacity(alloc, count as usize)?;
     for number in 0..count {
         let address = address_of_number(number)?;
-        let cell = start_cell(sections, marks, address)?;
+        let cell = start_cell(sections, words, address)?;
         cells.push(cell)?;
     }
     Ok(cells)
@@ -288,8 +259,7 @@ fn start_cells(
 pub(crate) fn start_store(alloc: Global, sections: &[Section<'_>]) -> Result<Store, Memory>
     ensures { IfOk result (λ store. IsStart (program_of sections.now) store) }
 {
-    let mut marks = no_marks(alloc)?;
-    mark_data(sections, &mut marks)?;
-    let cells = start_cells(alloc, sections, &marks, 65536)?;
+    let words = data_of(alloc, sections)?;
+    let cells = start_cells(alloc, sections, &words, 65536)?;
     Ok(Store::new(cells))
 }

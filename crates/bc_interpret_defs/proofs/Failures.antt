@@ -1,15 +1,15 @@
--- A wild access of a pure expression reads a cell that is in the named state.
-use Rattle.std.proofs.Common.{◌≡◌, ℕ, Bool, true, false, List, Option, Some, None, refl}
+-- A property of causes that each failing read of a pure expression gives its cause.
+use Rattle.std.proofs.Common.{◌≡◌, ℕ, Bool, true, false, Option, Some, None}
 use Rattle.std.specs.Prelude.{cond}
 use Rattle.bc_word.specs.declared.operator.Op.{Op}
 use Rattle.bc_word.specs.declared.operator.Op.TheVariants as operators
 use Rattle.bc_word.specs.Words.{value_of}
 use Rattle.bc_core.specs.Tree.{Exp, Num, Frame, Glob, Place, Load, Neg, Not, Bin, Cond, Call, Valof}
 use Rattle.bc_core.specs.Value.{has_call}
-use Rattle.bc_core.specs.Store.{Cell, Dead, Unset, Set, cell_at}
-use Rattle.bc_interpret_defs.specs.Causes.{Cause, StandsIn}
-use Rattle.bc_interpret_defs.specs.Quiet.{Worth, Is, Divides, Fails, chained, paired, beside, found, quotient, Sight, Worths, truth_of_worth, by_worth, operator_worth, combined, worth}
-use Rattle.bc_interpret_defs.specs.Laws.{FailsBy, FailuresStand}
+use Rattle.bc_core.specs.Store.{cell_at}
+use Rattle.bc_interpret_defs.specs.Causes.{Cause}
+use Rattle.bc_interpret_defs.specs.Quiet.{Worth, Is, Divides, Fails, chained, paired, beside, found, quotient, Sight, Worths, truth_of_worth, operator_worth, combined, worth}
+use Rattle.bc_interpret_defs.specs.Laws.{FailsBy}
 use Rattle.bc_core.proofs.Calm.{no_left, no_right}
 
 failing_chained : {A B : Type 0} (P : Cause → Type 0) (w : Worth A) (f : A → Worth B) → FailsBy P w → ((x : A) → FailsBy P (f x)) → FailsBy P (chained w f)
@@ -45,43 +45,31 @@ failing_operator P operators.And a b w h k l = failing_chained P a.truth (λ t. 
 failing_operator P operators.Or a b w h k l = failing_chained P a.truth (λ t. cond t (Is true) b.truth) h (λ t. failing_choice P t (Is true) b.truth tt k)
 failing_operator P op a b w h k l = failing_truth P w l
 
-failing_found : (cells : List Cell) (a : ℕ) (c : Cell) → cell_at cells a ≡ c → FailsBy (λ d. StandsIn d cells) (found a c)
-failing_found cells a Dead e = e
-failing_found cells a Unset e = e
-failing_found cells a (Set w) e = tt
-
 both_ways : (P : Cause → Type 0) (w : Worth ℕ) → FailsBy P w → FailsBy P w × FailsBy P (truth_of_worth w)
 both_ways P w h = (h, failing_truth P w h)
 
-stands : (S : Sight) (e : Exp) → has_call e ≡ false → FailsBy (λ d. StandsIn d S.cells) (worth S e).value × FailsBy (λ d. StandsIn d S.cells) (worth S e).truth
-stands S (Num n) h = (tt, tt)
-stands S (Frame k) h = (tt, tt)
-stands S (Glob n) h = (tt, tt)
-stands S (Place m) h = (tt, tt)
-stands S (Load e) h =
-    let P : Cause → Type 0 = λ d. StandsIn d S.cells in
+-- a property that each failing read gives its cause
+pub failing : (P : Cause → Type 0) (S : Sight) → ((a : ℕ) → FailsBy P (found a (cell_at S.cells a))) → (e : Exp) → has_call e ≡ false → FailsBy P (worth S e).value × FailsBy P (worth S e).truth
+failing P S look (Num n) h = (tt, tt)
+failing P S look (Frame k) h = (tt, tt)
+failing P S look (Glob n) h = (tt, tt)
+failing P S look (Place m) h = (tt, tt)
+failing P S look (Load e) h =
     both_ways P (chained (worth S e).value (λ a. found a (cell_at S.cells a)))
-    (failing_chained P (worth S e).value (λ a. found a (cell_at S.cells a)) (stands S e h).0 (λ a. failing_found S.cells a (cell_at S.cells a) refl))
-stands S (Neg e) h =
-    let P : Cause → Type 0 = λ d. StandsIn d S.cells in
-    both_ways P (worth S (Neg e)).value (failing_chained P (worth S e).value _ (stands S e h).0 (λ v. tt))
-stands S (Not e) h =
-    let P : Cause → Type 0 = λ d. StandsIn d S.cells in
-    let k = stands S e h in (failing_chained P (worth S e).value _ k.0 (λ v. tt), failing_chained P (worth S e).truth _ k.1 (λ v. tt))
-stands S (Bin op a b) h =
-    let P : Cause → Type 0 = λ d. StandsIn d S.cells in
-    let k = stands S a (no_left _ _ h) in
-    let l = stands S b (no_right _ _ h) in
+    (failing_chained P (worth S e).value (λ a. found a (cell_at S.cells a)) (failing P S look e h).0 look)
+failing P S look (Neg e) h =
+    both_ways P (worth S (Neg e)).value (failing_chained P (worth S e).value _ (failing P S look e h).0 (λ v. tt))
+failing P S look (Not e) h =
+    let k = failing P S look e h in (failing_chained P (worth S e).value _ k.0 (λ v. tt), failing_chained P (worth S e).truth _ k.1 (λ v. tt))
+failing P S look (Bin op a b) h =
+    let k = failing P S look a (no_left _ _ h) in
+    let l = failing P S look b (no_right _ _ h) in
     let v = failing_paired P (worth S a).value (worth S b).value (combined op) k.0 l.0 (λ x y. failing_quotient P (value_of op x y)) in
     (v, failing_operator P op (worth S a) (worth S b) (paired (worth S a).value (worth S b).value (combined op)) k.1 l.1 v)
-stands S (Cond c x y) h =
-    let P : Cause → Type 0 = λ d. StandsIn d S.cells in
+failing P S look (Cond c x y) h =
     let cx = no_left _ _ h in
     let w = worth S c in
-    both_ways P (worth S (Cond c x y)).value (failing_chained P w.truth (λ t. cond t (worth S x).value (worth S y).value) (stands S c (no_left _ _ cx)).1
-    (λ t. failing_choice P t (worth S x).value (worth S y).value (stands S x (no_right _ _ cx)).0 (stands S y (no_right _ _ h)).0))
-stands S (Call es f) h = cc
-stands S (Valof n) h = cc
-
-pub failures_stand : FailuresStand
-failures_stand S e h = stands S e h
+    both_ways P (worth S (Cond c x y)).value (failing_chained P w.truth (λ t. cond t (worth S x).value (worth S y).value) (failing P S look c (no_left _ _ cx)).1
+    (λ t. failing_choice P t (worth S x).value (worth S y).value (failing P S look x (no_right _ _ cx)).0 (failing P S look y (no_right _ _ h)).0))
+failing P S look (Call es f) h = cc
+failing P S look (Valof n) h = cc

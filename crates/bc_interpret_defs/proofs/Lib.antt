@@ -5,9 +5,11 @@ pub mod Fuel
 pub mod Joining
 pub mod Kept
 pub mod Lessening
+pub mod Naming
 pub mod Quiet
 pub mod Resting
 pub mod Rounds
 pub mod Running
 pub mod Spending
+pub mod Wordwise
 pub mod Worths

@@ -24,7 +24,3 @@ StandsIn (Unset a) store = cell_at store a ≡ cells.Unset
 StandsIn (Dead a) store = cell_at store a ≡ cells.Dead
 StandsIn (NoCell a) store = cell_at store a ≡ cells.Dead
 StandsIn cause store = ⊥
-
--- every state that a cause can name now was there then: a cell that isn't live now wasn't live, and one that is unset was unset
-abbrev pub Stood : (then now : List Cell) → Type 0
-Stood then now = (cause : Cause) → StandsIn cause now → StandsIn cause then

@@ -11,7 +11,9 @@ use Rattle.bc_interpret_defs.specs.Machine.{Answer, Work, Rest, step}
 use Rattle.bc_interpret_defs.specs.Resume.{meant}
 use Rattle.bc_interpret_defs.specs.Weight.{weight, Lessens}
 use Rattle.bc_interpret_defs.specs.Running.{Moves, ran, start_at, start_state, result_if}
-use Rattle.bc_interpret_defs.specs.Causes.{Cause, StandsIn}
+use Rattle.bc_interpret_defs.specs.Causes.{Cause}
+use Rattle.bc_core.specs.Store.{Cell}
+use Rattle.bc_interpret_defs.specs.Meeting.{IsWildBy}
 use Rattle.bc_interpret_defs.specs.Quiet.{Sight, Worth, Is, Divides, Fails, settled, worth, QuietWork, QuietRest, quiet_step, quiet_meant, quiet_after, quiet_weight, IsLighter, QuietMoves}
 
 -- any two amounts of fuel greater than the remaining turns give a call the same outcome
@@ -65,8 +67,10 @@ FailsBy P (Is x) = Unit {0}
 FailsBy P Divides = Unit {0}
 FailsBy P (Fails c) = P c
 
--- a wild access of a pure expression reads a cell that is in the named state
-abbrev pub FailuresStand : Type 0
-FailuresStand =
-    (S : Sight) (e : Exp) → has_call e ≡ false
-    → FailsBy (λ c. StandsIn c S.cells) (worth S e).value × FailsBy (λ c. StandsIn c S.cells) (worth S e).truth
+-- a pure expression that fails is wild because of the cell that is named
+abbrev pub FailuresName : Type 0
+FailuresName =
+    (place : ℕ → ℕ) (call : Call) (valof : ℕ → ℕ → ℕ → Run ℕ) (e : Exp) → has_call e ≡ false → (p s : ℕ) (cells : List Cell)
+    → let S : Sight = record { cells = cells; address = place; frame = p } in
+    FailsBy (IsWildBy (value (context place call valof) e p s) cells) (worth S e).value
+    × FailsBy (IsWildBy (truth (context place call valof) e p s) cells) (worth S e).truth

@@ -1,6 +1,6 @@
 //! The laws that the interpreter depends on. Each is the contract of a function that does nothing.
 
-ghost use Rattle.bc_interpret_defs.specs.Laws.{FuelNeverEnds, WorthIsValue, QuietStepsKeep, QuietStepsLessen, StepsKeep, StepsLessen, MachineMeans, MachineIsRight, FailuresStand};
+ghost use Rattle.bc_interpret_defs.specs.Laws.{FuelNeverEnds, WorthIsValue, QuietStepsKeep, QuietStepsLessen, StepsKeep, StepsLessen, MachineMeans, MachineIsRight, FailuresName};
 
 /// The fuel that bounds the nesting of calls never runs out before the turns do: any two amounts greater than
 /// the remaining turns give the same outcome.
@@ -43,7 +43,7 @@ pub fn quiet_steps_lessen()
     ensures { QuietStepsLessen }
 {}
 
-/// If a pure expression fails with a wild access, that access reads a cell that is in the named state.
-pub fn failures_stand()
-    ensures { FailuresStand }
+/// If a pure expression fails with a wild access, it is wild because of the cell that is named.
+pub fn failures_name()
+    ensures { FailuresName }
 {}

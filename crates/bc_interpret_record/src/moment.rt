@@ -59,6 +59,19 @@ fn take_back_moves(frames: &mut Vec<Frame>, moves: &[Move]) -> Result<(), Memory
     Ok(())
 }
 
+/// Makes the calls those at the stop with index `to`, given those at the one with index `from`.
+fn follow_calls(
+    frames: &mut Vec<Frame>,
+    recording: &Recording,
+    from: usize,
+    to: usize,
+) -> Result<(), Memory> {
+    if from <= to {
+        return make_moves(frames, recording.moves_between(from, to));
+    }
+    take_back_moves(frames, recording.moves_between(to, from))
+}
+
 /// Notes the site of a stop in the newest call.
 pub(crate) fn settle(frames: &mut Vec<Frame>, site: u32) {
     if let Some(frame) = frames.last_mut() {
@@ -147,6 +160,20 @@ impl Moment {
         };
         take_back_moves(&mut self.frames, recording.moves_of(self.at))?;
         self.go_to(recording, before);
+        self.settle(recording);
+        Ok(true)
+    }
+
+    /// Goes to the stop with this index, forward or back, and returns true; returns false if there is none. `Memory` if an allocation fails.
+    pub fn jump(&mut self, recording: &Recording, stop: usize) -> Result<bool, Memory>
+        ensures at { IfOk result (λ went. self.new.at ≡ (if went then stop else self.old.at)) }
+        ensures cells { OnOk result (IsReplayable recording.now → IsAt recording.now self.old → IsAt recording.now self.new) }
+    {
+        if stop >= recording.stops.len() {
+            return Ok(false);
+        }
+        follow_calls(&mut self.frames, recording, self.at, stop)?;
+        self.go_to(recording, stop);
         self.settle(recording);
         Ok(true)
     }

@@ -5,8 +5,8 @@ ghost use Rattle.bc_interpret_store.specs.Changes.{Fits};
 ghost use Rattle.bc_interpret_record.specs.Replay.{IsReplayable};
 
 use crate::recording::{Frame, Move, NO_SITE, Recording, Stop};
-use crate::tagging::site_of;
-use bc_core::Command;
+use crate::site::StopKind;
+use crate::tagging::{is_of_body, site_begun, site_next, site_of_first, site_tested};
 use bc_interpret::{Observer, Stacks};
 use bc_interpret_steps::{Primitive, Progress, Rest, TruthRest, Work};
 use bc_interpret_store::{Cell, History, Past, Store};
@@ -50,6 +50,8 @@ pub(crate) struct Recorder {
     bounds: Bounds,
     calls: Vec<Call>,
     marks: Vec<Mark>,
+    /// The `least` of the newest call or mark; 0 if there is none.
+    least: usize,
     /// For each address the number of the site of the expression that is the body of a routine there, plus 1.
     bodies: Vec<u32>,
     /// Whether the output that is selected is the first one.
@@ -57,6 +59,10 @@ pub(crate) struct Recorder {
     /// Whether a byte is being read.
     reads: bool,
     taken: usize,
+    /// The number of changes when they were last counted.
+    changes: usize,
+    /// If the step can enter a body that begins with an assignment: the number of continuations below those of the body.
+    below: Option<usize>,
 }
 
 impl Recorder {
@@ -70,16 +76,28 @@ impl Recorder {
             bounds,
             calls: Vec::new(alloc),
             marks: Vec::new(alloc),
+            least: 0,
             bodies,
             writes: true,
             reads: false,
             taken: 0,
+            changes: 0,
+            below: None,
         }
     }
 
     /// Leaves the commands and calls that are over, given the number of continuations.
     fn leave(&mut self, depth: usize) -> Result<(), Memory> {
         self.leave_commands(depth);
+        self.leave_calls(depth)?;
+        let command = self.marks.last().map_or(0, |mark| mark.least);
+        let call = self.calls.last().map_or(0, |call| call.least);
+        self.least = command.max(call);
+        Ok(())
+    }
+
+    /// Leaves the calls that are over, given the number of continuations.
+    fn leave_calls(&mut self, depth: usize) -> Result<(), Memory> {
         for _each in 0..self.calls.len() {
             match self.calls.last().copied() {
                 Some(call) if call.least > depth => {
@@ -110,6 +128,7 @@ impl Recorder {
             site,
             is_begun: false,
         })?;
+        self.least = depth;
         Ok(())
     }
 
@@ -138,26 +157,41 @@ impl Recorder {
         Ok(())
     }
 
-    /// The number of changes up to this stop. The first stop begins to keep the past.
-    fn count(&mut self, store: &mut Store) -> Result<usize, Memory>
+    /// Counts the changes up to here. The first stop begins to keep the past.
+    fn count(&mut self, store: &mut Store) -> Result<(), Memory>
         ensures { store.new ≡ store.old }
     {
         if self.recording.stops.is_empty() {
             store.watch(self.alloc)?;
             self.copy_frames()?;
-            return Ok(0);
+            self.changes = 0;
+            return Ok(());
         }
-        store.follow()
+        self.changes = store.follow()?;
+        Ok(())
+    }
+
+    /// Notes the site at which the newest call is.
+    fn settle(&mut self, site: u32) {
+        if let Some(call) = self.calls.last_mut() {
+            call.frame.site = site;
+        }
     }
 
     /// Stops before what is at this site.
     fn stop(&mut self, site: u32, is_end: bool, store: &mut Store) -> Result<(), Memory>
         ensures { store.new ≡ store.old }
     {
-        if let Some(call) = self.calls.last_mut() {
-            call.frame.site = site;
-        }
-        let changes = self.count(store)?;
+        self.settle(site);
+        self.count(store)?;
+        self.add(site, is_end, store)
+    }
+
+    /// Adds a stop where the changes were last counted.
+    fn add(&mut self, site: u32, is_end: bool, store: &mut Store) -> Result<(), Memory>
+        ensures { store.new ≡ store.old }
+    {
+        let changes = self.changes;
         self.recording.stops.push(Stop {
             site,
             is_end,
@@ -181,6 +215,7 @@ impl Recorder {
             return Ok(());
         };
         store.drop_changes(self.alloc, first.changes)?;
+        self.changes = self.changes.saturating_sub(first.changes);
         self.recording.drop_stops(self.alloc, count, first)
     }
 
@@ -207,6 +242,9 @@ impl Recorder {
         if was_begun {
             return self.stop_again(store);
         }
+        if self.below.is_some() {
+            return self.count(store);
+        }
         Ok(())
     }
 
@@ -214,20 +252,23 @@ impl Recorder {
     fn see(&mut self, work: &Work<'_>, stacks: &Stacks<'_>, store: &mut Store) -> Result<(), Memory>
         ensures { store.new ≡ store.old }
     {
-        let depth = stacks.rests.len();
         match work {
-            Work::Perform(_, Command::Nested(block)) => match site_of(block) {
-                Some(site) => {
-                    self.begin(depth, site)?;
-                    if self.is_looped(site) {
-                        return Ok(());
-                    }
-                    self.stop(site, false, store)
-                }
+            Work::Perform(_, _) => self.perform(stacks, store),
+            Work::Listing(_, items, _) => match site_next(items) {
+                Some(site) => self.reach(stacks.rests.len().saturating_add(1), site, store),
                 None => Ok(()),
             },
-            Work::While(_, _, _) => self.stop_again(store),
-            Work::Round(_, _) => self.round(store),
+            Work::While(_, _, _) => {
+                self.below = Some(stacks.rests.len());
+                self.stop_again(store)
+            }
+            Work::Round(_, rounds) => {
+                if site_next(&rounds.body.list).is_some() {
+                    self.below = Some(stacks.rests.len());
+                }
+                self.round(store)
+            }
+            Work::Verdict(t) => self.verdict(*t, stacks, store),
             Work::Decide(_, _) => match stacks.rests.last() {
                 Some(Rest::Truth(TruthRest::RepeatWhiles(_, _, _))) => self.stop_again(store),
                 _ => Ok(()),
@@ -243,9 +284,83 @@ impl Recorder {
         }
     }
 
-    /// Whether a site is the test of a loop that tests after its body.
-    fn is_looped(&self, site: u32) -> bool {
-        self.recording.is_repeat(site)
+    /// Sees that a command is about to be performed.
+    fn perform(&mut self, stacks: &Stacks<'_>, store: &mut Store) -> Result<(), Memory>
+        ensures { store.new ≡ store.old }
+    {
+        let rests = stacks.rests.as_slice();
+        let depth = rests.len();
+        if depth < 2 {
+            return Ok(());
+        }
+        match site_begun(&rests[depth - 1], &rests[depth - 2]) {
+            Some(site) => {
+                self.below = Some(depth);
+                self.reach(depth, site, store)
+            }
+            None => Ok(()),
+        }
+    }
+
+    /// Sees that a test is decided, and stops before the assignment with which the body begins that it leads to.
+    fn verdict(&mut self, t: bool, stacks: &Stacks<'_>, store: &mut Store) -> Result<(), Memory>
+        ensures { store.new ≡ store.old }
+    {
+        let Some(test) = stacks.rests.last() else {
+            return Ok(());
+        };
+        // the list of a WHILE's body is above the continuation of the loop
+        let above = match test {
+            Rest::Truth(TruthRest::Whiles(_, _, _)) => 2,
+            _ => 1,
+        };
+        match site_tested(test, t) {
+            Some(site) => self.reach(stacks.rests.len().saturating_add(above), site, store),
+            None => Ok(()),
+        }
+    }
+
+    /// Sees the body that a step entered, given the number of continuations below it, if one was. An assignment with which it begins may have
+    /// been performed; the stop before it is where the changes were counted before the step.
+    fn see_body(
+        &mut self,
+        below: usize,
+        stacks: &Stacks<'_>,
+        store: &mut Store,
+    ) -> Result<(), Memory>
+        ensures { store.new ≡ store.old }
+    {
+        let rests = stacks.rests.as_slice();
+        let at = match rests.get(below) {
+            Some(rest) if is_of_body(rest) => below.saturating_add(1),
+            _ => below,
+        };
+        let Some(listed) = rests.get(at) else {
+            return Ok(());
+        };
+        match site_of_first(listed) {
+            Some(site) if (site as usize) < self.recording.sites.len() => {
+                self.begin(at.saturating_add(2), site)?;
+                self.settle(site);
+                self.add(site, false, store)
+            }
+            _ => Ok(()),
+        }
+    }
+
+    /// Begins the command at this site, if it is one, and stops there unless it is a loop that tests after its body.
+    fn reach(&mut self, depth: usize, site: u32, store: &mut Store) -> Result<(), Memory>
+        ensures { store.new ≡ store.old }
+    {
+        let is_looped = match self.recording.sites.get(site as usize) {
+            Some(found) => matches!(found.kind, StopKind::Repeat),
+            None => return Ok(()),
+        };
+        self.begin(depth, site)?;
+        if is_looped {
+            return Ok(());
+        }
+        self.stop(site, false, store)
     }
 
     /// Sees a call of a primitive.
@@ -273,7 +388,9 @@ impl Recorder {
         ensures { store.new ≡ store.old }
     {
         let called = stacks.called;
-        self.leave(called.least.saturating_sub(1))?;
+        if self.least >= called.least {
+            self.leave(called.least.saturating_sub(1))?;
+        }
         let frame = Frame {
             routine: called.routine,
             base: called.frame,
@@ -284,6 +401,7 @@ impl Recorder {
             least: called.least,
             frame,
         })?;
+        self.least = called.least;
         self.recording.moves.push(Move::Enter(frame))?;
         if let Progress::On(Work::Evaluate(_, _)) = &stacks.next
             && let Some(site) = self.body()
@@ -341,7 +459,11 @@ fn with_past(recording: Recording, past: Past) -> Recording
 
 impl Observer for Recorder {
     fn before(&mut self, stacks: &Stacks<'_>, store: &mut Store) -> Result<(), Memory> {
-        self.leave(stacks.rests.len())?;
+        let depth = stacks.rests.len();
+        self.below = None;
+        if self.least > depth {
+            self.leave(depth)?;
+        }
         match &stacks.next {
             Progress::On(work) => self.see(work, stacks, store),
             _ => Ok(()),
@@ -349,6 +471,9 @@ impl Observer for Recorder {
     }
 
     fn after(&mut self, stacks: &Stacks<'_>, store: &mut Store) -> Result<(), Memory> {
+        if let Some(below) = self.below {
+            self.see_body(below, stacks, store)?;
+        }
         match stacks.next {
             Progress::On(_) => {
                 if stacks.called.least == 0 {

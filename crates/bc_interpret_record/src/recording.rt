@@ -5,7 +5,7 @@ ghost use Rattle.bc_interpret_store.specs.Changes.{Walks};
 ghost use Rattle.bc_interpret_record.specs.Stops.{changes_until, changes_before};
 
 use crate::moment::{make_moves, settle};
-use crate::site::{StopKind, StopSite};
+use crate::site::StopSite;
 use bc_interpret::{Ending, Outcome};
 use bc_interpret_store::{Cell, Change, between, walk};
 use bc_word::Memory;
@@ -99,14 +99,6 @@ impl Recording {
         }
     }
 
-    /// Whether this is the site of the test of a loop that tests after its body.
-    pub(crate) fn is_repeat(&self, site: u32) -> bool {
-        match self.sites.get(site as usize) {
-            Some(site) => matches!(site.kind, StopKind::Repeat),
-            None => false,
-        }
-    }
-
     /// Drops the stops, frames and moves before the stop `first`, which is the one with index `count`. `Memory` if an allocation fails.
     pub(crate) fn drop_stops(
         &mut self,
@@ -173,12 +165,24 @@ impl Recording {
     /// The moves that happened between the stop with this index and the one before it.
     pub fn moves_of(&self, stop: usize) -> &[Move] {
         let from = match stop.checked_sub(1) {
-            Some(before) => self.stops.get(before).map_or(0, |stop| stop.moves),
+            Some(before) => moves_until(&self.stops, before),
             None => 0,
         };
-        let to = self.stops.get(stop).map_or(0, |stop| stop.moves);
+        let to = moves_until(&self.stops, stop);
         self.moves.get(from..to).unwrap_or(&[])
     }
+
+    /// The moves that happened between two stops, of which the first has this index and the second one that isn't smaller.
+    pub(crate) fn moves_between(&self, from: usize, to: usize) -> &[Move] {
+        let from = moves_until(&self.stops, from);
+        let to = moves_until(&self.stops, to);
+        self.moves.get(from..to).unwrap_or(&[])
+    }
+}
+
+/// How many moves belong to a stop and the stops before it; 0 if there is no such stop.
+fn moves_until(stops: &[Stop], stop: usize) -> usize {
+    stops.get(stop).map_or(0, |stop| stop.moves)
 }
 
 /// Whether a run finished by itself.

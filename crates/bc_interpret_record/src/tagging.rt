@@ -1,15 +1,20 @@
 //! A copy of a section in which each command can be seen as it is begun.
 //!
-//! A step of `bc_interpret_steps` can perform several assignments. In the copy each command, and each LET with initial values, is in a block
-//! of its own that begins with a label to which nothing jumps. So the step that begins a command is one of its own, and the label's number,
-//! the *tag*, says which command it is. The meaning is the same: such a block declares nothing, and a label that nothing jumps to does
-//! nothing. `record` compares the two runs.
+//! A step of `bc_interpret_steps` can perform several assignments. In the copy each command, and each LET with initial values, has a label to
+//! which nothing jumps. Its number, the *tag*, says which command it is. The tag of a command follows it in its list; that of the last command
+//! is the first item of its list. So the two innermost continuations show the tag of a command that is begun by a step of its own. An
+//! assignment that can be begun by a step of another command is in a block of its own, except in two places, where its tag precedes it: after
+//! the tag of a command, since a step that goes on with the list begins there; and as the first command of a body, since the step that enters
+//! the body changes no cell before.
+//!
+//! The meaning is the same: such a block declares nothing, and a label to which nothing jumps does nothing. `record_run` compares the two runs.
 
 use crate::site::{InBody, StopKind, StopSite};
 use bc_core::{
-    Block, Body, Command, Condition, Declaration, ListItem, Place, Routine, Valof, Variable,
-    copy_expression,
+    Block, Body, Command, Condition, CoreExp, Declaration, ListItem, Place, Routine, Valof,
+    Variable, copy_expression,
 };
+use bc_interpret_steps::{ExitRest, Rest, TruthRest};
 use bc_word::Memory;
 use std::alloc::Global;
 
@@ -19,17 +24,74 @@ const FIRST_TAG: u16 = 65535;
 /// The greatest number of sites of a program. Commands after them can't be stopped at.
 const MOST_SITES: usize = 40_000;
 
-/// The site of a block that is a tagged command; `None` for another block.
-pub(crate) fn site_of(block: &Block) -> Option<u32> {
-    match block.list.as_slice() {
-        [ListItem::Label(tag), ListItem::Command(_)] => {
-            let site = u32::from(FIRST_TAG - *tag);
-            if (site as usize) < MOST_SITES && block.declarations.is_empty() {
-                Some(site)
-            } else {
-                None
-            }
+/// The site of a tag. That of another label isn't the number of a site.
+fn site_of(tag: u16) -> u32 {
+    u32::from(FIRST_TAG - tag)
+}
+
+/// The site of the command whose continuation is `rest`, above `below`; `None` if it has no tag.
+pub(crate) fn site_begun(rest: &Rest<'_>, below: &Rest<'_>) -> Option<u32> {
+    let Rest::Exit(ExitRest::Follows(_, following)) = rest else {
+        return None;
+    };
+    match following {
+        [ListItem::Label(tag), ..] => Some(site_of(*tag)),
+        [] => site_of_last(below),
+        _ => None,
+    }
+}
+
+/// The site of the last command of the list whose continuation this is; `None` if it has no tag.
+fn site_of_last(rest: &Rest<'_>) -> Option<u32> {
+    let Rest::Exit(ExitRest::Listed(_, items)) = rest else {
+        return None;
+    };
+    match items {
+        [ListItem::Label(tag), ListItem::Label(own), ..] if tag == own => None,
+        [ListItem::Label(tag), ..] => Some(site_of(*tag)),
+        _ => None,
+    }
+}
+
+/// The site of the assignment with which the list of this continuation begins; `None` if it begins otherwise.
+pub(crate) fn site_of_first(rest: &Rest<'_>) -> Option<u32> {
+    match rest {
+        Rest::Exit(ExitRest::Listed(_, items)) => site_next(items),
+        _ => None,
+    }
+}
+
+/// Whether this is the continuation of the body of a loop that tests before it.
+pub(crate) fn is_of_body(rest: &Rest<'_>) -> bool {
+    matches!(
+        rest,
+        Rest::Exit(ExitRest::WhileBody(_, _, _) | ExitRest::ForBody(_, _))
+    )
+}
+
+/// The site of the assignment that comes next if the test of this continuation has the truth `t`; `None` if something else does.
+pub(crate) fn site_tested(rest: &Rest<'_>, t: bool) -> Option<u32> {
+    match rest {
+        Rest::Truth(TruthRest::Ifs(_, sense, body)) if *sense == t => site_next(&body.list),
+        Rest::Truth(TruthRest::Whiles(_, condition, body)) if condition.sense == t => {
+            site_next(&body.list)
         }
+        Rest::Truth(TruthRest::Chooses(_, this, that)) => {
+            site_next(if t { &this.list } else { &that.list })
+        }
+        _ => None,
+    }
+}
+
+/// The site of the assignment with which these items of a list begin, after a tag; `None` if they begin otherwise.
+pub(crate) fn site_next(items: &[ListItem]) -> Option<u32> {
+    match items {
+        [
+            ListItem::Label(_),
+            ListItem::Label(tag),
+            ListItem::Command(_),
+            ..
+        ] => Some(site_of(*tag)),
         _ => None,
     }
 }
@@ -43,19 +105,24 @@ pub(crate) struct TaggedSection {
     pub valofs: Vec<Valof>,
 }
 
-/// A list of one command.
-fn only(alloc: Global, command: Command) -> Result<Vec<ListItem>, Memory> {
-    let mut list = Vec::new(alloc);
-    list.push(ListItem::Command(command))?;
-    Ok(list)
-}
-
 /// A block without declarations.
 fn bare(alloc: Global, list: Vec<ListItem>) -> Block {
     Block {
         declarations: Vec::new(alloc),
         list,
     }
+}
+
+/// A command in a block of its own.
+fn alone(alloc: Global, command: Command) -> Result<Command, Memory> {
+    let mut list = Vec::new(alloc);
+    list.push(ListItem::Command(command))?;
+    Ok(Command::Nested(bare(alloc, list)))
+}
+
+/// Whether an assignment of this value is always begun by a step of its own.
+fn is_call(value: &CoreExp) -> bool {
+    matches!(value, CoreExp::Call(_, _) | CoreExp::Valof(_))
 }
 
 /// A copy of a condition.
@@ -99,6 +166,10 @@ pub(crate) struct Tagger {
     body: InBody,
     roots: u64,
     skipped: u64,
+    /// Whether the item before in the list is the tag of the command before.
+    follows_tag: bool,
+    /// Whether the list is that of a body without declarations. Only known until its first command has been appended.
+    begins_body: bool,
 }
 
 impl Tagger {
@@ -111,6 +182,8 @@ impl Tagger {
             body: InBody::Routine(0),
             roots: 0,
             skipped: 0,
+            follows_tag: false,
+            begins_body: false,
         }
     }
 
@@ -152,26 +225,45 @@ impl Tagger {
         self.skipped = 0;
     }
 
-    /// A list in which this command has its tag.
-    fn tagged(&self, tag: Option<u16>, command: Command) -> Result<Vec<ListItem>, Memory> {
-        let Some(tag) = tag else {
-            return only(self.alloc, command);
-        };
-        let mut list = Vec::new(self.alloc);
-        list.push(ListItem::Label(tag))?;
+    /// Appends a command, and its tag after it.
+    fn add(
+        &mut self,
+        tag: Option<u16>,
+        command: Command,
+        list: &mut Vec<ListItem>,
+    ) -> Result<(), Memory> {
         list.push(ListItem::Command(command))?;
-        only(self.alloc, Command::Nested(bare(self.alloc, list)))
+        self.follows_tag = tag.is_some();
+        if let Some(tag) = tag {
+            list.push(ListItem::Label(tag))?;
+        }
+        Ok(())
     }
 
-    /// A command with its tag, as a command.
-    fn with_tag(&self, tag: Option<u16>, command: Command) -> Result<Command, Memory> {
-        let Some(tag) = tag else {
-            return Ok(command);
-        };
-        let mut list = Vec::new(self.alloc);
+    /// Appends a command, and its tag before it, after another tag.
+    fn add_after(
+        &mut self,
+        tag: u16,
+        command: Command,
+        list: &mut Vec<ListItem>,
+    ) -> Result<(), Memory> {
+        if !self.follows_tag {
+            list.push(ListItem::Label(tag))?;
+        }
         list.push(ListItem::Label(tag))?;
         list.push(ListItem::Command(command))?;
-        Ok(Command::Nested(bare(self.alloc, list)))
+        self.follows_tag = false;
+        Ok(())
+    }
+
+    /// A list of one command with its tag.
+    fn only(&self, tag: Option<u16>, command: Command) -> Result<Vec<ListItem>, Memory> {
+        let mut list = Vec::new(self.alloc);
+        if let Some(tag) = tag {
+            list.push(ListItem::Label(tag))?;
+        }
+        list.push(ListItem::Command(command))?;
+        Ok(list)
     }
 
     /// The tags of declarations; `None` for one without initial values.
@@ -210,7 +302,7 @@ impl Tagger {
                 declarations,
                 list: inner,
             };
-            inner = self.tagged(*tag, Command::Nested(block))?;
+            inner = self.only(*tag, Command::Nested(block))?;
             left = before;
             left_tags = tags_before;
         }
@@ -221,129 +313,198 @@ impl Tagger {
     #[cycle(tagging)]
     fn block(&mut self, block: &Block) -> Result<Block, Memory> {
         let tags = self.tags_of(&block.declarations)?;
-        let list = self.items(&block.list)?;
+        let list = self.items(&block.list, false)?;
         self.declared(&block.declarations, tags.as_slice(), list)
     }
 
-    /// A list with tags.
+    /// The body of an IF, TEST, WHILE or FOR with tags.
     #[cycle(tagging)]
-    fn items(&mut self, items: &[ListItem]) -> Result<Vec<ListItem>, Memory> {
-        let mut list = Vec::new(self.alloc);
-        for item in items {
-            list.push(self.item(item)?)?;
+    fn body(&mut self, block: &Block) -> Result<Block, Memory> {
+        if !block.declarations.is_empty() {
+            return self.block(block);
         }
+        let list = self.items(&block.list, true)?;
+        Ok(bare(self.alloc, list))
+    }
+
+    /// A list with tags. If `is_body`, it is that of a body without declarations.
+    #[cycle(tagging)]
+    fn items(&mut self, items: &[ListItem], is_body: bool) -> Result<Vec<ListItem>, Memory> {
+        let mut list = Vec::new(self.alloc);
+        self.follows_tag = false;
+        self.begins_body = is_body;
+        for item in items {
+            self.item(item, &mut list)?;
+        }
+        self.tag_last(&mut list)?;
         Ok(list)
     }
 
-    /// An item with its tags.
+    /// Puts the tag of the last command, if it has one after it, before the first item, or in place of a first tag that is repeated.
+    fn tag_last(&self, list: &mut Vec<ListItem>) -> Result<(), Memory> {
+        if !self.follows_tag {
+            return Ok(());
+        }
+        let Some(tag) = list.pop() else {
+            return Ok(());
+        };
+        if let [ListItem::Label(first), ListItem::Label(second), ..] = list.as_slice()
+            && first == second
+            && let Some(place) = list.first_mut()
+        {
+            *place = tag;
+            return Ok(());
+        }
+        list.insert(0, tag)?;
+        Ok(())
+    }
+
+    /// Appends an item with its tags.
     #[cycle(tagging)]
-    fn item(&mut self, item: &ListItem) -> Result<ListItem, Memory> {
-        match item {
-            ListItem::Command(command) => Ok(ListItem::Command(self.command(command)?)),
-            ListItem::Case(word) => Ok(ListItem::Case(*word)),
-            ListItem::Default => Ok(ListItem::Default),
-            ListItem::Label(label) => Ok(ListItem::Label(*label)),
+    fn item(&mut self, item: &ListItem, list: &mut Vec<ListItem>) -> Result<(), Memory> {
+        let entry = match item {
+            ListItem::Command(command) => return self.command(command, list),
+            ListItem::Case(word) => ListItem::Case(*word),
+            ListItem::Default => ListItem::Default,
+            ListItem::Label(label) => ListItem::Label(*label),
+        };
+        self.follows_tag = false;
+        list.push(entry)?;
+        Ok(())
+    }
+
+    /// Appends a command without a root.
+    fn plain(
+        &mut self,
+        kind: StopKind,
+        command: Command,
+        list: &mut Vec<ListItem>,
+    ) -> Result<(), Memory> {
+        let tag = self.tag(kind)?;
+        self.skipped = self.skipped.saturating_add(1);
+        self.add(tag, command, list)
+    }
+
+    /// Appends a command of one root and no blocks.
+    fn simple(
+        &mut self,
+        kind: StopKind,
+        command: Command,
+        list: &mut Vec<ListItem>,
+    ) -> Result<(), Memory> {
+        let tag = self.tag(kind)?;
+        self.pass(1);
+        self.add(tag, command, list)
+    }
+
+    /// Appends an assignment.
+    fn assignment(
+        &mut self,
+        value: &CoreExp,
+        address: &CoreExp,
+        list: &mut Vec<ListItem>,
+    ) -> Result<(), Memory> {
+        let alloc = self.alloc;
+        let command = Command::Assign {
+            value: copy_expression(alloc, value)?,
+            address: copy_expression(alloc, address)?,
+        };
+        let tag = self.tag(StopKind::Assign)?;
+        self.pass(1);
+        let begins_body = self.begins_body && list.is_empty();
+        match tag {
+            Some(tag) if self.follows_tag || begins_body => self.add_after(tag, command, list),
+            Some(tag) if !is_call(value) => self.add(Some(tag), alone(alloc, command)?, list),
+            _ => self.add(tag, command, list),
         }
     }
 
-    /// A command without a root, with its tag.
-    fn plain(&mut self, kind: StopKind, command: Command) -> Result<Command, Memory> {
-        let tag = self.tag(kind)?;
-        self.skipped = self.skipped.saturating_add(1);
-        self.with_tag(tag, command)
-    }
-
-    /// A command of one root and no blocks, with its tag.
-    fn simple(&mut self, kind: StopKind, command: Command) -> Result<Command, Memory> {
-        let tag = self.tag(kind)?;
-        self.pass(1);
-        self.with_tag(tag, command)
-    }
-
-    /// A command with its tags.
+    /// Appends a command with its tags.
     #[cycle(tagging)]
-    fn command(&mut self, command: &Command) -> Result<Command, Memory> {
+    fn command(&mut self, command: &Command, list: &mut Vec<ListItem>) -> Result<(), Memory> {
         let alloc = self.alloc;
         match command {
             Command::Call(call) => {
                 let call = copy_expression(alloc, call)?;
-                self.simple(StopKind::Call, Command::Call(call))
+                self.simple(StopKind::Call, Command::Call(call), list)
             }
-            Command::Assign { value, address } => {
-                let value = copy_expression(alloc, value)?;
-                let address = copy_expression(alloc, address)?;
-                self.simple(StopKind::Assign, Command::Assign { value, address })
-            }
+            Command::Assign { value, address } => self.assignment(value, address, list),
             Command::ResultIs(value) => {
                 let value = copy_expression(alloc, value)?;
-                self.simple(StopKind::ResultIs, Command::ResultIs(value))
+                self.simple(StopKind::ResultIs, Command::ResultIs(value), list)
             }
             Command::If(_, _) | Command::Test(_, _, _) | Command::While(_, _) => {
-                self.conditional(command)
+                self.conditional(command, list)
             }
             Command::Repeat(_) | Command::RepeatWhile(_, _) | Command::For { .. } => {
-                self.looped(command)
+                self.looped(command, list)
             }
             Command::SwitchOn(value, items) => {
                 let value = copy_expression(alloc, value)?;
                 let tag = self.tag(StopKind::Switch)?;
                 self.pass(1);
-                let items = self.items(items)?;
-                self.with_tag(tag, Command::SwitchOn(value, items))
+                let items = self.items(items, false)?;
+                self.add(tag, Command::SwitchOn(value, items), list)
             }
-            Command::Nested(block) => Ok(Command::Nested(self.block(block)?)),
-            Command::Break => self.plain(StopKind::Break, Command::Break),
-            Command::Loop => self.plain(StopKind::Loop, Command::Loop),
-            Command::EndCase => self.plain(StopKind::EndCase, Command::EndCase),
-            Command::Return => self.plain(StopKind::Return, Command::Return),
-            Command::Finish => self.plain(StopKind::Finish, Command::Finish),
-            Command::Goto(label) => self.plain(StopKind::Goto, Command::Goto(*label)),
+            Command::Nested(block) => {
+                let block = self.block(block)?;
+                self.add(None, Command::Nested(block), list)
+            }
+            Command::Break => self.plain(StopKind::Break, Command::Break, list),
+            Command::Loop => self.plain(StopKind::Loop, Command::Loop, list),
+            Command::EndCase => self.plain(StopKind::EndCase, Command::EndCase, list),
+            Command::Return => self.plain(StopKind::Return, Command::Return, list),
+            Command::Finish => self.plain(StopKind::Finish, Command::Finish, list),
+            Command::Goto(label) => self.plain(StopKind::Goto, Command::Goto(*label), list),
         }
     }
 
-    /// An IF, TEST or WHILE with its tags; another command as a FINISH, which doesn't occur.
+    /// Appends an IF, TEST or WHILE with its tags; nothing for another command, which doesn't occur.
     #[cycle(tagging)]
-    fn conditional(&mut self, command: &Command) -> Result<Command, Memory> {
+    fn conditional(&mut self, command: &Command, list: &mut Vec<ListItem>) -> Result<(), Memory> {
         let alloc = self.alloc;
         match command {
             Command::If(condition, body) => {
                 let condition = condition_of(alloc, condition)?;
                 let tag = self.tag(StopKind::If)?;
                 self.pass(1);
-                let body = self.block(body)?;
-                self.with_tag(tag, Command::If(condition, body))
+                let body = self.body(body)?;
+                self.add(tag, Command::If(condition, body), list)
             }
             Command::Test(test, this, that) => {
                 let test = copy_expression(alloc, test)?;
                 let tag = self.tag(StopKind::Test)?;
                 self.pass(1);
-                let this = self.block(this)?;
-                let that = self.block(that)?;
-                self.with_tag(tag, Command::Test(test, this, that))
+                let this = self.body(this)?;
+                let that = self.body(that)?;
+                self.add(tag, Command::Test(test, this, that), list)
             }
             Command::While(condition, body) => {
                 let condition = condition_of(alloc, condition)?;
                 let tag = self.tag(StopKind::While)?;
                 self.pass(1);
-                let body = self.block(body)?;
-                self.with_tag(tag, Command::While(condition, body))
+                let body = self.body(body)?;
+                self.add(tag, Command::While(condition, body), list)
             }
-            _ => Ok(Command::Finish),
+            _ => Ok(()),
         }
     }
 
-    /// A REPEAT, REPEATWHILE or FOR with its tags; another command as a FINISH, which doesn't occur.
+    /// Appends a REPEAT, REPEATWHILE or FOR with its tags; nothing for another command, which doesn't occur.
     #[cycle(tagging)]
-    fn looped(&mut self, command: &Command) -> Result<Command, Memory> {
+    fn looped(&mut self, command: &Command, list: &mut Vec<ListItem>) -> Result<(), Memory> {
         let alloc = self.alloc;
         match command {
-            Command::Repeat(body) => Ok(Command::Repeat(self.block(body)?)),
+            Command::Repeat(body) => {
+                let body = self.block(body)?;
+                self.add(None, Command::Repeat(body), list)
+            }
             Command::RepeatWhile(body, condition) => {
                 let body = self.block(body)?;
                 let tag = self.tag(StopKind::Repeat)?;
                 self.pass(1);
                 let condition = condition_of(alloc, condition)?;
-                self.with_tag(tag, Command::RepeatWhile(body, condition))
+                self.add(tag, Command::RepeatWhile(body, condition), list)
             }
             Command::For {
                 start,
@@ -355,18 +516,16 @@ impl Tagger {
                 let limit = copy_expression(alloc, limit)?;
                 let tag = self.tag(StopKind::For)?;
                 self.pass(2);
-                let body = self.block(body)?;
-                self.with_tag(
-                    tag,
-                    Command::For {
-                        start,
-                        limit,
-                        by: *by,
-                        body,
-                    },
-                )
+                let body = self.body(body)?;
+                let command = Command::For {
+                    start,
+                    limit,
+                    by: *by,
+                    body,
+                };
+                self.add(tag, command, list)
             }
-            _ => Ok(Command::Finish),
+            _ => Ok(()),
         }
     }
 

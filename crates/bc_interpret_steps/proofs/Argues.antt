@@ -1,11 +1,13 @@
 -- Pure arguments, which are evaluated within one step.
 use Rattle.std.proofs.Common.{◌≡◌, ◌+◌, ℕ, true, false, List, [], ◌∷◌, ◌++◌, length, Option, Some, refl, sym, ap, subst, ◌∙◌, arith}
-use Rattle.bc_machine_defs.specs.Streams.{Content}
 use Rattle.bc_core.specs.Tree.{Exp, Call, Args, no_argument, argument}
 use Rattle.bc_core.specs.View.{exp, args}
 use Rattle.bc_core.specs.declared.expression.CoreExp.{CoreExp}
 use Rattle.bc_core.specs.Level.{routine_level}
+use Rattle.bc_core.specs.Outcome as outcomes
 use Rattle.bc_core.specs.Outcome.{followed, then_do}
+use Rattle.bc_interpret_defs.specs.Meeting.{KeepsWords}
+use Rattle.bc_interpret_defs.proofs.Wordwise.{value_kept}
 use Rattle.bc_core.specs.Value.{has_call, value}
 use Rattle.bc_interpret_defs.specs.Machine as machine
 use Rattle.bc_interpret_defs.specs.Machine.{quiet, give, argue, evaluate_parts}
@@ -36,11 +38,11 @@ abbrev onward : machine.Spot → List ℕ → Args → (level : ℕ) → Exp →
 onward E vs es level f n s rs v = argue E (vs ++ (v ∷ [])) es (level + 1) f n s rs
 
 pub given_one : (st : State) (E : machine.Spot) (vs gs : List ℕ) (e : Exp) (es : Args) (level level1 : ℕ) (f : Exp) (n s : ℕ) (rs rs1 : List machine.Rest) (v : ℕ) → has_call e ≡ false → quiet_forms.Is v ≡ (worth (sight st E) e).value → level1 ≡ level + 1 → gs ≡ vs ++ v ∷ [] → rs1 ≡ rs
-    → (streams : Content) → argue E vs (argument e es) level f n s rs (state_of st streams) ≡ argue E gs es level1 f n s rs1 (state_of st streams)
-given_one st E vs gs e es level level1 f n s rs rs1 v plain is is_level is_given is_rests streams =
-    ap (λ t. by_test t (waits E vs e es level f n s rs) (then_do (value (quiet E) e E.frame level) (onward E vs es level f n s rs)) (state_of st streams)) plain
-    ∙ (ap (λ o. followed o (onward E vs es level f n s rs)) (quiet_value st E e level streams plain (worths.Is v) is)
-    ∙ (λ i. argue E (sym is_given i) es (sym is_level i) f n s (sym is_rests i) (state_of st streams)))
+    → (st1 : outcomes.State) → KeepsWords st.store st1 → argue E vs (argument e es) level f n s rs st1 ≡ argue E gs es level1 f n s rs1 st1
+given_one st E vs gs e es level level1 f n s rs rs1 v plain is is_level is_given is_rests st1 keeps =
+    ap (λ t. by_test t (waits E vs e es level f n s rs) (then_do (value (quiet E) e E.frame level) (onward E vs es level f n s rs)) st1) plain
+    ∙ (ap (λ o. followed o (onward E vs es level f n s rs)) (value_kept E.address (λ r vs f. outcomes.wild) (λ n p s. outcomes.wild) e plain E.frame level st.store st1 (quiet_forms.Is v) is (λ n. n) keeps)
+    ∙ (λ i. argue E (sym is_given i) es (sym is_level i) f n s (sym is_rests i) st1))
 
 pub argue_divides : (st : State) (E : machine.Spot) (vs : List ℕ) (e : Exp) (es : Args) (level : ℕ) (f : Exp) (n s : ℕ) (rs rs1 : List machine.Rest) (ws : List ℕ) → has_call e ≡ false → quiet_forms.Divides ≡ (worth (sight st E) e).value → Came (argue E vs (argument e es) level f n s rs) st (progress.Ended endings.ZeroDivide) rs1 ws st
 argue_divides st E vs e es level f n s rs rs1 ws plain is =
@@ -78,31 +80,31 @@ last_calls st E vs level f n s p rs rs1 ws calls h =
 
 -- the outcome of an argument, or of the routine after the last one, is the outcome of all arguments
 pub argued_over : (a now : Arguments) (first : CoreExp) (following : List CoreExp) (before cur after : List Rest) (st : State) (g : Given) (p : Progress) → IsGivenOne now first following cur st g p after → g ≡ forms.Over → now.left.now ≡ first ∷ following
-    → ((streams : Content) → Argued a before (stack before) (state_of st streams) ≡ Argued now cur (stack cur) (state_of st streams)) → Goes (Argued a before) before st p after st
+    → ((st1 : outcomes.State) → KeepsWords st.store st1 → Argued a before (stack before) st1 ≡ Argued now cur (stack cur) st1) → Goes (Argued a before) before st p after st
 argued_over a now first following before cur after st g p h is split kept =
     let P : Given → Type 0 = λ x. IsGivenOne now first following cur st x p after in
     let E = spot_of now.site in
     let vs = given_for now.fresh (given cur) in
     let rest : Args → machine.Step = λ es. argue E vs es now.level (exp now.routine.now) now.count now.site.level (stack cur) in
-    same_came (Argued a before (stack before)) (rest (argument (exp first) (args following))) st p (stack after) (given after) st (λ streams. kept streams ∙ ap (λ xs. rest (args xs) (state_of st streams)) split) (subst P is h)
+    same_came (Argued a before (stack before)) (rest (argument (exp first) (args following))) st p (stack after) (given after) st (λ st1 keeps. kept st1 keeps ∙ ap (λ xs. rest (args xs) st1) split) (subst P is h)
 
 no_more : (es : List CoreExp) → length es ≡ 0 → es ≡ []
 no_more [] e = refl
 no_more (x ∷ es) e = absurd (omega arith)
 
 pub argued_last : (a now : Arguments) (before cur after : List Rest) (st : State) (p : Progress) → Goes (ArguedLast now cur) cur st p after st → length now.left.now ≡ 0
-    → ((streams : Content) → Argued a before (stack before) (state_of st streams) ≡ Argued now cur (stack cur) (state_of st streams)) → Goes (Argued a before) before st p after st
+    → ((st1 : outcomes.State) → KeepsWords st.store st1 → Argued a before (stack before) st1 ≡ Argued now cur (stack cur) st1) → Goes (Argued a before) before st p after st
 argued_last a now before cur after st p h none kept =
     let E = spot_of now.site in
     let vs = given_for now.fresh (given cur) in
     let rest : Args → machine.Step = λ es. argue E vs es now.level (exp now.routine.now) now.count now.site.level (stack cur) in
-    same_came (Argued a before (stack before)) (rest no_argument) st p (stack after) (given after) st (λ streams. kept streams ∙ ap (λ xs. rest (args xs) (state_of st streams)) (no_more now.left.now none)) h
+    same_came (Argued a before (stack before)) (rest no_argument) st p (stack after) (given after) st (λ st1 keeps. kept st1 keeps ∙ ap (λ xs. rest (args xs) st1) (no_more now.left.now none)) h
 
 -- beginning the arguments of a call
 pub call_begun : (E : machine.Spot) (es : List CoreExp) (f : Exp) (s level n : ℕ) (rs : List machine.Rest) (st : State) (p : Progress) (rs1 : List machine.Rest) (vs : List ℕ) → level ≡ s + 2 → n ≡ length es
     → Came (argue E [] (args es) level f n s rs) st p rs1 vs st → Came (evaluate_parts E (Call (args es) f) s rs) st p rs1 vs st
 call_begun E es f s level n rs st p rs1 vs is_level is_count h =
     same_came (evaluate_parts E (Call (args es) f) s rs) (argue E [] (args es) level f n s rs) st p rs1 vs st
-    (λ streams. sym (λ i. argue E [] (args es) (is_level i) f ((is_count ∙ sym (count_args es)) i) s rs (state_of st streams))) h
+    (λ st1 keeps. sym (λ i. argue E [] (args es) (is_level i) f ((is_count ∙ sym (count_args es)) i) s rs st1)) h
 
 pub ruleset of_an_argument = (given_one, argue_divides, argue_calls)

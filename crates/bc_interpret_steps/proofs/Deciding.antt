@@ -35,11 +35,11 @@ by_calls false f g = g refl
 -- one step into an expression
 pub came_into : (program : List Placed) (old : State) (E : machine.Spot) (e : Exp) (s : ℕ) (rs : List machine.Rest) (p : Progress) (rs1 : List machine.Rest) (vs : List ℕ) → CameOrMalformed (evaluate E e s rs) old p rs1 vs old → Ran program (evaluating E e s rs) old p rs1 vs old
 came_into program old E e s rs p rs1 vs h =
-    ran program (machine.Evaluate E e s) rs old p rs1 vs old (stepped_loosely program (machine.Evaluate E e s) rs old p rs1 vs old tt h)
+    ran program (machine.Evaluate E e s) rs old p rs1 vs old (stepped_loosely program (machine.Evaluate E e s) rs old p rs1 vs old (λ v vs f k. let w = k.work in cc) tt h)
 
 pub came_exactly : (program : List Placed) (old : State) (E : machine.Spot) (e : Exp) (s : ℕ) (rs : List machine.Rest) (p : Progress) (rs1 : List machine.Rest) (vs : List ℕ) → Came (evaluate E e s rs) old p rs1 vs old → Ran program (evaluating E e s rs) old p rs1 vs old
 came_exactly program old E e s rs p rs1 vs h =
-    ran program (machine.Evaluate E e s) rs old p rs1 vs old (stepped program (machine.Evaluate E e s) rs old p rs1 vs old tt h)
+    ran program (machine.Evaluate E e s) rs old p rs1 vs old (stepped program (machine.Evaluate E e s) rs old p rs1 vs old (λ v vs f k. let w = k.work in cc) tt h)
 
 -- a pure condition
 abbrev chosen : machine.Spot → (x y : Exp) → ℕ → List machine.Rest → Bool → machine.Step

@@ -2,7 +2,6 @@
 use Rattle.std.proofs.Common.{◌≡◌, ◌+◌, ℕ, Vec, List, [], ◌∷◌, ◌++◌, reverse, Option, Some, refl, sym, ap, subst, ◌∙◌, append_assoc}
 use Rattle.std.proofs.lemmas.List.{append-nil, reverse-append}
 use Rattle.std.specs.declared.alloc.Global.{Global}
-use Rattle.bc_machine_defs.specs.Streams.{Content}
 use Rattle.bc_core.specs.Map.{Placed}
 use Rattle.bc_core.specs.Meaning.{callee}
 use Rattle.bc_core.specs.Tree.{Exp, Call, Args, no_argument, argument, count}
@@ -10,6 +9,8 @@ use Rattle.bc_core.specs.Level.{argument_level}
 use Rattle.bc_core.specs.View.{exp, args}
 use Rattle.bc_core.specs.declared.expression.CoreExp.{CoreExp}
 use Rattle.bc_interpret_defs.specs.Machine as machine
+use Rattle.bc_core.specs.Outcome as outcomes
+use Rattle.bc_interpret_defs.specs.Meeting.{KeepsWords}
 use Rattle.bc_interpret_defs.specs.Machine.{argue, evaluate_parts}
 use Rattle.bc_interpret_defs.specs.Quiet as quiet_forms
 use Rattle.bc_interpret_pure.specs.declared.value.Worth.{Worth}
@@ -51,14 +52,14 @@ all_done S all left vs h none =
     subst P (sym (h.split ∙ ap (λ q. q ++ h.done) none)) h.worths
 
 -- the arguments are given one by one
-all_given : (st : State) (E : machine.Spot) (ws vs : List ℕ) (es : Args) (level : ℕ) (f : Exp) (n s : ℕ) (rs : List machine.Rest) → AreWorth (sight st E) es vs → (streams : Content) → argue E ws es level f n s rs (state_of st streams) ≡ argue E (ws ++ vs) no_argument level f n s rs (state_of st streams)
-all_given st E ws [] no_argument level f n s rs h streams = ap (λ xs. argue E xs no_argument level f n s rs (state_of st streams)) (sym (append-nil ws))
-all_given st E ws (v ∷ vs) no_argument level f n s rs h streams = absurd h
-all_given st E ws [] (argument e es) level f n s rs h streams = absurd h
-all_given st E ws (v ∷ vs) (argument e es) level f n s rs h streams =
-    given_one st E ws (ws ++ v ∷ []) e es level (level + 1) f n s rs rs v h.0 h.1 refl refl refl streams
-    ∙ (all_given st E (ws ++ v ∷ []) vs es (level + 1) f n s rs h.2 streams
-    ∙ ap (λ xs. argue E xs no_argument level f n s rs (state_of st streams)) (append_assoc ws (v ∷ []) vs))
+all_given : (st : State) (E : machine.Spot) (ws vs : List ℕ) (es : Args) (level : ℕ) (f : Exp) (n s : ℕ) (rs : List machine.Rest) → AreWorth (sight st E) es vs → (st1 : outcomes.State) → KeepsWords st.store st1 → argue E ws es level f n s rs st1 ≡ argue E (ws ++ vs) no_argument level f n s rs st1
+all_given st E ws [] no_argument level f n s rs h st1 keeps = ap (λ xs. argue E xs no_argument level f n s rs st1) (sym (append-nil ws))
+all_given st E ws (v ∷ vs) no_argument level f n s rs h st1 keeps = absurd h
+all_given st E ws [] (argument e es) level f n s rs h st1 keeps = absurd h
+all_given st E ws (v ∷ vs) (argument e es) level f n s rs h st1 keeps =
+    given_one st E ws (ws ++ v ∷ []) e es level (level + 1) f n s rs rs v h.0 h.1 refl refl refl st1 keeps
+    ∙ (all_given st E (ws ++ v ∷ []) vs es (level + 1) f n s rs h.2 st1 keeps
+    ∙ ap (λ xs. argue E xs no_argument level f n s rs st1) (append_assoc ws (v ∷ []) vs))
 
 -- the routine's value is called after them
 pub called_ran : (program : List Placed) (old : State) (E : machine.Spot) (es : Args) (f : Exp) (s frame v : ℕ) (vs : List ℕ) (rs : List machine.Rest) (p : Progress) (rs1 : List machine.Rest) (vs1 : List ℕ) (new : State)
@@ -71,7 +72,7 @@ called_ran program old E es f s frame v vs rs p rs1 vs1 new is at h =
     let last : Came (argue E vs no_argument (argument_level s) f n s rs) old (progress.On (works.Number v)) following [] old =
     last_valued old E vs (argument_level s) f n s rs following [] (Some (worths.Is v)) (worths.Is v) (progress.On (works.Number v)) (is.1, is.2) refl refl refl in
     let first : Passes program old from (from ∷ []) (giving v following) =
-    (refl, tt, λ streams. all_given old E [] vs es (argument_level s) f n s rs is.0 streams ∙ last streams) in
+    (refl, tt, λ streams. all_given old E [] vs es (argument_level s) f n s rs is.0 (state_of old streams) (λ b w i. i) ∙ last streams) in
     record {
       middle = giving v following;
       along = from ∷ [];

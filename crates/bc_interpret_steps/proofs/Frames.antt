@@ -26,7 +26,7 @@ pub no_turn : (f size : ℕ) (old new : State) → f + size ≤ 65536 → Turned
 no_turn f size old new h t r streams = ap (λ t. choose t (in_turn r) wild (state_of old streams)) (below_true (f + size) 65536 h) ∙ t.0 r streams
 
 pub fits : (f size : ℕ) (old new : State) → f + size ≤ 65536 → Turned true old new → new.store ≡ old.store → Framed forms.Fits f size old new
-fits f size old new h t e = (λ r streams. ap (λ t. choose t (in_turn r) wild (state_of old streams)) (below_true (f + size) 65536 h) ∙ t r streams, e)
+fits f size old new h t e = (λ r streams. ap (λ t. choose t (in_turn r) wild (state_of old streams)) (below_true (f + size) 65536 h) ∙ t r streams, e, h)
 
 -- a primitive that is called
 pub served : (q : Primitive) (f from : ℕ) (us : List ℕ) (rs : List machine.Rest) (old mid new : State) → Framed forms.Fits f 3 old mid → from ≡ f + 2 → new.store ≡ passed 1 from us mid.store → new.turns ≡ mid.turns → IsServed (machine.arrive (Some (OfLibrary q)) us f rs) (Some (OfLibrary q)) us f q f old rs new
@@ -38,4 +38,5 @@ served q f from us rs old mid new framed at e t =
       frame = refl;
       is_primitive = refl;
       has_argument = put ∙ ap (λ cells. passed 1 (f + 2) us cells) framed.1;
+      fits = framed.2;
     }

@@ -11,42 +11,70 @@ use Rattle.bc_interpret_defs.specs.Running.{Moves}
 use Rattle.bc_interpret_steps.specs.declared.state.State.{State}
 use Rattle.bc_interpret_steps.specs.declared.forms.Progress.{Progress}
 use Rattle.bc_interpret_steps.specs.declared.forms.Progress.TheVariants as progress
+use Rattle.bc_interpret_steps.specs.declared.continuations.NumberRest.{NumberRest}
+use Rattle.bc_interpret_steps.specs.declared.continuations.NumberRest.TheVariants as number_rests
+use Rattle.bc_interpret_steps.specs.declared.continuations.ValueRest.{ValueRest}
+use Rattle.bc_interpret_steps.specs.declared.continuations.ValueRest.TheVariants as value_rests
+use Rattle.bc_interpret_steps.specs.Code.{number_rest, value_rest}
 use Rattle.bc_interpret_steps.specs.Came.{state_of, Came, CameOrMalformed}
 use Rattle.bc_interpret_steps.specs.Arrived.{Lands}
 use Rattle.bc_interpret_steps.specs.Stepped.{Stepped}
 
-pub stepped : (program : List Placed) (w : machine.Work) (rs : List machine.Rest) (old : State) (p : Progress) (rs1 : List machine.Rest) (vs1 : List ℕ) (new : State) → Moves w rs → Came (step program w rs) old p rs1 vs1 new → Stepped program w rs old p rs1 vs1 new
-stepped program w rs old (progress.On x) rs1 vs1 new m h = (m, h)
-stepped program w rs old (progress.Serve q f) rs1 vs1 new m h = absurd h
-stepped program w rs old progress.Answered rs1 vs1 new m h = absurd h
-stepped program w rs old (progress.Ended e) rs1 vs1 new m h = (m, h)
-stepped program w rs old progress.Going rs1 vs1 new m h = (m, h)
-stepped program w rs old (progress.Wild c) rs1 vs1 new m h = (m, h.0, ByCell h.1)
+-- the step isn't a call
+abbrev pub NoCall : machine.Work → List machine.Rest → Type 0
+NoCall w rs = (v : ℕ) (vs : List ℕ) (f : ℕ) → IsCall w rs v vs f → ⊥
 
-pub malformed : (program : List Placed) (w : machine.Work) (rs : List machine.Rest) (old : State) (rs1 : List machine.Rest) (vs1 : List ℕ) (new : State) → Moves w rs → ((st : outcomes.State) → step program w rs st ≡ outcomes.Wild) → Stepped program w rs old (progress.Wild causes.Malformed) rs1 vs1 new
-malformed program w rs old rs1 vs1 new m h = (m, λ streams. h (state_of old streams), ByForm refl h)
+pub stepped : (program : List Placed) (w : machine.Work) (rs : List machine.Rest) (old : State) (p : Progress) (rs1 : List machine.Rest) (vs1 : List ℕ) (new : State) → NoCall w rs → Moves w rs → Came (step program w rs) old p rs1 vs1 new → Stepped program w rs old p rs1 vs1 new
+stepped program w rs old (progress.On x) rs1 vs1 new n m h = (m, h)
+stepped program w rs old (progress.Serve q f) rs1 vs1 new n m h = absurd h
+stepped program w rs old progress.Answered rs1 vs1 new n m h = absurd h
+stepped program w rs old (progress.Ended e) rs1 vs1 new n m h = (m, h)
+stepped program w rs old progress.Going rs1 vs1 new n m h = (m, h)
+stepped program w rs old (progress.Wild c) rs1 vs1 new n m h = (m, h.0, ByCell n h.1)
 
-pub stepped_loosely : (program : List Placed) (w : machine.Work) (rs : List machine.Rest) (old : State) (p : Progress) (rs1 : List machine.Rest) (vs1 : List ℕ) (new : State) → Moves w rs → CameOrMalformed (step program w rs) old p rs1 vs1 new → Stepped program w rs old p rs1 vs1 new
-stepped_loosely program w rs old (progress.On x) rs1 vs1 new m h = (m, h)
-stepped_loosely program w rs old (progress.Serve q f) rs1 vs1 new m h = absurd h
-stepped_loosely program w rs old progress.Answered rs1 vs1 new m h = absurd h
-stepped_loosely program w rs old (progress.Ended e) rs1 vs1 new m h = (m, h)
-stepped_loosely program w rs old progress.Going rs1 vs1 new m h = (m, h)
-stepped_loosely program w rs old (progress.Wild (causes.Unset a)) rs1 vs1 new m h = (m, h.0, ByCell h.1)
-stepped_loosely program w rs old (progress.Wild (causes.Dead a)) rs1 vs1 new m h = (m, h.0, ByCell h.1)
-stepped_loosely program w rs old (progress.Wild (causes.NoCell a)) rs1 vs1 new m h = (m, h.0, ByCell h.1)
-stepped_loosely program w rs old (progress.Wild (causes.NotRoutine v)) rs1 vs1 new m h = absurd h.1
-stepped_loosely program w rs old (progress.Wild (causes.FrameTooLarge f)) rs1 vs1 new m h = absurd h.1
-stepped_loosely program w rs old (progress.Wild causes.Malformed) rs1 vs1 new m h = malformed program w rs old rs1 vs1 new m h
+pub malformed : (program : List Placed) (w : machine.Work) (rs : List machine.Rest) (old : State) (rs1 : List machine.Rest) (vs1 : List ℕ) (new : State) → NoCall w rs → Moves w rs → ((st : outcomes.State) → step program w rs st ≡ outcomes.Wild) → Stepped program w rs old (progress.Wild causes.Malformed) rs1 vs1 new
+malformed program w rs old rs1 vs1 new n m h = (m, λ streams. h (state_of old streams), ByForm n refl h)
+
+pub stepped_loosely : (program : List Placed) (w : machine.Work) (rs : List machine.Rest) (old : State) (p : Progress) (rs1 : List machine.Rest) (vs1 : List ℕ) (new : State) → NoCall w rs → Moves w rs → CameOrMalformed (step program w rs) old p rs1 vs1 new → Stepped program w rs old p rs1 vs1 new
+stepped_loosely program w rs old (progress.On x) rs1 vs1 new n m h = (m, h)
+stepped_loosely program w rs old (progress.Serve q f) rs1 vs1 new n m h = absurd h
+stepped_loosely program w rs old progress.Answered rs1 vs1 new n m h = absurd h
+stepped_loosely program w rs old (progress.Ended e) rs1 vs1 new n m h = (m, h)
+stepped_loosely program w rs old progress.Going rs1 vs1 new n m h = (m, h)
+stepped_loosely program w rs old (progress.Wild (causes.Unset a)) rs1 vs1 new n m h = (m, h.0, ByCell n h.1)
+stepped_loosely program w rs old (progress.Wild (causes.Dead a)) rs1 vs1 new n m h = (m, h.0, ByCell n h.1)
+stepped_loosely program w rs old (progress.Wild (causes.NoCell a)) rs1 vs1 new n m h = (m, h.0, ByCell n h.1)
+stepped_loosely program w rs old (progress.Wild (causes.NotRoutine v)) rs1 vs1 new n m h = absurd h.1
+stepped_loosely program w rs old (progress.Wild (causes.FrameTooLarge f)) rs1 vs1 new n m h = absurd h.1
+stepped_loosely program w rs old (progress.Wild causes.Malformed) rs1 vs1 new n m h = malformed program w rs old rs1 vs1 new n m h
 
 -- an answer that is given to the innermost continuation
-pub handed : (program : List Placed) (a : machine.Answer) (rs : List machine.Rest) (r : machine.Rest) (rs0 : List machine.Rest) (old : State) (p : Progress) (rs1 : List machine.Rest) (vs1 : List ℕ) (new : State) → rs ≡ r ∷ rs0 → Came (next program r a rs0) old p rs1 vs1 new → Stepped program (machine.Give a) rs old p rs1 vs1 new
-handed program a rs r rs0 old p rs1 vs1 new e h =
-    subst (λ q. Stepped program (machine.Give a) q old p rs1 vs1 new) (sym e) (stepped program (machine.Give a) (r ∷ rs0) old p rs1 vs1 new tt h)
+pub handed : (program : List Placed) (a : machine.Answer) (rs : List machine.Rest) (r : machine.Rest) (rs0 : List machine.Rest) (old : State) (p : Progress) (rs1 : List machine.Rest) (vs1 : List ℕ) (new : State) → NoCall (machine.Give a) (r ∷ rs0) → rs ≡ r ∷ rs0 → Came (next program r a rs0) old p rs1 vs1 new → Stepped program (machine.Give a) rs old p rs1 vs1 new
+handed program a rs r rs0 old p rs1 vs1 new n e h =
+    subst (λ q. Stepped program (machine.Give a) q old p rs1 vs1 new) (sym e) (stepped program (machine.Give a) (r ∷ rs0) old p rs1 vs1 new n tt h)
 
-pub handed_loosely : (program : List Placed) (a : machine.Answer) (rs : List machine.Rest) (r : machine.Rest) (rs0 : List machine.Rest) (old : State) (p : Progress) (rs1 : List machine.Rest) (vs1 : List ℕ) (new : State) → rs ≡ r ∷ rs0 → CameOrMalformed (next program r a rs0) old p rs1 vs1 new → Stepped program (machine.Give a) rs old p rs1 vs1 new
-handed_loosely program a rs r rs0 old p rs1 vs1 new e h =
-    subst (λ q. Stepped program (machine.Give a) q old p rs1 vs1 new) (sym e) (stepped_loosely program (machine.Give a) (r ∷ rs0) old p rs1 vs1 new tt h)
+pub handed_loosely : (program : List Placed) (a : machine.Answer) (rs : List machine.Rest) (r : machine.Rest) (rs0 : List machine.Rest) (old : State) (p : Progress) (rs1 : List machine.Rest) (vs1 : List ℕ) (new : State) → NoCall (machine.Give a) (r ∷ rs0) → rs ≡ r ∷ rs0 → CameOrMalformed (next program r a rs0) old p rs1 vs1 new → Stepped program (machine.Give a) rs old p rs1 vs1 new
+handed_loosely program a rs r rs0 old p rs1 vs1 new n e h =
+    subst (λ q. Stepped program (machine.Give a) q old p rs1 vs1 new) (sym e) (stepped_loosely program (machine.Give a) (r ∷ rs0) old p rs1 vs1 new n tt h)
+
+-- no continuation for a number but a call's own is a call
+pub no_number_calls : (xs : List ℕ) (r : NumberRest) (rs : List machine.Rest) (a : machine.Answer) → NoCall (machine.Give a) (number_rest xs r ∷ rs)
+no_number_calls xs number_rests.Loads rs a v vs f k = let h = k.rests in cc
+no_number_calls xs number_rests.Negates rs a v vs f k = let h = k.rests in cc
+no_number_calls xs number_rests.Complements rs a v vs f k = let h = k.rests in cc
+no_number_calls xs number_rests.Tests rs a v vs f k = let h = k.rests in cc
+no_number_calls xs (number_rests.Operates E op e) rs a v vs f k = let h = k.rests in cc
+no_number_calls xs (number_rests.Operated op x) rs a v vs f k = let h = k.rests in cc
+no_number_calls xs (number_rests.Argues y) rs a v vs f k = let h = k.rests in cc
+
+pub no_value_calls : (r : ValueRest) (rs : List machine.Rest) (a : machine.Answer) → NoCall (machine.Give a) (value_rest r ∷ rs)
+no_value_calls (value_rests.Stores E x) rs a v vs f k = let h = k.rests in cc
+no_value_calls (value_rests.Stored w) rs a v vs f k = let h = k.rests in cc
+no_value_calls (value_rests.StoresAt x) rs a v vs f k = let h = k.rests in cc
+no_value_calls value_rests.Drops rs a v vs f k = let h = k.rests in cc
+no_value_calls (value_rests.Fors E by b) rs a v vs f k = let h = k.rests in cc
+no_value_calls (value_rests.Switches E is) rs a v vs f k = let h = k.rests in cc
+no_value_calls value_rests.Leaves rs a v vs f k = let h = k.rests in cc
 
 -- a value that is called
 pub landed : (program : List Placed) (v : ℕ) (vs : List ℕ) (f : ℕ) (rs rs0 : List machine.Rest) (old : State) (p : Progress) (rs1 : List machine.Rest) (vs1 : List ℕ) (new : State) → rs ≡ machine.Calls vs f ∷ rs0 → Lands (machine.arrive (callee program v) vs f rs0) (callee program v) v vs f old p rs1 vs1 new → Stepped program (machine.Give (machine.Number v)) rs old p rs1 vs1 new

@@ -35,7 +35,7 @@ use Rattle.bc_interpret_steps.specs.Code.{work_of, spot_of, exit_of, stacked, st
 use Rattle.bc_interpret_steps.specs.Came.{state_of, Came, CameOrMalformed, IsAfterCases}
 use Rattle.bc_interpret_steps.specs.Stepped.{Stepped, StepsOver}
 use Rattle.bc_interpret_steps.specs.Passing.{work_next, Passes, Ran, RunsOver, evaluating, leaving, PassesOn, IsLeft, IsHandedOn, IsOperator, IsPassed, IsPassedBy}
-use Rattle.bc_interpret_steps.proofs.Handing.{stepped, stepped_loosely}
+use Rattle.bc_interpret_steps.proofs.Handing.{NoCall, stepped, stepped_loosely}
 use Rattle.bc_interpret_steps.proofs.Piles.{stack_more}
 
 -- the last one of a list
@@ -192,17 +192,17 @@ ran_once table w before old result p after new h program t =
 pub ran_next : {A E : Type 0} (table : List Callable) (q : Progress) (w : Work) (before : Vec Rest Global) (old : State) (result : Result A E) (p : Progress) (after : Vec Rest Global) (new : State) → q ≡ progress.On w → RunsOver table (work_of (given before.items) w) before old result p after new → RunsOver table (work_of (given before.items) (work_next q)) before old result p after new
 ran_next table q w before old result p after new is h = subst (λ x. RunsOver table (work_of (given before.items) (work_next x)) before old result p after new) (sym is) h
 
-pub proceeds_next : {A E : Type 0} (table : List Callable) (q : Progress) (w : Work) (before : Vec Rest Global) (old : State) (result : Result A E) (p : Progress) (after : Vec Rest Global) (new : State) → q ≡ progress.On w → Moves (work_of (given before.items) w) (stack before.items)
+pub proceeds_next : {A E : Type 0} (table : List Callable) (q : Progress) (w : Work) (before : Vec Rest Global) (old : State) (result : Result A E) (p : Progress) (after : Vec Rest Global) (new : State) → q ≡ progress.On w → NoCall (work_of (given before.items) w) (stack before.items) → Moves (work_of (given before.items) w) (stack before.items)
     → ((program : List Placed) → OnOk result (Came (step program (work_of (given before.items) w) (stack before.items)) old p (stack after.items) (given after.items) new)) → RunsOver table (work_of (given before.items) (work_next q)) before old result p after new
-proceeds_next table q w before old result p after new is m h =
+proceeds_next table q w before old result p after new is n m h =
     ran_next table q w before old result p after new is (ran_once table (work_of (given before.items) w) before old result p after new
-    (λ program t. on_ok_weaker result (λ k. stepped program (work_of (given before.items) w) (stack before.items) old p (stack after.items) (given after.items) new m k) (h program)))
+    (λ program t. on_ok_weaker result (λ k. stepped program (work_of (given before.items) w) (stack before.items) old p (stack after.items) (given after.items) new n m k) (h program)))
 
-pub proceeds_loosely : {A E : Type 0} (table : List Callable) (q : Progress) (w : Work) (before : Vec Rest Global) (old : State) (result : Result A E) (p : Progress) (after : Vec Rest Global) (new : State) → q ≡ progress.On w → Moves (work_of (given before.items) w) (stack before.items)
+pub proceeds_loosely : {A E : Type 0} (table : List Callable) (q : Progress) (w : Work) (before : Vec Rest Global) (old : State) (result : Result A E) (p : Progress) (after : Vec Rest Global) (new : State) → q ≡ progress.On w → NoCall (work_of (given before.items) w) (stack before.items) → Moves (work_of (given before.items) w) (stack before.items)
     → ((program : List Placed) → OnOk result (CameOrMalformed (step program (work_of (given before.items) w) (stack before.items)) old p (stack after.items) (given after.items) new)) → RunsOver table (work_of (given before.items) (work_next q)) before old result p after new
-proceeds_loosely table q w before old result p after new is m h =
+proceeds_loosely table q w before old result p after new is n m h =
     ran_next table q w before old result p after new is (ran_once table (work_of (given before.items) w) before old result p after new
-    (λ program t. on_ok_weaker result (λ k. stepped_loosely program (work_of (given before.items) w) (stack before.items) old p (stack after.items) (given after.items) new m k) (h program)))
+    (λ program t. on_ok_weaker result (λ k. stepped_loosely program (work_of (given before.items) w) (stack before.items) old p (stack after.items) (given after.items) new n m k) (h program)))
 
 -- there is no work
 pub nothing_next : (p : Progress)

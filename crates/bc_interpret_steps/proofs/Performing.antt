@@ -21,10 +21,10 @@ performing E e s rs = record { work = machine.Perform E (commands.Call e) s; res
 
 meets_performing : (program : List Placed) (E : machine.Spot) (e : Exp) (s : ℕ) (rs : List machine.Rest) (cells : List Cell) (cause : Cause)
     → Meets program (machine.Evaluate E e s) (machine.Drops ∷ rs) cells cause → Meets program (machine.Perform E (commands.Call e) s) rs cells cause
-meets_performing program E e s rs cells cause (ByCell h) = ByCell h
-meets_performing program E e s rs cells cause (ByArgument v xs f q call k h) = let w = call.work in absurd cc
+meets_performing program E e s rs cells cause (ByCell n h) = ByCell (λ v vs f c. let w = c.work in cc) h
+meets_performing program E e s rs cells cause (ByArgument v xs f q call k fits h) = let w = call.work in absurd cc
 meets_performing program E e s rs cells cause (ByCall v xs f call h) = let w = call.work in absurd cc
-meets_performing program E e s rs cells cause (ByForm k h) = ByForm k h
+meets_performing program E e s rs cells cause (ByForm n k h) = ByForm (λ v vs f c. let w = c.work in cc) k h
 
 stepped_performing : (program : List Placed) (E : machine.Spot) (e : Exp) (s : ℕ) (rs : List machine.Rest) (old : State) (p : Progress) (rs1 : List machine.Rest) (vs : List ℕ) (new : State)
     → Stepped program (machine.Evaluate E e s) (machine.Drops ∷ rs) old p rs1 vs new → Stepped program (machine.Perform E (commands.Call e) s) rs old p rs1 vs new

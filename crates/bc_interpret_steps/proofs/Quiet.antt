@@ -9,9 +9,10 @@ use Rattle.bc_interpret_defs.specs.Machine as machine
 use Rattle.bc_interpret_defs.specs.Machine.{quiet, give, tested, evaluate_parts, evaluate, decide_parts, decide}
 use Rattle.bc_interpret_defs.specs.Quiet as quiet_forms
 use Rattle.bc_interpret_defs.specs.Quiet.{settled, worth}
-use Rattle.bc_interpret_defs.specs.Causes.{StandsIn, Stood}
+use Rattle.bc_interpret_defs.specs.Meeting.{KeepsWords, IsWildBy}
+use Rattle.bc_interpret_defs.proofs.Wordwise.{failures_name, truth_kept}
+use Rattle.bc_interpret_defs.proofs.Naming.{wild_then, wild_same}
 use Rattle.bc_interpret_defs.specs.Laws.{FailsBy}
-use Rattle.bc_interpret_defs.proofs.Failures.{failures_stand}
 use Rattle.bc_interpret_defs.proofs.Worths.{worth_is_value}
 use Rattle.bc_interpret_pure.specs.declared.value.Worth.{Worth}
 use Rattle.bc_interpret_pure.specs.declared.value.Worth.TheVariants as worths
@@ -27,19 +28,19 @@ use Rattle.bc_interpret_steps.specs.declared.forms.Progress.{Progress}
 use Rattle.bc_interpret_steps.specs.declared.forms.Progress.TheVariants as progress
 use Rattle.bc_interpret_steps.specs.Code.{stack, given}
 use Rattle.bc_interpret_steps.specs.declared.forms.Ending.TheVariants as endings
-use Rattle.bc_interpret_steps.specs.Came.{state_of, Came, CameOrMalformed, Goes, GoesOrMalformed, progress_of, progress_of_truth, sight}
+use Rattle.bc_interpret_steps.specs.Came.{state_of, Came, Carries, CameOrMalformed, Goes, GoesOrMalformed, progress_of, progress_of_truth, sight}
 
 -- equal steps have the same outcome
-pub same_came : (r q : machine.Step) (old : State) (p : Progress) (rs : List machine.Rest) (vs : List ℕ) (new : State) → ((streams : Content) → r (state_of old streams) ≡ q (state_of old streams)) → Came q old p rs vs new → Came r old p rs vs new
-same_came r q old (progress.On x) rs vs new e h = λ streams. e streams ∙ h streams
+pub same_came : (r q : machine.Step) (old : State) (p : Progress) (rs : List machine.Rest) (vs : List ℕ) (new : State) → ((st : outcomes.State) → KeepsWords old.store st → r st ≡ q st) → Came q old p rs vs new → Came r old p rs vs new
+same_came r q old (progress.On x) rs vs new e h = λ streams. e (state_of old streams) (λ b w i. i) ∙ h streams
 same_came r q old (progress.Serve x f) rs vs new e h = h
 same_came r q old progress.Answered rs vs new e h = h
-same_came r q old (progress.Ended x) rs vs new e h = λ streams. e streams ∙ h streams
-same_came r q old progress.Going rs vs new e h = λ streams. e streams ∙ h streams
-same_came r q old (progress.Wild c) rs vs new e h = (λ streams. e streams ∙ h.0 streams, h.1)
+same_came r q old (progress.Ended x) rs vs new e h = λ streams. e (state_of old streams) (λ b w i. i) ∙ h streams
+same_came r q old progress.Going rs vs new e h = λ streams. e (state_of old streams) (λ b w i. i) ∙ h streams
+same_came r q old (progress.Wild c) rs vs new e h = (λ streams. e (state_of old streams) (λ b w i. i) ∙ h.0 streams, wild_same r q old.store (cause_of c) e h.1)
 
 -- the same from another state, to which some cells were set
-pub moved_came : (r q : machine.Step) (old old1 : State) (p : Progress) (rs : List machine.Rest) (vs : List ℕ) (new : State) → Stood old.store old1.store → ((streams : Content) → r (state_of old streams) ≡ q (state_of old1 streams)) → Came q old1 p rs vs new → Came r old p rs vs new
+pub moved_came : (r q : machine.Step) (old old1 : State) (p : Progress) (rs : List machine.Rest) (vs : List ℕ) (new : State) → Carries r q old old1 → ((streams : Content) → r (state_of old streams) ≡ q (state_of old1 streams)) → Came q old1 p rs vs new → Came r old p rs vs new
 moved_came r q old old1 (progress.On x) rs vs new stood e h = λ streams. e streams ∙ h streams
 moved_came r q old old1 (progress.Serve x f) rs vs new stood e h = h
 moved_came r q old old1 progress.Answered rs vs new stood e h = h
@@ -91,30 +92,30 @@ quiet_truth st E e s streams plain w is =
     (worth_is_value E.address (λ r vs f. outcomes.wild) (λ n p s. outcomes.wild) e plain E.frame s (state_of st streams)).1
     ∙ ap (λ x. settled x (state_of st streams)) (sym is)
 
--- a failure is a read of a cell that is in the named state
-pub value_stands : (st : State) (E : machine.Spot) (e : Exp) (w : Worth) → has_call e ≡ false → seen w ≡ (worth (sight st E) e).value → FailsBy (λ c. StandsIn c st.store) (seen w)
-value_stands st E e w plain is = subst (λ x. FailsBy (λ c. StandsIn c st.store) x) (sym is) (failures_stand (sight st E) e plain).0
+-- a failure is wild because of the cell that is named
+pub value_stands : (st : State) (E : machine.Spot) (e : Exp) (s : ℕ) (w : Worth) → has_call e ≡ false → seen w ≡ (worth (sight st E) e).value → FailsBy (IsWildBy (value (quiet E) e E.frame s) st.store) (seen w)
+value_stands st E e s w plain is = subst (λ x. FailsBy (IsWildBy (value (quiet E) e E.frame s) st.store) x) (sym is) (failures_name E.address (λ r vs f. outcomes.wild) (λ n p s. outcomes.wild) e plain E.frame s st.store).0
 
-pub truth_stands : (st : State) (E : machine.Spot) (e : Exp) (w : Truth) → has_call e ≡ false → seen_truth w ≡ (worth (sight st E) e).truth → FailsBy (λ c. StandsIn c st.store) (seen_truth w)
-truth_stands st E e w plain is = subst (λ x. FailsBy (λ c. StandsIn c st.store) x) (sym is) (failures_stand (sight st E) e plain).1
+pub truth_stands : (st : State) (E : machine.Spot) (e : Exp) (s : ℕ) (w : Truth) → has_call e ≡ false → seen_truth w ≡ (worth (sight st E) e).truth → FailsBy (IsWildBy (truth (quiet E) e E.frame s) st.store) (seen_truth w)
+truth_stands st E e s w plain is = subst (λ x. FailsBy (IsWildBy (truth (quiet E) e E.frame s) st.store) x) (sym is) (failures_name E.address (λ r vs f. outcomes.wild) (λ n p s. outcomes.wild) e plain E.frame s st.store).1
 
 -- what comes after a value
 pub value_divides : (st : State) (E : machine.Spot) (e : Exp) (s : ℕ) (f : ℕ → machine.Step) (rs : List machine.Rest) (vs : List ℕ) (new : State) → has_call e ≡ false → quiet_forms.Divides ≡ (worth (sight st E) e).value → Came (then_do (value (quiet E) e E.frame s) f) st (progress.Ended endings.ZeroDivide) rs vs new
 value_divides st E e s f rs vs new plain is = λ streams. ap (λ o. followed o f) (quiet_value st E e s streams plain worths.Divides is)
 
 pub value_fails : (st : State) (E : machine.Spot) (e : Exp) (s : ℕ) (c : Cause) (f : ℕ → machine.Step) (rs : List machine.Rest) (vs : List ℕ) (new : State) → has_call e ≡ false → quiet_forms.Fails (cause_of c) ≡ (worth (sight st E) e).value → Came (then_do (value (quiet E) e E.frame s) f) st (progress.Wild c) rs vs new
-value_fails st E e s c f rs vs new plain is = (λ streams. ap (λ o. followed o f) (quiet_value st E e s streams plain (worths.Fails c) is), value_stands st E e (worths.Fails c) plain is)
+value_fails st E e s c f rs vs new plain is = (λ streams. ap (λ o. followed o f) (quiet_value st E e s streams plain (worths.Fails c) is), wild_then (value (quiet E) e E.frame s) f st.store (cause_of c) (value_stands st E e s (worths.Fails c) plain is))
 
 -- what comes after a truth
 pub truth_on : (st : State) (E : machine.Spot) (e : Exp) (s : ℕ) (t : Bool) (f : Bool → machine.Step) (p : Progress) (rs : List machine.Rest) (vs : List ℕ) (new : State) → has_call e ≡ false → quiet_forms.Is t ≡ (worth (sight st E) e).truth → Came (f t) st p rs vs new → Came (then_do (truth (quiet E) e E.frame s) f) st p rs vs new
 truth_on st E e s t f p rs vs new plain is h =
-    same_came (then_do (truth (quiet E) e E.frame s) f) (f t) st p rs vs new (λ streams. ap (λ o. followed o f) (quiet_truth st E e s streams plain (truths.Is t) is)) h
+    same_came (then_do (truth (quiet E) e E.frame s) f) (f t) st p rs vs new (λ st1 keeps. ap (λ o. followed o f) (truth_kept E.address (λ r vs f. outcomes.wild) (λ n p s. outcomes.wild) e plain E.frame s st.store st1 (quiet_forms.Is t) is (λ n. n) keeps)) h
 
 pub truth_divides : (st : State) (E : machine.Spot) (e : Exp) (s : ℕ) (f : Bool → machine.Step) (rs : List machine.Rest) (vs : List ℕ) (new : State) → has_call e ≡ false → quiet_forms.Divides ≡ (worth (sight st E) e).truth → Came (then_do (truth (quiet E) e E.frame s) f) st (progress.Ended endings.ZeroDivide) rs vs new
 truth_divides st E e s f rs vs new plain is = λ streams. ap (λ o. followed o f) (quiet_truth st E e s streams plain truths.Divides is)
 
 pub truth_fails : (st : State) (E : machine.Spot) (e : Exp) (s : ℕ) (c : Cause) (f : Bool → machine.Step) (rs : List machine.Rest) (vs : List ℕ) (new : State) → has_call e ≡ false → quiet_forms.Fails (cause_of c) ≡ (worth (sight st E) e).truth → Came (then_do (truth (quiet E) e E.frame s) f) st (progress.Wild c) rs vs new
-truth_fails st E e s c f rs vs new plain is = (λ streams. ap (λ o. followed o f) (quiet_truth st E e s streams plain (truths.Fails c) is), truth_stands st E e (truths.Fails c) plain is)
+truth_fails st E e s c f rs vs new plain is = (λ streams. ap (λ o. followed o f) (quiet_truth st E e s streams plain (truths.Fails c) is), wild_then (truth (quiet E) e E.frame s) f st.store (cause_of c) (truth_stands st E e s (truths.Fails c) plain is))
 
 -- a pure expression
 pub valued : (st : State) (E : machine.Spot) (e : Exp) (s : ℕ) (rs : List machine.Rest) (vs : List ℕ) (w : Worth) → has_call e ≡ false → seen w ≡ (worth (sight st E) e).value → CameOrMalformed (evaluate E e s rs) st (progress_of w) rs vs st
@@ -143,10 +144,10 @@ truth_parts E e s rs old p rs1 vs new e1 h = came_true (has_call e) (decide_part
 
 -- a choice
 pub came_this : (t : Bool) (this that : machine.Step) (old : State) (p : Progress) (rs : List machine.Rest) (vs : List ℕ) (new : State) → t ≡ true → Came this old p rs vs new → Came (choose t this that) old p rs vs new
-came_this t this that old p rs vs new e h = same_came (choose t this that) this old p rs vs new (λ streams. ap (λ z. choose z this that (state_of old streams)) e) h
+came_this t this that old p rs vs new e h = same_came (choose t this that) this old p rs vs new (λ st keeps. ap (λ z. choose z this that st) e) h
 
 pub came_that : (t : Bool) (this that : machine.Step) (old : State) (p : Progress) (rs : List machine.Rest) (vs : List ℕ) (new : State) → t ≡ false → Came that old p rs vs new → Came (choose t this that) old p rs vs new
-came_that t this that old p rs vs new e h = same_came (choose t this that) that old p rs vs new (λ streams. ap (λ z. choose z this that (state_of old streams)) e) h
+came_that t this that old p rs vs new e h = same_came (choose t this that) that old p rs vs new (λ st keeps. ap (λ z. choose z this that st) e) h
 
 -- after a test
 pub tested_on : (E : machine.Spot) (e : Exp) (s : ℕ) (f : Bool → machine.Step) (r : machine.Rest) (rs : List machine.Rest) (old : State) (t : Bool) (p : Progress) (rs1 : List machine.Rest) (vs : List ℕ) (new : State) → has_call e ≡ false → quiet_forms.Is t ≡ (worth (sight old E) e).truth → Came (f t) old p rs1 vs new → Came (tested E e s f r rs) old p rs1 vs new

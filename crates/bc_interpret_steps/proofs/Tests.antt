@@ -17,7 +17,7 @@ use Rattle.bc_interpret_steps.specs.declared.state.State.{State}
 use Rattle.bc_interpret_steps.specs.declared.forms.Progress.{Progress}
 use Rattle.bc_interpret_steps.specs.declared.forms.Progress.TheVariants as progress
 use Rattle.bc_interpret_steps.specs.declared.forms.Ending.TheVariants as endings
-use Rattle.bc_interpret_steps.specs.Came.{state_of, Came, sight}
+use Rattle.bc_interpret_steps.specs.Came.{Came, sight}
 use Rattle.bc_interpret_steps.proofs.Quiet.{same_came, told_truth, tested_on, tested_divides, tested_fails, tested_calls}
 
 abbrev if_next : machine.Spot → Bool → Block → ℕ → List machine.Rest → Bool → machine.Step
@@ -32,7 +32,7 @@ pub if_told : (E : machine.Spot) (sense : Bool) (e : Exp) (b : Block) (s : ℕ) 
 if_told E sense e b s rs old found t holds p rs1 vs new h is a g =
     let told = told_truth (sight old E) e found (truths.Is t) h is in
     tested_on E e s (if_next E sense b s rs) (machine.Ifs E sense b s) rs old t p rs1 vs new told.0 told.1
-    (same_came (if_next E sense b s rs t) (choose holds (enter E b s rs) (give (machine.Left Past) rs)) old p rs1 vs new (λ streams. ap (λ z. choose z (enter E b s rs) (give (machine.Left Past) rs) (state_of old streams)) (sym a)) g)
+    (same_came (if_next E sense b s rs t) (choose holds (enter E b s rs) (give (machine.Left Past) rs)) old p rs1 vs new (λ st keeps. ap (λ z. choose z (enter E b s rs) (give (machine.Left Past) rs) st) (sym a)) g)
 
 pub if_divides : (E : machine.Spot) (sense : Bool) (e : Exp) (b : Block) (s : ℕ) (rs : List machine.Rest) (st : State) (found : Option Truth) (rs1 : List machine.Rest) (vs : List ℕ) → IsTruth (sight st E) e found → found ≡ Some truths.Divides → Came (perform_step E (commands.If sense e b) s rs) st (progress.Ended endings.ZeroDivide) rs1 vs st
 if_divides E sense e b s rs st found rs1 vs h is =
@@ -56,7 +56,7 @@ pub while_told : (E : machine.Spot) (sense : Bool) (e : Exp) (b : Block) (s : �
 while_told E sense e b s rs old found t holds p rs1 vs new h is a g =
     let told = told_truth (sight old E) e found (truths.Is t) h is in
     tested_on E e s (while_next E sense e b s rs) (machine.Whiles E sense e b s) rs old t p rs1 vs new told.0 told.1
-    (same_came (while_next E sense e b s rs t) (choose holds (loops E sense e b s rs) (give (machine.Left Past) rs)) old p rs1 vs new (λ streams. ap (λ z. choose z (loops E sense e b s rs) (give (machine.Left Past) rs) (state_of old streams)) (sym a)) g)
+    (same_came (while_next E sense e b s rs t) (choose holds (loops E sense e b s rs) (give (machine.Left Past) rs)) old p rs1 vs new (λ st keeps. ap (λ z. choose z (loops E sense e b s rs) (give (machine.Left Past) rs) st) (sym a)) g)
 
 pub while_divides : (E : machine.Spot) (sense : Bool) (e : Exp) (b : Block) (s : ℕ) (rs : List machine.Rest) (st : State) (found : Option Truth) (rs1 : List machine.Rest) (vs : List ℕ) → IsTruth (sight st E) e found → found ≡ Some truths.Divides → Came (perform_step E (commands.While sense e b) s rs) st (progress.Ended endings.ZeroDivide) rs1 vs st
 while_divides E sense e b s rs st found rs1 vs h is =

@@ -1,11 +1,11 @@
 -- For proofs: the outcome of a call, and of evaluating its arguments.
-use Rattle.std.specs.Prelude.{ℕ, ◌≡◌, ◌+◌, Bool, false, List, [], ◌∷◌, ◌++◌, reverse, Option, Some, None, Result, OnOk}
+use Rattle.std.specs.Prelude.{ℕ, ◌≡◌, ◌+◌, ◌≤◌, Bool, false, List, [], ◌∷◌, ◌++◌, reverse, Option, Some, None, Result, OnOk}
 use Rattle.bc_core.specs.Map.{Placed}
 use Rattle.bc_core.specs.Meaning.{Callee, OfLibrary, callee, passed}
 use Rattle.bc_core.specs.Outcome as outcomes
 use Rattle.bc_core.specs.Outcome.{followed, left}
 use Rattle.bc_core.specs.Primitive as primitives
-use Rattle.bc_core.specs.Primitive.{primitive_work}
+use Rattle.bc_core.specs.Primitive.{primitive_frame, primitive_work}
 use Rattle.bc_machine_defs.specs.Streams.{Content}
 use Rattle.bc_core.specs.Tree.{Exp, Args, no_argument, argument}
 use Rattle.bc_core.specs.Value.{has_call}
@@ -17,7 +17,7 @@ use Rattle.bc_interpret_defs.specs.Machine as machine
 use Rattle.bc_interpret_defs.specs.Quiet as quiet
 use Rattle.bc_interpret_defs.specs.Quiet.{worth}
 use Rattle.bc_interpret_defs.specs.Machine.{give, arrive}
-use Rattle.bc_interpret_defs.specs.Meeting.{Refused}
+use Rattle.bc_interpret_defs.specs.Meeting.{Refused, KeepsWords}
 use Rattle.bc_interpret_pure.specs.Causes.{cause_of}
 use Rattle.bc_interpret_steps.specs.declared.forms.Arguments.{Arguments}
 use Rattle.bc_interpret_steps.specs.declared.continuations.Rest.{Rest}
@@ -42,10 +42,10 @@ ArguedLast a before rs = machine.argue (spot_of a.site) (given_for a.fresh (give
 abbrev pub IsGivenOne : Arguments → CoreExp → List CoreExp → (before : List Rest) → State → Given → Progress → (after : List Rest) → Type 0
 IsGivenOne a first following before st (forms.One next) p after =
     (next.left.now ≡ following)
-    × ((streams : Content)
+    × ((seen : outcomes.State) → KeepsWords st.store seen
     → machine.argue (spot_of a.site) (given_for a.fresh (given before)) (argument (exp first) (args following)) a.level (exp a.routine.now) a.count
-    a.site.level (stack before) (state_of st streams)
-    ≡ Argued next after (stack after) (state_of st streams))
+    a.site.level (stack before) seen
+    ≡ Argued next after (stack after) seen)
 IsGivenOne a first following before st forms.Over p after =
     Goes (machine.argue (spot_of a.site) (given_for a.fresh (given before)) (argument (exp first) (args following)) a.level (exp a.routine.now) a.count
     a.site.level) before st p after st
@@ -59,6 +59,7 @@ pub record IsServed (r : machine.Step) (called : Option Callee) (arguments : Lis
   pub frame : g ≡ f
   pub is_primitive : called ≡ Some (OfLibrary q)
   pub has_argument : new.store ≡ passed 1 (f + 2) arguments old.store
+  pub fits : f + primitive_frame ≤ 65536
 
 -- the outcome of a step that calls the value, which is the address of this callee, with these arguments in the frame at f
 abbrev pub Lands :

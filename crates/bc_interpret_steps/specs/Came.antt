@@ -1,7 +1,9 @@
 -- For proofs: that the outcome which the code reports is the outcome of the machine's step.
-use Rattle.std.specs.Prelude.{ℕ, ◌≡◌, ◌+◌, ◌<◌, Bool, true, false, List, Option, Some, None}
+use Rattle.std.specs.Prelude.{ℕ, ◌≡◌, ◌≢◌, ◌+◌, ◌<◌, ◌≤◌, Bool, true, false, List, Option, Some, None, slice_set}
 use Rattle.bc_machine_defs.specs.Streams.{Content}
-use Rattle.bc_interpret_defs.specs.Causes.{StandsIn, Stood}
+use Rattle.bc_interpret_defs.specs.Causes as defined
+use Rattle.bc_core.specs.Store.{Dead, Set, cell_at}
+use Rattle.bc_interpret_defs.specs.Meeting.{IsWildBy}
 use Rattle.bc_core.specs.Outcome as outcomes
 use Rattle.bc_core.specs.Outcome.{in_turn, write}
 use Rattle.bc_interpret_defs.specs.Quiet as quiet
@@ -48,14 +50,18 @@ abbrev pub at : List ℕ → Work → List machine.Rest → machine.At
 at vs w rs = record { work = work_of vs w; rests = rs }
 
 -- Whatever the streams hold: the code reports the outcome of a step that calls nothing, with the continuations, the given arguments and
--- the state after it. If the step is wild, the cause names a cell that was in that state when the step began.
+-- the state after it. If the step is wild, it is wild because of the cell that the cause names.
 abbrev pub Came : machine.Step → (old : State) → Progress → List machine.Rest → List ℕ → (new : State) → Type 0
 Came r old (progress.On w) rs vs new = (streams : Content) → r (state_of old streams) ≡ outcomes.Done (at vs w rs) (state_of new streams)
 Came r old (progress.Serve q f) rs vs new = ⊥
 Came r old progress.Answered rs vs new = ⊥
 Came r old (progress.Ended e) rs vs new = (streams : Content) → r (state_of old streams) ≡ outcomes.Ended (ending e) streams
 Came r old progress.Going rs vs new = (streams : Content) → r (state_of old streams) ≡ outcomes.Going streams
-Came r old (progress.Wild c) rs vs new = ((streams : Content) → r (state_of old streams) ≡ outcomes.Wild) × StandsIn (cause_of c) old.store
+Came r old (progress.Wild c) rs vs new = ((streams : Content) → r (state_of old streams) ≡ outcomes.Wild) × IsWildBy r old.store (cause_of c)
+
+-- whatever makes one run wild over the new store makes the other wild over the old one
+abbrev pub Carries : (r q : machine.Step) → (old new : State) → Type 0
+Carries r q old new = (cause : defined.Cause) → IsWildBy q new.store cause → IsWildBy r old.store cause
 
 -- the same; a step that is reported as malformed is wild whatever the cells hold
 abbrev pub CameOrMalformed : machine.Step → (old : State) → Progress → List machine.Rest → List ℕ → (new : State) → Type 0
@@ -81,8 +87,8 @@ Turned false old new = ((r : machine.Step) (streams : Content) → in_turn r (st
 
 -- a cell was written, or isn't live
 abbrev pub Wrote : State → (address word : ℕ) → Option Cause → State → Type 0
-Wrote old a w None new = ((streams : Content) → write a w (state_of old streams) ≡ outcomes.Done tt (state_of new streams)) × Stood old.store new.store
-Wrote old a w (Some c) new = ((streams : Content) → write a w (state_of old streams) ≡ outcomes.Wild) × StandsIn (cause_of c) old.store
+Wrote old a w None new = ((streams : Content) → write a w (state_of old streams) ≡ outcomes.Done tt (state_of new streams)) × (cell_at old.store a ≢ Dead) × (new.store ≡ slice_set old.store a (Set w))
+Wrote old a w (Some c) new = ((streams : Content) → write a w (state_of old streams) ≡ outcomes.Wild) × IsWildBy (write a w) old.store (cause_of c)
 
 -- the outcome of a step that evaluates an expression with this worth
 abbrev pub progress_of : Worth → Progress
@@ -112,7 +118,7 @@ IsAfterCases out within = (st : outcomes.State) → lists.after_cases within st 
 -- whether a call can go on in a frame at f
 abbrev pub Framed : Fit → (f size : ℕ) → State → State → Type 0
 Framed fits.Fits f size old new =
-    ((r : machine.Step) (streams : Content) → frame_taken f size r (state_of old streams) ≡ r (state_of new streams)) × (new.store ≡ old.store)
+    ((r : machine.Step) (streams : Content) → frame_taken f size r (state_of old streams) ≡ r (state_of new streams)) × (new.store ≡ old.store) × (f + size ≤ 65536)
 Framed fits.TooLarge f size old new =
     (65536 < f + size) × ((r : machine.Step) (streams : Content) → frame_taken f size r (state_of old streams) ≡ outcomes.Wild)
 Framed fits.NoTurn f size old new = (r : machine.Step) (streams : Content) → frame_taken f size r (state_of old streams) ≡ outcomes.Going streams

@@ -7,7 +7,6 @@ use Rattle.bc_core.specs.declared.command.ListItem.{ListItem}
 use Rattle.bc_core.specs.Lists.{Beginning, met}
 use Rattle.bc_interpret_defs.specs.Machine as machine
 use Rattle.bc_interpret_defs.specs.Machine.{list_step}
-use Rattle.bc_interpret_defs.specs.Causes.{Stood}
 use Rattle.bc_interpret_steps.specs.declared.state.State.{State}
 use Rattle.bc_interpret_steps.specs.declared.forms.Entry.{Entry}
 use Rattle.bc_interpret_steps.specs.declared.forms.Entry.TheVariants as entries
@@ -16,9 +15,9 @@ use Rattle.bc_interpret_steps.specs.declared.continuations.Rest.{Rest}
 use Rattle.bc_interpret_steps.specs.declared.lists.Along.{Along}
 use Rattle.bc_interpret_steps.specs.declared.lists.Along.TheVariants as forms
 use Rattle.bc_interpret_steps.specs.Code.{entry_of}
-use Rattle.bc_interpret_steps.specs.Came.{state_of, Goes}
+use Rattle.bc_interpret_steps.specs.Came.{state_of, Carries, Goes}
 
--- the items after it are entered at `next`, the continuations are unchanged, and what is unset or not live was so before; or the step is
+-- the items after it are entered at `next`, the continuations are unchanged, and whatever makes the rest wild makes the whole wild; or the step is
 -- over with this outcome
 abbrev pub IsAlong :
     machine.Spot → (first : ListItem) → (following : List ListItem) → (s : ℕ) → Entry → (before : List Rest) → (old : State) → Along → Progress
@@ -28,7 +27,8 @@ IsAlong E first following s at before old (forms.On next) p after new =
     × ((rs : List machine.Rest) (streams : Content)
     → list_step E (items_before first (items following)) s (entry_of at) rs (state_of old streams)
     ≡ list_step E (items following) s (entry_of next) rs (state_of new streams))
-    × Stood old.store new.store
+    × ((rs : List machine.Rest)
+    → Carries (list_step E (items_before first (items following)) s (entry_of at) rs) (list_step E (items following) s (entry_of next) rs) old new)
 IsAlong E first following s at before old forms.Over p after new =
     Goes (list_step E (items_before first (items following)) s (entry_of at)) before old p after new
 

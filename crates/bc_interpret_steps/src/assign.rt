@@ -74,7 +74,7 @@ pub(crate) fn assign_at_once<'c>(
 ///
 /// `Memory` if an allocation fails.
 #[inline(always)]
-#[tactic(auto, using(crate::proofs::Assigns::first_done, crate::proofs::Assigns::first_left))]
+#[tactic(auto, using(crate::proofs::Assigns::first_done, crate::proofs::Assigns::first_tells, crate::proofs::Assigns::first_left))]
 pub(crate) fn command_at_once<'c>(
     site: &Site<'c>,
     command: &'c Command,

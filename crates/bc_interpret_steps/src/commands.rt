@@ -564,7 +564,7 @@ fn is_past(by: u16, value: u16, limit: u16) -> bool
 }
 
 /// Begins a round of a FOR whose limit is known: tests its variable, and enters its body or leaves it.
-#[tactic(auto, using(crate::proofs::Loops::round_dead, crate::proofs::Loops::round_unset, crate::proofs::Loops::round_past, crate::proofs::Loops::round_goes))]
+#[tactic(auto, using(crate::proofs::Loops::round_dead, crate::proofs::Loops::round_unset, crate::proofs::Loops::round_by_dead, crate::proofs::Loops::round_by_unset, crate::proofs::Loops::round_past, crate::proofs::Loops::round_goes))]
 pub(crate) fn round<'c>(
     site: Site<'c>,
     rounds: Rounds<'c>,

@@ -39,7 +39,7 @@ fn following(exit: Exit) -> Option<Exit>
 /// Continues a FOR after its body: steps its variable and takes a turn.
 ///
 /// `Memory` never comes.
-#[tactic(auto, using(crate::proofs::Loops::stepped_dead, crate::proofs::Loops::stepped_unset))]
+#[tactic(auto, using(crate::proofs::Loops::stepped_dead, crate::proofs::Loops::stepped_unset, crate::proofs::Loops::stepped_by_dead, crate::proofs::Loops::stepped_by_unset))]
 fn step_variable<'c>(
     site: Site<'c>,
     rounds: Rounds<'c>,

@@ -21,7 +21,7 @@ use bc_word::{Memory, Op, Word, apply};
 
 /// Reads the cell at this address; the step is wild if it is dead or unset.
 #[inline(always)]
-#[tactic(auto, using(crate::proofs::Loads::loaded_dead, crate::proofs::Loads::loaded_unset, crate::proofs::Loads::loaded_set))]
+#[tactic(auto, using(crate::proofs::Loads::loaded_dead, crate::proofs::Loads::loaded_unset, crate::proofs::Loads::loaded_by_dead, crate::proofs::Loads::loaded_by_unset, crate::proofs::Loads::loaded_set))]
 fn load<'c>(v: u16, state: &State) -> Progress<'c>
     ensures { Gives machine.Loads (machine.Number v) state.now result state.now }
 {
@@ -118,7 +118,7 @@ pub(crate) fn number_taken<'c>(
 
 /// Writes a word to the cell at this address; the step is wild if it is dead.
 #[inline(always)]
-#[tactic(auto, using(crate::proofs::Loads::stored, crate::proofs::Loads::not_stored))]
+#[tactic(auto, using(crate::proofs::Loads::stored, crate::proofs::Loads::not_stored, crate::proofs::Loads::stored_by))]
 fn store<'c>(address: u16, word: u16, state: &mut State) -> Progress<'c>
     ensures { Gives (machine.StoresAt address) (machine.Number word) state.old result state.new }
 {

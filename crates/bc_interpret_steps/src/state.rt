@@ -60,7 +60,7 @@ pub(crate) fn turn(state: &mut State) -> bool
 
 /// Writes a word to the cell at this address. Returns the cause of the wild access if the cell isn't live, else `None`.
 #[inline(always)]
-#[tactic(auto, using(crate::proofs::Writes::wrote, crate::proofs::Writes::wrote_not))]
+#[tactic(auto, using(crate::proofs::Writes::wrote, crate::proofs::Writes::wrote_not, crate::proofs::Writes::unwritten, bc_interpret_defs::proofs::Naming::still_wild, bc_interpret_defs::proofs::Naming::written_over))]
 pub(crate) fn put_word(state: &mut State, address: u16, word: u16) -> Option<Cause>
     ensures { Wrote state.old address word result state.new }
 {

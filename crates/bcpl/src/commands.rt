@@ -8,21 +8,25 @@ use crate::compiling::compile;
 use crate::debugging::debug;
 use crate::explain::explain;
 use crate::failures::{argument_status, status};
+use crate::formatting::format_files;
 use crate::going::go;
 use crate::hints::{ExpectedFiles, help_on_arguments, with_hints};
 use crate::interpreting::interpret_files;
 use crate::listing::list;
 use crate::output::{print_lines, print_messages};
 use crate::running::{Ran, run, run_input};
+use crate::serving::{Served, serve};
 use crate::showing::show;
 use crate::standard::{Console, RunStreams, Standard, Terminals, explains_at};
+use crate::taming::tame;
 use crate::watched_run::print_high;
 use bcpl_cli::{
     ArgumentError, AssembleOrder, BuildOrder, CheckOrder, Clean, ConvertOrder, DebugOrder,
-    Expected, ExplainOrder, Failure, GoOrder, InterpretOrder, ListOrder, Order, Places, RunOrder,
-    ShowOrder, parse_arguments, places_in,
+    Expected, ExplainOrder, Failure, FormatOrder, GoOrder, InterpretOrder, ListOrder, Order,
+    Places, RunOrder, ServeOrder, ShowOrder, TameOrder, parse_arguments, places_in,
 };
 use bcpl_convert::convert_file;
+use bcpl_project::convert_project;
 use std::alloc::Global;
 use std::io::{Read, Write};
 use std::rt::Files;
@@ -210,6 +214,36 @@ fn debug_command<F: Files, R: Read + Drop, O: Write + Drop, E: Write + Drop>(
     status(done, files.explains, &mut err)
 }
 
+/// What is printed if a language server is started at a terminal.
+const SERVING: &str =
+    "bcpl: lsp reads messages of the Language Server Protocol: an editor starts it, as docs/editors.md says\n";
+
+/// Runs `lsp`.
+fn serve_command<F: Files, R: Read + Drop, O: Write + Drop, E: Write + Drop>(
+    rt: &F,
+    alloc: Global,
+    order: &ServeOrder<'_>,
+    console: Console<R, O, E>,
+) -> u8
+    ensures { result ≤ 3 }
+{
+    let Console {
+        input,
+        out,
+        mut err,
+        terminals,
+        explains,
+    } = console;
+    if terminals.input && terminals.err {
+        print_lines(SERVING, &mut err);
+    }
+    match serve(rt, alloc, order, input, out) {
+        Ok(Served::Properly) => 0,
+        Ok(Served::CutOff) => 1,
+        Err(failure) => status(Err(failure), explains, &mut err),
+    }
+}
+
 /// Runs `asm`.
 fn assemble_command<F: Files, R: Read + Drop, O: Write + Drop, E: Write + Drop>(
     rt: &F,
@@ -241,7 +275,11 @@ fn build_command<F: Files, R: Read + Drop, O: Write + Drop, E: Write + Drop>(
             print_messages(warnings.as_str(), &mut console.err);
             0
         }
-        Err(failure) => status(Err(failure), files.explains, &mut console.err),
+        Err(failure) => {
+            let done = Err(failure);
+            let explains = explains_answer(&done, order.places, console.terminals.err);
+            status(done, explains, &mut console.err)
+        }
     }
 }
 
@@ -254,9 +292,28 @@ fn convert_command<F: Files, R: Read + Drop, O: Write + Drop, E: Write + Drop>(
 ) -> u8
     ensures { result ≤ 3 }
 {
-    let done = convert_file(rt, alloc, order, &mut console.out);
+    let done = if order.is_project {
+        convert_project(rt, alloc, order, &mut console.out)
+    } else {
+        convert_file(rt, alloc, order, &mut console.out)
+    };
     let explains = explains_answer(&done, order.places, console.terminals.err);
     status(done, explains, &mut console.err)
+}
+
+/// Runs `format`.
+fn format_command<F: Files, R: Read + Drop, O: Write + Drop, E: Write + Drop>(
+    rt: &F,
+    alloc: Global,
+    order: &FormatOrder<'_>,
+    console: &mut Console<R, O, E>,
+) -> u8
+    ensures { result ≤ 3 }
+{
+    let sources = order.files.as_slice();
+    let files = ExpectedFiles::new(Expected::Source, sources, console.explains);
+    let done = format_files(rt, alloc, order, files.explains, &mut console.out);
+    finish(rt, alloc, done, files, console)
 }
 
 /// Runs `show`.
@@ -330,6 +387,23 @@ fn check_command<F: Files, R: Read + Drop, O: Write + Drop, E: Write + Drop>(
     finish(rt, alloc, done, files, console)
 }
 
+/// Runs `tame`.
+fn tame_command<F: Files, R: Read + Drop, O: Write + Drop, E: Write + Drop>(
+    rt: &F,
+    alloc: Global,
+    order: &TameOrder<'_>,
+    console: &mut Console<R, O, E>,
+) -> u8
+    ensures { result ≤ 3 }
+{
+    let sources = order.sources.files.as_slice();
+    let files = ExpectedFiles::new(Expected::Source, sources, console.explains);
+    let done = tame(rt, alloc, order, files.explains, &mut console.out);
+    let done = with_hints(rt, alloc, done, files);
+    let explains = explains_answer(&done, order.places, console.terminals.err);
+    status(done, explains, &mut console.err)
+}
+
 /// Runs the command of this order.
 fn follow<F: Files, R: Read + Drop, O: Write + Drop, E: Write + Drop>(
     rt: &F,
@@ -345,9 +419,12 @@ fn follow<F: Files, R: Read + Drop, O: Write + Drop, E: Write + Drop>(
         Order::Go(order) => go_command(rt, alloc, order, console),
         Order::Interpret(order) => interpret_command(rt, alloc, order, console),
         Order::Debug(order) => debug_command(rt, alloc, order, console),
+        Order::Tame(order) => tame_command(rt, alloc, order, &mut console),
+        Order::Serve(order) => serve_command(rt, alloc, order, console),
         Order::Assemble(order) => assemble_command(rt, alloc, order, &mut console),
         Order::Build(order) => build_command(rt, alloc, order, &mut console),
         Order::Convert(order) => convert_command(rt, alloc, order, &mut console),
+        Order::Format(order) => format_command(rt, alloc, order, &mut console),
         Order::Show(order) => show_command(rt, alloc, order, &mut console),
         Order::List(order) => list_command(rt, alloc, order, &mut console),
         Order::Explain(order) => explain_command(rt, alloc, order, &mut console),

@@ -1,17 +1,18 @@
 //! The command `build`.
 
-ghost use Rattle.std.specs.Prelude.{◌≡◌, IfOk, map};
+ghost use Rattle.std.specs.Prelude.{◌≡◌, ◌<◌, All, IfOk, length, map};
 ghost use Rattle.std.specs.List.{AllZip};
 ghost use Rattle.bc_rules_defs.specs.View.{entry as entry_view};
 ghost use Rattle.bc_cert_write.specs.Workings.{WorkedOut};
 ghost use Rattle.bcpl_cli.specs.declared.failure.Cause.TheVariants as causes;
 
-use crate::diagnostics::{Program, explanation_of, part_warnings, warnings_of};
+use crate::diagnostics::{Accepted, Program, explanation_of, part_warnings, warnings_of};
 use crate::output::{of_listing, of_output};
 use crate::source_files::{Gathered, lean_texts};
 use crate::standard::Console;
+use crate::taming::room_of_built;
 use crate::unused_gets::ignored_gets;
-use bc_build::{BuildError, Built, build};
+use bc_build::{BuildError, Built, Parsed, build, build_keeping};
 use bc_cert::{CertFault, write_worked};
 use bc_text::{TextError, print};
 use bc_text_items::Segment;
@@ -46,34 +47,51 @@ pub fn refused(
     }
 }
 
-/// The warnings about a program that was built to these segments.
-pub fn warnings_on(
+/// Builds a program. If `warns`, appends to `parsed` what its mains were parsed to, which its warnings need.
+fn build_and_keep<'s>(
+    alloc: Global,
+    program: &Program<'_, 's>,
+    warns: bool,
+    parsed: &mut Vec<Parsed<'s>>,
+) -> Result<Built, BuildError>
+    requires { All (λ main. main < length program.now.named.sources.now) program.now.mains.now }
+    ensures { IfOk result (λ built. AllZip WorkedOut (map entry_view built.entries.items) built.workings.items) }
+{
+    if warns {
+        build_keeping(alloc, program.named.sources, program.mains, parsed)
+    } else {
+        build(alloc, program.named.sources, program.mains)
+    }
+}
+
+/// The warnings about a program that was built to this.
+pub fn warnings_on<'s>(
     alloc: Global,
     given: &Sources<'_>,
-    gathered: &Gathered<'_, '_>,
-    segments: &[Segment],
+    gathered: &Gathered<'_, 's>,
+    accepted: &Accepted<'_, 's>,
 ) -> Result<String, Memory> {
     let mut warnings = ignored_gets(alloc, given)?;
     let program = gathered.program();
     let further = if given.linked == LinkedLibrary::Nothing {
-        part_warnings(alloc, gathered.library, &program)?
+        part_warnings(alloc, gathered.library, &program, accepted.parsed)?
     } else {
-        warnings_of(alloc, gathered.library, &program, segments)?
+        warnings_of(alloc, gathered.library, &program, accepted)?
     };
     warnings.push_str(further.as_str())?;
     Ok(warnings)
 }
 
-/// The warnings, unless they are suppressed or nothing is explained.
-fn warnings_wanted(
+/// The warnings, if there are to be any.
+fn warnings_wanted<'s>(
     alloc: Global,
     order: &BuildOrder<'_>,
-    gathered: &Gathered<'_, '_>,
-    segments: &[Segment],
-    explains: bool,
+    gathered: &Gathered<'_, 's>,
+    accepted: &Accepted<'_, 's>,
+    warns: bool,
 ) -> Result<String, Memory> {
-    if order.warns && explains {
-        warnings_on(alloc, &order.sources, gathered, segments)
+    if warns {
+        warnings_on(alloc, &order.sources, gathered, accepted)
     } else {
         Ok(String::new(alloc))
     }
@@ -89,9 +107,18 @@ fn built_of(
     ensures { IfOk result (λ found. AllZip WorkedOut (map entry_view found.0.entries.items) found.0.workings.items) }
 {
     let program = gathered.program();
-    match build(alloc, program.named.sources, program.mains) {
+    let warns = order.warns && explains;
+    let mut parsed = Vec::new(alloc);
+    match build_and_keep(alloc, &program, warns, &mut parsed) {
         Ok(built) => {
-            match warnings_wanted(alloc, order, gathered, built.segments.as_slice(), explains) {
+            let accepted = Accepted {
+                segments: built.segments.as_slice(),
+                parsed: parsed.as_slice(),
+            };
+            let found = warnings_wanted(alloc, order, gathered, &accepted, warns);
+            // The process is about to end, and the system frees all its memory at once.
+            forget(parsed);
+            match found {
                 Ok(warnings) => Ok((built, warnings)),
                 Err(_) => Err(Failure::new(Cause::Memory)),
             }
@@ -100,7 +127,8 @@ fn built_of(
     }
 }
 
-/// Reads the files, builds the program of the library and the files, and collects its warnings.
+/// Reads the files, builds the program of the library and the files, and collects its warnings. If that is ordered, fails
+/// unless the program is tame.
 fn built<F: Files>(
     rt: &F,
     alloc: Global,
@@ -114,7 +142,11 @@ fn built<F: Files>(
     order.protect_files(rt, alloc, files.as_slice())?;
     let lean = lean_texts(alloc, given, files.as_slice())?;
     let gathered = Gathered::with_lean_library(alloc, given, files.as_slice(), lean.as_slice())?;
-    built_of(alloc, order, &gathered, explains)
+    let (built, warnings) = built_of(alloc, order, &gathered, explains)?;
+    if order.only_tame {
+        let _room = room_of_built(alloc, &gathered, &built)?;
+    }
+    Ok((built, warnings))
 }
 
 /// Prints these segments as INTCODE text.

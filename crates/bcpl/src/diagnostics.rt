@@ -1,11 +1,11 @@
 //! Explanations of refused sources, and warnings about accepted ones.
 
-use bc_build::{BuildError, ParseError, ScopeFault, build};
+use bc_build::{BuildError, ParseError, Parsed, ScopeFault, build};
 use bc_text_items::{Item, Segment};
 use bc_word::Memory;
-use bcpl_advice::{FurtherFault, advised, further_faults, likely_meaning};
+use bcpl_advice::{FurtherFault, advised, faults_after_lexical, further_faults, likely_meaning};
 use bcpl_cli::BuildLine;
-use bcpl_messages::{Message, Named, Note, message_of, shown, told_lines};
+use bcpl_messages::{Message, Named, Note, message_lines, message_of, shown};
 use bcpl_places::Span;
 use bcpl_reports::{Label, Severity, message_line, text_objects};
 use bcpl_warnings::{all_warnings, likely_starts, unknown_names, warning_lines};
@@ -43,6 +43,15 @@ impl Program<'_, '_> {
     }
 }
 
+/// A program that was built, as its warnings see it.
+#[derive(Clone, Copy)]
+pub struct Accepted<'a, 's> {
+    /// The segments that it was built to.
+    pub segments: &'a [Segment],
+    /// What its mains were parsed to, in their order.
+    pub parsed: &'a [Parsed<'s>],
+}
+
 /// The lines of a message on an error, whose first line is `bcpl: ` and `code`. Where it has a place, `error: ` follows
 /// the place, as `warning: ` does in warnings.
 pub fn error_lines(
@@ -63,7 +72,7 @@ pub fn error_lines(
         let sentence = message.sentence.as_str();
         message.sentence = format!(in alloc; "error: {sentence}")?;
     }
-    told_lines(alloc, program.named, &message)
+    message_lines(alloc, program.named, &message)
 }
 
 /// The text at a place.
@@ -75,7 +84,7 @@ fn text_at<'s>(program: &Program<'_, 's>, span: Span) -> &'s [u8] {
 }
 
 /// The end of the sentence on the last name that is listed, if `left` further names aren't.
-fn said_of_more(alloc: Global, left: usize) -> Result<String, Memory> {
+fn unlisted_names(alloc: Global, left: usize) -> Result<String, Memory> {
     if left == 0 {
         return Ok(String::new(alloc));
     }
@@ -94,7 +103,7 @@ fn add_unknown(
     let most = program.most(MOST_ERRORS).saturating_sub(1);
     let listed = names.len().saturating_sub(1).min(most);
     let left = names.len().saturating_sub(1).saturating_sub(listed);
-    let more = said_of_more(alloc, left)?;
+    let more = unlisted_names(alloc, left)?;
     for (number, span) in names.iter().enumerate().skip(1).take(most) {
         let more = if number == listed { more.as_str() } else { "" };
         let text = text_at(program, *span);
@@ -124,18 +133,32 @@ fn completed(
     Ok(message)
 }
 
-/// Adds the explanations of the further faults of a main that the parser refused.
+/// The further faults of a main that the parser or the lexer refused, `most` at most, or one more.
+fn faults_after(
+    alloc: Global,
+    program: &Program<'_, '_>,
+    fault: &BuildError,
+    most: usize,
+) -> Result<Vec<FurtherFault>, Memory> {
+    let sources = program.named.sources;
+    match fault {
+        BuildError::Parse(main, ParseError::Expected(at)) => {
+            further_faults(alloc, sources, *main, *at, most)
+        }
+        BuildError::Lex(main, fault) => faults_after_lexical(alloc, sources, *main, *fault, most),
+        _ => Ok(Vec::new(alloc)),
+    }
+}
+
+/// Adds the explanations of the further faults of a main that the parser or the lexer refused.
 fn add_further(
     text: &mut String,
     alloc: Global,
     program: &Program<'_, '_>,
     fault: &BuildError,
 ) -> Result<(), Memory> {
-    let BuildError::Parse(main, ParseError::Expected(at)) = fault else {
-        return Ok(());
-    };
     let most = program.most(MOST_ERRORS).saturating_sub(1);
-    let faults = further_faults(alloc, program.named.sources, *main, *at, most)?;
+    let faults = faults_after(alloc, program, fault, most)?;
     let is_cut = faults.len() >= most;
     for fault in faults {
         let FurtherFault { error, message } = fault;
@@ -299,9 +322,14 @@ fn lines_of_warnings(
 }
 
 /// That warning, with the routines that were probably meant to set it.
-fn no_start(alloc: Global, library: usize, program: &Program<'_, '_>) -> Result<String, Memory> {
+fn no_start(
+    alloc: Global,
+    library: usize,
+    program: &Program<'_, '_>,
+    parsed: &[Parsed<'_>],
+) -> Result<String, Memory> {
     let mut text = plain_warning(alloc, program.is_json, NO_START)?;
-    let starts = likely_starts(alloc, program.named, library, program.mains)?;
+    let starts = likely_starts(alloc, library, program.mains, parsed)?;
     let lines = lines_of_warnings(alloc, program, starts.as_slice())?;
     text.push_str(lines.as_str())?;
     Ok(text)
@@ -320,35 +348,36 @@ fn start_warnings(
     alloc: Global,
     library: usize,
     program: &Program<'_, '_>,
-    segments: &[Segment],
+    accepted: &Accepted<'_, '_>,
 ) -> Result<String, Memory> {
-    if segments.iter().any(|segment| sets_start(segment)) {
+    if accepted.segments.iter().any(|segment| sets_start(segment)) {
         Ok(String::new(alloc))
     } else {
-        no_start(alloc, library, program)
+        no_start(alloc, library, program, accepted.parsed)
     }
 }
 
-/// The warnings about sources that are a part of a program: another part may have the routine that a run calls.
-pub fn part_warnings(
+/// The warnings about sources that are a part of a program and were parsed to this: another part may have the routine that a run calls.
+pub fn part_warnings<'s>(
     alloc: Global,
     library: usize,
-    program: &Program<'_, '_>,
+    program: &Program<'_, 's>,
+    parsed: &[Parsed<'s>],
 ) -> Result<String, Memory> {
-    let found = all_warnings(alloc, program.named, library, program.mains)?;
+    let sources = program.named.sources;
+    let found = all_warnings(alloc, sources, library, program.mains, parsed)?;
     lines_of_warnings(alloc, program, found.as_slice())
 }
 
-/// All warnings about a program. `segments` is what it was built to, and its first `library` sources are the
-/// library's. `Memory` if an allocation fails.
-pub fn warnings_of(
+/// All warnings about a program. Its first `library` sources are the library's. `Memory` if an allocation fails.
+pub fn warnings_of<'s>(
     alloc: Global,
     library: usize,
-    program: &Program<'_, '_>,
-    segments: &[Segment],
+    program: &Program<'_, 's>,
+    accepted: &Accepted<'_, 's>,
 ) -> Result<String, Memory> {
-    let mut text = start_warnings(alloc, library, program, segments)?;
-    let further = part_warnings(alloc, library, program)?;
+    let mut text = start_warnings(alloc, library, program, accepted)?;
+    let further = part_warnings(alloc, library, program, accepted.parsed)?;
     text.push_str(further.as_str())?;
     Ok(text)
 }

@@ -1,13 +1,14 @@
 //! The command `go`.
 
 use crate::compiling::refused;
+use crate::diagnostics::Accepted;
 use crate::interpret_line::with_interpret_line;
 use crate::interpreting::{print_warnings, program_streams};
 use crate::output::unfinished;
 use crate::running::closed;
 use crate::source_files::Gathered;
 use crate::standard::RunStreams;
-use bc_build::build;
+use bc_build::build_keeping;
 use bc_machine_defs::{End, Image};
 use bcpl_cli::{Clean, Failure, GoOrder, load_sources};
 use bcpl_trace::run_image;
@@ -46,18 +47,18 @@ pub fn go<F: Files, R: Read + Drop, O: Write + Drop, E: Write + Drop>(
     order.program.protect_files(rt, alloc, files.as_slice())?;
     let gathered = Gathered::new(alloc, given, files.as_slice())?;
     let program = gathered.program();
-    let built = match build(alloc, program.named.sources, program.mains) {
+    let mut parsed = Vec::new(alloc);
+    let built = match build_keeping(alloc, program.named.sources, program.mains, &mut parsed) {
         Ok(built) => built,
         Err(fault) => return Err(refused(alloc, &program, fault, streams.explains)),
     };
     if streams.explains {
-        print_warnings(
-            alloc,
-            &order.program,
-            &gathered,
-            built.segments.as_slice(),
-            err,
-        )?;
+        let accepted = Accepted {
+            segments: built.segments.as_slice(),
+            parsed: parsed.as_slice(),
+        };
+        print_warnings(alloc, &order.program, &gathered, &accepted, err)?;
     }
+    drop(parsed);
     run_built(rt, alloc, order, &built.image, streams)
 }

@@ -1,18 +1,17 @@
 //! The command `interpret`.
 
 use crate::compiling::{refused, warnings_on};
-use crate::diagnostics::{Program, error_lines};
+use crate::diagnostics::{Accepted, Program, error_lines};
 use crate::output::{print_messages, unfinished};
 use crate::running::{Streams, streams_of};
 use crate::source_files::Gathered;
 use crate::standard::{RunConsole, RunStreams};
 use crate::strict::interpret_strictly;
-use bc_build::{Built, build};
+use bc_build::{Built, build_keeping};
 use bc_interpret_sources::{
     BuiltProgram as Sections, Cause as Access, Ending, Interpreted, Outcome, interpret,
 };
 use bc_machine_defs::End;
-use bc_text_items::Segment;
 use bc_word::Memory;
 use bcpl_cli::{Cause, Clean, Failure, InterpretOrder, ProgramOrder, Wild, load_sources};
 use bcpl_messages::{Message, Note};
@@ -43,16 +42,16 @@ pub fn interpret_files<F: Files, R: Read + Drop, O: Write + Drop, E: Write + Dro
     result_of(alloc, &gathered.program(), &run, gathered.library)
 }
 
-/// Prints the warnings about a program that was built to these segments, unless they are suppressed.
-pub fn print_warnings<E: Write + Drop>(
+/// Prints the warnings about a program that was built to this, unless they are suppressed.
+pub fn print_warnings<'s, E: Write + Drop>(
     alloc: Global,
     order: &ProgramOrder<'_>,
-    gathered: &Gathered<'_, '_>,
-    segments: &[Segment],
+    gathered: &Gathered<'_, 's>,
+    accepted: &Accepted<'_, 's>,
     err: &mut Clean<E>,
 ) -> Result<(), Memory> {
     if order.warns {
-        let warnings = warnings_on(alloc, &order.sources, gathered, segments)?;
+        let warnings = warnings_on(alloc, &order.sources, gathered, accepted)?;
         print_messages(warnings.as_str(), err);
     }
     Ok(())
@@ -80,19 +79,19 @@ fn interpretation_of<F: Files, R: Read + Drop, O: Write + Drop, E: Write + Drop>
     let program = gathered.program();
     let sources = program.named.sources;
     let mains = program.mains;
-    let built = match build(alloc, sources, mains) {
+    let mut parsed = Vec::new(alloc);
+    let built = match build_keeping(alloc, sources, mains, &mut parsed) {
         Ok(built) => built,
         Err(fault) => return Err(refused(alloc, &program, fault, streams.explains)),
     };
     if streams.explains {
-        print_warnings(
-            alloc,
-            &order.program,
-            gathered,
-            built.segments.as_slice(),
-            err,
-        )?;
+        let accepted = Accepted {
+            segments: built.segments.as_slice(),
+            parsed: parsed.as_slice(),
+        };
+        print_warnings(alloc, &order.program, gathered, &accepted, err)?;
     }
+    drop(parsed);
     let mut streams = program_streams(rt, alloc, &order.program, streams)?;
     let run = Sections {
         sources,

@@ -1,12 +1,13 @@
 //! The command `interpret --strict`: a run by the meaning that also stops at lawful accesses that are nearly always mistakes.
 
 use crate::compiling::refused;
+use crate::diagnostics::Accepted;
 use crate::interpreting::{
     Interpretation, explained_failure, print_warnings, program_streams, result_of,
 };
 use crate::source_files::Gathered;
 use crate::standard::{RunConsole, RunStreams};
-use bc_build::{Built, build};
+use bc_build::{Built, build_keeping};
 use bc_interpret_sources::Interpreted;
 use bc_interpret_strict::{Mistake, StrictProgram, StrictRun, strict_run};
 use bc_machine::Streams;
@@ -83,14 +84,19 @@ pub fn interpret_strictly<F: Files, R: Read + Drop, O: Write + Drop, E: Write + 
 ) -> Result<(), Failure> {
     let RunConsole { streams, err } = console;
     let program = gathered.program();
-    let built = match build(alloc, program.named.sources, program.mains) {
+    let mut parsed = Vec::new(alloc);
+    let built = match build_keeping(alloc, program.named.sources, program.mains, &mut parsed) {
         Ok(built) => built,
         Err(fault) => return Err(refused(alloc, &program, fault, streams.explains)),
     };
     if streams.explains {
-        let segments = built.segments.as_slice();
-        print_warnings(alloc, &order.program, gathered, segments, err)?;
+        let accepted = Accepted {
+            segments: built.segments.as_slice(),
+            parsed: parsed.as_slice(),
+        };
+        print_warnings(alloc, &order.program, gathered, &accepted, err)?;
     }
+    drop(parsed);
     let mut streams = program_streams(rt, alloc, &order.program, streams)?;
     let run = run_built(alloc, gathered, &built, &mut streams, order.turns)?;
     let is_closed = streams.close().is_ok();

@@ -39,6 +39,18 @@ fn is_header(text: &[u8]) -> bool {
     false
 }
 
+/// Whether a comma is between the bracket that a text begins with and the one that closes it.
+fn has_comma(text: &[u8]) -> bool {
+    for byte in text {
+        match *byte {
+            b',' => return true,
+            b']' | b'\n' => return false,
+            _ => {}
+        }
+    }
+    false
+}
+
 /// The help on the byte or GET that `rest` begins with, after the text `before`.
 pub fn character_advice(before: &[u8], rest: &[u8]) -> Option<&'static str> {
     let line = line_end(before);
@@ -47,6 +59,9 @@ pub fn character_advice(before: &[u8], rest: &[u8]) -> Option<&'static str> {
         b'#' if matches!(next, Some(b' ' | b'!' | b'#')) => { Some("a comment begins with //") }
         b'.' if line.starts_with(b"CASE") => {
             Some("a CASE has one value; for a range, write several CASEs, or a TEST before")
+        }
+        b'[' if line.starts_with(b"LET") && has_comma(rest) => {
+            Some("a vector of constants is a TABLE, as in LET V = TABLE 1, 2, 3")
         }
         b'[' if line.starts_with(b"LET") => {
             Some("a vector is declared with VEC, as in LET V = VEC 10")

@@ -42,7 +42,7 @@ enum Found {
 }
 
 /// The sources, with another text for a main.
-fn with_text<'t>(
+pub fn with_text<'t>(
     alloc: Global,
     sources: &[Source<'t>],
     main: usize,

@@ -4,6 +4,7 @@
 #![tactic(auto)]
 
 mod advice;
+mod after_lexical;
 mod blanking;
 mod characters;
 mod further;
@@ -12,5 +13,6 @@ mod statements;
 mod words;
 
 pub use advice::advised;
+pub use after_lexical::faults_after_lexical;
 pub use further::{FurtherFault, further_faults};
 pub use names::likely_meaning;

@@ -3,7 +3,7 @@
 use crate::advice::Advice;
 use crate::words::{
     LOOK_BACK, begins_line, depth_at, has_symbol, is_at, is_joined, is_name, is_number, is_one_of,
-    is_word, line_start, opened_by, symbol_at,
+    is_word, line_start, opened_by, symbol_at, text_at,
 };
 use bc_lex_tokens::{Symbol, Token};
 
@@ -358,6 +358,56 @@ fn dashes(tokens: &[Token<'_>], from: usize, to: usize) -> Option<Advice> {
     None
 }
 
+/// Advice on STEP with a signed number, which is read as a subtraction, if DO is refused at this index.
+fn step(tokens: &[Token<'_>], at: usize) -> Option<Advice> {
+    let start = line_start(tokens, at);
+    if !is_at(tokens, at, Symbol::Do) || !has_symbol(tokens, start, at, Symbol::For) {
+        return None;
+    }
+    for index in start..at {
+        if is_name(tokens, index) && is_word(tokens, index, "STEP") {
+            return Some(Advice::at(
+                index,
+                index,
+                "no FOR has a STEP",
+                "the step of a FOR is written BY, as in FOR I = 9 TO 1 BY -2 DO ..",
+            ));
+        }
+    }
+    None
+}
+
+/// Whether the token with this index is a name without a capital.
+fn is_small(tokens: &[Token<'_>], at: usize) -> bool {
+    for byte in text_at(tokens, at) {
+        if byte.is_ascii_uppercase() {
+            return false;
+        }
+    }
+    is_name(tokens, at)
+}
+
+/// Advice on words after a semicolon, which are meant as a comment, if the second one is refused at this index.
+fn remark(tokens: &[Token<'_>], at: usize) -> Option<Advice> {
+    let first = at.checked_sub(1)?;
+    let sign = first.checked_sub(1)?;
+    let is_remark = is_at(tokens, sign, Symbol::Semicolon)
+        && is_small(tokens, first)
+        && is_small(tokens, at)
+        && !begins_line(tokens, first)
+        && !begins_line(tokens, at);
+    if is_remark {
+        Some(Advice::at(
+            sign,
+            sign,
+            "a semicolon begins no comment",
+            "a comment begins with //",
+        ))
+    } else {
+        None
+    }
+}
+
 /// Advice on a routine with BE before an expression, if the line before a refused token is one.
 fn routine(tokens: &[Token<'_>], start: usize, at: usize) -> Option<Advice> {
     for index in start..at {
@@ -368,12 +418,34 @@ fn routine(tokens: &[Token<'_>], start: usize, at: usize) -> Option<Advice> {
                     body,
                     at.saturating_sub(1),
                     "BE is followed by a command, and this is an expression",
-                    "a routine with a value is written with =, as in LET F(X) = X + 1",
+                    "a routine with a value is written with =, as in LET F(X) = X + 1; to change X, write X := X + 1",
                 ));
             }
         }
     }
     None
+}
+
+/// Advice on a name that ends a VALOF whose closing bracket is refused at this index.
+fn value(tokens: &[Token<'_>], at: usize) -> Option<Advice> {
+    let last = at.checked_sub(1)?;
+    let is_last = is_at(tokens, at, Symbol::CloseSection)
+        && is_name(tokens, last)
+        && begins_line(tokens, last);
+    if !is_last {
+        return None;
+    }
+    let opened = opened_by(tokens, at)?;
+    if is_at(tokens, opened.checked_sub(1)?, Symbol::ValueOf) {
+        Some(Advice::at(
+            last,
+            last,
+            "this value isn't returned",
+            "a VALOF returns its value by RESULTIS, as in RESULTIS X",
+        ))
+    } else {
+        None
+    }
 }
 
 /// Advice on the line before a refused token that begins a line, or ends the block.
@@ -396,6 +468,9 @@ fn line_before(tokens: &[Token<'_>], at: usize) -> Option<Advice> {
             "CONTINUE is no command",
             "LOOP goes on with the next round of a loop",
         ));
+    }
+    if let Some(advice) = value(tokens, at) {
+        return Some(advice);
     }
     if let Some(advice) = routine(tokens, start, at) {
         return Some(advice);
@@ -429,6 +504,8 @@ pub fn statement_advice(tokens: &[Token<'_>], at: usize) -> Option<Advice> {
         table(tokens, at),
         outside(tokens, at),
         typed(tokens, at),
+        step(tokens, at),
+        remark(tokens, at),
         line_before(tokens, at),
     ];
     for advice in tables {

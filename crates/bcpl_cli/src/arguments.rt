@@ -7,8 +7,10 @@ use crate::argument_reader::ArgumentReader;
 use crate::atomic_file::Links;
 use crate::commands::program;
 use crate::converting::{ConvertOrder, convert_order};
+use crate::formatting::{FormatOrder, format_order};
 use crate::grammar::Numbers;
 use crate::guessing::invalid_number;
+use crate::serving::{ServeOrder, serve_order};
 use clap::error::ErrorKind;
 use clap::{ArgMatches, Error};
 use std::alloc::{AllocError, Global};
@@ -148,6 +150,8 @@ pub struct BuildOrder<'a> {
     pub links: Links,
     pub sources: Sources<'a>,
     pub places: Places,
+    /// Whether to refuse a program that is not known to be tame.
+    pub only_tame: bool,
     /// Whether to warn about valid code that is probably a mistake.
     pub warns: bool,
 }
@@ -198,6 +202,13 @@ pub struct DebugOrder<'a> {
     pub script: Option<&'a str>,
     /// Whether the session ends after these commands.
     pub is_batch: bool,
+    pub sources: Sources<'a>,
+    pub places: Places,
+}
+
+/// The arguments of `tame`.
+#[derive(Drop)]
+pub struct TameOrder<'a> {
     pub sources: Sources<'a>,
     pub places: Places,
 }
@@ -289,10 +300,16 @@ pub enum Order<'a> {
     Interpret(InterpretOrder<'a>),
     /// Run sources step by step.
     Debug(DebugOrder<'a>),
+    /// Decide whether sources are tame.
+    Tame(TameOrder<'a>),
+    /// Serve an editor.
+    Serve(ServeOrder<'a>),
     /// Check a certificate.
     Check(CheckOrder<'a>),
     /// Convert old sources.
     Convert(ConvertOrder<'a>),
+    /// Lay out sources.
+    Format(FormatOrder<'a>),
 }
 
 impl Order<'_> {
@@ -309,8 +326,11 @@ impl Order<'_> {
             Order::Go(order) => order.program.places,
             Order::Interpret(order) => order.program.places,
             Order::Debug(order) => order.places,
+            Order::Tame(order) => order.places,
+            Order::Serve(_) => Places::OnTerminal,
             Order::Check(order) => order.places,
             Order::Convert(order) => order.places,
+            Order::Format(order) => order.places,
         }
     }
 }
@@ -592,6 +612,14 @@ fn debug_order<'a>(reader: &mut ArgumentReader<'_, 'a>) -> DebugOrder<'a> {
     }
 }
 
+/// Reads the arguments of `tame`.
+fn tame_order<'a>(reader: &mut ArgumentReader<'_, 'a>) -> TameOrder<'a> {
+    TameOrder {
+        sources: sources_of(reader),
+        places: places_option(reader),
+    }
+}
+
 /// Reads the options of `run` that record the run.
 fn watch_order<'a>(reader: &mut ArgumentReader<'_, 'a>) -> WatchOrder<'a> {
     WatchOrder {
@@ -651,6 +679,7 @@ fn build_order<'a>(reader: &mut ArgumentReader<'_, 'a>) -> BuildOrder<'a> {
         links: links_option(reader),
         sources: build_sources(reader),
         places: places_option(reader),
+        only_tame: reader.flag("tame"),
         warns: !reader.flag("no-warnings"),
     }
 }
@@ -702,8 +731,11 @@ fn order_of<'a>(command: &str, reader: &mut ArgumentReader<'_, 'a>) -> Order<'a>
         "go" => Order::Go(go_order(reader)),
         "interpret" => Order::Interpret(interpret_order(reader)),
         "debug" => Order::Debug(debug_order(reader)),
+        "tame" => Order::Tame(tame_order(reader)),
+        "lsp" => Order::Serve(serve_order(reader)),
         "check" => Order::Check(check_order(reader)),
         "convert" => Order::Convert(convert_order(reader)),
+        "format" => Order::Format(format_order(reader)),
         "explain" => Order::Explain(explain_order(reader)),
         "list" => Order::List(list_order(reader)),
         "show" => Order::Show(show_order(reader)),

@@ -1,6 +1,7 @@
 //! The table of commands: their arguments, options and help texts.
 
 use crate::grammar::{Argument, CommandSpec, Constraint, Form, Numbers, with_commands};
+use crate::serving::LSP;
 use crate::version::VERSION;
 use clap::Command;
 use std::alloc::{AllocError, Global};
@@ -146,6 +147,12 @@ const BUILD: CommandSpec = CommandSpec {
             help: "Write a text without the library, to be linked with a text that has it",
         },
         KEEP_LINKS,
+        Argument {
+            name: "tame",
+            form: Form::Flag,
+            constraint: Constraint::Without(&["lean", "no-library"]),
+            help: "Refuse the program unless it is tame, as the command `tame` decides",
+        },
         PLACES,
         MESSAGES,
         ERRORS,
@@ -478,6 +485,20 @@ const DEBUG: CommandSpec = CommandSpec {
     ],
 };
 
+const TAME: CommandSpec = CommandSpec {
+    name: "tame",
+    about: "Decides whether no run of a BCPL source can meet a wild cell",
+    more: "Compiles the source as `build` does, and checks its text. If the answer is `ok tame ROOM`, every run of the\n\
+           image has the output and the ending that the source means, on all inputs: that is a theorem. ROOM is a\n\
+           number of cells above the base of the stack that suffices for every run.\n\n\
+           Otherwise prints the first place that the check can't accept and what it would need. Such a program is not\n\
+           known to be tame; it may be harmless. `interpret` says whether one run is wild.\n\n\
+           The program is BLIB and one FILE.\n\n\
+           Exit status: 0 tame, 1 refused or not known to be tame, 3 invalid arguments.\n\n\
+           Example:\n  bcpl tame hello.bcpl",
+    arguments: &[LIBRARY, GET, INCLUDE, PLACES, MESSAGES, FILES],
+};
+
 const CHECK: CommandSpec = CommandSpec {
     name: "check",
     about: "Checks a certificate of least size, and compares it with INTCODE texts",
@@ -514,15 +535,19 @@ const CONVERT: CommandSpec = CommandSpec {
            A source that builds as it is stays byte for byte, unless --dialect names the system it was written for:\n\
            then it is converted too. With 1967 V*(I) is a subscript, with 1979 a product; with alto @ becomes !. Don't\n\
            convert a result again with --dialect.\n\n\
+           With --project, FILE is a folder, and all sources in it are converted as one program; files can be named\n\
+           instead, with --out-dir. OUT is a new folder, which is created. It also gets the script build.sh, which builds\n\
+           the result, and REPORT.md and REPORT.html, which list what was changed and what is left to do by hand.\n\n\
            Exit status: 0 all converted, 1 refused or something is left to do by hand, 3 invalid arguments.\n\n\
            Examples:\n  bcpl convert --out queens.bcpl queens.old\n\
-           \x20 bcpl convert --in-place header main.bcpl tables.bcpl",
+           \x20 bcpl convert --in-place header main.bcpl tables.bcpl\n\
+           \x20 bcpl convert --project old --out new",
     arguments: &[
         Argument {
             name: "FILE",
             form: Form::Word("FILE"),
             constraint: Constraint::Required,
-            help: "The source file to convert",
+            help: "The source file to convert; with --project also a folder",
         },
         Argument {
             name: "FURTHER",
@@ -549,6 +574,12 @@ const CONVERT: CommandSpec = CommandSpec {
             help: "Write the result of each FILE to this folder, under the same name",
         },
         Argument {
+            name: "project",
+            form: Form::Flag,
+            constraint: Constraint::Without(&["in-place"]),
+            help: "Convert a folder of sources to a folder that can be built, with a report; requires --out or --out-dir",
+        },
+        Argument {
             name: "header",
             form: Form::Option("HEADER"),
             constraint: Constraint::Free,
@@ -558,13 +589,48 @@ const CONVERT: CommandSpec = CommandSpec {
             name: "dialect",
             form: Form::Option("SYSTEM"),
             constraint: Constraint::Free,
-            help: "Take sources for those of this system: 1967, 1979 or alto [default: what they show]",
+            help: "Take sources for those of this system: 1967 (mit), 1979 (cambridge, tripos, bbc) or alto [default: what they show]",
         },
         Argument {
             name: "library",
             form: Form::Option("OLD"),
             constraint: Constraint::Free,
             help: "A file that maps names of an old library to names of this one",
+        },
+        KEEP_LINKS,
+        PLACES,
+        MESSAGES,
+    ],
+};
+
+const FORMAT: CommandSpec = CommandSpec {
+    name: "format",
+    about: "Lays out sources: indents lines and sets blanks, and changes nothing else",
+    more: "Keeps every token, comment and line break, so that a build is the same byte for byte. Only lines that are too\n\
+           long are broken, after an operator, a comma or a semicolon. Files that a source gets are looked for beside it;\n\
+           they don't matter for its layout.\n\n\
+           Exit status: 0 done, 1 refused or, with --check, a source that isn't laid out, 3 invalid arguments.\n\n\
+           Examples:\n  bcpl format queens.bcpl\n\
+           \x20 bcpl format --in-place main.bcpl tables.bcpl",
+    arguments: &[
+        FILES,
+        Argument {
+            name: "check",
+            form: Form::Flag,
+            constraint: Constraint::Without(&["in-place"]),
+            help: "Print the names of the files that aren't laid out, and write nothing",
+        },
+        Argument {
+            name: "in-place",
+            form: Form::Flag,
+            constraint: Constraint::Free,
+            help: "Overwrite each FILE with its layout",
+        },
+        Argument {
+            name: "width",
+            form: Form::Number("N"),
+            constraint: Constraint::Free,
+            help: "Break lines that have more than N columns, where that is possible [default: 100]",
         },
         KEEP_LINKS,
         PLACES,
@@ -579,7 +645,7 @@ const ON_SOURCES: [CommandSpec; 3] = [BUILD, SHOW, EXPLAIN];
 const ON_TEXTS: [CommandSpec; 3] = [LIST, ASSEMBLE, RUN];
 
 /// The other commands.
-const OTHERS: [CommandSpec; 5] = [GO, INTERPRET, DEBUG, CHECK, CONVERT];
+const OTHERS: [CommandSpec; 8] = [GO, INTERPRET, DEBUG, TAME, CHECK, CONVERT, FORMAT, LSP];
 
 /// Adds the commands on sources.
 fn with_source_commands<'a>(

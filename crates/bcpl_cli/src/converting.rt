@@ -47,6 +47,8 @@ pub struct ConvertOrder<'a> {
     /// The files of the old sources, which belong to one program.
     pub files: Vec<&'a str>,
     pub to: ConvertTo<'a>,
+    /// Whether the files are a project: the result has a script that builds it, and a report.
+    pub is_project: bool,
     /// The file that maps names of an old library, if any.
     pub library: Option<&'a str>,
     pub header: ConvertHeader,
@@ -71,18 +73,32 @@ fn header_of(reader: &mut ArgumentReader<'_, '_>) -> ConvertHeader {
 }
 
 /// What `--dialect` accepts.
-const DIALECT_ACCEPTS: &str = "--dialect takes 1967, 1979 or alto, for example --dialect 1979";
+const DIALECT_ACCEPTS: &str =
+    "--dialect takes 1967 or mit, 1979, cambridge, tripos or bbc, or alto, for example --dialect 1979";
+
+/// What `--project` accepts.
+const PROJECT_ACCEPTS: &str =
+    "--project needs a folder for the result, for example bcpl convert --project old --out new";
 
 /// The value of `--dialect`. An invalid value is noted in `reader`.
 fn dialect_of(reader: &mut ArgumentReader<'_, '_>) -> ConvertDialect {
     match reader.value("dialect") {
         None => {}
-        Some("1967") => return ConvertDialect::Of1967,
-        Some("1979") => return ConvertDialect::Of1979,
+        Some("1967" | "mit") => return ConvertDialect::Of1967,
+        Some("1979" | "cambridge" | "tripos" | "bbc") => return ConvertDialect::Of1979,
         Some("alto") => return ConvertDialect::Alto,
         Some(value) => reader.refuse(value, DIALECT_ACCEPTS),
     }
     ConvertDialect::Shown
+}
+
+/// Whether the files are a project. One without a folder for the result is noted in `reader`.
+fn is_project(reader: &mut ArgumentReader<'_, '_>, to: ConvertTo<'_>) -> bool {
+    let is_project = reader.flag("project");
+    if is_project && matches!(to, ConvertTo::Standard | ConvertTo::Source) {
+        reader.refuse("--project", PROJECT_ACCEPTS);
+    }
+    is_project
 }
 
 /// Where the results go.
@@ -105,9 +121,11 @@ fn files_of<'a>(reader: &mut ArgumentReader<'_, 'a>) -> Vec<&'a str> {
 
 /// Reads the arguments of `convert`.
 pub fn convert_order<'a>(reader: &mut ArgumentReader<'_, 'a>) -> ConvertOrder<'a> {
+    let to = destination(reader);
     ConvertOrder {
         files: files_of(reader),
-        to: destination(reader),
+        to,
+        is_project: is_project(reader, to),
         library: reader.value("library"),
         header: header_of(reader),
         dialect: dialect_of(reader),

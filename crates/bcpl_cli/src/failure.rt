@@ -81,8 +81,12 @@ pub enum Cause {
     Wild(Wild),
     /// A strict run met an access that is probably a mistake.
     Strict(Strict),
+    /// A program is not known to be tame, for the reason with this number and name.
+    Tame(u32, &'static str),
     /// This many things in an old source can't be converted automatically.
     ByHand(usize),
+    /// This many sources are not laid out.
+    NotLaidOut(usize),
     /// An allocation failed.
     Memory,
 }
@@ -162,6 +166,7 @@ impl Failure {
         matches!(
             &self.cause,
             Cause::ByHand(_)
+                | Cause::Tame(_, _)
                 | Cause::Wild(_)
                 | Cause::Strict(_)
                 | Cause::TurnsSpent
@@ -286,7 +291,9 @@ impl fmt::Display for Failure {
             Cause::TurnsSpent => write!(f, "ended TurnsSpent"),
             Cause::Wild(wild) => write_wild(f, *wild),
             Cause::Strict(strict) => write_strict(f, *strict),
+            Cause::Tame(number, name) => write!(f, "tame {number} {name}"),
             Cause::ByHand(count) => write!(f, "convert 1 ByHand {count}"),
+            Cause::NotLaidOut(count) => write!(f, "format 1 NotLaidOut {count}"),
             Cause::Memory => write!(f, "memory"),
         }
     }

@@ -22,6 +22,7 @@ mod failure;
 mod file_identity;
 mod file_kinds;
 mod file_pair;
+mod formatting;
 mod get_hints;
 mod got_names;
 mod grammar;
@@ -34,14 +35,15 @@ mod loaded_sources;
 mod numbers;
 mod read_file;
 mod refusals;
+mod serving;
 mod utf8_scan;
 mod version;
 
 pub use arguments::{
     ArgumentError, AssembleOrder, Binding, BuildOrder, CheckOrder, DebugOrder, ExplainOrder,
     GoOrder, ImageFormat, InterpretOrder, Library, LinkedLibrary, ListOrder, Listing, Order,
-    Places, ProgramOrder, RunOrder, ShowOrder, Sources, TreeShape, WatchOrder, is_standard_output,
-    parse_arguments,
+    Places, ProgramOrder, RunOrder, ShowOrder, Sources, TameOrder, TreeShape, WatchOrder,
+    is_standard_output, parse_arguments,
 };
 pub use atomic_file::{AtomicFile, Links, is_one_file, is_regular, named_twice};
 pub use clean::Clean;
@@ -50,9 +52,11 @@ pub use escaped::{Escaped, shown_path};
 pub use failure::{BuildLine, Cause, Failure, Strict, Wild};
 pub use file_kinds::{FileKind, file_kind};
 pub use file_pair::FilePair;
+pub use formatting::{FormatOrder, FormatTo};
 pub use get_hints::get_hint;
 pub use guessing::{Guess, guess_of, places_in};
 pub use hints::{Expected, hint, without_extension};
 pub use library_cutting::lean_libraries;
 pub use loaded_sources::{LoadedSource, load_sources};
 pub use read_file::{FILE_LIMIT, contents};
+pub use serving::ServeOrder;

@@ -5,7 +5,7 @@ use crate::lawful::{Given, lawful_files};
 use crate::protected_files::spare;
 use crate::summary::{add_told, told_of};
 use bc_convert::{
-    Header, Lawful, NameList, Options, Program, Renaming, System, convert, renamings,
+    Header, Lawful, NameList, OldNames, Options, Program, System, convert, renamings,
 };
 use bcpl_cli::{Cause, ConvertDialect, ConvertHeader, ConvertOrder, Failure, Places, contents};
 use std::alloc::Global;
@@ -13,7 +13,7 @@ use std::io::Write;
 use std::rt::Files;
 
 /// The failure of a command after which `count` things must be done by hand. `told` has the lines about them.
-fn by_hand(order: &ConvertOrder<'_>, count: usize, told: String) -> Failure {
+pub fn by_hand(order: &ConvertOrder<'_>, count: usize, told: String) -> Failure {
     let failure = Failure::new(Cause::ByHand(count));
     match order.places {
         Places::Never => failure,
@@ -22,7 +22,11 @@ fn by_hand(order: &ConvertOrder<'_>, count: usize, told: String) -> Failure {
 }
 
 /// The text of the list of names; empty if no list is given.
-fn list_text<F: Files>(
+///
+/// # Errors
+///
+/// Fails if the list can't be read.
+pub fn list_text<F: Files>(
     rt: &F,
     alloc: Global,
     order: &ConvertOrder<'_>,
@@ -34,7 +38,11 @@ fn list_text<F: Files>(
 }
 
 /// Fails if the list of names has a faulty line.
-fn refuse_list(
+///
+/// # Errors
+///
+/// The failure with all faulty lines.
+pub fn refuse_list(
     alloc: Global,
     order: &ConvertOrder<'_>,
     text: &[u8],
@@ -64,10 +72,14 @@ fn texts_of<F: Files>(
 }
 
 /// What the sources show together; `None` if there is no source.
-fn program_of(
+///
+/// # Errors
+///
+/// Fails if an allocation fails.
+pub fn program_of(
     alloc: Global,
     texts: &[Vec<u8>],
-    library: &[Renaming<'_>],
+    library: &OldNames<'_>,
 ) -> Result<Option<Program>, Failure> {
     let mut whole: Option<Program> = None;
     for text in texts {
@@ -87,6 +99,25 @@ fn system_of(dialect: ConvertDialect) -> Option<System> {
         ConvertDialect::Of1967 => Some(System::Of1967),
         ConvertDialect::Of1979 => Some(System::Of1979),
         ConvertDialect::Alto => Some(System::Alto),
+    }
+}
+
+/// How sources are converted that show this program together, and of which none is known to build as it is.
+pub fn options_of<'o>(
+    order: &ConvertOrder<'_>,
+    library: &'o OldNames<'o>,
+    program: Option<Program>,
+) -> Options<'o> {
+    Options {
+        library,
+        header: match order.header {
+            ConvertHeader::Basic => Some(Header::Basic),
+            ConvertHeader::Further => Some(Header::Further),
+            ConvertHeader::Needed => None,
+        },
+        program,
+        lawful: Lawful::No,
+        system: system_of(order.dialect),
     }
 }
 
@@ -137,6 +168,33 @@ fn tell_jobs(alloc: Global, order: &ConvertOrder<'_>, jobs: &[Job<'_>]) -> Resul
     }
 }
 
+/// Converts the sources with these names of an old library, writes the results and reports what must be done by hand.
+fn convert_with<F: Files, O: Write + Drop>(
+    rt: &F,
+    alloc: Global,
+    order: &ConvertOrder<'_>,
+    library: &OldNames<'_>,
+    out: &mut O,
+) -> Result<(), Failure> {
+    let texts = texts_of(rt, alloc, order)?;
+    let program = program_of(alloc, texts.as_slice(), library)?;
+    let options = options_of(order, library, program);
+    let given = Given {
+        paths: order.files.as_slice(),
+        texts: texts.as_slice(),
+    };
+    let lawful = match options.system {
+        None => lawful_files(rt, alloc, given, options.header.is_some())?,
+        Some(_) => Vec::new(alloc),
+    };
+    let jobs = jobs_of(alloc, order, texts, lawful.as_slice(), options)?;
+    spare(rt, alloc, order, jobs.as_slice())?;
+    for job in &jobs {
+        write_job(rt, alloc, job, out)?;
+    }
+    tell_jobs(alloc, order, jobs.as_slice())
+}
+
 /// Converts old sources, writes the results and reports what must be done by hand. Even then everything is written.
 ///
 /// # Errors
@@ -152,31 +210,5 @@ pub fn convert_file<F: Files, O: Write + Drop>(
     let list = list_text(rt, alloc, order)?;
     let names = renamings(alloc, list.as_slice())?;
     refuse_list(alloc, order, list.as_slice(), &names)?;
-    let texts = texts_of(rt, alloc, order)?;
-    let library = names.list.as_slice();
-    let options = Options {
-        library,
-        header: match order.header {
-            ConvertHeader::Basic => Some(Header::Basic),
-            ConvertHeader::Further => Some(Header::Further),
-            ConvertHeader::Needed => None,
-        },
-        program: program_of(alloc, texts.as_slice(), library)?,
-        lawful: Lawful::No,
-        system: system_of(order.dialect),
-    };
-    let given = Given {
-        paths: order.files.as_slice(),
-        texts: texts.as_slice(),
-    };
-    let lawful = match options.system {
-        None => lawful_files(rt, alloc, given, options.header.is_some())?,
-        Some(_) => Vec::new(alloc),
-    };
-    let jobs = jobs_of(alloc, order, texts, lawful.as_slice(), options)?;
-    spare(rt, alloc, order, jobs.as_slice())?;
-    for job in &jobs {
-        write_job(rt, alloc, job, out)?;
-    }
-    tell_jobs(alloc, order, jobs.as_slice())
+    convert_with(rt, alloc, order, &names.list, out)
 }

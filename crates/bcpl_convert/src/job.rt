@@ -72,7 +72,11 @@ impl Job<'_> {
 }
 
 /// Writes a file, as `AtomicFile` does.
-fn write_file<F: Files>(
+///
+/// # Errors
+///
+/// Fails if the file can't be written.
+pub fn write_file<F: Files>(
     rt: &F,
     alloc: Global,
     path: &str,

@@ -7,5 +7,7 @@ mod lawful;
 mod protected_files;
 mod summary;
 
-pub use command::convert_file;
+pub use command::{by_hand, convert_file, list_text, options_of, program_of, refuse_list};
+pub use job::{name_of, write_file};
+pub use lawful::{Given, lawful_files};
 pub use summary::told_of;

@@ -3,7 +3,7 @@
 use crate::program::DebugProgram;
 use bc_interpret_record::{Ending, Interpreted, Outcome};
 use bc_word::Memory;
-use bcpl_messages::{Message, told_lines};
+use bcpl_messages::{Message, message_lines};
 use bcpl_wild::{Met, Stand, WildProgram, placed_message, wild_message};
 use std::alloc::Global;
 
@@ -46,7 +46,7 @@ pub(crate) fn end_lines(
     run: &Interpreted,
 ) -> Result<String, Memory> {
     match message_of(alloc, program, run)? {
-        Some(message) => told_lines(alloc, program.named, &message),
+        Some(message) => message_lines(alloc, program.named, &message),
         None => Ok(String::new(alloc)),
     }
 }

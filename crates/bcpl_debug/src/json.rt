@@ -106,6 +106,14 @@ impl Json {
         Ok(self.text.push_str("\"")?)
     }
 
+    /// Appends a text of letters, digits and such signs as need no backslash.
+    pub fn plain(&mut self, text: &str) -> Result<(), Memory> {
+        self.part()?;
+        self.text.push_str("\"")?;
+        self.text.push_str(text)?;
+        Ok(self.text.push_str("\"")?)
+    }
+
     /// Appends a name with a number.
     pub fn field(&mut self, name: &str, number: u64) -> Result<(), Memory> {
         self.key(name)?;

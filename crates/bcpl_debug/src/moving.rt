@@ -38,38 +38,31 @@ pub(crate) enum Halt {
 }
 
 impl Session<'_, '_> {
-    /// Goes one stop this way; false if there is none.
-    fn go(&mut self, way: Way) -> Result<bool, Memory> {
+    /// The index of the stop whose changes are made or taken back when the stop with this index is reached from the one next to it.
+    fn changed_stop(at: usize, way: Way) -> usize {
         match way {
-            Way::Forward => self.moment.forward(&self.run.recording),
-            Way::Back => self.moment.back(&self.run.recording),
+            Way::Forward => at,
+            Way::Back => at.saturating_add(1),
         }
     }
 
-    /// The index of the stop whose changes were made or taken back by the last move.
-    fn changed_stop(&self, way: Way) -> usize {
-        match way {
-            Way::Forward => self.moment.at,
-            Way::Back => self.moment.at.saturating_add(1),
+    /// The call that was entered right before the stop with this index, if one was.
+    fn entered(&self, at: usize) -> Option<Frame> {
+        let recording = &self.run.recording;
+        if at == 0 {
+            return recording.frames.last().copied();
         }
-    }
-
-    /// The call that was entered right before this stop, if one was.
-    fn entered(&self) -> Option<Frame> {
-        if self.moment.at == 0 {
-            return self.frame(0);
-        }
-        match self.run.recording.moves_of(self.moment.at).last() {
+        match recording.moves_of(at).last() {
             Some(Move::Enter(frame)) => Some(*frame),
             _ => None,
         }
     }
 
-    /// Whether the last move changed this cell.
-    fn is_changed(&self, address: u16, way: Way) -> bool {
+    /// Whether this cell is changed on the way to the stop with this index.
+    fn is_changed(&self, address: u16, at: usize, way: Way) -> bool {
         self.run
             .recording
-            .changes_of(self.changed_stop(way))
+            .changes_of(Self::changed_stop(at, way))
             .iter()
             .any(|change| change.address == address)
     }
@@ -83,21 +76,28 @@ impl Session<'_, '_> {
         }
     }
 
-    /// Whether the session is where a breakpoint stops, apart from its condition.
-    fn is_at(&self, breakpoint: &Breakpoint, way: Way) -> bool {
+    /// Whether a breakpoint can stop at the stop with this index, which depends on its condition and on the calls besides.
+    fn is_near(&self, breakpoint: &Breakpoint, at: usize, way: Way) -> bool {
         match &breakpoint.target {
-            Target::Line { sites, .. } => match self.stop() {
+            Target::Line { sites, .. } => match self.run.recording.stops.get(at) {
                 Some(stop) => !stop.is_end && sites.contains(&stop.site),
                 None => false,
             },
-            Target::Routine(address) => match self.entered() {
+            Target::Routine(address) => match self.entered(at) {
                 Some(frame) => frame.routine == *address,
                 None => false,
             },
-            Target::Cell { address, owner } => {
-                self.is_changed(*address, way) && self.is_in_call(*owner)
-            }
+            Target::Cell { address, .. } => self.is_changed(*address, at, way),
         }
+    }
+
+    /// Whether the session is where a breakpoint stops, apart from its condition.
+    fn is_at(&self, breakpoint: &Breakpoint, way: Way) -> bool {
+        let is_in_call = match &breakpoint.target {
+            Target::Cell { owner, .. } => self.is_in_call(*owner),
+            _ => true,
+        };
+        is_in_call && self.is_near(breakpoint, self.moment.at, way)
     }
 
     /// Whether the condition of a breakpoint is true; one that has no value counts as true.
@@ -121,21 +121,75 @@ impl Session<'_, '_> {
         None
     }
 
+    /// Whether the aim can be reached at the stop with this index, which depends on the calls besides.
+    fn is_aim(&self, aim: Aim, at: usize, enters_library: bool) -> bool {
+        match aim {
+            Aim::Any | Aim::Within(_) => match self.run.recording.stops.get(at) {
+                Some(stop) => stop.is_end || self.is_shown(stop.site, enters_library),
+                None => true,
+            },
+            Aim::Breakpoint => false,
+            Aim::Site(index) => match self.breakpoints.get(index) {
+                Some(breakpoint) => self.is_near(breakpoint, at, Way::Forward),
+                None => false,
+            },
+        }
+    }
+
     /// Whether the session is where a move is to end.
     fn is_reached(&self, aim: Aim, enters_library: bool) -> bool {
-        let is_shown = match self.stop() {
-            Some(stop) => stop.is_end || self.is_shown(stop.site, enters_library),
-            None => true,
-        };
+        if !self.is_aim(aim, self.moment.at, enters_library) {
+            return false;
+        }
         match aim {
-            Aim::Any => is_shown,
-            Aim::Within(depth) => is_shown && self.depth() <= depth,
-            Aim::Breakpoint => false,
+            Aim::Within(depth) => self.depth() <= depth,
             Aim::Site(index) => match self.breakpoints.get(index) {
                 Some(breakpoint) => self.is_at(breakpoint, Way::Forward),
                 None => false,
             },
+            Aim::Any | Aim::Breakpoint => true,
         }
+    }
+
+    /// Whether a move can end at the stop with this index.
+    fn is_candidate(&self, at: usize, way: Way, aim: Aim, enters_library: bool) -> bool {
+        self.is_aim(aim, at, enters_library)
+            || self
+                .breakpoints
+                .iter()
+                .any(|breakpoint| self.is_near(breakpoint, at, way))
+    }
+
+    /// The next stop this way at which a move can end, if there is one.
+    fn candidate(&self, way: Way, aim: Aim, enters_library: bool) -> Option<usize> {
+        let here = self.moment.at;
+        match way {
+            Way::Forward => {
+                for at in here.saturating_add(1)..self.run.recording.stops.len() {
+                    if self.is_candidate(at, way, aim, enters_library) {
+                        return Some(at);
+                    }
+                }
+            }
+            Way::Back => {
+                for at in (0..here).rev() {
+                    if self.is_candidate(at, way, aim, enters_library) {
+                        return Some(at);
+                    }
+                }
+            }
+        }
+        None
+    }
+
+    /// Goes to the last stop this way.
+    fn go_to_edge(&mut self, way: Way) -> Result<(), Memory> {
+        let edge = match way {
+            Way::Forward => self.run.recording.stops.len().saturating_sub(1),
+            Way::Back => 0,
+        };
+        let _went = self.moment.jump(&self.run.recording, edge)?;
+        Ok(())
     }
 
     /// Moves until the aim or a breakpoint is reached.
@@ -143,9 +197,11 @@ impl Session<'_, '_> {
         self.selected = 0;
         let enters_library = self.goes_through_library();
         for _each in 0..self.run.recording.stops.len() {
-            if !self.go(way)? {
+            let Some(at) = self.candidate(way, aim, enters_library) else {
+                self.go_to_edge(way)?;
                 return Ok(Halt::Edge);
-            }
+            };
+            let _went = self.moment.jump(&self.run.recording, at)?;
             if let Some(index) = self.hit(way) {
                 return Ok(Halt::Breakpoint(index));
             }
@@ -155,26 +211,13 @@ impl Session<'_, '_> {
         }
         Ok(Halt::Edge)
     }
-}
 
-impl Session<'_, '_> {
-    /// Goes to the stop with this index.
+    /// Goes to the stop with this index, or to the last one if there are fewer.
     pub(crate) fn go_to(&mut self, at: usize) -> Result<(), Memory> {
         self.selected = 0;
         self.listed = 0;
-        for _each in 0..self.run.recording.stops.len() {
-            if self.moment.at == at {
-                return Ok(());
-            }
-            let way = if self.moment.at < at {
-                Way::Forward
-            } else {
-                Way::Back
-            };
-            if !self.go(way)? {
-                return Ok(());
-            }
-        }
+        let last = self.run.recording.stops.len().saturating_sub(1);
+        let _went = self.moment.jump(&self.run.recording, at.min(last))?;
         Ok(())
     }
 }

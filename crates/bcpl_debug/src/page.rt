@@ -321,7 +321,7 @@ impl PageOf<'_, '_> {
         let bytes = bytes_of(alloc, self.recording(), routines.as_slice(), self.unknown())?;
         let text = STANDARD.encode(alloc, bytes.as_slice())?;
         json.key("stops")?;
-        json.ascii(text.as_str())
+        json.plain(text.as_str())
     }
 
     /// Appends how the run ended.
@@ -385,7 +385,7 @@ fn address_of(outcome: Outcome) -> Option<u16> {
 pub fn recording_of(alloc: Global, page: &PageOf<'_, '_>) -> Result<String, Memory> {
     let mut json = Json::new(alloc);
     json.open("{")?;
-    json.field("version", 1)?;
+    json.field("version", 2)?;
     page.add_program(alloc, &mut json)?;
     page.add_files(&mut json)?;
     page.add_places(&mut json)?;

@@ -1,8 +1,15 @@
 //! The stops of a recording as a stream of bytes, as debugger/FORMAT.md has it.
 
-use bc_interpret_record::{Cell, Change, Move, NO_SITE, Recording, Stop};
+use bc_interpret_record::{Cell, Change, Frame, Move, NO_SITE, Recording, Stop};
 use bc_word::Memory;
 use std::alloc::Global;
+
+/// A call that the run is in: the base of its frame, and the number of the place at which the run last was in it.
+#[derive(Clone, Copy)]
+struct OpenCall {
+    base: u64,
+    place: u64,
+}
 
 /// The stops of a recording as bytes, while they are written.
 #[derive(Drop)]
@@ -14,6 +21,10 @@ struct Stream<'r> {
     routines: &'r [u32],
     /// The number of the place that isn't known.
     unknown: u32,
+    /// The calls that the run is in at the last stop, the newest one last.
+    calls: Vec<OpenCall>,
+    /// The number of the place of the last stop.
+    place: u64,
 }
 
 /// The state of a cell as a number.
@@ -25,12 +36,12 @@ pub fn state_of(cell: Cell) -> u64 {
     }
 }
 
-/// A difference of addresses as a number.
-fn signed(from: u16, to: u16) -> u64 {
+/// A difference as a number.
+fn signed(from: u64, to: u64) -> u64 {
     if to >= from {
-        u64::from(to - from).saturating_mul(2)
+        (to - from).saturating_mul(2)
     } else {
-        u64::from(from - to).saturating_mul(2).saturating_sub(1)
+        (from - to).saturating_mul(2).saturating_sub(1)
     }
 }
 
@@ -50,7 +61,7 @@ impl Stream<'_> {
     }
 
     /// The number of the place of this site.
-    fn place(&self, site: u32) -> u64 {
+    fn place_of(&self, site: u32) -> u64 {
         u64::from(if site == NO_SITE { self.unknown } else { site })
     }
 
@@ -62,6 +73,36 @@ impl Stream<'_> {
             .copied()
             .unwrap_or(0);
         u64::from(number.saturating_sub(1))
+    }
+
+    /// Enters a call that was made at the place with this number.
+    fn enter(&mut self, base: u32, place: u64) -> Result<(), Memory> {
+        if let Some(caller) = self.calls.last_mut() {
+            caller.place = place;
+        }
+        self.calls.push(OpenCall {
+            base: u64::from(base),
+            place,
+        })?;
+        Ok(())
+    }
+
+    /// Enters the calls of the first stop.
+    fn begin(&mut self) -> Result<(), Memory> {
+        let recording = self.recording;
+        for frame in &recording.frames {
+            let place = self.place_of(frame.caller);
+            self.enter(frame.base, place)?;
+        }
+        Ok(())
+    }
+
+    /// The newest call.
+    fn newest(&self) -> OpenCall {
+        self.calls
+            .last()
+            .copied()
+            .unwrap_or(OpenCall { base: 0, place: 0 })
     }
 
     /// Appends which calls were left and entered. A call that was entered and left in between isn't mentioned.
@@ -76,6 +117,7 @@ impl Stream<'_> {
                         entered -= 1;
                     } else {
                         left = left.saturating_add(1);
+                        let _left = self.calls.pop();
                     }
                 }
             }
@@ -105,18 +147,32 @@ impl Stream<'_> {
             }
         }
         for frame in wanted.iter().rev() {
-            let routine = self.routine(frame.routine);
-            self.number(routine)?;
-            self.number(u64::from(frame.base))?;
-            self.number(self.place(frame.caller))?;
+            self.call(*frame)?;
         }
         Ok(())
     }
 
+    /// Appends a call that was entered.
+    fn call(&mut self, frame: Frame) -> Result<(), Memory> {
+        let caller = self.newest();
+        let place = self.place_of(frame.caller);
+        let is_elsewhere = place != caller.place;
+        let routine = self.routine(frame.routine);
+        self.number(
+            routine
+                .saturating_mul(2)
+                .saturating_add(flag(is_elsewhere, 1)),
+        )?;
+        self.number(signed(caller.base, u64::from(frame.base)))?;
+        if is_elsewhere {
+            self.number(place)?;
+        }
+        self.enter(frame.base, place)
+    }
+
     /// Appends changes of cells; neighbours with the same new state are one change.
     fn changes(&mut self, changes: &[Change]) -> Result<(), Memory> {
-        self.number(count_runs(changes))?;
-        let mut last = 0u16;
+        let mut last = self.newest().base;
         let mut skipped = 0usize;
         for (index, first) in changes.iter().enumerate() {
             if skipped > 0 {
@@ -131,18 +187,30 @@ impl Stream<'_> {
     }
 
     /// Appends a change of a cell and of its neighbours, after one whose last address is `last`. Returns its own last address.
-    fn change(&mut self, last: u16, first: Change, others: &[Change]) -> Result<u16, Memory> {
+    fn change(&mut self, last: u64, first: Change, others: &[Change]) -> Result<u64, Memory> {
         let is_run = !others.is_empty();
+        let is_dead = first.new == Cell::Dead;
         self.number(
-            signed(last, first.address)
-                .saturating_mul(2)
-                .saturating_add(flag(is_run, 1)),
+            signed(last, u64::from(first.address))
+                .saturating_mul(4)
+                .saturating_add(flag(is_run, 1))
+                .saturating_add(flag(is_dead, 2)),
         )?;
         if is_run {
             self.number((others.len() as u64).saturating_sub(1))?;
         }
-        self.number(state_of(first.new))?;
-        Ok(others.last().map_or(first.address, |end| end.address))
+        if !is_dead {
+            self.number(state_of(first.new))?;
+        }
+        let end = others.last().map_or(first.address, |end| end.address);
+        Ok(u64::from(end))
+    }
+
+    /// Appends how many bytes the program wrote, these bytes, and how many it took.
+    fn streams(&mut self, output: &[u8], taken: usize) -> Result<(), Memory> {
+        self.number(output.len() as u64)?;
+        self.bytes.extend_from_slice(output)?;
+        self.number(taken as u64)
     }
 
     /// Appends a stop; the one before it is `before`.
@@ -164,24 +232,30 @@ impl Stream<'_> {
             .get(before.output..stop.output)
             .unwrap_or(&[]);
         let taken = stop.taken.saturating_sub(before.taken);
+        let has_streams = !output.is_empty() || taken > 0;
+        let runs = count_runs(changes);
         let flags = flag(!moves.is_empty(), 1)
-            .saturating_add(flag(!changes.is_empty(), 2))
-            .saturating_add(flag(!output.is_empty(), 4))
-            .saturating_add(flag(taken > 0, 8));
-        let place = self.place(stop.site);
-        self.number(place.saturating_mul(16).saturating_add(flags))?;
+            .saturating_add(runs.min(3).saturating_mul(2))
+            .saturating_add(flag(has_streams, 8));
+        let place = self.place_of(stop.site);
+        self.number(
+            signed(self.place, place)
+                .saturating_mul(16)
+                .saturating_add(flags),
+        )?;
+        self.place = place;
         if !moves.is_empty() {
             self.moves(moves)?;
         }
-        if !changes.is_empty() {
-            self.changes(changes)?;
+        if let Some(more) = runs.checked_sub(3) {
+            self.number(more)?;
         }
-        if !output.is_empty() {
-            self.number(output.len() as u64)?;
-            self.bytes.extend_from_slice(output)?;
+        self.changes(changes)?;
+        if has_streams {
+            self.streams(output, taken)?;
         }
-        if taken > 0 {
-            self.number(taken as u64)?;
+        if let Some(call) = self.calls.last_mut() {
+            call.place = place;
         }
         Ok(())
     }
@@ -238,7 +312,10 @@ pub fn bytes_of(
         recording,
         routines,
         unknown,
+        calls: Vec::new(alloc),
+        place: 0,
     };
+    stream.begin()?;
     let Some(first) = recording.stops.first().copied() else {
         return Ok(Vec::new(alloc));
     };

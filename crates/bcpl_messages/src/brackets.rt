@@ -28,7 +28,7 @@ fn is_last(tokens: &[Token<'_>], place: usize, name: &[u8]) -> bool {
 }
 
 /// Removes the sections that a closing bracket with this tag closes.
-fn close(open: &mut Vec<usize>, tokens: &[Token<'_>], name: &[u8]) {
+pub fn close(open: &mut Vec<usize>, tokens: &[Token<'_>], name: &[u8]) {
     for _ in 0..open.len() {
         match open.pop() {
             Some(last) if !is_last(tokens, last, name) => {}
@@ -51,6 +51,28 @@ pub fn open_before(alloc: Global, tokens: &[Token<'_>], end: usize) -> Result<Ve
     Ok(open)
 }
 
+/// The index of the section bracket that closes the one with the index `opened`, before the token `end`. Returns
+/// `Memory` if an allocation fails.
+pub fn closed_by(
+    alloc: Global,
+    tokens: &[Token<'_>],
+    opened: usize,
+    end: usize,
+) -> Result<Option<usize>, Memory> {
+    let mut open = Vec::new(alloc);
+    for index in opened..end.min(tokens.len()) {
+        if is_at(tokens, index, Symbol::OpenSection) {
+            open.push(index)?;
+        } else if is_at(tokens, index, Symbol::CloseSection) {
+            close(&mut open, tokens, tag_at(tokens, index));
+            if open.is_empty() {
+                return Ok(Some(index));
+            }
+        }
+    }
+    Ok(None)
+}
+
 /// The same for a draft, which records that memory ran out.
 pub fn open_at(draft: &mut Draft, tokens: &[Token<'_>], end: usize) -> Vec<usize> {
     let alloc = draft.alloc();
@@ -58,7 +80,7 @@ pub fn open_at(draft: &mut Draft, tokens: &[Token<'_>], end: usize) -> Vec<usize
 }
 
 /// The innermost open bracket before an index: a parenthesis or a section bracket.
-fn open_bracket(tokens: &[Token<'_>], index: usize) -> Option<usize> {
+pub fn open_bracket(tokens: &[Token<'_>], index: usize) -> Option<usize> {
     let mut closed: usize = 0;
     for count in 1..index.saturating_add(1) {
         match closed_in_front(closed, back(tokens, index, count)?) {

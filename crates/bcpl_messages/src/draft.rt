@@ -147,6 +147,11 @@ impl Draft {
         Ok(self.message)
     }
 
+    /// Whether its sentence is empty.
+    pub fn is_empty(&self) -> bool {
+        self.message.sentence.is_empty()
+    }
+
     /// The finished message, or `None` if its sentence is empty. Returns `Memory` if an allocation failed.
     pub fn end(self) -> Result<Option<Message>, Memory> {
         let is_empty = self.message.sentence.is_empty();

@@ -59,6 +59,11 @@ fn help_for_byte(text: &[u8], at: usize) -> Option<&'static str> {
     if rest.starts_with(b"#include") {
         return Some("include a file with GET, as in GET \"LIBHDR\"");
     }
+    if rest.starts_with(b"\\\"") {
+        return Some(
+            "an escape in a string begins with *: write a quote as *\", and a line break as *N",
+        );
+    }
     let first = rest.first().copied().unwrap_or(0);
     for (byte, help) in &BYTES {
         if *byte == first {
@@ -113,7 +118,12 @@ fn closing(text: &[u8], at: usize) -> Option<usize> {
 
 /// The sentence and the help for a malformed character constant.
 fn no_character(text: &[u8], at: usize) -> (&'static str, &'static str) {
+    let is_backslash = text.get(at.saturating_add(1)).copied() == Some(b'\\');
     match closing(text, at) {
+        Some(2) if is_backslash => (
+            "an escape begins with *, not with a backslash",
+            "write a line break as '*N', a tab as '*T', a quote as '*'', and a null character as 0",
+        ),
         Some(0) => (
             "there is no character between these quotes",
             "a character constant has one character or one escape, as in 'A' or '*N'; the empty string is \"\"",

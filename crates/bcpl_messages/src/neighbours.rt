@@ -1,11 +1,11 @@
 //! Known mistakes that are recognized by a refused token and the tokens next to it.
 
-use crate::brackets::is_in_round;
+use crate::brackets::{is_in_round, open_bracket};
 use crate::words::{back, is_at, is_symbol};
 use bc_lex_tokens::{Symbol, Token, TokenKind};
 
 /// The helps for two adjacent spellings.
-const PAIRS: [(&[u8], &[u8], &str); 21] = [
+const PAIRS: [(&[u8], &[u8], &str); 25] = [
     (b"=", b"=", "write equality with a single ="),
     (b"=", b"<", "write <= for at most"),
     (b"=", b">", "write >= for at least"),
@@ -59,7 +59,15 @@ const PAIRS: [(&[u8], &[u8], &str); 21] = [
         b";",
         "a command must follow THEN; write $( $) for one that does nothing",
     ),
+    (b"DO", b"LET", DECLARED_BODY),
+    (b"THEN", b"LET", DECLARED_BODY),
+    (b"ELSE", b"LET", DECLARED_BODY),
+    (b"BE", b"LET", DECLARED_BODY),
 ];
+
+/// The help for a declaration that is a command's or a routine's body.
+const DECLARED_BODY: &str =
+    "a body that declares a variable is a block, as in $( LET N = 0; WRITEN(N) $)";
 
 /// The helps for a spelling, whatever follows it.
 const FIRSTS: [(&[u8], &str); 7] = [
@@ -346,6 +354,15 @@ fn are_at(tokens: &[Token<'_>], place: usize, one: Symbol, other: Symbol) -> boo
     is_at(tokens, place, one) && is_at(tokens, place.wrapping_add(1), other)
 }
 
+/// Whether there is a comma at an index, and the innermost open bracket before it follows TABLE.
+fn is_enclosed_table(tokens: &[Token<'_>], index: usize) -> bool {
+    let open = match open_bracket(tokens, index) {
+        Some(open) => open,
+        None => return false,
+    };
+    is_at(tokens, index, Symbol::Comma) && is_at(tokens, open.wrapping_sub(1), Symbol::Table)
+}
+
 /// The help for known mistakes of three tokens, or of a refused token and the one after it.
 fn help_for_further(tokens: &[Token<'_>], index: usize) -> Option<&'static str> {
     if is_typed(tokens, index) {
@@ -354,6 +371,8 @@ fn help_for_further(tokens: &[Token<'_>], index: usize) -> Option<&'static str> 
         Some("to subtract from X, write X := X - 1")
     } else if are_at(tokens, index, Symbol::Semicolon, Symbol::Else) {
         Some("write no ; before ELSE")
+    } else if is_enclosed_table(tokens, index) {
+        Some("write the values of a TABLE without parentheses, as in TABLE 1, 2, 3")
     } else {
         None
     }

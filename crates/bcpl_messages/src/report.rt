@@ -36,13 +36,13 @@ impl<'a, 's> Named<'a, 's> {
 
 /// The printed lines, as they are being built.
 #[derive(Drop)]
-struct Told<'a, 's> {
+struct MessageLines<'a, 's> {
     alloc: Global,
     named: Named<'a, 's>,
     lines: String,
 }
 
-impl Told<'_, '_> {
+impl MessageLines<'_, '_> {
     /// Appends a sentence in which each `{}` is replaced by the next of these parts.
     fn say(&mut self, sentence: &str, parts: &[Fill<'_>]) -> Result<(), Memory> {
         add_sentence(&mut self.lines, sentence, parts)
@@ -145,16 +145,16 @@ impl Told<'_, '_> {
 
 /// The lines of a message: position and sentence, the source line with a mark, the GETs that led there, related places,
 /// and the help. Returns `Memory` if an allocation fails.
-pub fn told_lines(
+pub fn message_lines(
     alloc: Global,
     named: Named<'_, '_>,
     message: &Message,
 ) -> Result<String, Memory> {
-    let mut told = Told {
+    let mut all = MessageLines {
         alloc,
         named,
         lines: String::new(alloc),
     };
-    told.add_all(message)?;
-    Ok(told.lines)
+    all.add_all(message)?;
+    Ok(all.lines)
 }

@@ -2,12 +2,12 @@
 //! assignable, and exceeded limits.
 
 use crate::constants::{Reason, reason_of};
-use crate::declared::{Declared, declaration_of};
+use crate::declared::{Declared, declaration_of, meaning_of};
 use crate::draft::{Draft, Fill};
 use crate::likeness::nearest;
 use crate::neighbours::{POINTER, VECTOR_WITHOUT_SIZE, is_after_star};
 use crate::read::Read;
-use crate::syntax::{is_heading, name_of};
+use crate::syntax::{is_heading, list_word, name_of};
 use crate::trial_parse::replaced;
 use crate::words::{back, is_at, is_symbol};
 use bc_build::ScopeFault;
@@ -403,10 +403,10 @@ fn add_undeclared(draft: &mut Draft, read: Read<'_, '_>, place: usize, name: &[u
     add_like(draft, read, place, name);
 }
 
-/// Whether the token with this index follows VEC.
-fn stands_after_vector(tokens: &[Token<'_>], index: usize) -> bool {
+/// Whether the token with this index follows this symbol.
+fn is_after(tokens: &[Token<'_>], index: usize, symbol: Symbol) -> bool {
     match back(tokens, index, 1) {
-        Some(token) => is_symbol(token, Symbol::Vector),
+        Some(token) => is_symbol(token, symbol),
         None => false,
     }
 }
@@ -430,8 +430,13 @@ fn add_name(draft: &mut Draft, read: Read<'_, '_>, used: usize, declared: Declar
 
 /// Adds why an expression isn't a constant, if that is visible, and what to do.
 fn add_reason(draft: &mut Draft, read: Read<'_, '_>, at: TokenSpan) {
-    if stands_after_vector(read.tokens, at.first) {
+    if is_after(read.tokens, at.first, Symbol::Vector) {
         draft.help(help_for_size(read.tokens, at.first), &[]);
+    } else if is_after(read.tokens, at.first, Symbol::Case) {
+        draft.help(
+            "a CASE has one constant value; write any other condition as TEST E THEN .. ELSE ..",
+            &[],
+        );
     }
     match reason_of(draft, read.tokens, at.first, at.last) {
         Some(Reason::Name(used, declared)) => add_name(draft, read, used, declared),
@@ -482,9 +487,32 @@ fn help_for_cell(tokens: &[Token<'_>], at: TokenSpan) -> Option<&'static str> {
     }
 }
 
-/// Adds what may have been meant by an expression without a cell, if that is visible.
+/// Where the only token of an expression is declared by MANIFEST, if it is a name of such a list.
+fn manifest_entry(draft: &mut Draft, read: Read<'_, '_>, at: TokenSpan) -> Option<usize> {
+    if at.first != at.last {
+        return None;
+    }
+    let name = name_of(read.tokens.get(at.first))?;
+    let meaning = meaning_of(draft.alloc(), read.tokens, at.first, name);
+    let declared = draft.found(meaning, None)?;
+    let word = list_word(draft, read.tokens, declared.index);
+    matches!(word, Some(Symbol::Manifest)).then_some(declared.index)
+}
+
+/// Adds where a name without a cell is declared by MANIFEST, or what else may have been meant, if that is visible.
 fn add_cell(draft: &mut Draft, read: Read<'_, '_>, at: TokenSpan) {
-    if let Some(help) = help_for_cell(read.tokens, at) {
+    if let Some(index) = manifest_entry(draft, read, at) {
+        let name = Fill::Shown(read.text(index));
+        draft.note(
+            read.place(index),
+            "{} is declared here by MANIFEST, so it is a constant",
+            &[name],
+        );
+        draft.help(
+            "a name whose value changes is declared by LET in a routine, or by STATIC, as in STATIC $( {} = 0 $)",
+            &[name],
+        );
+    } else if let Some(help) = help_for_cell(read.tokens, at) {
         draft.help(help, &[]);
     }
 }

@@ -187,6 +187,8 @@ pub fn says_sides(draft: &mut Draft, tokens: &[Token<'_>], index: usize) -> bool
     };
     let sentence = if sides.is_assignment {
         "both sides of := need the same number of entries: the left has {}, the right {}"
+    } else if sides.left == 1 {
+        "both sides of = need the same number of entries: the left has {}, the right {}; one name for many constants is LET T = TABLE 1, 2, 3"
     } else {
         "both sides of = need the same number of entries: the left has {}, the right {}"
     };

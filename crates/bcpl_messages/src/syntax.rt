@@ -4,10 +4,11 @@
 ghost use Rattle.std.specs.Prelude.{slice_get};
 ghost use Rattle.bcpl_messages.specs.Spans.{IsSpanOf};
 
-use crate::brackets::{help_for_round, open_at, say_blank, says_tag, tag_at};
+use crate::brackets::{closed_by, help_for_round, open_at, say_blank, says_tag, tag_at};
 use crate::draft::{Draft, Fill};
 use crate::expected::{could_be, could_be_name, say_wanted};
 use crate::hidden::hidden_between;
+use crate::indents::{Closing, stray_closing, surplus_closing};
 use crate::likeness::reserved_word;
 use crate::neighbours::{help_for_name, help_for_neighbours, help_for_token};
 use crate::read::Read;
@@ -370,7 +371,13 @@ pub fn list_word(draft: &mut Draft, tokens: &[Token<'_>], index: usize) -> Optio
 /// The help for a refused token in a list of names.
 fn help_for_list(draft: &mut Draft, tokens: &[Token<'_>], index: usize) -> Option<&'static str> {
     let word = list_word(draft, tokens, index)?;
-    if is_at(tokens, index, Symbol::Vector) {
+    if is_at(tokens, index, Symbol::Comma) {
+        Some(if word.is(Symbol::Global) {
+            "a ; or a line break separates the entries of a list, as in GLOBAL $( N:100; M:101 $)"
+        } else {
+            "a ; or a line break separates the entries of a list, as in MANIFEST $( N = 10; M = 20 $)"
+        })
+    } else if is_at(tokens, index, Symbol::Vector) {
         Some(
             "a name in this list needs a constant; declare the vector in a routine, as LET V = VEC 10, and keep its address in a static or a global",
         )
@@ -480,11 +487,14 @@ fn help_in_words(draft: &mut Draft, tokens: &[Token<'_>], index: usize) -> Optio
 
 /// The help found by trying changes, or from the list or the parentheses around the token.
 fn guessed(draft: &mut Draft, tokens: &[Token<'_>], index: usize) -> Option<&'static str> {
-    let help = remedied(draft, tokens, index);
-    if help.is_some() {
+    let help = help_for_list(draft, tokens, index);
+    if help.is_some() && is_at(tokens, index, Symbol::Comma) {
         return help;
     }
-    let help = help_for_list(draft, tokens, index);
+    let of_remedy = remedied(draft, tokens, index);
+    if of_remedy.is_some() {
+        return of_remedy;
+    }
     if help.is_some() {
         return help;
     }
@@ -640,8 +650,35 @@ fn note_routine(draft: &mut Draft, read: Read<'_, '_>, outermost: usize) {
     }
 }
 
+/// Describes a section that is probably not closed, as the indentation of a later `$)` shows.
+fn tell_stray(draft: &mut Draft, read: Read<'_, '_>, closing: Closing) {
+    draft.place(read.place(closing.open));
+    draft.say(
+        "this {} is probably the one that is not closed",
+        &[Fill::Shown(read.text(closing.open))],
+    );
+    draft.note(
+        read.place(closing.index),
+        "this $) closes it, but is indented like the $( around it",
+        &[],
+    );
+    draft.help(
+        "add a $) before that one; a $) without a tag closes the innermost $(",
+        &[],
+    );
+}
+
 /// Describes sections that are open at the end.
 fn tell_unclosed(draft: &mut Draft, read: Read<'_, '_>) {
+    let stray = stray_closing(draft.alloc(), read);
+    match draft.found(stray, None) {
+        Some(closing) => tell_stray(draft, read, closing),
+        None => tell_open(draft, read),
+    }
+}
+
+/// Describes sections that are open at the end, whatever their indentation.
+fn tell_open(draft: &mut Draft, read: Read<'_, '_>) {
     let end = read.tokens.len();
     let open = open_at(draft, read.tokens, end);
     let innermost = open.last().copied().unwrap_or(end);
@@ -691,7 +728,64 @@ fn tell_not_open(draft: &mut Draft, read: Read<'_, '_>, index: usize) {
             if let Some(span) = hidden_between(read, 0, index, "$(") {
                 draft.note(span, "this $( is in a comment", &[]);
             }
+            if !notes_tag(draft, read, index) {
+                note_surplus(draft, read, index);
+            }
         }
+    }
+}
+
+/// The last `$(` before an index that has this tag.
+fn opened_with(tokens: &[Token<'_>], index: usize, name: &[u8]) -> Option<usize> {
+    let mut found = None;
+    for place in 0..index.min(tokens.len()) {
+        if is_at(tokens, place, Symbol::OpenSection) && tag_at(tokens, place) == name {
+            found = Some(place);
+        }
+    }
+    found
+}
+
+/// If the `$)` at an index has a tag, and the `$(` with this tag is already closed, points out by what. Returns whether
+/// that is so.
+fn notes_tag(draft: &mut Draft, read: Read<'_, '_>, index: usize) -> bool {
+    let name = tag_at(read.tokens, index);
+    let Some(opened) = opened_with(read.tokens, index, name) else {
+        return false;
+    };
+    if name.is_empty() {
+        return false;
+    }
+    let closer = closed_by(draft.alloc(), read.tokens, opened, index);
+    let Some(closer) = draft.found(closer, None) else {
+        return false;
+    };
+    draft.note(
+        read.place(closer),
+        "this {} already closed the $( with the tag {}",
+        &[Fill::Shown(read.text(closer)), Fill::Shown(name)],
+    );
+    draft.help(
+        "a $) with a tag closes all brackets up to the $( with that tag; close the inner bracket first",
+        &[],
+    );
+    true
+}
+
+/// If the indentation of an earlier `$)` shows that it is too many, so that the one at an index closes nothing, points
+/// it out.
+fn note_surplus(draft: &mut Draft, read: Read<'_, '_>, index: usize) {
+    let surplus = surplus_closing(draft.alloc(), read, index);
+    if let Some(closing) = draft.found(surplus, None) {
+        draft.note(
+            read.place(closing.index),
+            "perhaps this $) is one too many: it closes a $( of another indentation",
+            &[],
+        );
+        draft.help(
+            "remove a $) that closes nothing, or open its block with $(",
+            &[],
+        );
     }
 }
 

@@ -75,21 +75,21 @@ fn is_lasting(known: &Known<'_, '_>, at: usize) -> bool {
 /// Returns whether there is one.
 pub fn warns_of_assignment(draft: &mut Draft, known: &Known<'_, '_>, at: usize) -> bool {
     let tree = known.tree;
-    let Some(routine) = known.routine_of(at) else {
-        return false;
-    };
-    let calls = known.flow.before(tree.end(routine)).calls;
-    if name_of(known, routine) == b"START".as_slice()
-        || known.flow.before(tree.end(at)).calls < calls
-    {
-        return false;
-    }
     let (place, value) = (tree.first(tree.first(at)), tree.first(tree.second(at)));
-    let is_single = tree.end(place) == tree.second(at);
     let Some(node) = local_of(known, value) else {
         return false;
     };
-    if !is_single || !is_lasting(known, place) || !tree.contains(routine, node) {
+    let is_single = tree.end(place) == tree.second(at);
+    if !is_single || !is_lasting(known, place) {
+        return false;
+    }
+    let Some(routine) = known.routine_of(at) else {
+        return false;
+    };
+    if name_of(known, routine) == b"START".as_slice()
+        || known.flow.has_call(tree.end(at), tree.end(routine))
+        || !tree.contains(routine, node)
+    {
         return false;
     }
     say_returned(draft, known, value);

@@ -37,13 +37,26 @@ fn is_too_large(known: &Known<'_, '_>, at: usize) -> bool {
     product > 65535 || product < -32768
 }
 
-/// Whether a product is a quotient times 100.
-fn is_late_percentage(known: &Known<'_, '_>, at: usize) -> bool {
+/// Whether a quotient is one of two numbers and has a remainder.
+fn drops_fraction(known: &Known<'_, '_>, quotient: usize) -> bool {
+    let tree = known.tree;
+    let (first, second) = (tree.first(quotient), tree.second(quotient));
+    let are_numbers = matches!(tree.form(first), Form::Number(_))
+        && matches!(tree.form(second), Form::Number(_));
+    let (Some(left), Some(right)) = (known.kinds.value(first), known.kinds.value(second)) else {
+        return false;
+    };
+    are_numbers && right.get() != 0 && left.get() % right.get() != 0
+}
+
+/// Whether a product is a quotient times 100, or a fraction that is written out times something.
+fn is_late_product(known: &Known<'_, '_>, at: usize) -> bool {
     let tree = known.tree;
     let quotient = tree.first(at);
+    let is_percentage = has_value(known, tree.second(at), 100)
+        && !has_value(known, tree.second(quotient), 100);
     matches!(tree.form(quotient), Form::Bin(BinaryOp::Divide))
-        && has_value(known, tree.second(at), 100)
-        && !has_value(known, tree.second(quotient), 100)
+        && (is_percentage || drops_fraction(known, quotient))
 }
 
 /// Warns of a product. Returns whether it does.
@@ -57,7 +70,7 @@ pub fn warns_of_product(draft: &mut Draft, known: &Known<'_, '_>, at: usize) -> 
         );
         return true;
     }
-    if is_late_percentage(known, at) {
+    if is_late_product(known, at) {
         known.begin(draft, at, at);
         draft.say(
             "the quotient drops its fraction before it is multiplied",

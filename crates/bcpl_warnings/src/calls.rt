@@ -276,8 +276,8 @@ pub fn warns_of_call(draft: &mut Draft, known: &Known<'_, '_>, at: usize) -> boo
     }
     if declared.is_library {
         warns_of_kinds(draft, known, at, known.tree.text(declared.node))
-            || warns_of_count(draft, known, at, &declared)
+            || warns_of_count(draft, known, at, declared)
     } else {
-        declared.sort == Sort::Routine && warns_of_count(draft, known, at, &declared)
+        declared.sort == Sort::Routine && warns_of_count(draft, known, at, declared)
     }
 }

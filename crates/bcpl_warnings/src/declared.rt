@@ -1,11 +1,11 @@
 //! All declarations of a main, found by scanning its tokens. Warnings look names up here.
 
 use crate::routines::is_defined;
-use crate::tokens::{begins_command, is_after, is_at, name_at, symbol_at};
+use crate::tokens::{begins_command, is_after, is_at, name_at, symbol_at, symbol_before};
 use crate::uses::Uses;
 use bc_lex_tokens::{Symbol, Token, TokenKind};
 use bc_word::Memory;
-use indexmap::IndexMap;
+use indexmap::{IndexMap, IndexSet};
 use std::alloc::Global;
 
 /// What a name is declared as.
@@ -51,30 +51,18 @@ struct DeclaredName {
 }
 
 impl DeclaredName {
-    /// What is known after one more declaration, at the token `at`; `index` is its index among all declarations.
-    fn with(self, meaning: Meaning, at: usize, index: usize) -> DeclaredName {
-        let known = DeclaredName {
-            last: Some(index),
-            ..self
-        };
+    /// Records one more declaration, at the token `at`; `index` is its index among all declarations.
+    fn declare(&mut self, meaning: Meaning, at: usize, index: usize) {
+        self.last = Some(index);
         match meaning {
-            Meaning::Global(number) => DeclaredName {
-                global: Some((at, number)),
-                ..known
-            },
-            Meaning::Routine(count) => DeclaredName {
-                routines: self.routines.saturating_add(1),
-                parameters: if self.routines == 0 {
-                    count
-                } else {
-                    self.parameters
-                },
-                ..known
-            },
-            Meaning::Label | Meaning::Other => DeclaredName {
-                is_other: true,
-                ..known
-            },
+            Meaning::Global(number) => self.global = Some((at, number)),
+            Meaning::Routine(count) => {
+                if self.routines == 0 {
+                    self.parameters = count;
+                }
+                self.routines = self.routines.saturating_add(1);
+            }
+            Meaning::Label | Meaning::Other => self.is_other = true,
         }
     }
 }
@@ -91,7 +79,9 @@ struct Numbered {
 pub struct Declarations<'s> {
     /// The declarations, in text order.
     pub all: Vec<Declared<'s>>,
-    names: IndexMap<&'s [u8], DeclaredName>,
+    names: IndexSet<&'s [u8]>,
+    /// What is known about each of the names.
+    known: Vec<DeclaredName>,
     /// For each file and number, the name of the first global declared with it.
     numbers: IndexMap<Numbered, &'s [u8]>,
 }
@@ -110,6 +100,19 @@ fn parameters_after(tokens: &[Token<'_>], open: usize) -> usize {
     count
 }
 
+/// Whether the symbols around the name at this index allow that it is declared there. Most names end here.
+fn may_declare(tokens: &[Token<'_>], index: usize) -> bool {
+    let is_headed = matches!(
+        symbol_before(tokens, index),
+        Some(Symbol::Let | Symbol::And | Symbol::For | Symbol::Comma | Symbol::OpenBracket)
+    );
+    is_headed
+        || matches!(
+            symbol_at(tokens, index.saturating_add(1)),
+            Some(Symbol::Colon | Symbol::Equal)
+        )
+}
+
 /// What a scan remembers of the tokens before the current one.
 #[derive(Clone, Copy, Default)]
 struct Around {
@@ -123,7 +126,7 @@ struct Around {
 
 impl Around {
     /// The index before the comma-separated names that end with the one at this index.
-    fn before_names(self, tokens: &[Token<'_>], index: usize) -> Option<usize> {
+    fn before_names(&self, tokens: &[Token<'_>], index: usize) -> Option<usize> {
         let before = index.checked_sub(1)?;
         if !is_at(tokens, before, Symbol::Comma) {
             Some(before)
@@ -134,27 +137,23 @@ impl Around {
         }
     }
 
-    /// What is remembered after the token with this index.
-    fn following(self, tokens: &[Token<'_>], index: usize) -> Around {
-        if name_at(tokens, index).is_some() {
-            return Around {
-                name: Some(index),
-                before: self.before_names(tokens, index),
-                ..self
-            };
-        }
-        match symbol_at(tokens, index) {
-            Some(Symbol::OpenSection) if index > 0 => Around {
-                list: symbol_at(tokens, index - 1),
-                ..self
-            },
-            Some(Symbol::OpenSection | Symbol::CloseSection) => Around { list: None, ..self },
-            _ => self,
+    /// Remembers the name with this index.
+    fn pass_name(&mut self, tokens: &[Token<'_>], index: usize) {
+        self.before = self.before_names(tokens, index);
+        self.name = Some(index);
+    }
+
+    /// Remembers the symbol with this index.
+    fn pass_symbol(&mut self, tokens: &[Token<'_>], index: usize, symbol: Symbol) {
+        match symbol {
+            Symbol::OpenSection if index > 0 => self.list = symbol_at(tokens, index - 1),
+            Symbol::OpenSection | Symbol::CloseSection => self.list = None,
+            _ => {}
         }
     }
 
     /// Whether the name at this index is a parameter, or a variable of a LET.
-    fn is_in_definition(self, tokens: &[Token<'_>], index: usize) -> bool {
+    fn is_in_definition(&self, tokens: &[Token<'_>], index: usize) -> bool {
         match self.before_names(tokens, index) {
             Some(before) if is_at(tokens, before, Symbol::OpenBracket) => {
                 before > 0 && is_defined(tokens, before - 1)
@@ -167,7 +166,7 @@ impl Around {
     }
 
     /// What the token with this index declares as an entry of a list; `None` if it doesn't.
-    fn listed(self, tokens: &[Token<'_>], index: usize) -> Option<Meaning> {
+    fn listed(&self, tokens: &[Token<'_>], index: usize) -> Option<Meaning> {
         let next = index.saturating_add(1);
         if !is_at(tokens, next, Symbol::Colon) && !is_at(tokens, next, Symbol::Equal) {
             return None;
@@ -180,7 +179,10 @@ impl Around {
     }
 
     /// What the token with this index declares a name as; `None` if it declares none.
-    fn meaning(self, tokens: &[Token<'_>], index: usize) -> Option<Meaning> {
+    fn meaning(&self, tokens: &[Token<'_>], index: usize) -> Option<Meaning> {
+        if !may_declare(tokens, index) {
+            return None;
+        }
         let next = index.saturating_add(1);
         if is_defined(tokens, index) && is_at(tokens, next, Symbol::OpenBracket) {
             return Some(Meaning::Routine(parameters_after(tokens, next)));
@@ -225,15 +227,20 @@ impl<'s> Declarations<'s> {
     pub fn of(alloc: Global, tokens: &[Token<'s>]) -> Result<Declarations<'s>, Memory> {
         let mut declarations = Declarations {
             all: Vec::new(alloc),
-            names: IndexMap::new(alloc),
+            names: IndexSet::new(alloc),
+            known: Vec::new(alloc),
             numbers: IndexMap::new(alloc),
         };
         let mut around = Around::default();
-        for index in 0..tokens.len() {
-            if let Some(name) = name_at(tokens, index) {
-                declarations.add_name(tokens, around, name, index)?;
+        for (index, token) in tokens.iter().enumerate() {
+            match token.kind {
+                TokenKind::Name(name) => {
+                    declarations.add_name(tokens, &around, name, index)?;
+                    around.pass_name(tokens, index);
+                }
+                TokenKind::Symbol(symbol) => around.pass_symbol(tokens, index, symbol),
+                _ => {}
             }
-            around = around.following(tokens, index);
         }
         Ok(declarations)
     }
@@ -242,29 +249,45 @@ impl<'s> Declarations<'s> {
     fn add_name(
         &mut self,
         tokens: &[Token<'s>],
-        around: Around,
+        around: &Around,
         name: &'s [u8],
         index: usize,
     ) -> Result<(), Memory> {
-        let earlier = self.known(name);
-        let known = DeclaredName {
-            uses: earlier.uses.with(tokens, index),
-            ..earlier
+        let (number, is_new) = self.names.insert_full(name)?;
+        if is_new {
+            self.known.push(DeclaredName::default())?;
+        }
+        if let Some(known) = self.known.get_mut(number) {
+            known.uses.add(tokens, index);
+        }
+        match around.meaning(tokens, index) {
+            Some(meaning) => self.declare(tokens, meaning, number, index),
+            None => Ok(()),
+        }
+    }
+
+    /// Adds the declaration at this index, of the name with this number.
+    fn declare(
+        &mut self,
+        tokens: &[Token<'s>],
+        meaning: Meaning,
+        number: usize,
+        index: usize,
+    ) -> Result<(), Memory> {
+        let Some(name) = name_at(tokens, index) else {
+            return Ok(());
         };
-        let known = match around.meaning(tokens, index) {
-            Some(meaning) => {
-                self.add_number(tokens, meaning, name, index)?;
-                self.all.push(Declared {
-                    name,
-                    at: index,
-                    meaning,
-                    before: known.last,
-                })?;
-                known.with(meaning, index, self.all.len() - 1)
-            }
-            None => known,
-        };
-        self.names.insert(name, known)?;
+        self.add_number(tokens, meaning, name, index)?;
+        if let Some(known) = self.known.get_mut(number) {
+            let before = known.last;
+            known.declare(meaning, index, self.all.len());
+            self.all.push(Declared {
+                name,
+                at: index,
+                meaning,
+                before,
+            })?;
+        }
         Ok(())
     }
 
@@ -292,7 +315,15 @@ impl<'s> Declarations<'s> {
 
     /// What is known about this name.
     fn known(&self, name: &[u8]) -> DeclaredName {
-        match self.names.get(name) {
+        match self.names.get_index_of(name) {
+            Some(number) => self.known_of(number),
+            None => DeclaredName::default(),
+        }
+    }
+
+    /// What is known about the name with this number.
+    fn known_of(&self, number: usize) -> DeclaredName {
+        match self.known.get(number) {
             Some(known) => *known,
             None => DeclaredName::default(),
         }

@@ -4,26 +4,7 @@ use crate::enclosing::{condition_of, condition_terms, listed};
 use crate::known::Known;
 use crate::names::Sort;
 use crate::node::Form;
-use crate::tree::Tree;
 use bcpl_messages::{Draft, Fill};
-
-/// Whether a section has a command that may end the run.
-pub fn has_finish(tree: &Tree<'_>) -> bool {
-    for at in 0..tree.len() {
-        let is_end = match tree.form(at) {
-            Form::Finish | Form::Goto => true,
-            Form::Name => {
-                let name = tree.text(at);
-                name == b"STOP".as_slice() || name == b"LONGJUMP".as_slice()
-            }
-            _ => false,
-        };
-        if is_end {
-            return true;
-        }
-    }
-    false
-}
 
 /// Whether a called expression is a routine of the library that returns.
 fn is_library_routine(known: &Known<'_, '_>, called: usize) -> bool {
@@ -57,7 +38,7 @@ fn may_finish(known: &Known<'_, '_>, at: usize) -> bool {
             }
         }
     }
-    has_own && known.has_finish
+    has_own && known.kinds.names.has_finish
 }
 
 /// Warns of a loop whose condition has variables that nothing in the loop changes, if nothing else leaves it. Returns

@@ -20,11 +20,11 @@ pub struct Flat {
     is_refused: bool,
 }
 
-/// Lists the nodes of a section. Returns `Memory` if an allocation fails.
-pub fn flatten(alloc: Global, section: &Section<'_>) -> Result<Flat, Memory> {
+/// Lists the nodes of a section of about `count` nodes. Returns `Memory` if an allocation fails.
+pub fn flatten(alloc: Global, section: &Section<'_>, count: usize) -> Result<Flat, Memory> {
     let mut flat = Flat {
-        nodes: Vec::new(alloc),
-        closed: Vec::new(alloc),
+        nodes: Vec::with_capacity(alloc, count)?,
+        closed: Vec::with_capacity(alloc, count)?,
         leaves: 0,
         parent: 0,
         is_refused: false,

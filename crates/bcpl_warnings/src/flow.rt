@@ -8,47 +8,63 @@ use crate::tree::Tree;
 use bc_word::Memory;
 use std::alloc::Global;
 
-/// How many nodes of some forms come before a node.
-#[derive(Clone, Copy, Default)]
-pub struct Counts {
+/// The nodes of some forms, in text order.
+#[derive(Drop)]
+struct Marks {
     /// BREAK and ENDCASE.
-    pub breaks: usize,
+    breaks: Vec<usize>,
     /// BREAK, RETURN, FINISH, GOTO and RESULTIS.
-    pub jumps: usize,
+    jumps: Vec<usize>,
     /// RETURN.
-    pub returns: usize,
+    returns: Vec<usize>,
     /// RESULTIS.
-    pub results: usize,
-    /// Names.
-    pub names: usize,
+    results: Vec<usize>,
     /// Calls.
-    pub calls: usize,
+    calls: Vec<usize>,
 }
 
-impl Counts {
-    /// The counts after one more node.
-    fn with(self, form: Form) -> Counts {
-        let mut counts = self;
+impl Marks {
+    /// No nodes.
+    fn new(alloc: Global) -> Marks {
+        Marks {
+            breaks: Vec::new(alloc),
+            jumps: Vec::new(alloc),
+            returns: Vec::new(alloc),
+            results: Vec::new(alloc),
+            calls: Vec::new(alloc),
+        }
+    }
+
+    /// Adds a node, if it has one of these forms.
+    fn add(&mut self, at: usize, form: Form) -> Result<(), Memory> {
         match form {
             Form::Break => {
-                counts.breaks = counts.breaks.saturating_add(1);
-                counts.jumps = counts.jumps.saturating_add(1);
+                self.breaks.push(at)?;
+                self.jumps.push(at)?;
             }
-            Form::EndCase => counts.breaks = counts.breaks.saturating_add(1),
+            Form::EndCase => self.breaks.push(at)?,
             Form::Return => {
-                counts.returns = counts.returns.saturating_add(1);
-                counts.jumps = counts.jumps.saturating_add(1);
+                self.returns.push(at)?;
+                self.jumps.push(at)?;
             }
-            Form::Finish | Form::Goto => counts.jumps = counts.jumps.saturating_add(1),
+            Form::Finish | Form::Goto => self.jumps.push(at)?,
             Form::ResultIs => {
-                counts.results = counts.results.saturating_add(1);
-                counts.jumps = counts.jumps.saturating_add(1);
+                self.results.push(at)?;
+                self.jumps.push(at)?;
             }
-            Form::Name => counts.names = counts.names.saturating_add(1),
-            Form::Call => counts.calls = counts.calls.saturating_add(1),
+            Form::Call => self.calls.push(at)?,
             _ => {}
         }
-        counts
+        Ok(())
+    }
+}
+
+/// Whether an ascending list has an index from the first to before the second.
+fn has_between(list: &[usize], from: usize, to: usize) -> bool {
+    let first = list.partition_point(|at| *at < from);
+    match list.get(first) {
+        Some(at) => *at < to,
+        None => false,
     }
 }
 
@@ -70,31 +86,46 @@ pub struct Cases {
 pub struct Flow {
     /// For each list of items and each item, whether control reaches its end.
     reached: Vec<bool>,
+    /// The SWITCHONs, in text order.
+    switches: Vec<usize>,
+    /// What is known of each SWITCHON's list.
     cases: Vec<Cases>,
-    counts: Vec<Counts>,
+    marks: Marks,
+}
+
+/// That control reaches the ends of this many nodes.
+fn all_reached(alloc: Global, count: usize) -> Result<Vec<bool>, Memory> {
+    let mut reached = Vec::new(alloc);
+    reached.resize(count, true)?;
+    Ok(reached)
 }
 
 impl Flow {
     /// Finds where control goes. Records in `kinds` which routines return. Returns `Memory` if an allocation fails.
     pub fn of<'s>(alloc: Global, tree: &Tree<'s>, kinds: &mut Kinds<'s>) -> Result<Flow, Memory> {
         let mut flow = Flow {
-            reached: Vec::new(alloc),
+            reached: all_reached(alloc, tree.len())?,
+            switches: Vec::new(alloc),
             cases: Vec::new(alloc),
-            counts: Vec::new(alloc),
+            marks: Marks::new(alloc),
         };
-        let mut counts = Counts::default();
-        for at in 0..tree.len() {
-            let form = tree.form(at);
-            flow.reached.push(!matches!(form, Form::SwitchOn))?;
-            flow.cases.push(Cases::default())?;
-            flow.counts.push(counts)?;
-            counts = counts.with(form);
+        for (at, node) in tree.nodes().iter().enumerate() {
+            flow.meet(at, node.form)?;
         }
-        flow.counts.push(counts)?;
         for at in tree.closed() {
             flow.close(tree, kinds, *at);
         }
         Ok(flow)
+    }
+
+    /// Prepares for a node.
+    fn meet(&mut self, at: usize, form: Form) -> Result<(), Memory> {
+        if let Form::SwitchOn = form {
+            self.reach(at, false);
+            self.switches.push(at)?;
+            self.cases.push(Cases::default())?;
+        }
+        self.marks.add(at, form)
     }
 
     /// Whether control reaches the end of a list of items or an item.
@@ -105,30 +136,49 @@ impl Flow {
         }
     }
 
+    /// Which of the SWITCHONs a node is, if it is one.
+    fn switch_at(&self, at: usize) -> Option<usize> {
+        let found = self.switches.partition_point(|switch| *switch < at);
+        match self.switches.get(found) {
+            Some(switch) if *switch == at => Some(found),
+            _ => None,
+        }
+    }
+
     /// What is known of the list of a SWITCHON.
     pub fn cases(&self, at: usize) -> Cases {
-        match self.cases.get(at) {
+        match self.switch_at(at) {
+            Some(number) => self.cases_of(number),
+            None => Cases::default(),
+        }
+    }
+
+    /// What is known of the list of the SWITCHON with this number.
+    fn cases_of(&self, number: usize) -> Cases {
+        match self.cases.get(number) {
             Some(cases) => *cases,
             None => Cases::default(),
         }
     }
 
-    /// The counts before a node.
-    pub fn before(&self, at: usize) -> Counts {
-        match self.counts.get(at) {
-            Some(counts) => *counts,
-            None => Counts::default(),
-        }
-    }
-
     /// Whether a node contains a BREAK or ENDCASE.
     fn has_break(&self, tree: &Tree<'_>, at: usize) -> bool {
-        self.before(at).breaks < self.before(tree.end(at)).breaks
+        has_between(self.marks.breaks.as_slice(), at, tree.end(at))
     }
 
     /// Whether a node contains a jump out of it.
     pub fn has_jump(&self, tree: &Tree<'_>, at: usize) -> bool {
-        self.before(at).jumps < self.before(tree.end(at)).jumps
+        has_between(self.marks.jumps.as_slice(), at, tree.end(at))
+    }
+
+    /// Whether a node contains a RESULTIS.
+    pub fn has_result(&self, tree: &Tree<'_>, at: usize) -> bool {
+        has_between(self.marks.results.as_slice(), at, tree.end(at))
+    }
+
+    /// Whether a call is among the nodes from the first to before the second.
+    pub fn has_call(&self, from: usize, to: usize) -> bool {
+        has_between(self.marks.calls.as_slice(), from, to)
     }
 
     /// Records whether control reaches the end of a list or an item.
@@ -140,26 +190,48 @@ impl Flow {
 
     /// Records what a node means for its parent, once its own parts were visited.
     fn close<'s>(&mut self, tree: &Tree<'s>, kinds: &mut Kinds<'s>, at: usize) {
-        let parent = tree.parent(at);
         match tree.form(at) {
-            Form::Item => self.item(tree, at, parent),
-            Form::Default => self.default(tree.parent(parent)),
-            Form::Case | Form::Label => {}
-            _ => {
-                if let Form::Item = tree.form(parent) {
-                    let ends = self.ends(tree, kinds, at);
-                    self.reach(parent, ends);
-                }
-            }
+            // Expressions and declarations mean nothing for the list around them.
+            Form::Name
+            | Form::Number(_)
+            | Form::Character(_)
+            | Form::String
+            | Form::True
+            | Form::False
+            | Form::Unary(_)
+            | Form::Bin(_)
+            | Form::Cond
+            | Form::Call
+            | Form::Places
+            | Form::Values
+            | Form::Variable
+            | Form::Case
+            | Form::Label => {}
+            Form::Item => self.item(tree, at, tree.parent(at)),
+            Form::Default => self.default(tree.parent(tree.parent(at))),
+            _ => self.command(tree, kinds, at, tree.parent(at)),
         }
-        if let (Form::Block, Form::Routine) = (tree.form(at), tree.form(parent)) {
-            self.routine(tree, kinds, parent, at);
+    }
+
+    /// A command of an item, or the block of a routine.
+    fn command<'s>(&mut self, tree: &Tree<'s>, kinds: &mut Kinds<'s>, at: usize, parent: usize) {
+        match tree.form(parent) {
+            Form::Item => {
+                let ends = self.ends(tree, kinds, at);
+                self.reach(parent, ends);
+            }
+            Form::Routine if matches!(tree.form(at), Form::Block) => {
+                self.routine(tree, kinds, parent, at);
+            }
+            _ => {}
         }
     }
 
     /// Records that a SWITCHON has a DEFAULT.
     fn default(&mut self, at: usize) {
-        if let Some(cases) = self.cases.get_mut(at) {
+        if let Some(number) = self.switch_at(at)
+            && let Some(cases) = self.cases.get_mut(number)
+        {
             cases.has_default = true;
         }
     }
@@ -181,7 +253,10 @@ impl Flow {
 
     /// A labelled item of a SWITCHON, after the first.
     fn case(&mut self, at: usize, parent: usize, is_entered: bool) {
-        let Some(cases) = self.cases.get_mut(parent) else {
+        let Some(number) = self.switch_at(parent) else {
+            return;
+        };
+        let Some(cases) = self.cases.get_mut(number) else {
             return;
         };
         if is_entered {
@@ -196,7 +271,7 @@ impl Flow {
 
     /// Records whether a routine with this block returns.
     fn routine<'s>(&self, tree: &Tree<'s>, kinds: &mut Kinds<'s>, at: usize, block: usize) {
-        let has_return = self.before(at).returns < self.before(tree.end(at)).returns;
+        let has_return = has_between(self.marks.returns.as_slice(), at, tree.end(at));
         let returns = has_return || self.is_reached(block);
         if let Some(index) = kinds.names.index_at(at) {
             kinds.names.set_returns(index, returns);

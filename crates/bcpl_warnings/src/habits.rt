@@ -1,6 +1,7 @@
 //! Warnings on habits from other languages: BREAK at the end of each CASE, strings that begin at 0, and functions that are
 //! called for nothing.
 
+use crate::kind::Kind;
 use crate::known::Known;
 use crate::names::Sort;
 use crate::node::Form;
@@ -179,7 +180,7 @@ pub fn warns_of_two_reads(draft: &mut Draft, known: &Known<'_, '_>, at: usize) -
     true
 }
 
-/// Warns of a number that is assigned to a vector's name. Returns whether one is.
+/// Warns of a number, or another vector's address, that is assigned to a vector's name. Returns whether one is.
 pub fn warns_of_lost_vector(draft: &mut Draft, known: &Known<'_, '_>, at: usize) -> bool {
     let tree = known.tree;
     let (place, value) = (tree.first(tree.first(at)), tree.first(tree.second(at)));
@@ -188,17 +189,60 @@ pub fn warns_of_lost_vector(draft: &mut Draft, known: &Known<'_, '_>, at: usize)
         (Form::Name, Some(declared)) => declared.sort == Sort::Vector,
         _ => false,
     };
-    if !is_single || !is_vector || !known.kinds.kind(value).is_plain() {
+    let kind = known.kinds.kind(value);
+    if !is_single || !is_vector || !kind.is_plain() && kind != Kind::Vector {
         return false;
     }
     let name = known.shown(place);
     known.begin(draft, place, place);
+    if kind == Kind::Vector {
+        draft.say(
+            "this replaces the address of the vector {}, and copies no cell",
+            &[name],
+        );
+        draft.help(
+            "copy the cells in a FOR, as in {}!I := {}!I",
+            &[name, known.shown(value)],
+        );
+    } else {
+        draft.say(
+            "this replaces the address of the vector {} by a number",
+            &[name],
+        );
+        draft.help(
+            "a cell is assigned to as in {}!0 := 1, and all of them by a FOR",
+            &[name],
+        );
+    }
+    true
+}
+
+/// Whether a node is the test of a loop that goes on while it is true.
+fn is_loop_test(tree: &Tree<'_>, at: usize) -> bool {
+    match tree.form_of_parent(at) {
+        Form::While => tree.is_first(at),
+        Form::RepeatWhile => !tree.is_first(at),
+        _ => false,
+    }
+}
+
+/// Warns of a loop over what is read that goes on while a character is true. Returns whether it is one.
+pub fn warns_of_character_test(draft: &mut Draft, known: &Known<'_, '_>, at: usize) -> bool {
+    let tree = known.tree;
+    if known.kinds.kind(at) != Kind::Character
+        || !is_loop_test(tree, at)
+        || !reads_character(known, tree.parent(at))
+    {
+        return false;
+    }
+    let name = known.shown(at);
+    known.begin(draft, at, at);
     draft.say(
-        "this replaces the address of the vector {} by a number",
+        "{} is true for each character, and at the end of the input",
         &[name],
     );
     draft.help(
-        "a cell is assigned to as in {}!0 := 1, and all of them by a FOR",
+        "write {} ~= ENDSTREAMCH, which RDCH returns at the end",
         &[name],
     );
     true

@@ -56,7 +56,7 @@ pub fn warns_of_hiding(draft: &mut Draft, known: &Known<'_, '_>, at: usize) -> b
     let Some(declared) = known.kinds.names.get(index) else {
         return false;
     };
-    let Some(outer) = hidden_by(known, &declared) else {
+    let Some(outer) = hidden_by(known, declared) else {
         return false;
     };
     let after = tree.end(tree.parent(tree.parent(at)));

@@ -91,11 +91,37 @@ impl<'s> Kinds<'s> {
     /// Visits all nodes, children before parents.
     fn pass(&mut self, tree: &Tree<'s>) {
         for at in tree.closed() {
-            let fact = self.found(tree, *at);
-            if let Some(known) = self.facts.get_mut(*at) {
-                *known = fact;
-            }
-            self.give(tree, *at);
+            self.visit(tree, *at);
+        }
+    }
+
+    /// Finds what a node is, and records what it gives to names.
+    fn visit(&mut self, tree: &Tree<'s>, at: usize) {
+        if self.is_to_find(tree.form(at)) {
+            let fact = self.found(tree, at);
+            self.set(at, fact);
+        }
+        self.give(tree, at);
+    }
+
+    /// Whether this pass finds what a node is: it is an expression that depends on others, or the pass is the first.
+    fn is_to_find(&self, form: Form) -> bool {
+        match form {
+            Form::Name | Form::Unary(_) | Form::Bin(_) | Form::Cond | Form::Call => true,
+            Form::Number(_)
+            | Form::Character(_)
+            | Form::String
+            | Form::True
+            | Form::False
+            | Form::Table => !self.is_second,
+            _ => false,
+        }
+    }
+
+    /// Records what is known of a node.
+    fn set(&mut self, at: usize, fact: Fact) {
+        if let Some(known) = self.facts.get_mut(at) {
+            *known = fact;
         }
     }
 
@@ -109,30 +135,24 @@ impl<'s> Kinds<'s> {
 
     /// What a node is.
     pub fn kind(&self, at: usize) -> Kind {
-        self.fact(at).kind
+        match self.facts.get(at) {
+            Some(fact) => fact.kind,
+            None => Kind::Unknown,
+        }
     }
 
     /// The value of a node, if it is known.
     pub fn value(&self, at: usize) -> Option<Word> {
-        self.fact(at).value
+        match self.facts.get(at) {
+            Some(fact) => fact.value,
+            None => None,
+        }
     }
 
     /// Finds what an expression is from its parts.
     fn found(&self, tree: &Tree<'s>, at: usize) -> Fact {
         match tree.form(at) {
             Form::Name => self.named(at),
-            Form::Number(word) => Fact {
-                literal: Some(at),
-                ..Fact::constant(Kind::Number, Some(word))
-            },
-            Form::Character(word) => Fact::constant(Kind::Character, Some(word)),
-            Form::String => Fact::plain(Kind::String),
-            Form::True => Fact::constant(Kind::Truth, Some(Word::new(65535))),
-            Form::False => Fact::constant(Kind::Truth, Some(Word::new(0))),
-            Form::Table => Fact {
-                greatest: greatest_of(tree, at),
-                ..Fact::plain(Kind::Table)
-            },
             Form::Unary(sign) => self.monadic(tree, at, sign),
             Form::Bin(sign) => self.dyadic(tree, at, sign),
             Form::Cond => {
@@ -140,20 +160,20 @@ impl<'s> Kinds<'s> {
                 Fact::plain(this.or(self.kind(tree.third(at))))
             }
             Form::Call => Fact::plain(self.given(tree, at)),
-            _ => Fact::unknown(),
+            _ => written(tree, at),
         }
     }
 
     /// What a monadic operator gives.
     fn monadic(&self, tree: &Tree<'s>, at: usize, sign: UnaryOp) -> Fact {
         let operand = tree.first(at);
-        let fact = self.fact(operand);
+        let kind = self.kind(operand);
         match sign {
-            UnaryOp::Neg if fact.kind.is_plain() => {
-                Fact::constant(Kind::Number, negated(fact.value))
+            UnaryOp::Neg if kind.is_plain() => {
+                Fact::constant(Kind::Number, negated(self.value(operand)))
             }
-            UnaryOp::Not if fact.kind == Kind::Truth || fact.kind == Kind::Number => {
-                Fact::constant(fact.kind, complemented(fact.value))
+            UnaryOp::Not if kind == Kind::Truth || kind == Kind::Number => {
+                Fact::constant(kind, complemented(self.value(operand)))
             }
             UnaryOp::Address if self.is_local(operand) => {
                 Fact::of(Kind::Local, self.names.index_at(operand))
@@ -175,11 +195,10 @@ impl<'s> Kinds<'s> {
 
     /// What a dyadic operator gives.
     fn dyadic(&self, tree: &Tree<'s>, at: usize, sign: BinaryOp) -> Fact {
-        let left = self.fact(tree.first(at));
-        let right = self.fact(tree.second(at));
+        let (left, right) = (tree.first(at), tree.second(at));
         Fact::constant(
-            kind_of(sign, left.kind, right.kind),
-            value_of(sign, left.value, right.value),
+            kind_of(sign, self.kind(left), self.kind(right)),
+            value_of(sign, self.value(left), self.value(right)),
         )
     }
 
@@ -212,7 +231,7 @@ impl<'s> Kinds<'s> {
                 of: index,
                 ..declared.first
             },
-            Sort::Variable | Sort::Static | Sort::Counter | Sort::Parameter => self.held(&declared),
+            Sort::Variable | Sort::Static | Sort::Counter | Sort::Parameter => self.held(declared),
             _ => Fact::unknown(),
         }
     }
@@ -240,8 +259,8 @@ impl<'s> Kinds<'s> {
             Form::Variables => self.variables(tree, at),
             Form::Vector => self.vector(tree, at),
             Form::For => self.counter(tree, at),
-            Form::Assign => self.assignment(tree, at),
-            Form::Call => self.arguments(tree, at),
+            Form::Assign if !self.is_second => self.assignment(tree, at),
+            Form::Call if !self.is_second => self.arguments(tree, at),
             Form::Function => self.function(tree, at),
             _ => {}
         }
@@ -352,13 +371,15 @@ impl<'s> Kinds<'s> {
         if declared.sort != Sort::Routine {
             return;
         }
+        let node = declared.node;
+        let is_other = declared.is_passed || declared.is_assigned || declared.sets_global;
         let end = tree.end(at);
         let mut argument = tree.second(at);
-        for parameter in tree.first(declared.node)..tree.end(declared.node) {
+        for parameter in tree.first(node)..tree.end(node) {
             if !matches!(tree.form(parameter), Form::Parameter) || argument >= end {
                 break;
             }
-            let kind = if declared.is_passed || declared.is_assigned || declared.sets_global {
+            let kind = if is_other {
                 Kind::Unknown
             } else {
                 self.kind(argument)
@@ -382,6 +403,25 @@ impl<'s> Kinds<'s> {
         if let Some(index) = self.names.index_at(at) {
             self.names.set_gives(index, gives);
         }
+    }
+}
+
+/// What a constant that is written out is, or a table.
+fn written(tree: &Tree<'_>, at: usize) -> Fact {
+    match tree.form(at) {
+        Form::Number(word) => Fact {
+            literal: Some(at),
+            ..Fact::constant(Kind::Number, Some(word))
+        },
+        Form::Character(word) => Fact::constant(Kind::Character, Some(word)),
+        Form::String => Fact::plain(Kind::String),
+        Form::True => Fact::constant(Kind::Truth, Some(Word::new(65535))),
+        Form::False => Fact::constant(Kind::Truth, Some(Word::new(0))),
+        Form::Table => Fact {
+            greatest: greatest_of(tree, at),
+            ..Fact::plain(Kind::Table)
+        },
+        _ => Fact::unknown(),
     }
 }
 

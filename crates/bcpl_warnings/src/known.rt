@@ -22,8 +22,6 @@ pub struct Known<'m, 's> {
     pub kinds: &'m Kinds<'s>,
     /// Where control goes.
     pub flow: &'m Flow,
-    /// Whether the main has a command that may end the run.
-    pub has_finish: bool,
 }
 
 /// How far up in the tree a search goes.

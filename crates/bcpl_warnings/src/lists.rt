@@ -10,9 +10,7 @@ use bcpl_places::Span;
 /// Warns of a VALOF that can end without RESULTIS. One that has none gets another warning. Returns whether it can.
 pub fn warns_of_valof(draft: &mut Draft, known: &Known<'_, '_>, at: usize) -> bool {
     let tree = known.tree;
-    let results = known.flow.before(tree.end(at)).results;
-    let has_result = known.flow.before(at).results < results;
-    if !has_result || !known.flow.is_reached(tree.first(at)) {
+    if !known.flow.has_result(tree, at) || !known.flow.is_reached(tree.first(at)) {
         return false;
     }
     if let Some(token) = tree.leaf(at) {
@@ -94,12 +92,11 @@ fn is_odd(tree: &Tree<'_>, switch: usize, at: usize, cases: &Cases) -> bool {
 pub fn warns_of_cases(draft: &mut Draft, known: &Known<'_, '_>, at: usize) -> bool {
     let tree = known.tree;
     let switch = tree.parent(at);
+    if !matches!(tree.form(switch), Form::SwitchOn) {
+        return false;
+    }
     let cases = known.flow.cases(switch);
-    if !matches!(tree.form(switch), Form::SwitchOn)
-        || cases.first != Some(at)
-        || !is_odd(tree, switch, at, &cases)
-        || has_comment(known, at)
-    {
+    if cases.first != Some(at) || !is_odd(tree, switch, at, &cases) || has_comment(known, at) {
         return false;
     }
     let label = tree.first(at);

@@ -1,6 +1,6 @@
 //! Warnings on FOR loops that do nothing or never end, and the numbers that one counts through.
 
-use crate::calls::is_negative;
+use crate::calls::{is_negative, warns_of_large};
 use crate::known::Known;
 use crate::node::Form;
 use bc_word::Word;
@@ -72,9 +72,12 @@ impl Counting {
 
     /// Whether the start and the limit are written out, without names.
     fn is_literal(&self, known: &Known<'_, '_>) -> bool {
-        let from = known.flow.before(self.start_at).names;
-        let to = known.flow.before(known.tree.end(self.limit_at)).names;
-        from == to
+        for node in self.start_at..known.tree.end(self.limit_at) {
+            if matches!(known.tree.form(node), Form::Name) {
+                return false;
+            }
+        }
+        true
     }
 }
 
@@ -87,29 +90,37 @@ fn warns_of_nothing(draft: &mut Draft, known: &Known<'_, '_>, counting: &Countin
     if !counting.is_literal(known) {
         return false;
     }
-    let parts = [
-        known.shown(counting.start_at),
-        known.shown(counting.limit_at),
-    ];
-    if !is_negative(step) && step.get() != 0 && rank(start) > rank(limit) {
-        known.begin(draft, counting.start_at, counting.last_at);
-        draft.say(
-            "this FOR does nothing: it counts up, and {} is greater than {}",
-            &parts,
-        );
-        draft.help("to count down, write BY -1 after the limit", &[]);
-        true
-    } else if is_negative(step) && rank(start) < rank(limit) {
-        known.begin(draft, counting.start_at, counting.last_at);
-        draft.say(
-            "this FOR does nothing: it counts down, and {} is less than {}",
-            &parts,
-        );
-        draft.help("to count up, leave out BY", &[]);
-        true
-    } else {
-        false
+    let is_up = !is_negative(step) && step.get() != 0 && rank(start) > rank(limit);
+    let is_down = is_negative(step) && rank(start) < rank(limit);
+    if !is_up && !is_down {
+        return false;
     }
+    if warns_of_large(draft, known, counting.limit_at)
+        || warns_of_large(draft, known, counting.start_at)
+    {
+        return true;
+    }
+    known.begin(draft, counting.start_at, counting.last_at);
+    let (sentence, help) = if is_up {
+        (
+            "this FOR does nothing: it counts up, and {} is greater than {}",
+            "to count down, write BY -1 after the limit",
+        )
+    } else {
+        (
+            "this FOR does nothing: it counts down, and {} is less than {}",
+            "to count up, leave out BY",
+        )
+    };
+    draft.say(
+        sentence,
+        &[
+            known.shown(counting.start_at),
+            known.shown(counting.limit_at),
+        ],
+    );
+    draft.help(help, &[]);
+    true
 }
 
 /// Why a FOR doesn't end, and what to do.

@@ -7,19 +7,24 @@ use crate::conditions::{is_not, warns_of_dyadic, warns_of_name, warns_of_not};
 use crate::endless::warns_of_endless;
 use crate::format_arguments::warns_of_format;
 use crate::habits::{
-    warns_of_breaks, warns_of_first_byte, warns_of_lost_vector, warns_of_two_reads,
-    warns_of_unused_value,
+    warns_of_breaks, warns_of_character_test, warns_of_first_byte, warns_of_lost_vector,
+    warns_of_two_reads, warns_of_unused_value,
 };
 use crate::hiding::{warns_of_copies, warns_of_hiding};
 use crate::known::Known;
 use crate::lists::{warns_of_cases, warns_of_valof};
 use crate::loops::warns_of_for;
 use crate::node::Form;
+use crate::own_values::warns_of_own_value;
+use crate::packing::warns_of_unpacked;
+use crate::recursions::warns_of_recursion;
 use crate::subscripts::{warns_of_divisor, warns_of_index, warns_of_shift};
 use crate::warning::warnings;
+use bc_build::Parsed;
+use bc_lex::Source;
 use bc_parse_tree::BinaryOp;
 use bc_word::Memory;
-use bcpl_messages::{Draft, Message, Named, told_lines};
+use bcpl_messages::{Draft, Message, Named, message_lines};
 use indexmap::IndexSet;
 use std::alloc::Global;
 
@@ -53,8 +58,12 @@ fn warn_of_operator(draft: &mut Draft, known: &Known<'_, '_>, at: usize, sign: B
 
 /// Adds a warning on a call.
 fn warn_of_call(draft: &mut Draft, known: &Known<'_, '_>, at: usize) {
-    if !warns_of_call(draft, known, at) && !warns_of_format(draft, known, at) {
-        warns_of_first_byte(draft, known, at);
+    if !warns_of_call(draft, known, at)
+        && !warns_of_format(draft, known, at)
+        && !warns_of_first_byte(draft, known, at)
+        && !warns_of_unpacked(draft, known, at)
+    {
+        warns_of_recursion(draft, known, at);
     }
 }
 
@@ -85,7 +94,7 @@ fn warn_of_more(draft: &mut Draft, known: &Known<'_, '_>, at: usize) {
     }
 }
 
-/// Adds the first warning that applies to a node.
+/// Adds the first warning that applies to a node of this form.
 pub(crate) fn warn_of_use(draft: &mut Draft, known: &Known<'_, '_>, at: usize) {
     match known.tree.form(at) {
         Form::Call => warn_of_call(draft, known, at),
@@ -94,7 +103,9 @@ pub(crate) fn warn_of_use(draft: &mut Draft, known: &Known<'_, '_>, at: usize) {
             warns_of_not(draft, known, at);
         }
         Form::Name => {
-            warns_of_name(draft, known, at);
+            if !warns_of_name(draft, known, at) && !warns_of_own_value(draft, known, at) {
+                warns_of_character_test(draft, known, at);
+            }
         }
         Form::For => {
             warns_of_for(draft, known, at);
@@ -117,15 +128,16 @@ pub(crate) fn warn_of_use(draft: &mut Draft, known: &Known<'_, '_>, at: usize) {
     }
 }
 
-/// The warnings on the mains of an accepted program, in text order. The first `library` sources are the library's, and
-/// get none. Returns `Memory` if an allocation fails.
-pub fn all_warnings(
+/// The warnings on the mains of an accepted program, in text order. `parsed` is what the mains were parsed to, in their
+/// order. The first `library` sources are the library's, and get no warnings. Returns `Memory` if an allocation fails.
+pub fn all_warnings<'s>(
     alloc: Global,
-    named: Named<'_, '_>,
+    sources: &[Source<'s>],
     library: usize,
     mains: &[usize],
+    parsed: &[Parsed<'s>],
 ) -> Result<Vec<Message>, Memory> {
-    let mut messages = warnings(alloc, named, library, mains)?;
+    let mut messages = warnings(alloc, sources, library, mains, parsed)?;
     messages.sort_by_key(|message| place_of(message))?;
     Ok(messages)
 }
@@ -149,8 +161,8 @@ pub fn warning_lines(
     let mut lines = String::new(alloc);
     for message in messages {
         if places.insert(place_of(message))? && places.len() <= MOST {
-            let told = told_lines(alloc, named, message)?;
-            lines.push_str(told.as_str())?;
+            let text = message_lines(alloc, named, message)?;
+            lines.push_str(text.as_str())?;
         }
     }
     let count = places.len();

@@ -75,7 +75,16 @@ pub struct Names<'s> {
     last: IndexMap<&'s [u8], usize>,
     /// The nodes with a name that has no meaning where it is used.
     unknown: Vec<usize>,
+    /// Whether there is a command that may end the run.
+    pub has_finish: bool,
     is_refused: bool,
+}
+
+/// No meanings of this many nodes.
+fn no_meanings(alloc: Global, count: usize) -> Result<Vec<Option<usize>>, Memory> {
+    let mut meant = Vec::new(alloc);
+    meant.resize(count, None)?;
+    Ok(meant)
 }
 
 impl<'s> Names<'s> {
@@ -83,16 +92,14 @@ impl<'s> Names<'s> {
     pub fn of(alloc: Global, tree: &Tree<'s>, library: usize) -> Result<Names<'s>, Memory> {
         let mut names = Names {
             declared: Vec::new(alloc),
-            meant: Vec::new(alloc),
+            meant: no_meanings(alloc, tree.len())?,
             last: IndexMap::new(alloc),
             unknown: Vec::new(alloc),
+            has_finish: false,
             is_refused: false,
         };
-        for _ in 0..tree.len() {
-            names.meant.push(None)?;
-        }
-        for at in 0..tree.len() {
-            names.visit(tree, library, at);
+        for (at, node) in tree.nodes().iter().enumerate() {
+            names.visit(tree, library, at, node.form);
         }
         if names.is_refused {
             return Err(Memory);
@@ -116,8 +123,8 @@ impl<'s> Names<'s> {
     }
 
     /// The declaration with this index.
-    pub fn get(&self, index: usize) -> Option<Declared> {
-        self.declared.get(index).copied()
+    pub fn get(&self, index: usize) -> Option<&Declared> {
+        self.declared.get(index)
     }
 
     /// Records the first value of a declaration.
@@ -167,8 +174,8 @@ impl<'s> Names<'s> {
     }
 
     /// The declaration that a node means or makes.
-    pub fn at(&self, at: usize) -> Option<Declared> {
-        self.get(self.index_at(at)?)
+    pub fn at(&self, at: usize) -> Option<&Declared> {
+        self.declared.get(self.index_at(at)?)
     }
 
     /// Records what a node means.
@@ -179,8 +186,8 @@ impl<'s> Names<'s> {
     }
 
     /// Visits a node: declares what it declares, and finds what it means.
-    fn visit(&mut self, tree: &Tree<'s>, library: usize, at: usize) {
-        match tree.form(at) {
+    fn visit(&mut self, tree: &Tree<'s>, library: usize, at: usize, form: Form) {
+        match form {
             Form::Name => self.use_name(tree, at),
             Form::Entry(storage) => self.entry(tree, library, at, storage),
             Form::Let => self.definitions(tree, at),
@@ -193,6 +200,7 @@ impl<'s> Names<'s> {
                 self.declare(tree.text(at), at, end, Sort::Label);
             }
             Form::Block => self.counter(tree, at),
+            Form::Finish | Form::Goto => self.has_finish = true,
             _ => {}
         }
     }
@@ -332,7 +340,11 @@ impl<'s> Names<'s> {
 
     /// Finds what a name means, and records how it is used.
     fn use_name(&mut self, tree: &Tree<'s>, at: usize) {
-        let Some(index) = self.meaning(tree.text(at), at) else {
+        let name = tree.text(at);
+        if name == b"STOP".as_slice() || name == b"LONGJUMP".as_slice() {
+            self.has_finish = true;
+        }
+        let Some(index) = self.meaning(name, at) else {
             if self.unknown.push(at).is_err() {
                 self.is_refused = true;
             }

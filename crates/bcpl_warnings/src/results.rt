@@ -19,13 +19,13 @@ fn section_end(tokens: &[Token<'_>], open: usize) -> Option<usize> {
     None
 }
 
-/// Whether the token with this index transfers control elsewhere, or belongs to an endless loop.
-fn stays_away(tokens: &[Token<'_>], index: usize) -> bool {
+/// Whether this symbol, which has this index, transfers control elsewhere, or belongs to an endless loop.
+fn stays_away(tokens: &[Token<'_>], index: usize, symbol: Symbol) -> bool {
     let next = index.saturating_add(1);
-    match symbol_at(tokens, index) {
-        Some(Symbol::ResultIs | Symbol::Finish | Symbol::Goto | Symbol::Repeat) => true,
-        Some(Symbol::While) => is_at(tokens, next, Symbol::True),
-        Some(Symbol::Until) => is_at(tokens, next, Symbol::False),
+    match symbol {
+        Symbol::ResultIs | Symbol::Finish | Symbol::Goto | Symbol::Repeat => true,
+        Symbol::While => is_at(tokens, next, Symbol::True),
+        Symbol::Until => is_at(tokens, next, Symbol::False),
         _ => false,
     }
 }
@@ -34,26 +34,28 @@ fn stays_away(tokens: &[Token<'_>], index: usize) -> bool {
 /// apart from those of inner VALOFs.
 pub fn has_no_result(tokens: &[Token<'_>], index: usize) -> bool {
     let open = index.saturating_add(1);
-    if !is_at(tokens, index, Symbol::ValueOf) {
+    if !is_at(tokens, index, Symbol::ValueOf) || !is_at(tokens, open, Symbol::OpenSection) {
         return false;
     }
-    let Some(end) = section_end(tokens, open) else {
-        return false
-    };
+    let mut depth: usize = 0;
     // Tokens before this index belong to an inner VALOF.
     let mut following = open;
-    for at in open..end {
-        if at >= following {
-            if stays_away(tokens, at) {
-                return false;
-            }
-            if is_at(tokens, at, Symbol::ValueOf) {
+    for at in open..tokens.len() {
+        match symbol_at(tokens, at) {
+            Some(Symbol::OpenSection) => depth = depth.saturating_add(1),
+            Some(Symbol::CloseSection) => depth = depth.saturating_sub(1),
+            Some(Symbol::ValueOf) if at >= following => {
                 following = match section_end(tokens, at.saturating_add(1)) {
                     Some(within) => within,
                     None => return false,
                 };
             }
+            Some(symbol) if at >= following && stays_away(tokens, at, symbol) => return false,
+            _ => {}
+        }
+        if depth == 0 {
+            return !is_at(tokens, at.saturating_add(1), Symbol::Repeat);
         }
     }
-    !is_at(tokens, end.saturating_add(1), Symbol::Repeat)
+    false
 }

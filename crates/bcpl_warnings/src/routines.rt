@@ -1,7 +1,7 @@
 //! The routines without a value that a main can call.
 
-use crate::tokens::{is_after, is_at, name_at};
-use bc_lex_tokens::{Symbol, Token};
+use crate::tokens::{is_after, is_at, symbol_before};
+use bc_lex_tokens::{Symbol, Token, TokenKind};
 use bc_word::Memory;
 use indexmap::IndexSet;
 use std::alloc::Global;
@@ -50,39 +50,43 @@ pub fn is_defined(tokens: &[Token<'_>], index: usize) -> bool {
     is_after(tokens, index, Symbol::Let) || is_after(tokens, index, Symbol::And)
 }
 
-/// Whether the name with this index is declared as something other than a routine.
-fn is_variable(tokens: &[Token<'_>], index: usize) -> bool {
-    let is_begun = is_defined(tokens, index)
-        || is_after(tokens, index, Symbol::Comma)
-        || is_after(tokens, index, Symbol::For);
-    let next = index.saturating_add(1);
-    is_begun && (is_at(tokens, next, Symbol::Equal) || is_at(tokens, next, Symbol::Comma))
-}
-
 impl<'s> Routines<'s> {
     /// The routines of these tokens and those of the library. Returns `Memory` if an allocation fails.
     pub fn of(alloc: Global, tokens: &[Token<'s>]) -> Result<Routines<'s>, Memory> {
-        let mut commands = IndexSet::new(alloc);
-        let mut others = IndexSet::new(alloc);
-        for (index, _) in tokens.iter().enumerate() {
-            if let Some(name) = name_at(tokens, index) {
-                let next = index.saturating_add(1);
-                if is_defined(tokens, index) && is_at(tokens, next, Symbol::OpenBracket) {
-                    let is_command = match closing(tokens, next) {
-                        Some(close) => is_at(tokens, close.saturating_add(1), Symbol::Be),
-                        None => false,
-                    };
-                    if is_command {
-                        commands.insert(name)?;
-                    } else {
-                        others.insert(name)?;
-                    }
-                } else if is_variable(tokens, index) {
-                    others.insert(name)?;
-                }
+        let mut routines = Routines {
+            commands: IndexSet::new(alloc),
+            others: IndexSet::new(alloc),
+        };
+        for (index, token) in tokens.iter().enumerate() {
+            if let TokenKind::Name(name) = token.kind {
+                routines.add(tokens, name, index)?;
             }
         }
-        Ok(Routines { commands, others })
+        Ok(routines)
+    }
+
+    /// Adds the name at this index, if it is declared there.
+    fn add(&mut self, tokens: &[Token<'s>], name: &'s [u8], index: usize) -> Result<(), Memory> {
+        let next = index.saturating_add(1);
+        match symbol_before(tokens, index) {
+            Some(Symbol::Let | Symbol::And) if is_at(tokens, next, Symbol::OpenBracket) => {
+                let is_command = match closing(tokens, next) {
+                    Some(close) => is_at(tokens, close.saturating_add(1), Symbol::Be),
+                    None => false,
+                };
+                if is_command {
+                    self.commands.insert(name)?;
+                } else {
+                    self.others.insert(name)?;
+                }
+            }
+            Some(Symbol::Let | Symbol::And | Symbol::Comma | Symbol::For)
+                if is_at(tokens, next, Symbol::Equal) || is_at(tokens, next, Symbol::Comma) => {
+                self.others.insert(name)?;
+            }
+            _ => {}
+        }
+        Ok(())
     }
 
     /// Whether a name means a routine declared with BE wherever it appears.

@@ -4,7 +4,7 @@ use crate::calls::say_signed;
 use crate::kind::{Fact, Kind};
 use crate::known::Known;
 use crate::loops::counting_of;
-use crate::names::Sort;
+use crate::names::{Declared, Sort};
 use crate::node::Form;
 use bc_parse_tree::BinaryOp;
 use bc_word::Word;
@@ -97,14 +97,70 @@ fn warns_of_string(draft: &mut Draft, known: &Known<'_, '_>, at: usize) -> bool 
         "{} is a string, and a word of it holds two characters",
         &[known.shown(tree.first(at))],
     );
-    draft.help(
-        "the character with the number {} is GETBYTE({}, {})",
-        &[
-            known.shown(tree.second(at)),
-            known.shown(tree.first(at)),
-            known.shown(tree.second(at)),
-        ],
+    let string = known.shown(tree.first(at));
+    let number = known.shown(tree.second(at));
+    let is_first = matches!(known.kinds.value(tree.second(at)), Some(word) if word.get() == 0);
+    if is_first {
+        draft.help(
+            "the length of {} is GETBYTE({}, 0), and its first character GETBYTE({}, 1)",
+            &[string, string, string],
+        );
+    } else {
+        draft.help(
+            "the character with the number {} is GETBYTE({}, {})",
+            &[number, string, number],
+        );
+    }
+    true
+}
+
+/// Warns of a number that is subscripted as if it were a vector. Returns whether it is one.
+fn warns_of_number(draft: &mut Draft, known: &Known<'_, '_>, at: usize) -> bool {
+    let tree = known.tree;
+    let vector = tree.first(at);
+    let is_variable = match (tree.form(vector), known.kinds.names.at(vector)) {
+        (Form::Name, Some(declared)) => declared.sort == Sort::Variable,
+        _ => false,
+    };
+    if !is_variable || !known.kinds.kind(tree.second(at)).is_plain() {
+        return false;
+    }
+    let name = known.shown(vector);
+    known.begin(draft, at, at);
+    draft.say(
+        "{} is a number here, and not the address of a vector",
+        &[name],
     );
+    draft.help("a vector is declared as LET {} = VEC 10", &[name]);
+    true
+}
+
+/// Whether a declaration's value is the address of cells: a vector, or a variable that was given a table or string.
+fn is_address(declared: &Declared) -> bool {
+    declared.sort == Sort::Vector || matches!(declared.first.kind, Kind::Table | Kind::String)
+}
+
+/// Warns of a subscript of the address of a variable that is an address itself. Returns whether it is one.
+fn warns_of_address(draft: &mut Draft, known: &Known<'_, '_>, at: usize, fact: &Fact) -> bool {
+    let tree = known.tree;
+    let is_first = matches!(known.kinds.value(tree.second(at)), Some(word) if word.get() == 0);
+    let declared = match fact.of {
+        Some(index) => known.kinds.names.get(index),
+        None => None,
+    };
+    let Some(declared) = declared else {
+        return false;
+    };
+    if is_first || !is_address(declared) {
+        return false;
+    }
+    let name = Fill::Shown(tree.text(declared.node));
+    known.begin(draft, at, at);
+    draft.say(
+        "{} is the address of the variable {}, not that of its cells",
+        &[known.shown(tree.first(at)), name],
+    );
+    draft.help("{} is an address already: leave out the @", &[name]);
     true
 }
 
@@ -114,6 +170,8 @@ pub fn warns_of_index(draft: &mut Draft, known: &Known<'_, '_>, at: usize) -> bo
     match fact.kind {
         Kind::Vector | Kind::Table => warns_of_subscript(draft, known, at, &fact),
         Kind::String => warns_of_string(draft, known, at),
+        Kind::Number => warns_of_number(draft, known, at),
+        Kind::Local => warns_of_address(draft, known, at, &fact),
         _ => false,
     }
 }

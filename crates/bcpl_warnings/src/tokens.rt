@@ -27,6 +27,11 @@ pub fn closes_at(tokens: &[Token<'_>], index: usize) -> bool {
     is_at(tokens, index, Symbol::CloseBracket) || is_at(tokens, index, Symbol::CloseSection)
 }
 
+/// The symbol directly before the token with this index.
+pub fn symbol_before(tokens: &[Token<'_>], index: usize) -> Option<Symbol> {
+    symbol_at(tokens, index.checked_sub(1)?)
+}
+
 /// Whether this symbol comes directly before the token with this index.
 pub fn is_after(tokens: &[Token<'_>], index: usize, symbol: Symbol) -> bool {
     index > 0 && is_at(tokens, index - 1, symbol)

@@ -4,7 +4,7 @@
 use crate::flatten::{Flat, flatten};
 use crate::node::{Form, Node};
 use bc_lex_tokens::Token;
-use bc_parse_tree::{Section, leaves_of};
+use bc_parse_tree::{Section, is_leaf};
 use bc_word::Memory;
 use bcpl_places::Span;
 use std::alloc::Global;
@@ -13,19 +13,41 @@ use std::alloc::Global;
 #[derive(Drop)]
 pub struct Tree<'s> {
     flat: Flat,
-    leaves: Vec<Token<'s>>,
+    tokens: &'s [Token<'s>],
+    /// The indexes of the tokens that are leaves.
+    leaves: Vec<usize>,
+}
+
+/// The indexes of the tokens that are leaves. Returns `Memory` if an allocation fails.
+fn leaf_indexes(alloc: Global, tokens: &[Token<'_>]) -> Result<Vec<usize>, Memory> {
+    let mut leaves = Vec::with_capacity(alloc, tokens.len())?;
+    for (index, token) in tokens.iter().enumerate() {
+        if is_leaf(token.kind) {
+            leaves.push(index)?;
+        }
+    }
+    Ok(leaves)
 }
 
 impl<'s> Tree<'s> {
     /// The nodes of the section that was parsed from these tokens. Returns `Memory` if an allocation fails.
     pub fn of(
         alloc: Global,
-        tokens: &[Token<'s>],
-        section: &Section<'s>,
+        tokens: &'s [Token<'s>],
+        section: &Section<'_>,
     ) -> Result<Tree<'s>, Memory> {
-        let flat = flatten(alloc, section)?;
-        let leaves = leaves_of(alloc, tokens)?;
-        Ok(Tree { flat, leaves })
+        let flat = flatten(alloc, section, tokens.len())?;
+        let leaves = leaf_indexes(alloc, tokens)?;
+        Ok(Tree {
+            flat,
+            tokens,
+            leaves,
+        })
+    }
+
+    /// The leaf with this number.
+    fn leaf_at(&self, number: usize) -> Option<&'s Token<'s>> {
+        self.tokens.get(*self.leaves.get(number)?)
     }
 
     /// How many nodes there are.
@@ -38,33 +60,49 @@ impl<'s> Tree<'s> {
         self.flat.closed.as_slice()
     }
 
-    /// The node with this index.
-    pub fn node(&self, at: usize) -> Node {
-        match self.flat.nodes.get(at) {
-            Some(node) => *node,
-            None => Node {
-                form: Form::Nothing,
-                parent: 0,
-                first: 0,
-                last: 0,
-                end: at,
-            },
-        }
+    /// The nodes.
+    pub fn nodes(&self) -> &[Node] {
+        self.flat.nodes.as_slice()
     }
 
     /// The form of a node.
     pub fn form(&self, at: usize) -> Form {
-        self.node(at).form
+        match self.flat.nodes.get(at) {
+            Some(node) => node.form,
+            None => Form::Nothing,
+        }
     }
 
     /// The index after the last descendant of a node.
     pub fn end(&self, at: usize) -> usize {
-        self.node(at).end
+        match self.flat.nodes.get(at) {
+            Some(node) => node.end,
+            None => at,
+        }
     }
 
     /// The parent of a node.
     pub fn parent(&self, at: usize) -> usize {
-        self.node(at).parent
+        match self.flat.nodes.get(at) {
+            Some(node) => node.parent,
+            None => 0,
+        }
+    }
+
+    /// The number of leaves before a node.
+    fn leaves_before(&self, at: usize) -> usize {
+        match self.flat.nodes.get(at) {
+            Some(node) => node.first,
+            None => 0,
+        }
+    }
+
+    /// The number of leaves up to a node's end.
+    fn leaves_up_to(&self, at: usize) -> usize {
+        match self.flat.nodes.get(at) {
+            Some(node) => node.last,
+            None => 0,
+        }
     }
 
     /// The form of a node's parent.
@@ -99,12 +137,12 @@ impl<'s> Tree<'s> {
 
     /// The first leaf of a node, or the one after it if it has none.
     pub fn leaf(&self, at: usize) -> Option<Token<'s>> {
-        self.leaves.get(self.node(at).first).copied()
+        self.leaf_at(self.leaves_before(at)).copied()
     }
 
     /// The text of the first leaf of a node.
     pub fn text(&self, at: usize) -> &'s [u8] {
-        match self.leaf(at) {
+        match self.leaf_at(self.leaves_before(at)) {
             Some(token) => token.text,
             None => b"",
         }
@@ -112,15 +150,14 @@ impl<'s> Tree<'s> {
 
     /// The leaf before a node.
     pub fn leaf_before(&self, at: usize) -> Option<Token<'s>> {
-        self.leaves
-            .get(self.node(at).first.checked_sub(1)?)
+        self.leaf_at(self.leaves_before(at).checked_sub(1)?)
             .copied()
     }
 
     /// The stretch of the source from the first leaf of one node to the last one of another.
     pub fn span(&self, from: usize, to: usize) -> Option<Span> {
         let first = self.leaf(from)?;
-        let last = self.leaves.get(self.node(to).last.checked_sub(1)?)?;
+        let last = self.leaf_at(self.leaves_up_to(to).checked_sub(1)?)?;
         let end = if last.file == first.file {
             last.end.max(first.end)
         } else {
@@ -135,9 +172,12 @@ impl<'s> Tree<'s> {
 
     /// The number of leaves before the first one of a place; `None` if no leaf follows its start in its file.
     pub fn leaf_from(&self, place: Span) -> Option<usize> {
-        for (index, token) in self.leaves.iter().enumerate() {
-            if token.file == place.file && token.start >= place.start {
-                return Some(index);
+        for number in 0..self.leaves.len() {
+            if let Some(token) = self.leaf_at(number)
+                && token.file == place.file
+                && token.start >= place.start
+            {
+                return Some(number);
             }
         }
         None
@@ -145,13 +185,12 @@ impl<'s> Tree<'s> {
 
     /// Whether a node has the leaf with this number.
     pub fn has_leaf(&self, at: usize, leaf: usize) -> bool {
-        let node = self.node(at);
-        node.first <= leaf && leaf < node.last
+        self.leaves_before(at) <= leaf && leaf < self.leaves_up_to(at)
     }
 
     /// The file of a node's first leaf.
     pub fn file(&self, at: usize) -> usize {
-        match self.leaf(at) {
+        match self.leaf_at(self.leaves_before(at)) {
             Some(token) => token.file,
             None => 0,
         }

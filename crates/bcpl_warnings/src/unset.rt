@@ -4,16 +4,18 @@ use crate::arguments::is_called;
 use crate::declared::{Declarations, Meaning};
 use crate::mixed::gets_further;
 use crate::tokens::name_at;
-use bc_lex::{Source, lex};
+use bc_build::Parsed;
 use bc_lex_tokens::Token;
 use bc_library::library_name;
 use bc_word::Memory;
 use indexmap::IndexSet;
 use std::alloc::Global;
 
-/// The globals that a program may set.
+/// The globals that a program may set, and the declarations of its mains.
 #[derive(Drop)]
-pub struct Settings {
+pub struct Settings<'s> {
+    /// The declarations of each main, in the order of the mains.
+    pub declarations: Vec<Declarations<'s>>,
     /// Their numbers, except those of the library.
     numbers: IndexSet<u16>,
     /// Whether any global may be set, because a number isn't known or an address is taken.
@@ -22,44 +24,35 @@ pub struct Settings {
     pub gets_further: bool,
 }
 
-impl Settings {
-    /// The globals that these mains may set. The first `library` sources are the library's. Returns `Memory` if an
-    /// allocation fails.
+impl<'s> Settings<'s> {
+    /// The globals that these mains may set, which were parsed to `parsed`. The first `library` sources are the library's.
+    /// Returns `Memory` if an allocation fails.
     pub fn of(
         alloc: Global,
-        sources: &[Source<'_>],
         library: usize,
         mains: &[usize],
-    ) -> Result<Settings, Memory> {
+        parsed: &[Parsed<'s>],
+    ) -> Result<Settings<'s>, Memory> {
         let mut settings = Settings {
+            declarations: Vec::new(alloc),
             numbers: IndexSet::new(alloc),
             is_open: false,
             gets_further: false,
         };
-        for main in mains {
-            if *main >= sources.len() {
-                return Ok(settings);
-            }
-            match lex(alloc, sources, *main) {
-                Ok(tokens) => settings.add_main(alloc, tokens.as_slice(), *main >= library)?,
-                Err(_) => settings.is_open = true,
-            }
+        for (main, read) in mains.iter().zip(parsed) {
+            let declarations = Declarations::of(alloc, read.tokens.as_slice())?;
+            settings.add_main(&declarations, *main >= library)?;
+            settings.declarations.push(declarations)?;
         }
         Ok(settings)
     }
 
-    /// Adds the globals that the main with these tokens may set. It is the library's unless `is_own`.
-    fn add_main(
-        &mut self,
-        alloc: Global,
-        tokens: &[Token<'_>],
-        is_own: bool,
-    ) -> Result<(), Memory> {
-        let declarations = Declarations::of(alloc, tokens)?;
-        self.gets_further = self.gets_further || is_own && gets_further(&declarations);
+    /// Adds the globals that the main with these declarations may set. It is the library's unless `is_own`.
+    fn add_main(&mut self, declarations: &Declarations<'_>, is_own: bool) -> Result<(), Memory> {
+        self.gets_further = self.gets_further || is_own && gets_further(declarations);
         for declared in &declarations.all {
             if let Meaning::Global(number) = declared.meaning {
-                self.add_global(&declarations, declared.name, number)?;
+                self.add_global(declarations, declared.name, number)?;
             }
         }
         Ok(())
@@ -97,7 +90,7 @@ impl Settings {
 pub fn unset_global(
     tokens: &[Token<'_>],
     declarations: &Declarations<'_>,
-    settings: &Settings,
+    settings: &Settings<'_>,
     index: usize,
 ) -> Option<u16> {
     if !is_called(tokens, index) {

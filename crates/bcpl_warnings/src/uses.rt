@@ -1,7 +1,7 @@
 //! How a name is used in a main, collected in one pass over its tokens.
 
 use crate::arguments::is_called;
-use crate::tokens::{is_after, is_at};
+use crate::tokens::{symbol_at, symbol_before};
 use bc_lex_tokens::{Symbol, Token};
 
 /// How a name is used in a main.
@@ -20,19 +20,20 @@ pub struct Uses {
 }
 
 impl Uses {
-    /// These uses and the one at this index, where the name is.
-    pub fn with(self, tokens: &[Token<'_>], index: usize) -> Uses {
-        let next = index.saturating_add(1);
-        let first_call = match self.first_call {
-            None if is_called(tokens, index) => Some(index),
-            earlier => earlier,
-        };
-        Uses {
-            first_call,
-            is_assigned: self.is_assigned || is_at(tokens, next, Symbol::Assign),
-            is_listed: self.is_listed || is_at(tokens, next, Symbol::Comma),
-            is_addressed: self.is_addressed || is_after(tokens, index, Symbol::AddressOf),
-            is_target: self.is_target || is_after(tokens, index, Symbol::Goto),
+    /// Adds the use at this index, where the name is.
+    pub fn add(&mut self, tokens: &[Token<'_>], index: usize) {
+        match symbol_at(tokens, index.saturating_add(1)) {
+            Some(Symbol::OpenBracket) if self.first_call.is_none() && is_called(tokens, index) => {
+                self.first_call = Some(index);
+            }
+            Some(Symbol::Assign) => self.is_assigned = true,
+            Some(Symbol::Comma) => self.is_listed = true,
+            _ => {}
+        }
+        match symbol_before(tokens, index) {
+            Some(Symbol::AddressOf) => self.is_addressed = true,
+            Some(Symbol::Goto) => self.is_target = true,
+            _ => {}
         }
     }
 }

@@ -1,9 +1,8 @@
 //! The warnings on an accepted program: which ones there are, in which order they are tried, and their texts.
 
-use crate::arguments::{Missing, missing_arguments};
+use crate::arguments::{Missing, is_called, missing_arguments};
 use crate::comments::swallowed_do;
 use crate::declared::Declarations;
-use crate::endless::has_finish;
 use crate::flow::Flow;
 use crate::formats::{Lacking, lacking_arguments, unknown_format};
 use crate::globals::{is_library_assigned, library_global, number_twice};
@@ -17,17 +16,18 @@ use crate::routines::Routines;
 use crate::separated::{Looks, is_repeat_in_front, misread, seeming_head};
 use crate::starts::{Likeness, likeness_at};
 use crate::strings::has_backslash;
+use crate::tokens::symbol_at;
 use crate::tree::Tree;
 use crate::unreachable::unreached;
 use crate::unset::{Settings, unset_global};
 use crate::values::is_used;
 use crate::vectors::is_vector_called;
-use bc_lex::{Source, lex};
-use bc_lex_tokens::Token;
+use bc_build::Parsed;
+use bc_lex::Source;
+use bc_lex_tokens::{Symbol, Token, TokenKind};
 use bc_library::is_of_library;
-use bc_parse::parse;
 use bc_word::Memory;
-use bcpl_messages::{Draft, Fill, Message, Named};
+use bcpl_messages::{Draft, Fill, Message};
 use bcpl_places::Span;
 use indexmap::IndexSet;
 use std::alloc::Global;
@@ -109,7 +109,7 @@ struct Main<'m, 'p, 's> {
     routines: &'m Routines<'s>,
     declarations: &'m Declarations<'s>,
     /// The globals that the whole program may set.
-    settings: &'m Settings,
+    settings: &'m Settings<'s>,
 }
 
 impl<'s> Main<'_, '_, 's> {
@@ -328,16 +328,10 @@ fn warns_of_comment(draft: &mut Draft, main: &Main<'_, '_, '_>, at: usize) -> bo
     true
 }
 
-/// The sentence and the help on a token that is probably wrong, whatever surrounds it. A `{}` is the token.
-fn oddity(main: &Main<'_, '_, '_>, at: usize) -> Option<(&'static str, &'static str)> {
-    if is_library_assigned(main.tokens, main.declarations, main.library, at) {
-        Some(ASSIGNMENT)
-    } else if is_used(main.tokens, main.routines, at) {
+/// The sentence and the help on a called name that is probably wrong. A `{}` is the name.
+fn call_oddity(main: &Main<'_, '_, '_>, at: usize) -> Option<(&'static str, &'static str)> {
+    if is_used(main.tokens, main.routines, at) {
         Some(VALUE)
-    } else if has_backslash(main.tokens, at) {
-        Some(BACKSLASH)
-    } else if has_no_result(main.tokens, at) {
-        Some(NO_RESULT)
     } else if is_vector_called(main.tokens, main.declarations, at) {
         Some(VECTOR)
     } else if is_mixed(
@@ -352,17 +346,22 @@ fn oddity(main: &Main<'_, '_, '_>, at: usize) -> Option<(&'static str, &'static 
     }
 }
 
-/// The sentence and the help on a label, or on a line that is read otherwise than it looks.
-fn likeness(main: &Main<'_, '_, '_>, at: usize) -> Option<(&'static str, &'static str)> {
-    match idle_label(main.tokens, main.declarations, at) {
-        Some(Idle::Default) => Some(DEFAULT),
-        Some(Idle::Label) => Some(LABEL),
-        None if is_repeat_in_front(main.sources, main.tokens, at) => Some(REPEAT),
-        None => match misread(main.sources, main.tokens, at) {
-            Some(Looks::Apart) => Some(APART),
-            Some(Looks::Together) => Some(TOGETHER),
-            None => None,
-        },
+/// The sentence and the help on a label.
+fn label_oddity(main: &Main<'_, '_, '_>, at: usize) -> Option<(&'static str, &'static str)> {
+    match idle_label(main.tokens, main.declarations, at)? {
+        Idle::Default => Some(DEFAULT),
+        Idle::Label => Some(LABEL),
+    }
+}
+
+/// The sentence and the help on a line that is read otherwise than it looks, and begins with the token at this index.
+fn line_oddity(main: &Main<'_, '_, '_>, at: usize) -> Option<(&'static str, &'static str)> {
+    if is_repeat_in_front(main.sources, main.tokens, at) {
+        return Some(REPEAT);
+    }
+    match misread(main.sources, main.tokens, at)? {
+        Looks::Apart => Some(APART),
+        Looks::Together => Some(TOGETHER),
     }
 }
 
@@ -383,49 +382,92 @@ fn warns_by(
     true
 }
 
-/// Warns if a global or a call at the token with this index is probably wrong. Returns whether it is.
-fn warns_of_use(draft: &mut Draft, main: &Main<'_, '_, '_>, at: usize) -> bool {
-    warns_of_library_global(draft, main, at)
-        || warns_of_number(draft, main, at)
-        || warns_of_unset(draft, main, at)
-        || warns_of_arguments(draft, main, at)
-        || warns_of_format(draft, main, at)
-        || warns_of_lacking(draft, main, at)
+/// Warns of a call of the name at this index. Returns whether it does.
+fn warns_of_call(draft: &mut Draft, main: &Main<'_, '_, '_>, at: usize) -> bool {
+    is_called(main.tokens, at)
+        && (warns_of_unset(draft, main, at)
+            || warns_of_arguments(draft, main, at)
+            || warns_by(draft, main, at, call_oddity(main, at)))
 }
 
-/// Adds the first warning that applies to the token with this index.
-fn warn_at(draft: &mut Draft, main: &Main<'_, '_, '_>, at: usize) {
-    let is_told = warns_of_use(draft, main, at)
-        || warns_by(draft, main, at, oddity(main, at))
-        || warns_of_unreached(draft, main, at)
-        || warns_of_comment(draft, main, at)
-        || warns_of_body(draft, main, at);
-    if !is_told {
-        warns_by(draft, main, at, likeness(main, at));
+/// Warns of the name at this index, by the symbol that follows it. Returns whether it does.
+fn warns_of_name(draft: &mut Draft, main: &Main<'_, '_, '_>, at: usize) -> bool {
+    match symbol_at(main.tokens, at.saturating_add(1)) {
+        Some(Symbol::Colon | Symbol::Equal) => {
+            warns_of_library_global(draft, main, at) || warns_of_number(draft, main, at)
+        }
+        Some(Symbol::OpenBracket) => warns_of_call(draft, main, at),
+        Some(Symbol::Assign) => {
+            is_library_assigned(main.tokens, main.declarations, main.library, at)
+                && warns_by(draft, main, at, Some(ASSIGNMENT))
+        }
+        _ => false,
+    }
+}
+
+/// Warns of the string at this index. Returns whether it does.
+fn warns_of_string(draft: &mut Draft, main: &Main<'_, '_, '_>, at: usize) -> bool {
+    warns_of_format(draft, main, at)
+        || warns_of_lacking(draft, main, at)
+        || has_backslash(main.tokens, at) && warns_by(draft, main, at, Some(BACKSLASH))
+}
+
+/// Warns of what the token with this index is, wherever its line begins. Returns whether it does.
+fn warns_of_kind(
+    draft: &mut Draft,
+    main: &Main<'_, '_, '_>,
+    at: usize,
+    kind: TokenKind<'_>,
+) -> bool {
+    match kind {
+        TokenKind::Name(_) => warns_of_name(draft, main, at),
+        TokenKind::String(_) => warns_of_string(draft, main, at),
+        TokenKind::Symbol(Symbol::ValueOf) => {
+            has_no_result(main.tokens, at) && warns_by(draft, main, at, Some(NO_RESULT))
+        }
+        TokenKind::Symbol(_) => warns_of_unreached(draft, main, at),
+        TokenKind::Number(_) | TokenKind::Character(_) => false,
+    }
+}
+
+/// Adds the first warning that applies to this token, which has this index.
+fn warn_at(draft: &mut Draft, main: &Main<'_, '_, '_>, at: usize, token: &Token<'_>) {
+    if warns_of_kind(draft, main, at, token.kind) {
+        return;
+    }
+    if token.line_before
+        && (warns_of_comment(draft, main, at)
+            || warns_of_body(draft, main, at)
+            || warns_by(draft, main, at, line_oddity(main, at)))
+    {
+        return;
+    }
+    if let TokenKind::Name(_) = token.kind {
+        warns_by(draft, main, at, label_oddity(main, at));
     }
 }
 
 /// The warnings on an accepted program, as they are being collected.
 #[derive(Drop)]
-struct Telling<'p, 's> {
+struct WarningList<'p, 's> {
     alloc: Global,
-    named: Named<'p, 's>,
+    sources: &'p [Source<'s>],
     /// How many of the sources are the library's.
     library: usize,
     /// The places that have a warning: the file, the offset of the first byte, and the offset after the last one.
-    told: IndexSet<(usize, usize, usize)>,
+    places: IndexSet<(usize, usize, usize)>,
     /// The warnings.
     messages: Vec<Message>,
 }
 
-impl<'p, 's> Telling<'p, 's> {
+impl<'p, 's> WarningList<'p, 's> {
     /// No warnings yet.
-    fn new(alloc: Global, named: Named<'p, 's>, library: usize) -> Telling<'p, 's> {
-        Telling {
+    fn new(alloc: Global, sources: &'p [Source<'s>], library: usize) -> WarningList<'p, 's> {
+        WarningList {
             alloc,
-            named,
+            sources,
             library,
-            told: IndexSet::new(alloc),
+            places: IndexSet::new(alloc),
             messages: Vec::new(alloc),
         }
     }
@@ -436,102 +478,76 @@ impl<'p, 's> Telling<'p, 's> {
             return Ok(());
         };
         let is_new = span.file >= self.library
-            && self.told.insert((span.file, span.start, span.end))?;
+            && self.places.insert((span.file, span.start, span.end))?;
         if is_new {
             self.messages.push(message)?;
         }
         Ok(())
     }
 
-    /// Adds the warning on a token, if there is one.
-    fn add_token(
-        &mut self,
-        known: &Main<'_, '_, '_>,
-        main: usize,
-        at: usize,
-    ) -> Result<(), Memory> {
-        let mut draft = Draft::new(self.alloc, main);
-        warn_at(&mut draft, known, at);
+    /// Adds the warning that was drafted, if one was.
+    fn add_draft(&mut self, draft: Draft) -> Result<(), Memory> {
         match draft.end()? {
             Some(message) => self.add(message),
             None => Ok(()),
         }
+    }
+
+    /// Adds the warning that was drafted, and returns an empty draft.
+    fn renewed(&mut self, main: usize, draft: Draft) -> Result<Draft, Memory> {
+        self.add_draft(draft)?;
+        Ok(Draft::new(self.alloc, main))
     }
 
     /// Adds the warnings on a main with these tokens, in text order.
     fn add_tokens<'m>(
         &mut self,
-        settings: &'m Settings,
+        settings: &'m Settings<'s>,
+        declarations: &'m Declarations<'s>,
         main: usize,
         tokens: &'m [Token<'s>],
     ) -> Result<(), Memory> {
         let routines = Routines::of(self.alloc, tokens)?;
-        let declarations = Declarations::of(self.alloc, tokens)?;
         let known = Main {
-            sources: self.named.sources,
+            sources: self.sources,
             library: self.library,
             tokens,
             routines: &routines,
-            declarations: &declarations,
+            declarations,
             settings,
         };
-        for at in 0..tokens.len() {
-            self.add_token(&known, main, at)?;
-        }
-        Ok(())
-    }
-
-    /// The tokens of a main; `None` if the lexer refuses it, or it is the library's.
-    fn tokens(&self, main: usize) -> Option<Vec<Token<'s>>> {
-        let sources = self.named.sources;
-        if main < self.library || main >= sources.len() {
-            return None;
-        }
-        lex(self.alloc, sources, main).ok()
-    }
-
-    /// Adds the warning on how the values of a node are used, if there is one.
-    fn add_node(&mut self, known: &Known<'_, '_>, main: usize, at: usize) -> Result<(), Memory> {
-        if known.tree.file(at) < self.library {
-            return Ok(());
-        }
         let mut draft = Draft::new(self.alloc, main);
-        warn_of_use(&mut draft, known, at);
-        match draft.end()? {
-            Some(message) => self.add(message),
-            None => Ok(()),
+        for (at, token) in tokens.iter().enumerate() {
+            if token.file >= self.library {
+                warn_at(&mut draft, &known, at, token);
+                if !draft.is_empty() {
+                    draft = self.renewed(main, draft)?;
+                }
+            }
         }
+        self.add_draft(draft)
     }
 
-    /// Adds the warnings on how values are used in a main with these tokens. One that the parser refuses gets none.
-    fn add_uses(&mut self, main: usize, tokens: &[Token<'s>]) -> Result<(), Memory> {
-        let Ok(section) = parse(self.alloc, tokens) else {
-            return Ok(());
-        };
-        let tree = Tree::of(self.alloc, tokens, &section)?;
+    /// Adds the warnings on how values are used in a main that was parsed to this.
+    fn add_uses(&mut self, main: usize, read: &Parsed<'s>) -> Result<(), Memory> {
+        let tree = Tree::of(self.alloc, read.tokens.as_slice(), &read.section)?;
         let mut kinds = Kinds::of(self.alloc, &tree, self.library)?;
         let flow = Flow::of(self.alloc, &tree, &mut kinds)?;
         let known = Known {
-            sources: self.named.sources,
+            sources: self.sources,
             library: self.library,
             tree: &tree,
             kinds: &kinds,
             flow: &flow,
-            has_finish: has_finish(&tree),
         };
-        for at in 0..tree.len() {
-            self.add_node(&known, main, at)?;
+        let mut draft = Draft::new(self.alloc, main);
+        for at in 0..tree.nodes().len() {
+            warn_of_use(&mut draft, &known, at);
+            if !draft.is_empty() {
+                draft = self.renewed(main, draft)?;
+            }
         }
-        Ok(())
-    }
-
-    /// Adds the warnings on an accepted main.
-    fn add_main(&mut self, settings: &Settings, main: usize) -> Result<(), Memory> {
-        let Some(tokens) = self.tokens(main) else {
-            return Ok(());
-        };
-        self.add_tokens(settings, main, tokens.as_slice())?;
-        self.add_uses(main, tokens.as_slice())
+        self.add_draft(draft)
     }
 
     /// Adds a warning if the routine at the token with this index is probably meant to be START.
@@ -544,30 +560,32 @@ impl<'p, 's> Telling<'p, 's> {
         }
     }
 
-    /// Adds the warnings on routines of a main that are probably meant to be START.
-    fn add_starts(&mut self, main: usize) -> Result<(), Memory> {
-        let Some(tokens) = self.tokens(main) else {
-            return Ok(());
-        };
+    /// Adds the warnings on routines of a main with these tokens that are probably meant to be START.
+    fn add_starts(&mut self, main: usize, tokens: &[Token<'_>]) -> Result<(), Memory> {
         for at in 0..tokens.len() {
-            self.add_start(main, tokens.as_slice(), at)?;
+            self.add_start(main, tokens, at)?;
         }
         Ok(())
     }
 }
 
-/// The warnings on the mains of an accepted program, main by main, first those that the tokens show. The first
-/// `library` sources are the library's, and get no warnings. Returns `Memory` if an allocation fails.
-pub(crate) fn warnings(
+/// The warnings on the mains of an accepted program, main by main, first those that the tokens show. `parsed` is what the
+/// mains were parsed to, in their order. The first `library` sources are the library's, and get no warnings. Returns
+/// `Memory` if an allocation fails.
+pub(crate) fn warnings<'s>(
     alloc: Global,
-    named: Named<'_, '_>,
+    sources: &[Source<'s>],
     library: usize,
     mains: &[usize],
+    parsed: &[Parsed<'s>],
 ) -> Result<Vec<Message>, Memory> {
-    let settings = Settings::of(alloc, named.sources, library, mains)?;
-    let mut warnings = Telling::new(alloc, named, library);
-    for main in mains {
-        warnings.add_main(&settings, *main)?;
+    let settings = Settings::of(alloc, library, mains, parsed)?;
+    let mut warnings = WarningList::new(alloc, sources, library);
+    for ((main, read), declarations) in mains.iter().zip(parsed).zip(&settings.declarations) {
+        if *main >= library {
+            warnings.add_tokens(&settings, declarations, *main, read.tokens.as_slice())?;
+            warnings.add_uses(*main, read)?;
+        }
     }
     Ok(warnings.messages)
 }
@@ -591,17 +609,19 @@ fn warn_of_start(draft: &mut Draft, tokens: &[Token<'_>], at: usize) {
 }
 
 /// The warnings on routines that are probably meant to be START, for an accepted program in which no
-/// routine sets START. The first `library` sources are the library's, and get no warnings. Returns `Memory` if an
-/// allocation fails.
+/// routine sets START. `parsed` is what the mains were parsed to, in their order. The first `library` sources are the
+/// library's, and get no warnings. Returns `Memory` if an allocation fails.
 pub fn likely_starts(
     alloc: Global,
-    named: Named<'_, '_>,
     library: usize,
     mains: &[usize],
+    parsed: &[Parsed<'_>],
 ) -> Result<Vec<Message>, Memory> {
-    let mut warnings = Telling::new(alloc, named, library);
-    for main in mains {
-        warnings.add_starts(*main)?;
+    let mut warnings = WarningList::new(alloc, &[], library);
+    for (main, read) in mains.iter().zip(parsed) {
+        if *main >= library {
+            warnings.add_starts(*main, read.tokens.as_slice())?;
+        }
     }
     Ok(warnings.messages)
 }

@@ -249,7 +249,7 @@ impl<'s> Frame<'_, 's> {
         }
         match self.vector_before(offset) {
             Some(site) => Some(self.after_vector(draft, site, offset)),
-            None => Some(self.after_all(draft, address)),
+            None => Some(self.after_all(draft, offset, address)),
         }
     }
 
@@ -299,23 +299,53 @@ impl<'s> Frame<'_, 's> {
         }
     }
 
-    /// A cell after all variables.
-    fn after_all(&self, draft: &mut Draft, address: u16) -> Owner {
-        Owner {
-            text: draft.filled(
-                "at the address {}, after all variables of {}",
+    /// A cell after all variables. If only one vector of another routine can have been there, it is named.
+    fn after_all(&self, draft: &mut Draft, offset: u64, address: u16) -> Owner {
+        let address = Fill::Number(u64::from(address));
+        let routine = Fill::Shown(self.routine());
+        let text = match self.returned_vector(offset) {
+            Some(site) => draft.filled(
+                "at the address {}, after all variables of {}, where the vector {} of {} may have been",
                 &[
-                    Fill::Number(u64::from(address)),
-                    Fill::Shown(self.routine()),
+                    address,
+                    routine,
+                    Fill::Shown(self.read.text(site.leaf).unwrap_or(b"")),
+                    Fill::Shown(self.name_of(site.routine)),
                 ],
             ),
+            None => draft.filled(
+                "at the address {}, after all variables of {}",
+                &[address, routine],
+            ),
+        };
+        Owner {
+            text,
             kind: OwnerKind::After,
         }
     }
 
+    /// The only vector of the main's other routines that may have begun before this offset, if there is only one.
+    fn returned_vector(&self, offset: u64) -> Option<VariableSite> {
+        let mut found: Option<VariableSite> = None;
+        for site in &self.read.sites.variables {
+            if site.routine != self.label && site.cells > 1 && site.offset < offset {
+                if found.is_some() {
+                    return None;
+                }
+                found = Some(*site);
+            }
+        }
+        found
+    }
+
     /// The name of the routine; empty if it isn't known.
     fn routine(&self) -> &'s [u8] {
-        match self.read.sites.label(self.label) {
+        self.name_of(self.label)
+    }
+
+    /// The name of the routine with this label; empty if it isn't known.
+    fn name_of(&self, label: u64) -> &'s [u8] {
+        match self.read.sites.label(label) {
             Some(leaf) => self.read.text(leaf).unwrap_or(b""),
             None => b"",
         }

@@ -185,10 +185,10 @@ pub fn help(met: &Met<'_>, known: WildContext<'_>) -> Option<&'static str> {
             "there is no vector at this address; was the address set, and did GETVEC have a pool?",
         ),
         Cause::Dead(_) | Cause::NoCell(_) if known.owner.is_none() => Some(
-            "TABLE 1, 2, 3 has the cells 0 to 2, and VEC n the cells 0 to n; character I of the string S is GETBYTE(S, I)",
+            "TABLE 1, 2, 3 has the cells 0 to 2, and VEC 2 has them too; character I of the string S is GETBYTE(S, I)",
         ),
         Cause::Dead(_) | Cause::NoCell(_) => Some(
-            "VEC n has the cells 0 to n; vectors and variables are gone once their block or routine is left",
+            "VEC N has the cells 0 to N; vectors and variables are gone once their block or routine is left",
         ),
         Cause::NotRoutine(0) if is_first_call(met, 0) => Some(
             "a run begins with START, in upper case; write GET \"LIBHDR\" and LET START() BE ..",

@@ -11,7 +11,7 @@ use std::alloc::Global;
 
 /// The help for an index that leaves its vector.
 const OUTSIDE: &str =
-    "VEC n has the cells 0 to n; --strict reports an index that leaves them, even if it hits a cell of something else";
+    "VEC N has the cells 0 to N; --strict reports an index that leaves them, even if it hits a cell of something else";
 
 /// The help for an index that leaves its table or string.
 const OUTSIDE_CONSTANT: &str =

@@ -8,6 +8,7 @@ pub returns-in-Ok : goal.returns-in-Ok
 returns-in-Ok g c = λ f. record {
   exact = λ known. ap (λ s. Done 0 (state_of c.args.state.now s)) (sym (c.in-Ok.ensures.ok known));
   numbers = λ streams. (0, end_stream c.args.side streams, refl);
+  blamed = tt;
   kept = c.in-Ok.ensures.known;
   failed = λ x. absurd cc;
   counted = omega (arith, c.in-Ok.ensures.counted);
@@ -17,6 +18,7 @@ pub returns-in-Err : goal.returns-in-Err
 returns-in-Err g c = λ f. record {
   exact = λ known. tt;
   numbers = tt;
+  blamed = tt;
   kept = c.in-Err.ensures.known;
   failed = λ x. c.in-Err.ensures.failed;
   counted = omega (arith, c.in-Err.ensures.counted);

@@ -17,6 +17,7 @@ returns g c =
     record {
       exact = λ known. closed_serves (primitive_work q f) (f + 2) old new _ _ c.in_ok-served.served e refl (h.exact known);
       numbers = closed_numbers (primitive_work q f) (f + 2) old new c.in_ok-served.served e refl h.numbers;
+      blamed = h.blamed;
       kept = h.kept;
       failed = h.failed;
       counted = h.counted;

@@ -11,4 +11,4 @@ returns-in-Some-Nothing c program table =
     let after = c.nothing_taken.new.stacks.rests.items in
     let st = c.args.state.now in
     on_ok_weaker c.nothing_taken.result (λ h. handed program machine.Nothing (stack c.args.stacks.now.rests.items) (nothing_rest c.in-Some-Nothing.rest) (stack middle) st
-    c.nothing_taken.new.stacks.next (stack after) (given after) st (subst (λ r. Taken (Some r) c.args.stacks.now.rests.items middle) c.in-Some-Nothing.field-0-is c.in-Some-Nothing.ensures) h) (c.nothing_taken.ensures st program)
+    c.nothing_taken.new.stacks.next (stack after) (given after) st (λ v vs f k. let w = k.work in cc) (subst (λ r. Taken (Some r) c.args.stacks.now.rests.items middle) c.in-Some-Nothing.field-0-is c.in-Some-Nothing.ensures) h) (c.nothing_taken.ensures st program)

@@ -10,4 +10,4 @@ returns-in-Some-Truth c program table =
     let middle = c.pop.new.self.rests.items in
     let after = c.truth_taken.new.stacks.rests.items in
     on_ok_weaker c.truth_taken.result (λ h. handed program (machine.Verdict c.args.t) (stack c.args.stacks.now.rests.items) (truth_rest c.in-Some-Truth.rest) (stack middle) c.args.state.now
-    c.truth_taken.new.stacks.next (stack after) (given after) c.truth_taken.new.state (subst (λ r. Taken (Some r) c.args.stacks.now.rests.items middle) c.in-Some-Truth.field-0-is c.in-Some-Truth.ensures) h) (c.truth_taken.ensures program)
+    c.truth_taken.new.stacks.next (stack after) (given after) c.truth_taken.new.state (λ v vs f k. let w = k.work in cc) (subst (λ r. Taken (Some r) c.args.stacks.now.rests.items middle) c.in-Some-Truth.field-0-is c.in-Some-Truth.ensures) h) (c.truth_taken.ensures program)

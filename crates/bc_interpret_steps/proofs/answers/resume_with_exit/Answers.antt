@@ -10,4 +10,4 @@ returns-in-Some-Exit c program table =
     let middle = c.pop.new.self.rests.items in
     let after = c.exit_taken.new.stacks.rests.items in
     on_ok_weaker c.exit_taken.result (λ h. handed_loosely program (machine.Left (exit_of c.args.exit)) (stack c.args.stacks.now.rests.items) (exit_rest c.in-Some-Exit.rest) (stack middle) c.args.state.now
-    c.exit_taken.new.stacks.next (stack after) (given after) c.exit_taken.new.state (subst (λ r. Taken (Some r) c.args.stacks.now.rests.items middle) c.in-Some-Exit.field-0-is c.in-Some-Exit.ensures) h) (c.exit_taken.ensures program)
+    c.exit_taken.new.stacks.next (stack after) (given after) c.exit_taken.new.state (λ v vs f k. let w = k.work in cc) (subst (λ r. Taken (Some r) c.args.stacks.now.rests.items middle) c.in-Some-Exit.field-0-is c.in-Some-Exit.ensures) h) (c.exit_taken.ensures program)

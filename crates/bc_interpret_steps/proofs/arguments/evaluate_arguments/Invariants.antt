@@ -1,12 +1,12 @@
 use Rattle.std.proofs.Common.{◌≡◌, length}
-use Rattle.bc_machine_defs.specs.Streams.{Content}
+use Rattle.bc_core.specs.Outcome.{State}
+use Rattle.bc_interpret_defs.specs.Meeting.{KeepsWords}
 use Rattle.bc_interpret_steps.specs.Arrived.{Argued}
 use Rattle.bc_interpret_steps.specs.Code.{stack}
-use Rattle.bc_interpret_steps.specs.Came.{state_of}
 use Rattle.bc_interpret_steps.proofs.arguments.evaluate_arguments.Given as goal
 
 abbrev pub invariant-loop-now : goal.invariant-loop-now
-invariant-loop-now l = (streams : Content) → Argued l.fn.arguments l.fn.stacks.rests.items (stack l.fn.stacks.rests.items) (state_of l.state streams) ≡ Argued l.now l.stacks.rests.items (stack l.stacks.rests.items) (state_of l.state streams)
+invariant-loop-now l = (st : State) → KeepsWords l.state.store st → Argued l.fn.arguments l.fn.stacks.rests.items (stack l.fn.stacks.rests.items) st ≡ Argued l.now l.stacks.rests.items (stack l.stacks.rests.items) st
 
 abbrev pub decreases-loop-now : goal.decreases-loop-now
 decreases-loop-now l = length l.now.left.now

@@ -21,4 +21,4 @@ returns-in-Assign c program table =
     let before = stack c.args.stacks.now.rests.items in
     let after = c.perform.new.stacks.rests.items in
     on_ok_weaker c.perform.result (λ h. ran program work before c.args.state.now c.perform.new.stacks.next (stack after) (given after) c.perform.new.state
-    (stepped_loosely program work before c.args.state.now c.perform.new.stacks.next (stack after) (given after) c.perform.new.state tt h)) c.perform.ensures
+    (stepped_loosely program work before c.args.state.now c.perform.new.stacks.next (stack after) (given after) c.perform.new.state (λ v vs f k. let w = k.work in cc) tt h)) c.perform.ensures

@@ -12,7 +12,7 @@ loop-left-preserved c =
     record {
       kept = λ rs streams. i.kept rs streams ∙ on.1 rs streams;
       rests = on.0 ∙ i.rests;
-      stood = λ cause h. i.stood cause (on.2 cause h);
+      stood = λ rs cause h. i.stood rs cause (on.2 rs cause h);
     }
 
 pub returns-in-Over : goal.returns-in-Over

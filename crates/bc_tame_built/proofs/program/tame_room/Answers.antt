@@ -1,0 +1,10 @@
+use Rattle.bc_lex.specs.Files.{files_of}
+use Rattle.bc_core.specs.View.{section}
+use Rattle.bc_tame_check.specs.Views.{hint}
+use Rattle.bc_tame_built.proofs.Tame.{found_tame}
+use Rattle.bc_tame_built.proofs.program.tame_room.Goals as goal
+
+pub returns-then-has_room : goal.returns-then-has_room
+returns-then-has_room c =
+    found_tame (files_of c.args.sources.now) c.args.main c.args.image.now (section c.in_ok-core.core) (hint c.in_ok-rooms.rooms) c.in_ok-core.ensures c.in_ok-rooms.ensures
+    (c.has_room.ensures c.if-has_room.true)

@@ -1,0 +1,50 @@
+-- What a part's check says of the whole, where the result of the part is that of the whole.
+use Rattle.std.proofs.Common.{◌≡◌, ℕ, ◌+◌, ◌≤◌, true, List, ◌++◌, Some, length, sym, subst}
+use Rattle.std.specs.Prelude.{Result, Ok, Err, OnOk}
+use Rattle.bc_core.specs.Tree.{Exp, Call, argument, count}
+use Rattle.bc_core.specs.Commands.{Command, Variable, block, Items}
+use Rattle.bc_core.specs.View.{args}
+use Rattle.bc_core.specs.WellFormed.{has, labels_of}
+use Rattle.bc_core.specs.declared.expression.CoreExp.{CoreExp}
+use Rattle.bc_tame.specs.Tame.{Known, called, fits_call, fits_said, place_of, global_of, tame_args, tame_items, in_list, parameters_set}
+use Rattle.bc_tame_check.specs.declared.at.At.{At}
+use Rattle.bc_tame_check.specs.Views.{env_at, reads_at, exits_at, set_over, AreDeclared}
+use Rattle.bc_tame_check.specs.Passes.{ExpPasses, CommandPasses, BlockPasses, ListPasses}
+use Rattle.bc_tame_check.proofs.Calls.{call_true, said_true}
+use Rattle.bc_tame_check.proofs.Loops.{block_true, list_true}
+
+-- what holds on success, through a lemma
+pub on_ok : {A E P Q : Type 0} (r : Result A E) → (P → Q) → OnOk r P → OnOk r Q
+on_ok (Ok x) f h = f h
+on_ok (Err e) f h = tt
+
+pub as_expression : {A E : Type 0} (at : At) (r : Result A E) (e f : Exp) → e ≡ f → OnOk r (ExpPasses at f) → OnOk r (ExpPasses at e)
+as_expression at r e f is h = subst (λ x. OnOk r (ExpPasses at x)) (sym is) h
+
+pub as_command : {A E : Type 0} (at : At) (r : Result A E) (k l : Command) → k ≡ l → OnOk r (CommandPasses at l) → OnOk r (CommandPasses at k)
+as_command at r k l e h = subst (λ c. OnOk r (CommandPasses at c)) (sym e) h
+
+pub call_passes : {A E : Type 0} (at : At) (r : Result A E) (values : List CoreExp) (f : Exp) (k : Known) (level : ℕ)
+    → called (env_at at) f ≡ Some k → fits_call (Some k) (length values) at.level at.around.size ≡ true → level ≡ at.level + 2
+    → OnOk r (tame_args (env_at at) (reads_at at) (args values) level ≡ true) → OnOk r (ExpPasses at (Call (args values) f))
+call_passes at r values f k level found fits e h =
+    on_ok r (λ passes. call_true (env_at at) (reads_at at) values f at.level k found fits (subst (λ n. tame_args (env_at at) (reads_at at) (args values) n ≡ true) e passes)) h
+
+pub said_passes : {A E : Type 0} (at : At) (r : Result A E) (values : List CoreExp) (e f : Exp) (room cells level : ℕ)
+    → ((s : ℕ) → s + room ≤ at.around.size → fits_said (env_at at) (place_of e) (global_of f) (count (args values)) s ≡ true)
+    → cells ≡ at.level + room → cells ≤ at.around.size → level ≡ at.level + 3
+    → OnOk r (tame_args (env_at at) (reads_at at) (args values) level ≡ true) → OnOk r (ExpPasses at (Call (argument e (args values)) f))
+said_passes at r values e f room cells level said is fits above h =
+    on_ok r (λ passes. said_true (env_at at) (reads_at at) values e f at.level (said at.level (subst (λ n. n ≤ at.around.size) is fits))
+    (subst (λ n. tame_args (env_at at) (reads_at at) (args values) n ≡ true) above passes)) h
+
+pub block_passes_on : {A E : Type 0} (at : At) (r : Result A E) (ds : List (List Variable)) (is : Items) (reads : List ℕ) (level : ℕ) → AreDeclared at ds reads level
+    → OnOk r (tame_items (env_at at) (set_over (parameters_set at.parameters) reads) (in_list is (exits_at at)) is level ≡ true) → OnOk r (BlockPasses at (block ds is))
+block_passes_on at r ds is reads level d h =
+    on_ok r (λ listed. block_true (env_at at) (reads_at at) (set_over (parameters_set at.parameters) reads) (exits_at at) ds is at.level level d.pass d.set d.above listed) h
+
+pub list_passes_on : {A E : Type 0} (at : At) (r : Result A E) (is : Items) (labels : List ℕ) → labels ≡ labels_of is ++ at.exits.labels.now
+    → OnOk r (tame_items (env_at at) (reads_at at) (record { in_loop = at.exits.in_loop; in_cases = at.exits.in_cases; in_valof = at.exits.in_valof; may_return = at.exits.may_return; labels = has labels }) is at.level ≡ true)
+    → OnOk r (ListPasses at is)
+list_passes_on at r is labels e h =
+    on_ok r (λ listed. list_true (env_at at) (reads_at at) at.exits.in_loop at.exits.in_cases at.exits.in_valof at.exits.may_return is is labels at.exits.labels.now at.level e listed) h

@@ -1,0 +1,11 @@
+pub mod Tests
+pub mod Formats
+pub mod Offsets
+pub mod Places
+pub mod Calls
+pub mod Valofs
+pub mod Labels
+pub mod Loops
+pub mod Setters
+pub mod Forms
+pub mod Lists

@@ -1,0 +1,37 @@
+-- Tests of numbers and bytes that hold.
+use Rattle.std.proofs.Common.{◌≡◌, ℕ, ◌+◌, ◌<◌, ◌≤◌, Bool, true, false, List, ◌∷◌, Option, Some, None, length, sym, ap, ◌∙◌, subst, arith}
+use Rattle.std.specs.Prelude.{nat_lt, nat_le, ◌==◌, ◌&&◌, not}
+use Rattle.std.proofs.lemmas.Bool.Decides.{nat_tests}
+use Rattle.std.proofs.lemmas.Bool.{eq-eqb}
+use Rattle.bc_tame.specs.Tame.{fits_call}
+use Rattle.bc_tame.specs.Programs.{known, are_bytes, fits_format, library_speaks, library_fixed}
+
+pub and_true : (a b : Bool) → a ≡ true → b ≡ true → (a && b) ≡ true
+and_true a b e f = subst (λ t. (t && b) ≡ true) (sym e) f
+
+pub less_true : (a b : ℕ) → a < b → nat_lt a b ≡ true
+less_true a b h = grind (arith, nat_tests)
+
+pub most_true : (a b : ℕ) → a ≤ b → nat_le a b ≡ true
+most_true a b h = grind (arith, nat_tests)
+
+pub fits_true : (n a s r size : ℕ) → n ≡ a → s + r ≤ size → fits_call (Some (known a r)) n s size ≡ true
+fits_true n a s r size e h = and_true (n == a) (nat_le (s + r) size) (eq-eqb n a e) (most_true (s + r) size h)
+
+pub byte_more : (b : ℕ) (bs : List ℕ) → b < 256 → are_bytes bs ≡ true → are_bytes (b ∷ bs) ≡ true
+byte_more b bs h e = and_true (nat_lt b 256) (are_bytes bs) (less_true b 256 h) e
+
+pub byte_first : (bs : List ℕ) → length bs < 256 → are_bytes bs ≡ true → are_bytes (length bs ∷ bs) ≡ true
+byte_first bs h e = byte_more (length bs) bs h e
+
+pub writef_speaks : (g n : ℕ) (bytes : List ℕ) → g ≡ 25 → n ≤ 4 → are_bytes (length bytes ∷ bytes) ≡ true → fits_format false bytes n ≡ true
+    → library_speaks g bytes n ≡ Some 37
+writef_speaks g n bytes e few are fits =
+    let all = and_true (nat_le n 4) (are_bytes (length bytes ∷ bytes) && fits_format false bytes n) (most_true n 4 few)
+    (and_true (are_bytes (length bytes ∷ bytes)) (fits_format false bytes n) are fits) in
+    subst (λ k. library_speaks k bytes n ≡ Some 37) (sym e)
+    (ap (λ t. elim t as (λ z. Option ℕ) [ true ↦ Some 37 | false ↦ None ]) all)
+
+-- a global that isn't fixed can be written
+pub global_written : (n : ℕ) (b : Bool) → n < 512 → b ≡ library_fixed n → b ≡ false → (nat_lt n 512 && not (library_fixed n)) ≡ true
+global_written n b h is isnt = and_true (nat_lt n 512) (not (library_fixed n)) (less_true n 512 h) (ap not (sym is ∙ isnt))

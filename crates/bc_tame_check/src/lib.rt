@@ -1,0 +1,13 @@
+//! Decides whether a section is tame: whether no run of it with the library can meet a wild cell. A yes is proved.
+#![tactic(auto)]
+
+mod at;
+mod binding;
+mod format;
+mod lookup;
+mod not_tame;
+mod rooms;
+mod walk;
+
+pub use not_tame::{BodyOf, Cause, NotTame, Spot};
+pub use rooms::{Rooms, tame_rooms};

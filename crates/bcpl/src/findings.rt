@@ -1,0 +1,249 @@
+//! What `build` says of a document that an editor has open: errors, or warnings.
+
+use crate::diagnostics::Program;
+use crate::source_files::Gathered;
+use bc_build::{BuildError, ParseError, Parsed, ScopeFault, build_keeping};
+use bc_word::Memory;
+use bcpl_advice::{advised, further_faults, likely_meaning};
+use bcpl_cli::BuildLine;
+use bcpl_lsp::{Document, Finding, Related, line_starts, range_of, uri_of};
+use bcpl_messages::{Message, Note, message_of, shown};
+use bcpl_places::{Span, way_to};
+use bcpl_warnings::{all_warnings, unknown_names};
+use serde_json::Value;
+use std::alloc::Global;
+
+/// At most this many errors of a document are shown.
+const MOST: usize = 1000;
+
+/// The document, and the program of the library and its source.
+#[derive(Clone, Copy)]
+struct Checked<'c, 'a, 's> {
+    document: &'c Document,
+    program: Program<'a, 's>,
+    /// The index of the document among the sources.
+    main: usize,
+    /// The number of sources that belong to the library.
+    library: usize,
+}
+
+impl<'s> Checked<'_, '_, 's> {
+    /// The text of a source.
+    fn text(&self, file: usize) -> &'s [u8] {
+        match self.program.named.sources.get(file) {
+            Some(source) => source.text,
+            None => b"",
+        }
+    }
+
+    /// The path of a source.
+    fn path(&self, file: usize) -> &str {
+        match self.program.named.paths.get(file) {
+            Some(path) => path,
+            None => "",
+        }
+    }
+
+    /// The range of a stretch.
+    fn range(&self, alloc: Global, span: Span) -> Result<Value, Memory> {
+        if span.file == self.main {
+            return self.document.range(alloc, span.start, span.end);
+        }
+        let text = self.text(span.file);
+        let starts = line_starts(alloc, text)?;
+        range_of(alloc, text, starts.as_slice(), (span.start, span.end))
+    }
+
+    /// The URI of a source.
+    fn uri(&self, alloc: Global, file: usize) -> Result<String, Memory> {
+        if file == self.main {
+            Ok(String::from_str(alloc, self.document.uri.as_str())?)
+        } else {
+            uri_of(alloc, self.path(file))
+        }
+    }
+
+    /// A related place.
+    fn related(&self, alloc: Global, span: Span, sentence: &str) -> Result<Related, Memory> {
+        Ok(Related {
+            uri: self.uri(alloc, span.file)?,
+            range: self.range(alloc, span)?,
+            sentence: String::from_str(alloc, sentence)?,
+        })
+    }
+
+    /// Adds the related places that are in files.
+    fn add_notes(
+        &self,
+        alloc: Global,
+        notes: &[Note],
+        related: &mut Vec<Related>,
+    ) -> Result<(), Memory> {
+        for note in notes {
+            if note.span.file >= self.library {
+                related.push(self.related(alloc, note.span, note.sentence.as_str())?)?;
+            }
+        }
+        Ok(())
+    }
+
+    /// The stretch of the document where a place is shown: that place, or the GET that leads to its file.
+    fn place_here(&self, alloc: Global, span: Option<Span>) -> Result<(usize, usize), Memory> {
+        let Some(span) = span else {
+            return Ok((0, 0));
+        };
+        if span.file == self.main {
+            return Ok((span.start, span.end));
+        }
+        let way = way_to(alloc, self.program.named.sources, self.main, span.file)?;
+        Ok(match way.last() {
+            Some(get) => (get.start, get.end),
+            None => (0, 0),
+        })
+    }
+
+    /// The finding of a message. `code` is empty for a warning.
+    fn finding(&self, alloc: Global, code: &str, message: &Message) -> Result<Finding, Memory> {
+        let (start, end) = self.place_here(alloc, message.span)?;
+        let mut related = Vec::new(alloc);
+        if let Some(span) = message.span
+            && span.file != self.main
+            && span.file >= self.library
+        {
+            related.push(self.related(alloc, span, "it is here")?)?;
+        }
+        self.add_notes(alloc, message.notes.as_slice(), &mut related)?;
+        let sentence = message.sentence.as_str();
+        Ok(Finding {
+            start,
+            end,
+            is_error: !code.is_empty(),
+            code: String::from_str(alloc, code)?,
+            sentence: String::from_str(
+                alloc,
+                sentence.strip_prefix("warning: ").unwrap_or(sentence),
+            )?,
+            help: match &message.help {
+                Some(help) => String::from_str(alloc, help.as_str())?,
+                None => String::new(alloc),
+            },
+            related,
+        })
+    }
+
+    /// The finding on a further name that isn't declared.
+    fn unknown(&self, alloc: Global, code: &str, span: Span) -> Result<Finding, Memory> {
+        let sources = self.program.named.sources;
+        let text = self
+            .text(span.file)
+            .get(span.start..span.end)
+            .unwrap_or(b"");
+        let name = shown(alloc, text)?;
+        let meaning = likely_meaning(alloc, sources, self.main, text)?;
+        let meaning = meaning.as_str();
+        let (start, end) = self.place_here(alloc, Some(span))?;
+        let name = name.as_str();
+        Ok(Finding {
+            start,
+            end,
+            is_error: true,
+            code: format!(in alloc; "{code} {name}")?,
+            sentence: format!(in alloc; "{name} isn't declared{meaning}")?,
+            help: String::new(alloc),
+            related: Vec::new(alloc),
+        })
+    }
+
+    /// Adds the names that aren't declared, other than the first.
+    fn add_unknown(
+        &self,
+        alloc: Global,
+        code: &str,
+        findings: &mut Vec<Finding>,
+    ) -> Result<(), Memory> {
+        let names = unknown_names(alloc, self.program.named.sources, self.main)?;
+        let code = match code.rsplit_once(' ') {
+            Some((code, _)) => code,
+            None => code,
+        };
+        for span in names.iter().skip(1).take(MOST) {
+            findings.push(self.unknown(alloc, code, *span)?)?;
+        }
+        Ok(())
+    }
+
+    /// Adds the further faults of a source that the parser refused.
+    fn add_further(
+        &self,
+        alloc: Global,
+        at: usize,
+        findings: &mut Vec<Finding>,
+    ) -> Result<(), Memory> {
+        let sources = self.program.named.sources;
+        for fault in &further_faults(alloc, sources, self.main, at, MOST)? {
+            let line = BuildLine(&fault.error);
+            let code = format!(in alloc; "{line}")?;
+            findings.push(self.finding(alloc, code.as_str(), &fault.message)?)?;
+        }
+        Ok(())
+    }
+
+    /// The errors of a source that was refused.
+    fn errors(&self, alloc: Global, fault: &BuildError) -> Result<Vec<Finding>, Memory> {
+        let sources = self.program.named.sources;
+        let line = BuildLine(fault);
+        let code = format!(in alloc; "{line}")?;
+        let mut findings = Vec::new(alloc);
+        let Some(message) = message_of(alloc, sources, self.program.mains, fault)? else {
+            return Ok(findings);
+        };
+        let message = advised(alloc, sources, fault, message)?;
+        findings.push(self.finding(alloc, code.as_str(), &message)?)?;
+        match fault {
+            BuildError::Parse(main, ParseError::Expected(at)) if *main == self.main =>
+                self.add_further(alloc, *at, &mut findings)?,
+            BuildError::Scope(main, ScopeFault::Undeclared(_)) if *main == self.main =>
+                self.add_unknown(alloc, code.as_str(), &mut findings)?,
+            _ => {}
+        }
+        Ok(findings)
+    }
+
+    /// The warnings about a source that was accepted, one for each place. `parsed` is what the mains were parsed to.
+    fn warnings(&self, alloc: Global, parsed: &[Parsed<'s>]) -> Result<Vec<Finding>, Memory> {
+        let program = &self.program;
+        let sources = program.named.sources;
+        let mut findings = Vec::new(alloc);
+        let mut last: Option<(usize, usize)> = None;
+        for message in &all_warnings(alloc, sources, self.library, program.mains, parsed)? {
+            let finding = self.finding(alloc, "", message)?;
+            let place = (finding.start, finding.end);
+            if last != Some(place) && findings.len() < MOST {
+                findings.push(finding)?;
+            }
+            last = Some(place);
+        }
+        Ok(findings)
+    }
+}
+
+/// What is wrong with a document, whose source is the last file of this program. Returns `Memory` if an allocation fails.
+pub fn findings_of(
+    alloc: Global,
+    document: &Document,
+    gathered: &Gathered<'_, '_>,
+) -> Result<Vec<Finding>, Memory> {
+    let program = gathered.program();
+    let checked = Checked {
+        document,
+        program,
+        main: gathered.last,
+        library: gathered.library,
+    };
+    let mut parsed = Vec::new(alloc);
+    match build_keeping(alloc, program.named.sources, program.mains, &mut parsed) {
+        Ok(_) => checked.warnings(alloc, parsed.as_slice()),
+        Err(BuildError::Memory) => Err(Memory),
+        Err(fault) => checked.errors(alloc, &fault),
+    }
+}

@@ -1,0 +1,339 @@
+//! The command `format`.
+
+use crate::compiling::refused;
+use crate::diagnostics::Program;
+use crate::growing_list::Growing;
+use bc_build::BuildError;
+use bc_lex::{LexError, Source};
+use bc_library_ext::EXTHDR;
+use bc_run::LIBHDR;
+use bc_word::Memory;
+use bcpl_cli::{AtomicFile, Cause, Failure, FormatOrder, FormatTo, Places, contents};
+use bcpl_format::{FormatError, Style, formatted};
+use bcpl_messages::Named;
+use std::alloc::Global;
+use std::io::Write;
+use std::rt::Files;
+use std::{fs, str};
+
+/// The greatest number of further sources that GETs of a source may name.
+const MOST_HEADERS: usize = 200;
+
+/// The index of the source among those that `sources_for` returns, as in a build.
+const MAIN: usize = 2;
+
+/// What is said of a source whose layout would have other tokens.
+const CHANGED: &str =
+    "the layout would change what this source says, which is a mistake of bcpl; nothing was written";
+
+/// A source that GETs name.
+#[derive(Drop)]
+struct Header {
+    name: Vec<u8>,
+    text: Vec<u8>,
+}
+
+/// A source that is to be laid out, and those that its GETs may name.
+#[derive(Clone, Copy)]
+struct Given<'g> {
+    path: &'g str,
+    text: &'g [u8],
+    headers: &'g [Header],
+}
+
+/// A source and its layout.
+#[derive(Drop)]
+struct Job<'a> {
+    path: &'a str,
+    old: Vec<u8>,
+    new: Vec<u8>,
+}
+
+/// What came of an attempt to lay out a source.
+#[derive(Drop)]
+enum Attempt {
+    /// Its layout.
+    Done(Vec<u8>),
+    /// The GET at this offset of this source names none of the sources.
+    Missing(usize, usize),
+    /// There is no layout.
+    Failed(FormatError),
+}
+
+/// The folder of a file, with the slash at its end, or an empty text.
+fn folder_of(path: &str) -> &str {
+    let name = path.rsplit('/').next().unwrap_or(path);
+    path.get(..path.len().saturating_sub(name.len()))
+        .unwrap_or("")
+}
+
+/// The text of the plain file with this name in the folder of another one; empty if there is none.
+fn text_beside<F: Files>(
+    rt: &F,
+    alloc: Global,
+    path: &str,
+    name: &[u8],
+) -> Result<Vec<u8>, Memory> {
+    let nothing = Vec::new(alloc);
+    let Ok(name) = str::from_utf8(name) else {
+        return Ok(nothing);
+    };
+    if name.is_empty() || name.contains('/') {
+        return Ok(nothing);
+    }
+    let folder = folder_of(path);
+    let beside = format!(in alloc; "{folder}{name}")?;
+    match fs::metadata(rt, beside.as_str()) {
+        Ok(found) if found.is_file() => {}
+        _ => return Ok(nothing),
+    }
+    match contents(rt, alloc, beside.as_str()) {
+        Ok(text) => Ok(text),
+        Err(_) => Ok(nothing),
+    }
+}
+
+/// The name in quotes that the GET at an offset of a text has; `None` if it has none that is kept as it is spelled.
+fn got_name(text: &[u8], offset: usize) -> Option<&[u8]> {
+    let mut parts = text.get(offset..)?.split(|byte| *byte == b'"');
+    let before = parts.next()?;
+    let name = parts.next()?;
+    let is_string_next = before.iter().skip(3).all(|byte| byte.is_ascii_whitespace());
+    if is_string_next && !name.contains(&b'*') && !name.contains(&b'\n') {
+        Some(name)
+    } else {
+        None
+    }
+}
+
+/// The source, and those that its GETs may name.
+fn sources_for<'g>(alloc: Global, given: &Given<'g>) -> Result<Vec<Source<'g>>, Memory> {
+    let mut sources = Growing::new(alloc);
+    sources.add(Source {
+        name: b"LIBHDR",
+        text: LIBHDR.as_bytes(),
+    });
+    sources.add(Source {
+        name: b"EXTHDR",
+        text: EXTHDR.as_bytes(),
+    });
+    sources.add(Source {
+        name: given.path.as_bytes(),
+        text: given.text,
+    });
+    for header in given.headers {
+        sources.add(Source {
+            name: header.name.as_slice(),
+            text: header.text.as_slice(),
+        });
+    }
+    sources.whole()
+}
+
+/// Lays out a source in lines of this width.
+fn attempt_at(alloc: Global, given: &Given<'_>, width: usize) -> Result<Attempt, Memory> {
+    let sources = sources_for(alloc, given)?;
+    if sources.len() <= MAIN {
+        return Ok(Attempt::Failed(FormatError::Memory));
+    }
+    match formatted(alloc, sources.as_slice(), MAIN, Style { width }) {
+        Ok(laid) => Ok(Attempt::Done(laid)),
+        Err(FormatError::Lex(LexError::GetMissing(file, offset))) => {
+            Ok(Attempt::Missing(file, offset))
+        }
+        Err(error) => Ok(Attempt::Failed(error)),
+    }
+}
+
+/// The failure of a source that has no layout.
+fn failure_of(
+    alloc: Global,
+    order: &FormatOrder<'_>,
+    given: &Given<'_>,
+    error: FormatError,
+    explains: bool,
+) -> Result<Failure, Memory> {
+    match error {
+        FormatError::Lex(fault) => {
+            let sources = sources_for(alloc, given)?;
+            let mut paths = Growing::new(alloc);
+            for source in &sources {
+                paths.add(str::from_utf8(source.name).unwrap_or(given.path));
+            }
+            let paths = paths.whole()?;
+            let program = Program {
+                named: Named {
+                    sources: sources.as_slice(),
+                    paths: paths.as_slice(),
+                },
+                mains: &[],
+                is_json: matches!(order.places, Places::Json),
+                explains_all: false,
+            };
+            Ok(refused(alloc, &program, BuildError::Lex(MAIN, fault), explains))
+        }
+        FormatError::Changed => Ok(Failure::file_since(alloc, given.path, CHANGED)),
+        FormatError::Memory => Ok(Failure::new(Cause::Memory)),
+    }
+}
+
+/// The text of the source with this index.
+fn text_at<'s>(text: &'s [u8], headers: &'s [Header], file: usize) -> &'s [u8] {
+    match file.checked_sub(MAIN.saturating_add(1)) {
+        None => text,
+        Some(number) => match headers.get(number) {
+            Some(header) => header.text.as_slice(),
+            None => text,
+        },
+    }
+}
+
+/// The layout of a text. Sources that it gets are looked for in its folder; one that isn't there counts as empty.
+fn layout_of<F: Files>(
+    rt: &F,
+    alloc: Global,
+    order: &FormatOrder<'_>,
+    source: (&str, &[u8]),
+    explains: bool,
+) -> Result<Vec<u8>, Failure> {
+    let (path, text) = source;
+    let mut headers: Vec<Header> = Vec::new(alloc);
+    for _ in 0..MOST_HEADERS {
+        let given = Given {
+            path,
+            text,
+            headers: headers.as_slice(),
+        };
+        let error = match attempt_at(alloc, &given, order.width)? {
+            Attempt::Done(laid) => return Ok(laid),
+            Attempt::Failed(error) => error,
+            Attempt::Missing(file, offset) => {
+                let name = got_name(text_at(text, headers.as_slice(), file), offset);
+                if let Some(name) = name {
+                    let header = Header {
+                        name: Vec::from_slice(alloc, name)?,
+                        text: text_beside(rt, alloc, path, name)?,
+                    };
+                    headers.push(header)?;
+                    continue;
+                }
+                FormatError::Lex(LexError::GetMissing(file, offset))
+            }
+        };
+        return Err(failure_of(alloc, order, &given, error, explains)?);
+    }
+    Err(Failure::file_since(alloc, path, "this source gets more than 200 others"))
+}
+
+/// Reads the sources and lays them out.
+fn jobs_of<'a, F: Files>(
+    rt: &F,
+    alloc: Global,
+    order: &FormatOrder<'a>,
+    explains: bool,
+) -> Result<Vec<Job<'a>>, Failure> {
+    let mut jobs = Vec::new(alloc);
+    for path in &order.files {
+        let old = contents(rt, alloc, path)?;
+        let new = layout_of(rt, alloc, order, (path, old.as_slice()), explains)?;
+        jobs.push(Job { path, old, new })?;
+    }
+    Ok(jobs)
+}
+
+/// Writes to standard output.
+fn print<O: Write + Drop>(alloc: Global, bytes: &[u8], out: &mut O) -> Result<(), Failure> {
+    if out.write_all(bytes).is_ok() && out.flush().is_ok() {
+        Ok(())
+    } else {
+        Err(Failure::file(alloc, "SYSPRINT"))
+    }
+}
+
+/// Overwrites a source with its layout, unless that is the same.
+fn write_source<F: Files>(
+    rt: &F,
+    alloc: Global,
+    order: &FormatOrder<'_>,
+    job: &Job<'_>,
+) -> Result<(), Failure> {
+    if job.old.as_slice() == job.new.as_slice() {
+        return Ok(());
+    }
+    let mut written = AtomicFile::begin(rt, alloc, job.path, order.links)?;
+    match written.out().write_all(job.new.as_slice()) {
+        Ok(()) => written.finish(rt, alloc, job.path),
+        Err(error) => {
+            written.abandon(rt);
+            Err(Failure::io(alloc, &error, job.path))
+        }
+    }
+}
+
+/// Refuses to lay out in place what is no plain file.
+fn refuse_device<F: Files>(rt: &F, alloc: Global, path: &str) -> Result<(), Failure> {
+    match fs::metadata(rt, path) {
+        Ok(found) if !found.is_file() => {
+            let reason = "this isn't a plain file and can't be laid out in place";
+            Err(Failure::file_since(alloc, path, reason))
+        }
+        _ => Ok(()),
+    }
+}
+
+/// Prints the paths of the sources that aren't laid out. Fails if there are any.
+fn check_jobs<O: Write + Drop>(
+    alloc: Global,
+    jobs: &[Job<'_>],
+    out: &mut O,
+) -> Result<(), Failure> {
+    let mut count: usize = 0;
+    for job in jobs {
+        if job.old.as_slice() != job.new.as_slice() {
+            let path = job.path;
+            let line = format!(in alloc; "{path}\n")?;
+            print(alloc, line.as_bytes(), out)?;
+            count = count.saturating_add(1);
+        }
+    }
+    if count == 0 {
+        Ok(())
+    } else {
+        Err(Failure::new(Cause::NotLaidOut(count)))
+    }
+}
+
+/// Lays out sources. All are read and laid out before the first one is written.
+///
+/// # Errors
+///
+/// The failure of a file that can't be read or written, or of a source without tokens; `NotLaidOut` if a source that is
+/// checked isn't laid out; `Memory` if an allocation failed.
+pub fn format_files<F: Files, O: Write + Drop>(
+    rt: &F,
+    alloc: Global,
+    order: &FormatOrder<'_>,
+    explains: bool,
+    out: &mut O,
+) -> Result<(), Failure> {
+    if order.to == FormatTo::Source {
+        for path in &order.files {
+            refuse_device(rt, alloc, path)?;
+        }
+    }
+    let jobs = jobs_of(rt, alloc, order, explains)?;
+    match order.to {
+        FormatTo::Check => return check_jobs(alloc, jobs.as_slice(), out),
+        FormatTo::Standard => {
+            for job in &jobs {
+                print(alloc, job.new.as_slice(), out)?;
+            }
+        }
+        FormatTo::Source => {
+            for job in &jobs {
+                write_source(rt, alloc, order, job)?;
+            }
+        }
+    }
+    Ok(())
+}

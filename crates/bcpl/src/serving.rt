@@ -1,0 +1,152 @@
+//! The command `lsp`: a language server on standard input and output.
+
+use crate::findings::findings_of;
+use crate::served_files::{headers_of, library_for, sources_of};
+use crate::source_files::Gathered;
+use bc_library_ext::EXTHDR;
+use bc_run::LIBHDR;
+use bc_word::Memory;
+use bcpl_cli::{Cause, Failure, LinkedLibrary, LoadedSource, ServeOrder, Sources};
+use bcpl_lsp::{Answer, Document, Finding, Job, Received, Server, read_message, write_message};
+use std::alloc::Global;
+use std::io::{BufReader, BufWriter, Read, Write};
+use std::rt::Files;
+
+/// The headers of the library.
+const HEADERS: [(&str, &str); 2] = [("LIBHDR", LIBHDR), ("EXTHDR", EXTHDR)];
+
+/// How a session ended.
+#[derive(Clone, Copy, PartialEq, Eq)]
+pub enum Served {
+    /// By `shutdown` and `exit`.
+    Properly,
+    /// In another way: by `exit` alone, or the streams ended.
+    CutOff,
+}
+
+/// What is wrong with a document that has these sources.
+fn checked(
+    alloc: Global,
+    document: &Document,
+    sources: &[LoadedSource],
+) -> Result<Vec<Finding>, Memory> {
+    let mut files = Vec::new(alloc);
+    files.push(document.path())?;
+    let given = Sources {
+        library: library_for(alloc, sources)?,
+        is_json: false,
+        explains_all: true,
+        linked: LinkedLibrary::Whole,
+        gets: Vec::new(alloc),
+        includes: Vec::new(alloc),
+        files,
+    };
+    let gathered = Gathered::new(alloc, &given, sources)?;
+    findings_of(alloc, document, &gathered)
+}
+
+/// Checks the document with this index. Returns the message to the client.
+fn check<F: Files>(
+    rt: &F,
+    alloc: Global,
+    order: &ServeOrder<'_>,
+    server: &mut Server,
+    index: usize,
+) -> Result<String, Memory> {
+    let (findings, headers) = match server.document(index) {
+        Some(document) => {
+            let sources = sources_of(rt, alloc, server, document, order.includes.as_slice())?;
+            let findings = checked(alloc, document, sources.as_slice())?;
+            (findings, headers_of(alloc, &HEADERS, sources.as_slice())?)
+        }
+        None => return Ok(String::new(alloc)),
+    };
+    server.set_headers(index, headers)?;
+    server.publish(index, findings)
+}
+
+/// The indexes of the documents that a job checks.
+fn checked_by(job: Job, server: &Server) -> (usize, usize) {
+    match job {
+        Job::Check(index) => (index, index.saturating_add(1)),
+        Job::CheckAll => (0, server.len()),
+        Job::Nothing | Job::Exit(_) => (0, 0),
+    }
+}
+
+/// Writes a message. Returns whether it could be written.
+fn is_sent<W: Write>(text: &str, out: &mut W) -> bool {
+    text.is_empty() || write_message(text, out).is_ok()
+}
+
+/// Sends these messages. Returns whether they could be written.
+fn are_sent<W: Write>(texts: &[String], out: &mut W) -> bool {
+    for text in texts {
+        if !is_sent(text.as_str(), out) {
+            return false;
+        }
+    }
+    true
+}
+
+/// Checks the documents that a job checks. Returns the messages to the client.
+fn check_all<F: Files>(
+    rt: &F,
+    alloc: Global,
+    order: &ServeOrder<'_>,
+    server: &mut Server,
+    job: Job,
+) -> Result<Vec<String>, Memory> {
+    let mut texts = Vec::new(alloc);
+    let (first, end) = checked_by(job, server);
+    for index in first..end {
+        texts.push(check(rt, alloc, order, server, index)?)?;
+    }
+    Ok(texts)
+}
+
+/// How the session ends by a job, if it does.
+fn ended_by(job: Job) -> Option<Served> {
+    match job {
+        Job::Exit(true) => Some(Served::Properly),
+        Job::Exit(false) => Some(Served::CutOff),
+        Job::Nothing | Job::Check(_) | Job::CheckAll => None,
+    }
+}
+
+/// Runs `lsp`: reads messages and answers each, to the end of the session. Fails if memory runs out.
+pub fn serve<F: Files, R: Read + Drop, O: Write + Drop>(
+    rt: &F,
+    alloc: Global,
+    order: &ServeOrder<'_>,
+    input: R,
+    out: O,
+) -> Result<Served, Failure> {
+    let Ok(mut input) = BufReader::new(alloc, input) else {
+        return Err(Failure::new(Cause::Memory));
+    };
+    let Ok(mut out) = BufWriter::new(alloc, out) else {
+        return Err(Failure::new(Cause::Memory));
+    };
+    let mut server = Server::new(alloc);
+    for _each in 0..u64::MAX {
+        let Answer { text, job } = match read_message(alloc, &mut input)? {
+            Received::Text(text) => server.take(text.as_slice())?,
+            Received::BadHeader => server.take_bad_header()?,
+            Received::End => return Ok(Served::CutOff),
+        };
+        if let Some(text) = text
+            && !is_sent(text.as_str(), &mut out)
+        {
+            return Ok(Served::CutOff);
+        }
+        if let Some(ended) = ended_by(job) {
+            return Ok(ended);
+        }
+        let texts = check_all(rt, alloc, order, &mut server, job)?;
+        if !are_sent(texts.as_slice(), &mut out) {
+            return Ok(Served::CutOff);
+        }
+    }
+    Ok(Served::CutOff)
+}

@@ -1,0 +1,111 @@
+//! The command `tame`.
+
+ghost use Rattle.std.specs.Prelude.{◌<◌, length, IfSome};
+
+use crate::compiling::refused;
+use crate::diagnostics::{Program, error_lines};
+use crate::output::of_output;
+use crate::source_files::Gathered;
+use bc_build::{Built, build};
+use bc_tame_built::{NotTame, Spot, tame_room};
+use bc_word::Memory;
+use bcpl_cli::{Cause, Failure, TameOrder, load_sources};
+use bcpl_tame::{Reason, number_of, tame_message};
+use std::alloc::Global;
+use std::io;
+use std::io::Write;
+use std::rt::Files;
+
+/// The explanation of why a main is not known to be tame.
+fn lines_of(
+    alloc: Global,
+    program: &Program<'_, '_>,
+    reason: (Reason, Option<Spot>),
+    main: usize,
+    failure: &Failure,
+) -> Result<String, Memory> {
+    let message = tame_message(alloc, program.named.sources, main, reason.0, reason.1)?;
+    let code = format!(in alloc; "{failure}")?;
+    error_lines(alloc, program, code.as_str(), message)
+}
+
+/// The failure of a program that is not known to be tame.
+fn not_tame(
+    alloc: Global,
+    program: &Program<'_, '_>,
+    reason: (Reason, Option<Spot>),
+    main: usize,
+) -> Failure {
+    let (number, name) = number_of(reason.0);
+    let failure = Failure::new(Cause::Tame(number, name));
+    match lines_of(alloc, program, reason, main, &failure) {
+        Ok(lines) => failure.with(lines),
+        Err(_) => Failure::new(Cause::Memory),
+    }
+}
+
+/// The one main beside BLIB, if there is only one.
+fn own_main(program: &Program<'_, '_>, library: usize) -> Option<usize>
+    ensures { IfSome result (λ main. main < length program.now.named.sources.now) }
+{
+    match program.mains {
+        [_, main] if library == 2 && *main < program.named.sources.len() => Some(*main),
+        _ => None,
+    }
+}
+
+/// The number of cells that runs of a built program need above the stack's base, if it is tame. Its library must not be
+/// cut.
+///
+/// # Errors
+///
+/// `Cause::Tame`, explained, if the program is not known to be tame; `Cause::Memory` if an allocation fails.
+pub fn room_of_built(
+    alloc: Global,
+    gathered: &Gathered<'_, '_>,
+    built: &Built,
+) -> Result<usize, Failure> {
+    let program = gathered.program();
+    let main = match own_main(&program, gathered.library) {
+        Some(main) => main,
+        None => return Err(not_tame(alloc, &program, (Reason::Sections, None), gathered.last)),
+    };
+    match tame_room(alloc, program.named.sources, main, &built.image) {
+        Ok(room) => Ok(room),
+        Err(NotTame::Unknown(cause, spot)) => {
+            let reason = (Reason::Section(cause), Some(spot));
+            Err(not_tame(alloc, &program, reason, main))
+        }
+        Err(NotTame::Unchecked(_, _) | NotTame::Memory) => Err(Failure::new(Cause::Memory)),
+    }
+}
+
+/// Builds a program, and returns the number of cells that its runs need above the stack's base, if it is tame.
+fn room_of(alloc: Global, gathered: &Gathered<'_, '_>, explains: bool) -> Result<usize, Failure> {
+    let program = gathered.program();
+    match build(alloc, program.named.sources, program.mains) {
+        Ok(built) => room_of_built(alloc, gathered, &built),
+        Err(fault) => Err(refused(alloc, &program, fault, explains)),
+    }
+}
+
+/// Prints the result of `tame`.
+fn print_result<O: Write + Drop>(room: usize, out: &mut O) -> io::Result<()> {
+    writeln!(out, "ok tame {room}")?;
+    out.flush()
+}
+
+/// Runs `tame`: decides whether a program can't meet a wild cell, and prints how many cells its runs need above the
+/// stack's base. If `explains`, explains refused sources.
+pub fn tame<F: Files, O: Write + Drop>(
+    rt: &F,
+    alloc: Global,
+    order: &TameOrder<'_>,
+    explains: bool,
+    out: &mut O,
+) -> Result<(), Failure> {
+    let files = load_sources(rt, alloc, &order.sources)?;
+    let gathered = Gathered::new(alloc, &order.sources, files.as_slice())?;
+    let room = room_of(alloc, &gathered, explains)?;
+    of_output(alloc, print_result(room, out))
+}

@@ -1,0 +1,203 @@
+//! The further faults of a main that the lexer refused. A number that is too large, an unknown escape, or a character
+//! constant of several characters is replaced by one that is right and as long, so that all other places stay as they
+//! are. Then the rest is read again. Where it isn't plain what was meant, the search ends.
+
+use crate::advice::advised;
+use crate::further::{FurtherFault, further_faults, with_text};
+use bc_build::{BuildError, LexError};
+use bc_lex::{Source, lex};
+use bc_parse::{ParseError, parse};
+use bc_word::Memory;
+use bcpl_messages::message_of;
+use std::alloc::Global;
+
+/// What is found when a mended text is read.
+#[derive(Drop)]
+enum Next {
+    /// Another fault of the lexer, with what is said about it.
+    Lexical(LexError, FurtherFault),
+    /// The faults of the parser.
+    Rest(Vec<FurtherFault>),
+}
+
+/// Writes a byte. Returns whether the text has this offset.
+fn set(text: &mut [u8], at: usize, byte: u8) -> bool {
+    match text.get_mut(at) {
+        Some(place) => {
+            *place = byte;
+            true
+        }
+        None => false,
+    }
+}
+
+/// Whether there is a letter or a digit at an offset.
+fn is_alphanumeric(text: &[u8], at: usize) -> bool {
+    match text.get(at) {
+        Some(byte) => byte.is_ascii_alphanumeric(),
+        None => false,
+    }
+}
+
+/// Replaces the number at an offset by 0 and blanks. Returns whether there is one.
+fn mend_number(text: &mut [u8], at: usize) -> bool {
+    let is_there = set(text, at, b'0');
+    for index in at.saturating_add(1)..text.len() {
+        if !is_alphanumeric(text, index) {
+            break;
+        }
+        set(text, index, b' ');
+    }
+    is_there
+}
+
+/// The offset of the quote that closes the character constant at an offset, if it is on the same line.
+fn closing_quote(text: &[u8], at: usize) -> Option<usize> {
+    for index in at.saturating_add(1)..text.len() {
+        match text.get(index).copied() {
+            Some(b'\'') => return Some(index),
+            Some(b'\n') | None => return None,
+            _ => {}
+        }
+    }
+    None
+}
+
+/// Replaces the character constant at an offset by one of a single character, or by 0 if it has none. Returns whether
+/// one is there.
+fn mend_character(text: &mut [u8], at: usize) -> bool {
+    if text.get(at).copied() != Some(b'\'') {
+        return false;
+    }
+    let Some(end) = closing_quote(text, at) else {
+        return false;
+    };
+    let first = at.saturating_add(1);
+    let second = at.saturating_add(2);
+    if end < second {
+        set(text, at, b'0');
+        return set(text, first, b' ');
+    }
+    for index in second..end.saturating_add(1) {
+        set(text, index, b' ');
+    }
+    set(text, first, b'A') && set(text, second, b'\'')
+}
+
+/// Replaces the escape at an offset by that of a line break. Returns whether one is there.
+fn mend_escape(text: &mut [u8], at: usize) -> bool {
+    let letter = at.saturating_add(1);
+    match text.get(letter).copied() {
+        Some(byte) if byte.is_ascii_graphic() => set(text, letter, b'N'),
+        _ => false,
+    }
+}
+
+/// Mends the fault of a main with this text. Returns whether it is plain how.
+fn mend(text: &mut [u8], main: usize, fault: LexError) -> bool {
+    match fault {
+        LexError::NumberTooLarge(file, at) if file == main => mend_number(text, at),
+        LexError::BadEscape(file, at) if file == main => mend_escape(text, at),
+        LexError::Unterminated(file, at) if file == main => mend_character(text, at),
+        _ => false,
+    }
+}
+
+/// A fault with what is said about it, if anything is.
+fn explained(
+    alloc: Global,
+    sources: &[Source<'_>],
+    main: usize,
+    error: BuildError,
+) -> Result<Option<FurtherFault>, Memory> {
+    let Some(message) = message_of(alloc, sources, &[main], &error)? else {
+        return Ok(None);
+    };
+    let message = advised(alloc, sources, &error, message)?;
+    Ok(Some(FurtherFault { error, message }))
+}
+
+/// The faults of the parser in a main of these sources, `most` and one at most.
+fn faults_of_parser(
+    alloc: Global,
+    sources: &[Source<'_>],
+    main: usize,
+    most: usize,
+) -> Result<Vec<FurtherFault>, Memory> {
+    let mut all = Vec::new(alloc);
+    if main >= sources.len() {
+        return Ok(all);
+    }
+    let Ok(tokens) = lex(alloc, sources, main) else {
+        return Ok(all);
+    };
+    let Err(ParseError::Expected(at)) = parse(alloc, tokens.as_slice()) else {
+        return Ok(all);
+    };
+    let error = BuildError::Parse(main, ParseError::Expected(at));
+    if let Some(fault) = explained(alloc, sources, main, error)? {
+        all.push(fault)?;
+    }
+    for fault in further_faults(alloc, sources, main, at, most)? {
+        all.push(fault)?;
+    }
+    Ok(all)
+}
+
+/// What is found when a main with this text is read.
+fn next_in(
+    alloc: Global,
+    sources: &[Source<'_>],
+    main: usize,
+    text: &[u8],
+    most: usize,
+) -> Result<Next, Memory> {
+    let changed = with_text(alloc, sources, main, text)?;
+    let sources = changed.as_slice();
+    if main >= sources.len() {
+        return Ok(Next::Rest(Vec::new(alloc)));
+    }
+    let Err(fault) = lex(alloc, sources, main) else {
+        return Ok(Next::Rest(faults_of_parser(alloc, sources, main, most)?));
+    };
+    let error = BuildError::Lex(main, fault);
+    Ok(match explained(alloc, sources, main, error)? {
+        Some(further) => Next::Lexical(fault, further),
+        None => Next::Rest(Vec::new(alloc)),
+    })
+}
+
+/// The further faults of a main that the lexer refused with this fault, `most` and one at most. Returns `Memory` if an
+/// allocation fails.
+pub fn faults_after_lexical(
+    alloc: Global,
+    sources: &[Source<'_>],
+    main: usize,
+    fault: LexError,
+    most: usize,
+) -> Result<Vec<FurtherFault>, Memory> {
+    let mut all = Vec::new(alloc);
+    let Some(source) = sources.get(main) else {
+        return Ok(all);
+    };
+    let mut text = Vec::from_slice(alloc, source.text)?;
+    let mut fault = fault;
+    for count in 0..most {
+        if !mend(text.as_mut_slice(), main, fault) {
+            break;
+        }
+        match next_in(alloc, sources, main, text.as_slice(), most - count)? {
+            Next::Lexical(next, further) => {
+                all.push(further)?;
+                fault = next;
+            }
+            Next::Rest(rest) => {
+                for further in rest {
+                    all.push(further)?;
+                }
+                break;
+            }
+        }
+    }
+    Ok(all)
+}

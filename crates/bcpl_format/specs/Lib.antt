@@ -1,0 +1,3 @@
+-- What a layout keeps.
+pub mod Kept
+pub mod Laws

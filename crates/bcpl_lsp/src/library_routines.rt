@@ -1,0 +1,387 @@
+//! What the routines of LIBHDR and EXTHDR take, do and give, in a sentence each.
+
+/// A routine of the library.
+#[derive(Clone, Copy)]
+pub struct LibraryRoutine {
+    /// The number of its global.
+    pub number: u16,
+    /// Its name.
+    pub name: &'static str,
+    /// The names of its parameters, with commas.
+    pub parameters: &'static str,
+    /// What it does.
+    pub does: &'static str,
+    /// What its value is; empty if the value has no use.
+    pub gives: &'static str,
+}
+
+/// The routines, in the order of their globals. The same name has two of them where EXTHDR replaces one of LIBHDR.
+static ROUTINES: [LibraryRoutine; 51] = [
+    LibraryRoutine {
+        number: 11,
+        name: "SELECTINPUT",
+        parameters: "N",
+        does: "selects input N for RDCH. A number that no input has selects nothing",
+        gives: "",
+    },
+    LibraryRoutine {
+        number: 12,
+        name: "SELECTOUTPUT",
+        parameters: "N",
+        does: "selects output N for WRCH. With nothing selected what is written is dropped",
+        gives: "",
+    },
+    LibraryRoutine {
+        number: 13,
+        name: "RDCH",
+        parameters: "",
+        does: "takes the next byte of the selected input",
+        gives: "the byte, 0 to 255, or ENDSTREAMCH: at the end, after ENDREAD, and with nothing selected",
+    },
+    LibraryRoutine {
+        number: 14,
+        name: "WRCH",
+        parameters: "C",
+        does: "writes the character whose code is the low byte of C",
+        gives: "",
+    },
+    LibraryRoutine {
+        number: 15,
+        name: "FINDINPUT",
+        parameters: "S",
+        does: "looks for the input whose name is the string S, case-sensitive",
+        gives: "its number, or 0",
+    },
+    LibraryRoutine {
+        number: 16,
+        name: "FINDOUTPUT",
+        parameters: "S",
+        does: "looks for the output whose name is the string S, case-sensitive",
+        gives: "its number, or 0",
+    },
+    LibraryRoutine {
+        number: 17,
+        name: "ENDREAD",
+        parameters: "",
+        does: "ends the selected input for good, and selects nothing",
+        gives: "",
+    },
+    LibraryRoutine {
+        number: 18,
+        name: "ENDWRITE",
+        parameters: "",
+        does: "ends the selected output for good, and selects nothing",
+        gives: "",
+    },
+    LibraryRoutine {
+        number: 20,
+        name: "GETBYTE",
+        parameters: "S, I",
+        does: "reads byte I of the bytes from the address S on",
+        gives: "the byte, 0 to 255",
+    },
+    LibraryRoutine {
+        number: 21,
+        name: "PUTBYTE",
+        parameters: "S, I, C",
+        does: "sets byte I to the low byte of C, and leaves the other byte of its word",
+        gives: "",
+    },
+    LibraryRoutine {
+        number: 22,
+        name: "WRITES",
+        parameters: "S",
+        does: "writes the string S, without a line break",
+        gives: "",
+    },
+    LibraryRoutine {
+        number: 23,
+        name: "WRITEN",
+        parameters: "N",
+        does: "writes N in decimal digits, with `-` if it is negative",
+        gives: "",
+    },
+    LibraryRoutine {
+        number: 24,
+        name: "NEWLINE",
+        parameters: "",
+        does: "writes a line break",
+        gives: "",
+    },
+    LibraryRoutine {
+        number: 25,
+        name: "WRITEF",
+        parameters: "F, A, B, C, D",
+        does: "writes the string F, with the arguments in place of its `%N` (number), `%S` (string) and `%C` (character)",
+        gives: "",
+    },
+    LibraryRoutine {
+        number: 30,
+        name: "WRITEF",
+        parameters: "F, A1, .., A11",
+        does: "writes the format F, which also has fields (`%I4`), octal and hexadecimal (`%O4`, `%X4`) and plurals (`%P`)",
+        gives: "",
+    },
+    LibraryRoutine {
+        number: 31,
+        name: "WRITED",
+        parameters: "N, W",
+        does: "writes N in decimal digits with its sign, at the right of a field of W characters. A longer number takes more",
+        gives: "",
+    },
+    LibraryRoutine {
+        number: 32,
+        name: "WRITEU",
+        parameters: "N, W",
+        does: "writes N, read unsigned, in decimal digits, at the right of a field of W characters. A longer number takes more",
+        gives: "",
+    },
+    LibraryRoutine {
+        number: 33,
+        name: "WRITEOCT",
+        parameters: "N, D",
+        does: "writes the last D octal digits of N; 0 from the seventh on",
+        gives: "",
+    },
+    LibraryRoutine {
+        number: 34,
+        name: "WRITEHEX",
+        parameters: "N, D",
+        does: "writes the last D hexadecimal digits of N; 0 from the fifth on",
+        gives: "",
+    },
+    LibraryRoutine {
+        number: 35,
+        name: "WRITET",
+        parameters: "S, W",
+        does: "writes the string S, then blanks up to W characters",
+        gives: "",
+    },
+    LibraryRoutine {
+        number: 36,
+        name: "NEWPAGE",
+        parameters: "",
+        does: "writes the character 12, which begins a page",
+        gives: "",
+    },
+    LibraryRoutine {
+        number: 37,
+        name: "READN",
+        parameters: "",
+        does: "passes over blanks, tabs, line breaks, CR and FF, then takes a sign, if there is one, and decimal digits",
+        gives: "their value modulo 65,536, or 0 if there is no digit",
+    },
+    LibraryRoutine {
+        number: 38,
+        name: "TERMINATOR",
+        parameters: "",
+        does: "a variable, not a routine: the character after the last number, which READN takes too; ENDSTREAMCH at the end",
+        gives: "",
+    },
+    LibraryRoutine {
+        number: 39,
+        name: "UNRDCH",
+        parameters: "",
+        does: "the next RDCH gives the last character of the selected input again, also ENDSTREAMCH",
+        gives: "TRUE; or FALSE, and nothing changes, if none was read, if one was taken back already, or if the input's number is over 31",
+    },
+    LibraryRoutine {
+        number: 40,
+        name: "RDCH",
+        parameters: "",
+        does: "takes the next byte of the selected input",
+        gives: "the byte, 0 to 255, or ENDSTREAMCH: at the end, after ENDREAD, and with nothing selected",
+    },
+    LibraryRoutine {
+        number: 41,
+        name: "SELECTINPUT",
+        parameters: "N",
+        does: "selects input N for RDCH. A number that no input has selects nothing",
+        gives: "",
+    },
+    LibraryRoutine {
+        number: 42,
+        name: "SELECTOUTPUT",
+        parameters: "N",
+        does: "selects output N for WRCH. With nothing selected what is written is dropped",
+        gives: "",
+    },
+    LibraryRoutine {
+        number: 43,
+        name: "INPUT",
+        parameters: "",
+        does: "gives the number of the selected input",
+        gives: "the number that was selected last: 1 at the start, 0 after ENDREAD",
+    },
+    LibraryRoutine {
+        number: 44,
+        name: "OUTPUT",
+        parameters: "",
+        does: "gives the number of the selected output",
+        gives: "the number that was selected last; 0 after ENDWRITE",
+    },
+    LibraryRoutine {
+        number: 45,
+        name: "ENDREAD",
+        parameters: "",
+        does: "ends the selected input for good, and selects nothing; a character that was taken back is gone",
+        gives: "",
+    },
+    LibraryRoutine {
+        number: 46,
+        name: "ENDWRITE",
+        parameters: "",
+        does: "ends the selected output for good, and selects nothing",
+        gives: "",
+    },
+    LibraryRoutine {
+        number: 47,
+        name: "PACKSTRING",
+        parameters: "V, S",
+        does: "packs into S the string whose length is V!0, modulo 256, and whose characters are V!1 and so on. The last byte without a character is 0",
+        gives: "the number of S's last word",
+    },
+    LibraryRoutine {
+        number: 48,
+        name: "UNPACKSTRING",
+        parameters: "S, V",
+        does: "sets V!0 to the length of S, and V!1 and so on to its characters",
+        gives: "",
+    },
+    LibraryRoutine {
+        number: 49,
+        name: "CAPITALCH",
+        parameters: "C",
+        does: "turns a lower-case letter into its capital",
+        gives: "C or its capital",
+    },
+    LibraryRoutine {
+        number: 50,
+        name: "COMPSTRING",
+        parameters: "S, T",
+        does: "compares two strings, with letters of either case equal. A string comes after its own beginning",
+        gives: "-1, 0 or 1: S comes before T, is equal, or comes after",
+    },
+    LibraryRoutine {
+        number: 51,
+        name: "INITVEC",
+        parameters: "V, UPB",
+        does: "makes the vector V, with cells 0 to UPB, the pool. It forgets an earlier pool",
+        gives: "",
+    },
+    LibraryRoutine {
+        number: 52,
+        name: "GETVEC",
+        parameters: "UPB",
+        does: "takes a vector with cells 0 to UPB from the pool. Its cells are not cleared",
+        gives: "its address; or 0 if the pool has no room in one piece, if UPB is negative, or if there is no pool",
+    },
+    LibraryRoutine {
+        number: 53,
+        name: "FREEVEC",
+        parameters: "V",
+        does: "gives a vector back. FREEVEC(0) does nothing",
+        gives: "",
+    },
+    LibraryRoutine {
+        number: 54,
+        name: "MULDIV",
+        parameters: "A, B, C",
+        does: "A times B divided by C, with the product in two words. If C is 0 the run ends by a division by zero",
+        gives: "the quotient, truncated towards zero, modulo 65,536",
+    },
+    LibraryRoutine {
+        number: 55,
+        name: "RESULT2",
+        parameters: "",
+        does: "a variable, not a routine: the remainder of the last MULDIV, with the product's sign",
+        gives: "",
+    },
+    LibraryRoutine {
+        number: 56,
+        name: "RANDOM",
+        parameters: "N",
+        does: "the next random number",
+        gives: "1 to N; 0 if N is below 1",
+    },
+    LibraryRoutine {
+        number: 57,
+        name: "RANDOMISE",
+        parameters: "SEED",
+        does: "begins another sequence. 0 means 1, the seed at the start",
+        gives: "",
+    },
+    LibraryRoutine {
+        number: 58,
+        name: "STOP",
+        parameters: "CODE",
+        does: "ends the run, as FINISH does. A run has no status of its own, so CODE is dropped",
+        gives: "doesn't return",
+    },
+    LibraryRoutine {
+        number: 92,
+        name: "FINDINPUT",
+        parameters: "S",
+        does: "looks for the input S. If ENDREAD ended it, takes S.2 instead, then S.3 and so on. If all that are connected were ended, it takes the last one",
+        gives: "the number, or 0 if S isn't connected",
+    },
+    LibraryRoutine {
+        number: 93,
+        name: "REWIND",
+        parameters: "",
+        does: "begins the selected input again: ends it, finds it by its name again, and selects what it found. Does nothing if nothing was read from it",
+        gives: "",
+    },
+    LibraryRoutine {
+        number: 94,
+        name: "WRITEO",
+        parameters: "N",
+        does: "writes N, read unsigned, with as many octal digits as it has, one for 0",
+        gives: "",
+    },
+    LibraryRoutine {
+        number: 95,
+        name: "RDARGS",
+        parameters: "KEYS, V, UPB",
+        does: "takes a line from the selected input and sets V!0, V!1 and so on, one for each key, to the values on it",
+        gives: "the address after the last cell of V that it used; or 0 if the line isn't as KEYS says, or V is too small",
+    },
+    LibraryRoutine {
+        number: 96,
+        name: "TESTFLAGS",
+        parameters: "F",
+        does: "nothing: nobody interrupts a run",
+        gives: "FALSE",
+    },
+    LibraryRoutine {
+        number: 97,
+        name: "COMPCH",
+        parameters: "A, B",
+        does: "compares two characters, with letters of either case equal",
+        gives: "less than 0, 0, or more than 0: A comes before B, is equal, or comes after",
+    },
+    LibraryRoutine {
+        number: 98,
+        name: "TIME",
+        parameters: "",
+        does: "nothing: there is no clock",
+        gives: "",
+    },
+    LibraryRoutine {
+        number: 99,
+        name: "MAPSTORE",
+        parameters: "",
+        does: "nothing",
+        gives: "",
+    },
+];
+
+/// The library's routine with this global.
+pub fn library_routine(number: u16) -> Option<LibraryRoutine> {
+    for routine in ROUTINES.iter() {
+        if routine.number == number {
+            return Some(*routine);
+        }
+    }
+    None
+}

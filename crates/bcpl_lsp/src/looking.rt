@@ -1,0 +1,293 @@
+//! Requests on the name at a position: what it is, where it is declared and used, and another name for it.
+
+use crate::described::{name_of, said_of};
+use crate::document::{Document, sources_of, tokens_of};
+use crate::names::{Declared, Mention};
+use crate::paths::uri_of;
+use bc_lex::Source;
+use bc_lex_tokens::TokenKind;
+use bc_parse_tree::leaves_of;
+use bc_word::Memory;
+use serde_json::{Map, Value, json};
+use std::alloc::Global;
+
+/// The answer to `textDocument/hover`. Returns `Memory` if an allocation fails.
+pub fn hover(alloc: Global, document: &Document, offset: usize) -> Result<Value, Memory> {
+    let Some(mention) = document.names.mention_at(offset) else {
+        return Ok(Value::Null);
+    };
+    let Some(declared) = document.names.get(mention.declared) else {
+        return Ok(Value::Null);
+    };
+    let text = said_of(alloc, document, mention.declared, declared)?;
+    let range = document.range(alloc, mention.start, mention.end)?;
+    let value = json!(in alloc; {
+        "contents": {"kind": "markdown", "value": text},
+        "range": range
+    })?;
+    Ok(value)
+}
+
+/// The URI of a file of a document; `None` for a header of the library, which is no file.
+fn uri_at(alloc: Global, document: &Document, file: usize) -> Result<Option<String>, Memory> {
+    if file == 0 {
+        return Ok(Some(String::from_str(alloc, document.uri.as_str())?));
+    }
+    match document.file(file) {
+        Some(file) if !file.path.is_empty() => Ok(Some(uri_of(alloc, file.path.as_str())?)),
+        _ => Ok(None),
+    }
+}
+
+/// A place in a file of a document, as the protocol has it; null if the file is none that an editor can open.
+fn location(
+    alloc: Global,
+    document: &Document,
+    file: usize,
+    stretch: (usize, usize),
+) -> Result<Value, Memory> {
+    let (Some(uri), Some(file)) = (uri_at(alloc, document, file)?, document.file(file)) else {
+        return Ok(Value::Null);
+    };
+    let range = file.range(alloc, stretch.0, stretch.1)?;
+    let value = json!(in alloc; {"uri": uri, "range": range})?;
+    Ok(value)
+}
+
+/// The answer to `textDocument/definition`. Returns `Memory` if an allocation fails.
+pub fn definition(alloc: Global, document: &Document, offset: usize) -> Result<Value, Memory> {
+    let Some(mention) = document.names.mention_at(offset) else {
+        return Ok(Value::Null);
+    };
+    match document.names.get(mention.declared) {
+        Some(declared) => location(
+            alloc,
+            document,
+            declared.file,
+            (declared.start, declared.end),
+        ),
+        None => Ok(Value::Null),
+    }
+}
+
+/// Whether a name is where a declaration makes it.
+fn is_declaration(mention: &Mention, declared: Declared) -> bool {
+    mention.file == declared.file && mention.start == declared.start
+}
+
+/// The answer to `textDocument/references`. Returns `Memory` if an allocation fails.
+pub fn references(
+    alloc: Global,
+    document: &Document,
+    offset: usize,
+    with_declaration: bool,
+) -> Result<Value, Memory> {
+    let mut list = Vec::new(alloc);
+    let Some(at) = document.names.mention_at(offset) else {
+        return Ok(Value::Null);
+    };
+    let Some(declared) = document.names.get(at.declared) else {
+        return Ok(Value::Null);
+    };
+    let root = document.names.root_of(at.declared);
+    for mention in &document.names.mentions {
+        if document.names.root_of(mention.declared) == root
+            && (with_declaration || !is_declaration(mention, declared))
+        {
+            let stretch = (mention.start, mention.end);
+            let found = location(alloc, document, mention.file, stretch)?;
+            if !found.is_null() {
+                list.push(found)?;
+            }
+        }
+    }
+    Ok(Value::from(list))
+}
+
+/// The answer to `textDocument/documentHighlight`. Returns `Memory` if an allocation fails.
+pub fn highlights(alloc: Global, document: &Document, offset: usize) -> Result<Value, Memory> {
+    let mut list = Vec::new(alloc);
+    let Some(at) = document.names.mention_at(offset) else {
+        return Ok(Value::Null);
+    };
+    let root = document.names.root_of(at.declared);
+    for mention in &document.names.mentions {
+        if document.names.root_of(mention.declared) == root && mention.file == 0 {
+            let range = document.range(alloc, mention.start, mention.end)?;
+            list.push(json!(in alloc; {"range": range})?)?;
+        }
+    }
+    Ok(Value::from(list))
+}
+
+/// Why a name can't be changed.
+#[derive(Clone, Copy, PartialEq, Eq)]
+pub enum NoRename {
+    /// No name is there, or its meaning isn't known.
+    NothingThere,
+    /// The source has errors.
+    NotParsed,
+    /// It is declared in another file.
+    OtherFile,
+    /// The new name is none.
+    NoName,
+    /// The new name is declared where the old one is in scope, or the other way round.
+    Captured,
+}
+
+impl NoRename {
+    /// The sentence on it.
+    pub fn sentence(self) -> &'static str {
+        match self {
+            NoRename::NothingThere => "no name with a known meaning is here",
+            NoRename::NotParsed => "the source has errors, so what its names mean isn't known",
+            NoRename::OtherFile =>
+                "the name is declared in another file, which other sources may get too",
+            NoRename::NoName =>
+                "the new name is none: a name begins with a letter, goes on with letters, digits and dots, and is no reserved word",
+            NoRename::Captured =>
+                "the new name is in use where the old one is, so some uses would get another meaning",
+        }
+    }
+}
+
+/// Whether a text is a name of the language.
+fn is_name(alloc: Global, text: &str) -> bool {
+    let source = [Source {
+        name: b"",
+        text: text.as_bytes(),
+    }];
+    let tokens = tokens_of(alloc, &source);
+    match (tokens.first(), tokens.len()) {
+        (Some(token), 1) => token.kind == TokenKind::Name(text.as_bytes()),
+        _ => false,
+    }
+}
+
+/// Whether a declaration's scope has a leaf.
+fn has_leaf(declared: Declared, leaf: usize) -> bool {
+    declared.from <= leaf && leaf < declared.to
+}
+
+/// Whether two scopes overlap.
+fn overlap(one: Declared, other: Declared) -> bool {
+    one.from < other.to && other.from < one.to
+}
+
+/// Whether another declaration already has this name in a scope that overlaps the declaration's.
+fn is_captured(document: &Document, declared: Declared, name: &str) -> bool {
+    for other in &document.names.declared {
+        if overlap(declared, *other) && name_of(document, *other) == name {
+            return true;
+        }
+    }
+    false
+}
+
+/// Whether a use of this name that has no declaration would get one.
+fn is_adopted(
+    alloc: Global,
+    document: &Document,
+    declared: Declared,
+    name: &str,
+) -> Result<bool, Memory> {
+    let sources = sources_of(alloc, document.files.as_slice())?;
+    let tokens = tokens_of(alloc, sources.as_slice());
+    let leaves = leaves_of(alloc, tokens.as_slice())?;
+    for (leaf, token) in leaves.iter().enumerate() {
+        if has_leaf(declared, leaf) && token.kind == TokenKind::Name(name.as_bytes()) {
+            return Ok(true);
+        }
+    }
+    Ok(false)
+}
+
+/// The declaration of the name at an offset that can be renamed.
+fn renamed_at(document: &Document, offset: usize) -> Result<(usize, Declared), NoRename> {
+    if !document.names.is_parsed {
+        return Err(NoRename::NotParsed);
+    }
+    let Some(mention) = document.names.mention_at(offset) else {
+        return Err(NoRename::NothingThere);
+    };
+    let root = document.names.root_of(mention.declared);
+    match document.names.get(root) {
+        Some(declared) if declared.file == 0 => Ok((root, declared)),
+        Some(_) => Err(NoRename::OtherFile),
+        None => Err(NoRename::NothingThere),
+    }
+}
+
+/// The answer to `textDocument/prepareRename`: the range of the name, or why it can't be renamed. Returns `Memory` if an
+/// allocation fails.
+pub fn prepared_rename(
+    alloc: Global,
+    document: &Document,
+    offset: usize,
+) -> Result<Result<Value, NoRename>, Memory> {
+    match (
+        renamed_at(document, offset),
+        document.names.mention_at(offset),
+    ) {
+        (Ok(_), Some(mention)) => Ok(Ok(document.range(alloc, mention.start, mention.end)?)),
+        (Ok(_), None) => Ok(Err(NoRename::NothingThere)),
+        (Err(reason), _) => Ok(Err(reason)),
+    }
+}
+
+/// The edits that give the declaration with this index another name.
+fn edits_of(alloc: Global, document: &Document, index: usize, name: &str) -> Result<Value, Memory> {
+    let mut list = Vec::new(alloc);
+    for mention in &document.names.mentions {
+        if document.names.root_of(mention.declared) == index && mention.file == 0 {
+            let range = document.range(alloc, mention.start, mention.end)?;
+            list.push(json!(in alloc; {"range": range, "newText": name})?)?;
+        }
+    }
+    changes_of(alloc, document, Value::from(list))
+}
+
+/// Edits of a document, as the protocol has them. Returns `Memory` if an allocation fails.
+pub fn changes_of(alloc: Global, document: &Document, edits: Value) -> Result<Value, Memory> {
+    let mut changes = Map::new(alloc);
+    changes.insert(String::from_str(alloc, document.uri.as_str())?, edits)?;
+    let changes = Value::from(changes);
+    let value = json!(in alloc; {"changes": changes})?;
+    Ok(value)
+}
+
+/// Why the declaration can't have this name.
+fn refused_name(
+    alloc: Global,
+    document: &Document,
+    declared: Declared,
+    name: &str,
+) -> Result<Option<NoRename>, Memory> {
+    if !is_name(alloc, name) {
+        return Ok(Some(NoRename::NoName));
+    }
+    if is_captured(document, declared, name) || is_adopted(alloc, document, declared, name)? {
+        return Ok(Some(NoRename::Captured));
+    }
+    Ok(None)
+}
+
+/// The answer to `textDocument/rename`: the edits, or why there are none. Returns `Memory` if an allocation fails.
+pub fn rename(
+    alloc: Global,
+    document: &Document,
+    offset: usize,
+    name: &str,
+) -> Result<Result<Value, NoRename>, Memory> {
+    let (index, declared) = match renamed_at(document, offset) {
+        Ok(found) => found,
+        Err(reason) => return Ok(Err(reason)),
+    };
+    if name_of(document, declared) == name {
+        return Ok(Ok(Value::Null));
+    }
+    match refused_name(alloc, document, declared, name)? {
+        Some(reason) => Ok(Err(reason)),
+        None => Ok(Ok(edits_of(alloc, document, index, name)?)),
+    }
+}

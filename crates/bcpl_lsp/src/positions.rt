@@ -1,0 +1,137 @@
+//! Positions in a text: offsets in bytes, and lines with UTF-16 units, as the protocol counts them.
+
+use bc_word::Memory;
+use serde_json::{Value, json};
+use std::alloc::Global;
+
+/// A position as the protocol counts it, from 0.
+#[derive(Clone, Copy, PartialEq, Eq)]
+pub struct Position {
+    /// The line.
+    pub line: usize,
+    /// The number of UTF-16 units before it in the line.
+    pub character: usize,
+}
+
+/// Whether a line begins after the byte with this index.
+fn is_line_end(text: &[u8], index: usize) -> bool {
+    match text.get(index) {
+        Some(b'\n') => true,
+        Some(b'\r') => text.get(index.saturating_add(1)).copied() != Some(b'\n'),
+        _ => false,
+    }
+}
+
+/// The offsets at which lines begin. Returns `Memory` if an allocation fails.
+pub fn line_starts(alloc: Global, text: &[u8]) -> Result<Vec<usize>, Memory> {
+    let mut starts = Vec::new(alloc);
+    starts.push(0)?;
+    for index in 0..text.len() {
+        if is_line_end(text, index) {
+            starts.push(index.saturating_add(1))?;
+        }
+    }
+    Ok(starts)
+}
+
+/// How many UTF-16 units the character that begins with this byte has; 0 for a byte within a character.
+fn units_of(byte: u8) -> usize {
+    if byte & 0xC0 == 0x80 {
+        0
+    } else if byte >= 0xF0 {
+        2
+    } else {
+        1
+    }
+}
+
+/// The number of UTF-16 units of a text.
+fn units_in(text: &[u8]) -> usize {
+    let mut units: usize = 0;
+    for byte in text {
+        units = units.saturating_add(units_of(*byte));
+    }
+    units
+}
+
+/// The index of the line with the byte at this offset.
+pub fn line_of(starts: &[usize], offset: usize) -> usize {
+    match starts.binary_search(&offset) {
+        Ok(line) => line,
+        Err(next) => next.saturating_sub(1),
+    }
+}
+
+/// The position of an offset. `starts` is what `line_starts` gives for the text.
+pub fn position_of(text: &[u8], starts: &[usize], offset: usize) -> Position {
+    let offset = offset.min(text.len());
+    let line = line_of(starts, offset);
+    let start = starts.get(line).copied().unwrap_or(0);
+    let before = text.get(start..offset).unwrap_or(b"");
+    Position {
+        line,
+        character: units_in(before),
+    }
+}
+
+/// The number of bytes before this many UTF-16 units of a line; its length without the line's end if it is shorter.
+fn bytes_before(line: &[u8], units: usize) -> usize {
+    let mut count: usize = 0;
+    for (index, byte) in line.iter().enumerate() {
+        let width = units_of(*byte);
+        if *byte == b'\n' || *byte == b'\r' || (width > 0 && count >= units) {
+            return index;
+        }
+        count = count.saturating_add(width);
+    }
+    line.len()
+}
+
+/// The offset of a position. One after the end of a line is the line's end, one after the last line the text's end.
+pub fn offset_of(text: &[u8], starts: &[usize], position: Position) -> usize {
+    let Some(start) = starts.get(position.line) else {
+        return text.len();
+    };
+    let line = text.get(*start..).unwrap_or(b"");
+    start
+        .saturating_add(bytes_before(line, position.character))
+        .min(text.len())
+}
+
+/// A number in an object.
+fn number_at(value: &Value, pointer: &str) -> Option<usize> {
+    let number = value.pointer(pointer).and_then(Value::as_u64)?;
+    usize::try_from(number).ok()
+}
+
+/// The position that an object with `line` and `character` names.
+pub fn position_in(value: &Value) -> Option<Position> {
+    Some(Position {
+        line: number_at(value, "/line")?,
+        character: number_at(value, "/character")?,
+    })
+}
+
+/// A range of the protocol. Returns `Memory` if an allocation fails.
+pub fn range_value(alloc: Global, first: Position, last: Position) -> Result<Value, Memory> {
+    let value = json!(in alloc; {
+        "start": {"line": first.line, "character": first.character},
+        "end": {"line": last.line, "character": last.character}
+    })?;
+    Ok(value)
+}
+
+/// The range of a stretch of a text. Returns `Memory` if an allocation fails.
+pub fn range_of(
+    alloc: Global,
+    text: &[u8],
+    starts: &[usize],
+    stretch: (usize, usize),
+) -> Result<Value, Memory> {
+    let (start, end) = stretch;
+    range_value(
+        alloc,
+        position_of(text, starts, start),
+        position_of(text, starts, end),
+    )
+}

@@ -1,0 +1,401 @@
+//! The server: the documents that are open, and what it does with each message.
+
+use crate::changing::change;
+use crate::completing::{completion, signature_help};
+use crate::document::{Document, File};
+use crate::finding::{Finding, diagnostics};
+use crate::fixing::actions;
+use crate::laying_out::formatting;
+use crate::looking::{
+    NoRename, definition, highlights, hover, prepared_rename, references, rename,
+};
+use crate::outline::{foldings, symbols};
+use crate::paths::path_of;
+use crate::positions::position_in;
+use crate::reply::{Reply, RequestError, notification, reply_text};
+use bc_word::Memory;
+use serde_json::{Value, json};
+use std::alloc::Global;
+
+/// The answer to `initialize`.
+const CAPABILITIES: &str = "{\"capabilities\":{\"positionEncoding\":\"utf-16\",\
+    \"textDocumentSync\":{\"openClose\":true,\"change\":2,\"save\":true},\
+    \"hoverProvider\":true,\"definitionProvider\":true,\"referencesProvider\":true,\
+    \"documentHighlightProvider\":true,\"documentSymbolProvider\":true,\
+    \"documentFormattingProvider\":true,\
+    \"completionProvider\":{},\
+    \"signatureHelpProvider\":{\"triggerCharacters\":[\"(\",\",\"]},\
+    \"renameProvider\":{\"prepareProvider\":true},\"foldingRangeProvider\":true,\
+    \"codeActionProvider\":{\"codeActionKinds\":[\"quickfix\"]}},\
+    \"serverInfo\":{\"name\":\"bcpl\"}}";
+
+/// What the caller must do after a message.
+#[derive(Clone, Copy, PartialEq, Eq)]
+pub enum Job {
+    /// Nothing.
+    Nothing,
+    /// Check the document with this index, and pass what was found to `publish`.
+    Check(usize),
+    /// Check all documents.
+    CheckAll,
+    /// End; as after `shutdown` or not.
+    Exit(bool),
+}
+
+/// What a message leads to.
+#[derive(Drop)]
+pub struct Answer {
+    /// A message to the client, if there is one.
+    pub text: Option<String>,
+    /// What the caller must do.
+    pub job: Job,
+}
+
+/// How far a session is.
+#[derive(Clone, Copy, PartialEq, Eq)]
+enum Phase {
+    /// Before `initialize`.
+    New,
+    /// Between.
+    Running,
+    /// After `shutdown`.
+    ShutDown,
+}
+
+/// A server.
+#[derive(Drop)]
+pub struct Server {
+    alloc: Global,
+    phase: Phase,
+    documents: Vec<Document>,
+}
+
+/// An answer that only is a job.
+fn only(job: Job) -> Answer {
+    Answer { text: None, job }
+}
+
+/// An answer that only is a text.
+fn said(text: String) -> Answer {
+    Answer {
+        text: Some(text),
+        job: Job::Nothing,
+    }
+}
+
+/// A text in an object.
+fn text_at<'v>(value: &'v Value, pointer: &str) -> Option<&'v str> {
+    value.pointer(pointer).and_then(Value::as_str)
+}
+
+/// The answer with a result, or with the reason why nothing can be renamed.
+fn renamed(found: Result<Value, NoRename>) -> Reply {
+    match found {
+        Ok(value) => Reply::Result(value),
+        Err(reason) => Reply::Error(RequestError::Failed(reason.sentence())),
+    }
+}
+
+/// Whether a request's id is one.
+fn is_id(id: &Value) -> bool {
+    id.is_string() || id.is_number()
+}
+
+impl Server {
+    /// A server to which nothing was said yet.
+    pub fn new(alloc: Global) -> Server {
+        Server {
+            alloc,
+            phase: Phase::New,
+            documents: Vec::new(alloc),
+        }
+    }
+
+    /// How many documents are open.
+    pub fn len(&self) -> usize {
+        self.documents.len()
+    }
+
+    /// The document with this index.
+    pub fn document(&self, index: usize) -> Option<&Document> {
+        self.documents.get(index)
+    }
+
+    /// The text of the open document with this path.
+    pub fn text_of(&self, path: &str) -> Option<&[u8]> {
+        for document in &self.documents {
+            if document.path() == path {
+                return Some(document.text());
+            }
+        }
+        None
+    }
+
+    /// The index of the document that parameters name.
+    fn index_of(&self, params: &Value) -> Option<usize> {
+        let uri = text_at(params, "/textDocument/uri")?;
+        for (index, document) in self.documents.iter().enumerate() {
+            if document.uri.as_str() == uri {
+                return Some(index);
+            }
+        }
+        None
+    }
+
+    /// The document that parameters name.
+    fn document_in(&self, params: &Value) -> Option<&Document> {
+        self.documents.get(self.index_of(params)?)
+    }
+
+    /// The document and the offset that parameters name.
+    fn place_in(&self, params: &Value) -> Option<(&Document, usize)> {
+        let document = self.document_in(params)?;
+        let position = position_in(params.get("position")?)?;
+        Some((document, document.offset(position)))
+    }
+
+    /// The offset of a position in parameters.
+    fn offset_at(&self, document: &Document, params: &Value, pointer: &str) -> Option<usize> {
+        let position = position_in(params.pointer(pointer)?)?;
+        Some(document.offset(position))
+    }
+
+    /// Sets the files that a document's GETs can name, and what is wrong with it. Returns the message that says so to the
+    /// client. Returns `Memory` if an allocation fails.
+    pub fn publish(&mut self, index: usize, findings: Vec<Finding>) -> Result<String, Memory> {
+        let alloc = self.alloc;
+        let Some(document) = self.documents.get_mut(index) else {
+            return Ok(String::new(alloc));
+        };
+        document.findings = findings;
+        let list = diagnostics(alloc, document)?;
+        let params = match document.version {
+            Some(version) => json!(in alloc; {
+                "uri": document.uri.as_str(), "version": version, "diagnostics": list
+            })?,
+            None => json!(in alloc; {"uri": document.uri.as_str(), "diagnostics": list})?,
+        };
+        notification(alloc, "textDocument/publishDiagnostics", &params)
+    }
+
+    /// Sets the files that a document's GETs can name. Returns `Memory` if an allocation fails.
+    pub fn set_headers(&mut self, index: usize, headers: Vec<File>) -> Result<(), Memory> {
+        match self.documents.get_mut(index) {
+            Some(document) => document.set_headers(self.alloc, headers),
+            None => Ok(()),
+        }
+    }
+
+    /// Takes a message. Returns `Memory` if an allocation fails.
+    pub fn take(&mut self, message: &[u8]) -> Result<Answer, Memory> {
+        let Ok(text) = std::str::from_utf8(message) else {
+            return self.refuse(RequestError::Parse);
+        };
+        match Value::from_str(self.alloc, text) {
+            Ok(value) => self.take_value(&value),
+            Err(error) if error.is_memory() => Err(Memory),
+            Err(_) => self.refuse(RequestError::Parse),
+        }
+    }
+
+    /// Takes a header that can't be read. Returns `Memory` if an allocation fails.
+    pub fn take_bad_header(&mut self) -> Result<Answer, Memory> {
+        self.refuse(RequestError::Parse)
+    }
+
+    /// The answer to a message that isn't a request.
+    fn refuse(&mut self, error: RequestError) -> Result<Answer, Memory> {
+        let text = reply_text(self.alloc, &Value::Null, &Reply::Error(error))?;
+        Ok(said(text))
+    }
+
+    /// Takes a message that is JSON.
+    fn take_value(&mut self, value: &Value) -> Result<Answer, Memory> {
+        let null = Value::Null;
+        let params = value.get("params").unwrap_or(&null);
+        match (text_at(value, "/method"), value.get("id")) {
+            (Some(method), Some(id)) if is_id(id) => self.request(method, id, params),
+            (Some(method), None) => self.notified(method, params),
+            (None, Some(_)) if value.get("result").is_some() || value.get("error").is_some() => Ok(
+                only(Job::Nothing),
+            ),
+            _ => self.refuse(RequestError::Invalid),
+        }
+    }
+
+    /// Takes a request.
+    fn request(&mut self, method: &str, id: &Value, params: &Value) -> Result<Answer, Memory> {
+        let reply = self.reply_to(method, params)?;
+        let text = reply_text(self.alloc, id, &reply)?;
+        Ok(said(text))
+    }
+
+    /// The answer to a request.
+    fn reply_to(&mut self, method: &str, params: &Value) -> Result<Reply, Memory> {
+        match (self.phase, method) {
+            (Phase::New, "initialize") => {
+                self.phase = Phase::Running;
+                Ok(Reply::Text(CAPABILITIES))
+            }
+            (Phase::New, _) => Ok(Reply::Error(RequestError::NotInitialized)),
+            (Phase::Running, "initialize") | (Phase::ShutDown, _) => Ok(Reply::Error(
+                RequestError::Invalid,
+            )),
+            (Phase::Running, "shutdown") => {
+                self.phase = Phase::ShutDown;
+                Ok(Reply::Result(Value::Null))
+            }
+            (Phase::Running, _) => self.feature(method, params),
+        }
+    }
+
+    /// The answer to a request on a document.
+    fn feature(&self, method: &str, params: &Value) -> Result<Reply, Memory> {
+        match method {
+            "textDocument/documentSymbol"
+            | "textDocument/foldingRange"
+            | "textDocument/codeAction" => self.on_document(method, params),
+            "textDocument/hover"
+            | "textDocument/definition"
+            | "textDocument/references"
+            | "textDocument/documentHighlight"
+            | "textDocument/completion"
+            | "textDocument/signatureHelp"
+            | "textDocument/prepareRename"
+            | "textDocument/rename" => self.at_place(method, params),
+            _ => Ok(Reply::Error(RequestError::MethodNotFound)),
+        }
+    }
+
+    /// The answer to a request on a whole document.
+    fn on_document(&self, method: &str, params: &Value) -> Result<Reply, Memory> {
+        let Some(document) = self.document_in(params) else {
+            return Ok(Reply::Error(RequestError::Params));
+        };
+        match method {
+            "textDocument/documentSymbol" => Ok(Reply::Result(symbols(self.alloc, document)?)),
+            "textDocument/foldingRange" => Ok(Reply::Result(foldings(self.alloc, document)?)),
+            "textDocument/formatting" => formatting(self.alloc, document),
+            _ => self.code_actions(document, params),
+        }
+    }
+
+    /// The answer to `textDocument/codeAction`.
+    fn code_actions(&self, document: &Document, params: &Value) -> Result<Reply, Memory> {
+        let start = self.offset_at(document, params, "/range/start");
+        let end = self.offset_at(document, params, "/range/end");
+        let (Some(start), Some(end)) = (start, end) else {
+            return Ok(Reply::Error(RequestError::Params));
+        };
+        Ok(Reply::Result(actions(self.alloc, document, start, end)?))
+    }
+
+    /// The answer to a request on a place.
+    fn at_place(&self, method: &str, params: &Value) -> Result<Reply, Memory> {
+        let Some((document, offset)) = self.place_in(params) else {
+            return Ok(Reply::Error(RequestError::Params));
+        };
+        let alloc = self.alloc;
+        let found = match method {
+            "textDocument/hover" => hover(alloc, document, offset)?,
+            "textDocument/definition" => definition(alloc, document, offset)?,
+            "textDocument/documentHighlight" => highlights(alloc, document, offset)?,
+            "textDocument/completion" => completion(alloc, document, offset)?,
+            "textDocument/signatureHelp" => signature_help(alloc, document, offset)?,
+            "textDocument/references" => {
+                let with = params
+                    .pointer("/context/includeDeclaration")
+                    .and_then(Value::as_bool);
+                references(alloc, document, offset, with.unwrap_or(true))?
+            }
+            "textDocument/prepareRename" => {
+                return Ok(renamed(prepared_rename(alloc, document, offset)?));
+            }
+            _ => return self.renaming(document, offset, params),
+        };
+        Ok(Reply::Result(found))
+    }
+
+    /// The answer to `textDocument/rename`.
+    fn renaming(
+        &self,
+        document: &Document,
+        offset: usize,
+        params: &Value,
+    ) -> Result<Reply, Memory> {
+        match text_at(params, "/newName") {
+            Some(name) => Ok(renamed(rename(self.alloc, document, offset, name)?)),
+            None => Ok(Reply::Error(RequestError::Params)),
+        }
+    }
+
+    /// Takes a notification. One that isn't known is passed over.
+    fn notified(&mut self, method: &str, params: &Value) -> Result<Answer, Memory> {
+        if method == "exit" {
+            return Ok(only(Job::Exit(self.phase == Phase::ShutDown)));
+        }
+        if self.phase != Phase::Running {
+            return Ok(only(Job::Nothing));
+        }
+        match method {
+            "textDocument/didOpen" => self.open(params),
+            "textDocument/didChange" => self.change(params),
+            "textDocument/didClose" => self.close(params),
+            "textDocument/didSave" => Ok(only(Job::CheckAll)),
+            _ => Ok(only(Job::Nothing)),
+        }
+    }
+
+    /// Opens a document, or sets the text of one that is open.
+    fn open(&mut self, params: &Value) -> Result<Answer, Memory> {
+        let uri = text_at(params, "/textDocument/uri");
+        let text = text_at(params, "/textDocument/text");
+        let (Some(uri), Some(text)) = (uri, text) else {
+            return Ok(only(Job::Nothing));
+        };
+        let path = path_of(self.alloc, uri)?;
+        let mut document = Document::new(self.alloc, uri, path.as_str(), text)?;
+        document.version = params
+            .pointer("/textDocument/version")
+            .and_then(Value::as_i64);
+        let index = self.index_of(params).unwrap_or(self.documents.len());
+        match self.documents.get_mut(index) {
+            Some(place) => *place = document,
+            None => self.documents.push(document)?,
+        }
+        Ok(only(Job::Check(index)))
+    }
+
+    /// Changes a document.
+    fn change(&mut self, params: &Value) -> Result<Answer, Memory> {
+        let alloc = self.alloc;
+        let Some(index) = self.index_of(params) else {
+            return Ok(only(Job::Nothing));
+        };
+        let changes = match params.get("contentChanges").and_then(Value::as_array) {
+            Some(changes) => changes.as_slice(),
+            None => &[],
+        };
+        if let Some(document) = self.documents.get_mut(index) {
+            document.version = params
+                .pointer("/textDocument/version")
+                .and_then(Value::as_i64);
+            change(alloc, document, changes)?;
+        }
+        Ok(only(Job::Check(index)))
+    }
+
+    /// Closes a document.
+    fn close(&mut self, params: &Value) -> Result<Answer, Memory> {
+        let alloc = self.alloc;
+        let Some(index) = self.index_of(params) else {
+            return Ok(only(Job::Nothing));
+        };
+        if index < self.documents.len() {
+            let _ = self.documents.remove(index);
+        }
+        let uri = text_at(params, "/textDocument/uri").unwrap_or("");
+        let params = json!(in alloc; {"uri": uri, "diagnostics": []})?;
+        Ok(said(notification(alloc, "textDocument/publishDiagnostics", &params)?))
+    }
+}

@@ -1,0 +1,5 @@
+use Rattle.std.specs.Prelude.{◌<◌, All}
+use Rattle.bcpl_project.proofs.programs.mains_of.Given as goal
+
+abbrev pub invariant-loop-source : goal.invariant-loop-source
+invariant-loop-source l = All (λ main. main < l.fn.count) l.mains.items

@@ -1,0 +1,497 @@
+//! The steps of `convert --project`.
+
+use crate::files::OldFile;
+use crate::folder::{
+    OldProject, PAGE, REPORT, SCRIPT, make_folder, old_project, path_in, spare_files,
+};
+use crate::headers::{Alias, Headers, headers_of};
+use crate::new_files::{NewFile, declares_start, gets_further};
+use crate::programs::{
+    ProjectProgram, Refusal, file_alone, parts_of, paths_of, programs_of, refusal_for, sources_of,
+};
+use crate::renames::{Renamed, add_shared, shared_names};
+use crate::report::{Report, ShownDialect, page_of};
+use crate::script::script_of;
+use crate::unknown::unknown_in;
+use bc_convert::{Conversion, Lawful, OldNames, Options, Program, convert, renamings};
+use bc_lex::Source;
+use bc_word::Memory;
+use bcpl_cli::{ConvertDialect, ConvertOrder, ConvertTo, Failure, Links};
+use bcpl_convert::{
+    Given, by_hand, lawful_files, list_text, options_of, program_of, refuse_list, write_file,
+};
+use bcpl_messages::Named;
+use std::alloc::Global;
+use std::fs;
+use std::fs::Permissions;
+use std::io::Write;
+use std::os::unix::fs::PermissionsExt;
+use std::rt::Files;
+
+/// The texts of these files, then those that the aliases mean.
+fn texts_of(alloc: Global, files: &[OldFile], aliases: &[Alias]) -> Result<Vec<Vec<u8>>, Memory> {
+    let mut texts = Vec::new(alloc);
+    for file in files {
+        texts.push(Vec::from_slice(alloc, file.text.as_slice())?)?;
+    }
+    for alias in aliases {
+        if let Some(file) = files.get(alias.file) {
+            texts.push(Vec::from_slice(alloc, file.text.as_slice())?)?;
+        }
+    }
+    Ok(texts)
+}
+
+/// The paths of these files, then the names of the aliases.
+fn old_paths<'f>(
+    alloc: Global,
+    files: &'f [OldFile],
+    aliases: &'f [Alias],
+) -> Result<Vec<&'f str>, Memory> {
+    let mut paths = Vec::new(alloc);
+    for file in files {
+        paths.push(file.beside.as_str())?;
+    }
+    for alias in aliases {
+        paths.push(alias.name.as_str())?;
+    }
+    Ok(paths)
+}
+
+/// For each file whether it builds as it is. A file that builds under an alias does too.
+fn lawful_of<F: Files>(
+    rt: &F,
+    alloc: Global,
+    files: &[OldFile],
+    aliases: &[Alias],
+    may_exchange: bool,
+) -> Result<Vec<Lawful>, Memory> {
+    let texts = texts_of(alloc, files, aliases)?;
+    let paths = old_paths(alloc, files, aliases)?;
+    let given = Given {
+        paths: paths.as_slice(),
+        texts: texts.as_slice(),
+    };
+    let mut lawful = lawful_files(rt, alloc, given, may_exchange)?;
+    for (number, alias) in aliases.iter().enumerate() {
+        let index = files.len().saturating_add(number);
+        let found = lawful.get(index).copied().unwrap_or(Lawful::No);
+        if found != Lawful::No && alias.file < lawful.len() {
+            lawful[alias.file] = found;
+        }
+    }
+    Ok(lawful)
+}
+
+/// The conversions of these files.
+fn conversions_of(
+    alloc: Global,
+    files: &[OldFile],
+    lawful: &[Lawful],
+    options: Options<'_>,
+) -> Result<Vec<Conversion>, Memory> {
+    let mut conversions = Vec::new(alloc);
+    for (index, file) in files.iter().enumerate() {
+        let lawful = lawful.get(index).copied().unwrap_or(Lawful::No);
+        let options = Options { lawful, ..options };
+        conversions.push(convert(alloc, file.text.as_slice(), options)?)?;
+    }
+    Ok(conversions)
+}
+
+/// These files with their conversions.
+fn new_files(
+    alloc: Global,
+    files: Vec<OldFile>,
+    conversions: Vec<Conversion>,
+    is_header: &[bool],
+) -> Result<Vec<NewFile>, Memory> {
+    let mut new = Vec::new(alloc);
+    for (index, (old, conversion)) in files.into_iter().zip(conversions).enumerate() {
+        let has_start = declares_start(alloc, conversion.text.as_slice())?;
+        new.push(NewFile {
+            old,
+            conversion,
+            is_header: is_header.get(index).copied().unwrap_or(false),
+            has_start,
+        })?;
+    }
+    Ok(new)
+}
+
+/// Adds what a source shows of its dialect.
+fn note_dialect(shown: &mut ShownDialect, program: Program) {
+    let dialect = program.dialect;
+    let counted = |is_shown: bool| if is_shown { 1usize } else { 0 };
+    shown.small_words = shown
+        .small_words
+        .saturating_add(counted(dialect.has_small_words));
+    shown.small_library = shown
+        .small_library
+        .saturating_add(counted(dialect.has_small_library));
+    shown.stars = shown
+        .stars
+        .saturating_add(counted(dialect.has_star_subscripts));
+    shown.quoted_strings = shown
+        .quoted_strings
+        .saturating_add(counted(dialect.has_quoted_strings));
+}
+
+/// What these sources show of their dialect.
+fn dialect_of(
+    alloc: Global,
+    order: &ConvertOrder<'_>,
+    files: &[OldFile],
+    library: &OldNames<'_>,
+) -> Result<ShownDialect, Memory> {
+    let mut shown = ShownDialect {
+        named: match order.dialect {
+            ConvertDialect::Shown => None,
+            ConvertDialect::Of1967 => Some("1967, with V*(I) as a subscript"),
+            ConvertDialect::Of1979 => Some("1979, with V*(I) as a product"),
+            ConvertDialect::Alto => Some("the Alto's, with @ for the contents of a cell"),
+        },
+        small_words: 0,
+        small_library: 0,
+        stars: 0,
+        quoted_strings: 0,
+    };
+    for file in files {
+        note_dialect(
+            &mut shown,
+            Program::of(alloc, file.text.as_slice(), library)?,
+        );
+    }
+    Ok(shown)
+}
+
+/// Whether one of the files gets EXTHDR.
+fn needs_further(alloc: Global, files: &[NewFile]) -> Result<bool, Memory> {
+    for file in files {
+        if gets_further(alloc, file.text())? {
+            return Ok(true);
+        }
+    }
+    Ok(false)
+}
+
+/// Whether a file is refused by itself, and not because parts of its program are missing.
+fn is_own(found: &Option<Refusal>) -> bool {
+    match found {
+        Some(refusal) => !refusal.is_of_linking,
+        None => false,
+    }
+}
+
+/// Why a file doesn't build by itself. A header builds where it is got.
+fn own_refusal(
+    alloc: Global,
+    index: usize,
+    file: &NewFile,
+    named: Named<'_, '_>,
+) -> Result<Option<Refusal>, Memory> {
+    if file.is_header {
+        return Ok(None);
+    }
+    let alone = file_alone(alloc, index)?;
+    let found = refusal_for(alloc, named, alone.as_slice())?;
+    if is_own(&found) { Ok(found) } else { Ok(None) }
+}
+
+/// Why each file doesn't build.
+fn refusals_of(
+    alloc: Global,
+    files: &[NewFile],
+    named: Named<'_, '_>,
+) -> Result<Vec<Option<Refusal>>, Memory> {
+    let mut refusals = Vec::new(alloc);
+    for (index, file) in files.iter().enumerate() {
+        refusals.push(own_refusal(alloc, index, file, named)?)?;
+    }
+    Ok(refusals)
+}
+
+/// Why each program doesn't build.
+fn unbuilt_of(
+    alloc: Global,
+    programs: &[ProjectProgram],
+    files: &[NewFile],
+    named: Named<'_, '_>,
+    is_further: bool,
+) -> Result<Vec<Option<Refusal>>, Memory> {
+    let mut unbuilt = Vec::new(alloc);
+    for program in programs {
+        let parts = parts_of(alloc, program, files, is_further)?;
+        unbuilt.push(refusal_for(alloc, named, parts.as_slice())?)?;
+    }
+    Ok(unbuilt)
+}
+
+/// The new project, before its files are written.
+#[derive(Drop)]
+struct NewProject<'p> {
+    files: Vec<NewFile>,
+    /// The names of files that are no sources.
+    others: Vec<String>,
+    headers: Headers,
+    shared: &'p [Renamed],
+    dialect: ShownDialect,
+    is_further: bool,
+}
+
+/// Where files are written.
+#[derive(Clone, Copy)]
+struct Destination<'d> {
+    folder: &'d str,
+    links: Links,
+}
+
+/// Writes a file of the result.
+fn write_in<F: Files>(
+    rt: &F,
+    alloc: Global,
+    destination: Destination<'_>,
+    name: &str,
+    bytes: &[u8],
+) -> Result<(), Failure> {
+    let path = path_in(alloc, destination.folder, name)?;
+    write_file(rt, alloc, path.as_str(), destination.links, bytes)
+}
+
+/// Writes the script, which can be run.
+fn write_script<F: Files>(
+    rt: &F,
+    alloc: Global,
+    destination: Destination<'_>,
+    script: &str,
+) -> Result<(), Failure> {
+    write_in(rt, alloc, destination, SCRIPT, script.as_bytes())?;
+    let path = path_in(alloc, destination.folder, SCRIPT)?;
+    // On a file system without such permissions the script is run by `sh build.sh`.
+    let _ = fs::set_permissions(rt, path.as_str(), Permissions::from_mode(0o755));
+    Ok(())
+}
+
+/// Writes the report in both forms.
+fn write_report<F: Files>(
+    rt: &F,
+    alloc: Global,
+    destination: Destination<'_>,
+    report: &Report<'_>,
+) -> Result<(), Failure> {
+    let mut page = page_of(alloc, report)?;
+    write_in(rt, alloc, destination, REPORT, page.markdown())?;
+    let html = page.html()?;
+    write_in(rt, alloc, destination, PAGE, html)
+}
+
+/// Prints what was done.
+fn print_summary<O: Write + Drop>(
+    alloc: Global,
+    report: &Report<'_>,
+    folder: &str,
+    out: &mut O,
+) -> Result<(), Failure> {
+    let files = report.files.len();
+    let programs = report.programs.len();
+    let built = report
+        .unbuilt
+        .iter()
+        .filter(|unbuilt| unbuilt.is_none())
+        .count();
+    let named = match report.dialect.named {
+        Some(named) => named,
+        None if report.dialect.small_words > 0 => "as shown, with reserved words in lower case",
+        None => "as shown, with reserved words in upper case",
+    };
+    let header = if report.is_further {
+        "EXTHDR"
+    } else {
+        "LIBHDR"
+    };
+    let text = format!(in alloc;
+        "ok {folder}: files {files}, programs that build {built} of {programs}, header {header}\ndialect: {named}\n"
+    )?;
+    if out.write_all(text.as_str().as_bytes()).is_ok() && out.flush().is_ok() {
+        Ok(())
+    } else {
+        Err(Failure::file(alloc, "SYSPRINT"))
+    }
+}
+
+/// Fails if something is left to do by hand, with how much.
+fn tell_left(alloc: Global, order: &ConvertOrder<'_>, report: &Report<'_>) -> Result<(), Failure> {
+    let left = report.left();
+    if left.count() == 0 {
+        return Ok(());
+    }
+    let folder = folder_of(order);
+    let places = left.places;
+    let names = left.names;
+    let headers = left.headers;
+    let refused = left.refused;
+    let told = format!(in alloc;
+        "{folder}/{REPORT} lists what is left to do by hand\n\
+         \x20 doubtful places: {places}; names that nothing declares: {names}; headers that weren't found: {headers}\n\
+         \x20 files and programs that don't build for other reasons: {refused}\n"
+    )?;
+    Err(by_hand(order, left.count(), told))
+}
+
+/// Writes the files of the result, the script and the report.
+fn write_files<F: Files>(
+    rt: &F,
+    alloc: Global,
+    order: &ConvertOrder<'_>,
+    project: &NewProject<'_>,
+    report: &Report<'_>,
+) -> Result<(), Failure> {
+    let destination = Destination {
+        folder: folder_of(order),
+        links: order.links,
+    };
+    for file in report.files {
+        write_in(rt, alloc, destination, file.name(), file.text())?;
+    }
+    let aliases = project.headers.aliases.as_slice();
+    let script = script_of(
+        alloc,
+        report.programs,
+        report.files,
+        aliases,
+        report.is_further,
+    )?;
+    write_script(rt, alloc, destination, script.as_str())?;
+    write_report(rt, alloc, destination, report)
+}
+
+/// The sources, with an empty text for each header that wasn't found, so that what gets it can be read.
+fn with_missing<'s>(
+    alloc: Global,
+    files: &'s [NewFile],
+    headers: &'s Headers,
+) -> Result<Vec<Source<'s>>, Memory> {
+    let mut sources = sources_of(alloc, files, headers.aliases.as_slice())?;
+    for missing in &headers.missing {
+        sources.push(Source {
+            name: missing.name.as_str().as_bytes(),
+            text: b"",
+        })?;
+    }
+    Ok(sources)
+}
+
+/// Builds the new project in memory, writes it, and prints what was done.
+fn write_project<F: Files, O: Write + Drop>(
+    rt: &F,
+    alloc: Global,
+    order: &ConvertOrder<'_>,
+    project: &NewProject<'_>,
+    out: &mut O,
+) -> Result<(), Failure> {
+    let files = project.files.as_slice();
+    let aliases = project.headers.aliases.as_slice();
+    let sources = sources_of(alloc, files, aliases)?;
+    let paths = paths_of(alloc, files, aliases)?;
+    let named = Named {
+        sources: sources.as_slice(),
+        paths: paths.as_slice(),
+    };
+    let programs = programs_of(alloc, files)?;
+    let refusals = refusals_of(alloc, files, named)?;
+    let unbuilt = unbuilt_of(alloc, programs.as_slice(), files, named, project.is_further)?;
+    let readable = with_missing(alloc, files, &project.headers)?;
+    let all = Named {
+        sources: readable.as_slice(),
+        paths: paths.as_slice(),
+    };
+    let unknown = unknown_in(alloc, files, all)?;
+    let report = Report {
+        dialect: &project.dialect,
+        is_further: project.is_further,
+        files,
+        others: project.others.as_slice(),
+        missing: project.headers.missing.as_slice(),
+        shared: project.shared,
+        unknown: unknown.rows.as_slice(),
+        refusals: refusals.as_slice(),
+        programs: programs.as_slice(),
+        unbuilt: unbuilt.as_slice(),
+    };
+    write_files(rt, alloc, order, project, &report)?;
+    print_summary(alloc, &report, folder_of(order), out)?;
+    tell_left(alloc, order, &report)
+}
+
+/// Converts these files with these names.
+fn converted<F: Files>(
+    rt: &F,
+    alloc: Global,
+    order: &ConvertOrder<'_>,
+    files: Vec<OldFile>,
+    library: &OldNames<'_>,
+) -> Result<(Vec<NewFile>, Headers, ShownDialect), Failure> {
+    let headers = headers_of(alloc, files.as_slice())?;
+    let texts = texts_of(alloc, files.as_slice(), &[])?;
+    let program = program_of(alloc, texts.as_slice(), library)?;
+    let options = options_of(order, library, program);
+    let lawful = match options.system {
+        None => {
+            let aliases = headers.aliases.as_slice();
+            lawful_of(
+                rt,
+                alloc,
+                files.as_slice(),
+                aliases,
+                options.header.is_some(),
+            )?
+        }
+        Some(_) => Vec::new(alloc),
+    };
+    let dialect = dialect_of(alloc, order, files.as_slice(), library)?;
+    let conversions = conversions_of(alloc, files.as_slice(), lawful.as_slice(), options)?;
+    let new = new_files(alloc, files, conversions, headers.is_header.as_slice())?;
+    Ok((new, headers, dialect))
+}
+
+/// The folder of the result.
+fn folder_of<'a>(order: &ConvertOrder<'a>) -> &'a str {
+    match order.to {
+        ConvertTo::File(folder) | ConvertTo::Folder(folder) => folder,
+        ConvertTo::Standard | ConvertTo::Source => ".",
+    }
+}
+
+/// Converts the sources of folders, or these files, as one program, and writes the result to a folder with a script that
+/// builds it and a report. Files that aren't sources are left out.
+///
+/// # Errors
+///
+/// Fails if a file can't be read or written, if there is no source, if a file would be lost, if an allocation fails, or if
+/// something is left to do by hand. In the last case everything is written.
+pub fn convert_project<F: Files, O: Write + Drop>(
+    rt: &F,
+    alloc: Global,
+    order: &ConvertOrder<'_>,
+    out: &mut O,
+) -> Result<(), Failure> {
+    let list = list_text(rt, alloc, order)?;
+    let OldProject { files, others } = old_project(rt, alloc, order.files.as_slice())?;
+    let shared = shared_names(alloc, files.as_slice())?;
+    let mut names = renamings(alloc, list.as_slice())?;
+    refuse_list(alloc, order, list.as_slice(), &names)?;
+    add_shared(&mut names.list, shared.as_slice())?;
+    spare_files(rt, alloc, folder_of(order), files.as_slice())?;
+    make_folder(rt, alloc, folder_of(order))?;
+    let (files, headers, dialect) = converted(rt, alloc, order, files, &names.list)?;
+    let is_further = needs_further(alloc, files.as_slice())?;
+    let project = NewProject {
+        files,
+        others,
+        headers,
+        shared: shared.as_slice(),
+        dialect,
+        is_further,
+    };
+    write_project(rt, alloc, order, &project, out)
+}

@@ -1,0 +1,227 @@
+//! Which files make a program, and whether they build.
+
+ghost use Rattle.std.specs.Prelude.{◌<◌, All, IfOk};
+
+use crate::headers::Alias;
+use crate::new_files::NewFile;
+use bc_build::{BuildError, build};
+use bc_lex::{LexError, Source};
+use bc_library::{BLIB, LIBHDR};
+use bc_library_ext::{EXTHDR, EXTLIB};
+use bc_word::Memory;
+use bcpl_advice::advised;
+use bcpl_cli::{BuildLine, without_extension};
+use bcpl_messages::{Named, message_lines, message_of};
+use std::alloc::Global;
+
+/// The number of sources of the library.
+pub const LIBRARY: usize = 4;
+
+/// A program of the project.
+#[derive(Drop)]
+pub struct ProjectProgram {
+    /// The name of its text, without an ending.
+    pub name: String,
+    /// The index of the file with START, if there is one.
+    pub start: Option<usize>,
+}
+
+/// The programs of a project: one for each file with START, or one for all files if none has it.
+///
+/// # Errors
+///
+/// `Memory` if an allocation failed.
+pub fn programs_of(alloc: Global, files: &[NewFile]) -> Result<Vec<ProjectProgram>, Memory> {
+    let mut programs = Vec::new(alloc);
+    for (index, file) in files.iter().enumerate() {
+        if file.has_start && !file.is_header {
+            programs.push(ProjectProgram {
+                name: String::from_str(alloc, without_extension(file.name()))?,
+                start: Some(index),
+            })?;
+        }
+    }
+    if programs.is_empty() {
+        programs.push(ProjectProgram {
+            name: String::from_str(alloc, "program")?,
+            start: None,
+        })?;
+    }
+    Ok(programs)
+}
+
+/// Whether the file with this index is a main of a program: it is the one with START, or has none and is no header.
+pub fn is_part(program: &ProjectProgram, files: &[NewFile], index: usize) -> bool {
+    match files.get(index) {
+        Some(file) if file.is_header => false,
+        Some(file) if file.has_start => program.start == Some(index),
+        Some(_) => true,
+        None => false,
+    }
+}
+
+/// The sources of all files as the compiler gets them, after those of the library.
+///
+/// # Errors
+///
+/// `Memory` if an allocation failed.
+pub fn sources_of<'s>(
+    alloc: Global,
+    files: &'s [NewFile],
+    aliases: &'s [Alias],
+) -> Result<Vec<Source<'s>>, Memory> {
+    let mut sources = Vec::new(alloc);
+    for (name, text) in [
+        ("LIBHDR", LIBHDR),
+        ("BLIB", BLIB),
+        ("EXTHDR", EXTHDR),
+        ("EXTLIB", EXTLIB),
+    ] {
+        sources.push(Source {
+            name: name.as_bytes(),
+            text: text.as_bytes(),
+        })?;
+    }
+    for file in files {
+        sources.push(Source {
+            name: file.name().as_bytes(),
+            text: file.text(),
+        })?;
+    }
+    for alias in aliases {
+        if let Some(file) = files.get(alias.file) {
+            sources.push(Source {
+                name: alias.name.as_str().as_bytes(),
+                text: file.text(),
+            })?;
+        }
+    }
+    Ok(sources)
+}
+
+/// The names of these sources.
+///
+/// # Errors
+///
+/// `Memory` if an allocation failed.
+pub fn paths_of<'s>(
+    alloc: Global,
+    files: &'s [NewFile],
+    aliases: &[Alias],
+) -> Result<Vec<&'s str>, Memory> {
+    let mut paths = Vec::new(alloc);
+    for name in ["LIBHDR", "BLIB", "EXTHDR", "EXTLIB"] {
+        paths.push(name)?;
+    }
+    for file in files {
+        paths.push(file.name())?;
+    }
+    for alias in aliases {
+        if let Some(file) = files.get(alias.file) {
+            paths.push(file.name())?;
+        }
+    }
+    Ok(paths)
+}
+
+/// The indexes below `count` that are chosen.
+fn mains_of(alloc: Global, count: usize, chosen: &[bool]) -> Result<Vec<usize>, Memory>
+    ensures { IfOk result (λ mains. All (λ main. main < count) mains.items) }
+{
+    let mut mains = Vec::new(alloc);
+    for source in 0..count {
+        if chosen.get(source).copied().unwrap_or(false) {
+            mains.push(source)?;
+        }
+    }
+    Ok(mains)
+}
+
+/// Why something isn't built.
+#[derive(Drop)]
+pub struct Refusal {
+    /// The first line, and what the program says about it.
+    pub lines: String,
+    /// Whether the refusal is of a name that isn't declared, or of a header that isn't there: the report lists these.
+    pub is_listed: bool,
+    /// Whether it is the linker's.
+    pub is_of_linking: bool,
+}
+
+/// What is said of a refusal.
+fn refusal_of(
+    alloc: Global,
+    named: Named<'_, '_>,
+    mains: &[usize],
+    fault: &BuildError,
+) -> Result<Refusal, Memory> {
+    let line = BuildLine(fault);
+    let mut lines = format!(in alloc; "bcpl: {line}\n")?;
+    if let Some(message) = message_of(alloc, named.sources, mains, fault)? {
+        let message = advised(alloc, named.sources, fault, message)?;
+        let text = message_lines(alloc, named, &message)?;
+        lines.push_str(text.as_str())?;
+    }
+    Ok(Refusal {
+        lines,
+        is_listed: matches!(
+            fault,
+            BuildError::Scope(_, bc_build::ScopeFault::Undeclared(_))
+                | BuildError::Lex(_, LexError::GetMissing(_, _))
+        ),
+        is_of_linking: matches!(fault, BuildError::Link(_)),
+    })
+}
+
+/// Builds these sources, of which the chosen ones are mains. `None` if they build.
+///
+/// # Errors
+///
+/// `Memory` if an allocation failed.
+pub fn refusal_for(
+    alloc: Global,
+    named: Named<'_, '_>,
+    chosen: &[bool],
+) -> Result<Option<Refusal>, Memory> {
+    let mains = mains_of(alloc, named.sources.len(), chosen)?;
+    match build(alloc, named.sources, mains.as_slice()) {
+        Ok(_) => Ok(None),
+        Err(BuildError::Memory) => Err(Memory),
+        Err(fault) => Ok(Some(refusal_of(alloc, named, mains.as_slice(), &fault)?)),
+    }
+}
+
+/// The sources with only the file with this index chosen.
+///
+/// # Errors
+///
+/// `Memory` if an allocation failed.
+pub fn file_alone(alloc: Global, index: usize) -> Result<Vec<bool>, Memory> {
+    let mut chosen = Vec::new(alloc);
+    for _ in 0..LIBRARY.saturating_add(index) {
+        chosen.push(false)?;
+    }
+    chosen.push(true)?;
+    Ok(chosen)
+}
+
+/// The sources that are the mains of a program.
+///
+/// # Errors
+///
+/// `Memory` if an allocation failed.
+pub fn parts_of(
+    alloc: Global,
+    program: &ProjectProgram,
+    files: &[NewFile],
+    is_further: bool,
+) -> Result<Vec<bool>, Memory> {
+    let mut chosen = Vec::new(alloc);
+    for is_main in [false, true, false, is_further] {
+        chosen.push(is_main)?;
+    }
+    for index in 0..files.len() {
+        chosen.push(is_part(program, files, index))?;
+    }
+    Ok(chosen)
+}
