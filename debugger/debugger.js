@@ -485,7 +485,8 @@
       if (dropped > 0) cut.push(`The recording was full: the first ${grouped(dropped)} stops were dropped, so you can go back to stop ${first} only.`);
       if (data.end.kind === "cut") cut.push(`The recording was full after stop ${last}; the run went on.`);
       this.status = made("p", { className: "dbg-status", role: "status" });
-      return made("div", { className: "dbg-head" }, this.status, ...cut.map((text) => made("p", { className: "dbg-cut", textContent: text })));
+      const tame = data.tame ? [made("p", { className: "dbg-tame", textContent: "Tame: no run of this program meets a wild cell, whatever it reads." })] : [];
+      return made("div", { className: "dbg-head" }, this.status, ...tame, ...cut.map((text) => made("p", { className: "dbg-cut", textContent: text })));
     }
 
     controls() {

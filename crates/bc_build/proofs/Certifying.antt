@@ -42,8 +42,7 @@ use Rattle.bc_build.specs.Compiled.{AreAccepted}
 use Rattle.bc_build.specs.Code.{in_segment, entries_of, entries_from}
 use Rattle.bc_build.specs.Least.{judged}
 use Rattle.bc_build.specs.Certified.{IsCertified}
-use Rattle.bc_build.specs.Built.{IsBuilt}
-use Rattle.bc_build.specs.Steps.{IsLinked}
+use Rattle.bc_build.specs.Steps.{IsLinked, IsWhole}
 use Rattle.bc_build.specs.declared.building.Built.{Built}
 
 -- ---- Numbers of nodes
@@ -173,9 +172,9 @@ certified es k s n =
     record { derived = map derived_of es; named = named_all es k; said = subst (λ js. Says (certificate (map derived_of es)) (record { table = Two; entries = js })) (judged_all es) said }
 
 -- the certificate of what was linked
-pub built_certified : (files : List File) (mains : List ℕ) (built : Built) → IsBuilt files mains built → (segments : List (List Item)) (entries : List code.Entry) → IsLinked segments entries built → IsCertified (map entry_view built.entries.items)
-built_certified files mains built b segments entries l =
-    let known = subst (AllByRecursion IsKnown) (sym b.entries) (sections_known files mains 0 b.sections b.accepted) in
+pub built_certified : (files : List File) (mains : List ℕ) (built : Built) → IsWhole files mains built → (segments : List (List Item)) (entries : List code.Entry) → IsLinked segments entries built → IsCertified (map entry_view built.entries.items)
+built_certified files mains built w segments entries l =
+    let known = subst (AllByRecursion IsKnown) (sym w.coded.entries) (sections_known files mains 0 w.sections w.accepted) in
     let small : All IsSmallEntry built.entries.items = subst (All IsSmallEntry) (sym l.entries_are) l.small in
     let long : length (map entry_view built.entries.items) < 2 ^ 64 = subst (λ m. m < 2 ^ 64) (sym (length-map built.entries.items entry_view ∙ ap length l.entries_are)) l.number in
     certified (map entry_view built.entries.items) known (small_each built.entries.items (recursion_from_All IsSmallEntry built.entries.items small)) long

@@ -4,7 +4,6 @@ use Rattle.std.specs.Prelude.{None, Result, Ok, Err, IfErr}
 use Rattle.std.specs.Result.{IsErrAnd}
 use Rattle.std.proofs.lemmas.List.{map-append, drop_all}
 use Rattle.bc_text_items.specs.declared.item.Item.{Item}
-use Rattle.bc_rules_defs.specs.Entry.{Entry}
 use Rattle.bc_rules_defs.specs.View.{entry as entry_view}
 use Rattle.bc_rules_defs.specs.declared.entry.Entry as code
 use Rattle.bc_parse_tree.specs.Tree.{Declarations}
@@ -14,13 +13,12 @@ use Rattle.bc_link.specs.Linked.{image_of, IsRefusal}
 use Rattle.bc_run.specs.Runs.{with_primitives}
 use Rattle.bc_gen_laws.specs.labels.Laws.{LabelsStandOnce}
 use Rattle.bc_scope_laws.specs.Laws.{SectionsFit}
-use Rattle.bc_build.specs.Compiled.{IsAccepted, AreAccepted}
+use Rattle.bc_build.specs.Parsed.{IsParsed, AreParsed}
+use Rattle.bc_build.specs.Compiled.{AreAccepted}
 use Rattle.bc_build.specs.Code.{items_of, in_segment, entries_of, entries_from, IsCompiled}
-use Rattle.bc_build.specs.Built.{IsBuilt}
 use Rattle.bc_build.specs.Refused.{IsMainRefusal, IsRefused}
-use Rattle.bc_build.specs.Steps.{IsLinked, IsLinkRefusal, AreCoded}
+use Rattle.bc_build.specs.Steps.{IsLinked, IsLinkRefusal, AreCoded, IsWhole}
 use Rattle.bc_build.proofs.Linking.{link_fault}
-use Rattle.bc_build.proofs.Rooted.{of_sections}
 use Rattle.bc_build.specs.declared.building.Built.{Built}
 use Rattle.bc_build.specs.declared.build_error.BuildError.{BuildError}
 use Rattle.bc_build.specs.declared.build_error.BuildError.TheVariants.{Lex, Parse, Scope, Gen, Link, Memory}
@@ -52,8 +50,8 @@ entries_push k (x ∷ sections) s =
     ∙ sym (append_assoc (entries_of k x) (entries_from (k + 1) sections) (entries_of (k + length (x ∷ sections)) s))
 
 only_more : (files : List File) (main : ℕ) (left : List ℕ) (sections others rest : List Declarations) (section : Declarations)
-    → ((other : Declarations) → IsAccepted files main other → other ≡ section) → AreAccepted files (main ∷ left) rest → others ≡ sections ++ rest
-    → (more : List Declarations) × AreAccepted files left more × (others ≡ (sections ++ section ∷ []) ++ more)
+    → ((other : Declarations) → IsParsed files main other → other ≡ section) → AreParsed files (main ∷ left) rest → others ≡ sections ++ rest
+    → (more : List Declarations) × AreParsed files left more × (others ≡ (sections ++ section ∷ []) ++ more)
 only_more files main left sections others [] section only r e = absurd r
 only_more files main left sections others (s ∷ ss) section only r e =
     (ss, r.1, e ∙ ap (λ x. sections ++ x ∷ ss) (only s r.0) ∙ sym (append_assoc sections (section ∷ []) ss))
@@ -78,21 +76,22 @@ coded_more files mains n main left segments entries items new all a c h =
           ∙ sym (entries_push 0 a.sections c.section);
     }
 
-nothing_left : (files : List File) (sections others rest : List Declarations) → AreAccepted files [] rest → others ≡ sections ++ rest → others ≡ sections
+nothing_left : (files : List File) (sections others rest : List Declarations) → AreParsed files [] rest → others ≡ sections ++ rest → others ≡ sections
 nothing_left files sections others [] r e = e ∙ append-nil sections
 nothing_left files sections others (s ∷ ss) r e = absurd r
 
 -- no main remains
-pub built_from : (files : List File) (mains : List ℕ) (n : ℕ) (segments : List (List Item)) (entries : List code.Entry) (built : Built)
-    → AreCoded files mains n [] segments entries → IsLinked segments entries built → IsBuilt files mains built
-built_from files mains n segments entries built a l = record {
+pub whole_from : (files : List File) (mains : List ℕ) (n : ℕ) (segments : List (List Item)) (entries : List code.Entry) (built : Built)
+    → AreCoded files mains n [] segments entries → IsLinked segments entries built → IsWhole files mains built
+whole_from files mains n segments entries built a l = record {
   sections = a.sections;
   accepted = subst (AreAccepted files mains) (append-nil a.sections) (a.accepted [] tt);
   only = λ others h. let x = a.only others h in nothing_left files a.sections others x.0 x.1 x.2;
-  segments = l.segments_are ∙ a.segments_are;
-  entries = ap (map entry_view) l.entries_are ∙ a.entries_are;
-  roots = ap (λ (es : List Entry). map (λ (e : Entry). e.root) es) (ap (map entry_view) l.entries_are ∙ a.entries_are) ∙ of_sections 0 a.sections;
-  linked = subst (λ s. refusal_of (with_primitives s) ≡ None) a.segments_are l.accepted;
+  coded = record {
+    segments = l.segments_are ∙ a.segments_are;
+    entries = ap (map entry_view) l.entries_are ∙ a.entries_are;
+    linked = subst (λ s. refusal_of (with_primitives s) ≡ None) a.segments_are l.accepted;
+  };
   image = l.image_is ∙ ap (λ s. image_of (with_primitives s)) a.segments_are;
 }
 
@@ -104,7 +103,7 @@ main_refused files mains n main left segments entries (Parse at e) a h = a.refus
 main_refused files mains n main left segments entries (Scope at e) a h = a.refused (Scope at e) (inl h)
 main_refused files mains n main left segments entries (Gen at e) a h = a.refused (Gen at e) (inl h)
 main_refused files mains n main left segments entries (Link e) a h = absurd h
-main_refused files mains n main left segments entries Memory a h = tt
+main_refused files mains n main left segments entries Memory a h = inl (a.refused Memory (inl h))
 
 -- the segments are not linked
 pub link_refused : LabelsStandOnce → SectionsFit → (files : List File) (mains : List ℕ) (n : ℕ) (segments : List (List Item)) (entries : List code.Entry) (e : BuildError)
@@ -116,12 +115,16 @@ link_refused once keep files mains n segments entries (Gen at e) a h = absurd h
 link_refused once keep files mains n segments entries (Link e) a h =
     let accepted = subst (AreAccepted files mains) (append-nil a.sections) (a.accepted [] tt) in
     (a.sections, accepted, link_fault once keep files mains a.sections e accepted (subst (λ s. IsRefusal (refusal_of (with_primitives s)) e) a.segments_are h))
-link_refused once keep files mains n segments entries Memory a h = tt
+link_refused once keep files mains n segments entries Memory a h =
+    inr (a.sections, subst (AreAccepted files mains) (append-nil a.sections) (a.accepted [] tt))
 
 -- an error that is this one
 pub err_is : {X : Type 0} (r : Result X BuildError) (e : BuildError) (P : BuildError → Type 0) → IsErrAnd r (λ x. x ≡ e) → P e → IfErr r P
 err_is (Ok x) e P h p = tt
 err_is (Err x) e P h p = subst P (sym h) p
 
-pub memory_refused : (files : List File) (mains : List ℕ) (e : BuildError) → e ≡ Memory → IsRefused files mains e
-memory_refused files mains e h = subst (IsRefused files mains) (sym h) tt
+-- memory ran out after one more main was compiled
+pub memory_refused : (files : List File) (mains : List ℕ) (n main : ℕ) (left : List ℕ) (segments : List (List Item)) (entries : List code.Entry) (items : List Item) (new : List code.Entry)
+    → AreCoded files mains n (main ∷ left) segments entries → IsCompiled files main items new → IsRefused files mains Memory
+memory_refused files mains n main left segments entries items new a c =
+    inl (a.refused Memory (inl (c.accepted.tokens, c.section, c.accepted.is_section)))

@@ -21,7 +21,8 @@ use Rattle.bc_gen.specs.Chosen.{coding}
 use Rattle.bc_gen.specs.declared.gen_error.GenError.{GenError}
 use Rattle.bc_gen.specs.declared.gen_error.GenError.TheVariants.{TooManyLabels, Memory}
 use Rattle.bc_build.specs.Refused.{IsGenFault}
-use Rattle.bc_build.specs.Compiled.{IsSection, IsAccepted}
+use Rattle.bc_build.specs.Parsed.{IsParsed}
+use Rattle.bc_build.specs.Compiled.{IsSection}
 use Rattle.bc_build.specs.Code.{IsCompiled}
 
 -- tokens and the section that they spell
@@ -40,9 +41,8 @@ same_section x y r h k = let e : Ok x ≡ Ok y = sym h ∙ k in cc
 pub is_section : (files : List File) (main : ℕ) (tokens : List Lexeme) (section : Declarations) → Parsed files main tokens section → IsSection files main tokens section
 is_section files main tokens section p = let a = p.few in let b = p.size in record { lexed = p.lexed; read = p.read; spelled = p.spelled; small = omega (arith, a, b); nests = p.nests }
 
-only_section : (files : List File) (main : ℕ) (tokens : List Lexeme) (section other : Declarations) → Parsed files main tokens section → IsAccepted files main other → other ≡ section
-only_section files main tokens section other p o =
-    same_section other section (parsed o.tokens) o.is_section.read (ap parsed (sym (p.only o.tokens o.is_section.lexed)) ∙ p.read)
+only_section : (files : List File) (main : ℕ) (tokens : List Lexeme) (section other : Declarations) → Parsed files main tokens section → IsParsed files main other → other ≡ section
+only_section files main tokens section other p o = same_section other section (parsed o.tokens) o.read (ap parsed (sym (p.only o.tokens o.lexed)) ∙ p.read)
 
 pub compiled_from : (files : List File) (main : ℕ) (tokens : List Lexeme) (section : Declarations) (core : Core) (items : List Item) (entries : List code.Entry)
     → Parsed files main tokens section → section_fault section ≡ None → core ≡ core_of section
@@ -60,4 +60,4 @@ compiled_from files main tokens section core items entries p faultless is i e l 
 pub gen_fault : (section : Declarations) (core : Core) (e : GenError) → section_fault section ≡ None → core ≡ core_of section
     → (e ≡ TooManyLabels → ¬ labels_suffice coding core) → IsGenFault section e
 gen_fault section core TooManyLabels faultless is h = (faultless, λ l. h refl (subst (labels_suffice coding) (sym is) l))
-gen_fault section core Memory faultless is h = tt
+gen_fault section core Memory faultless is h = faultless

@@ -6,7 +6,6 @@ use Rattle.bc_rules_defs.specs.Entry.{Entry}
 use Rattle.bc_cert_defs.specs.declared.check_fault.CheckFault.{CheckFault}
 use Rattle.bc_cert_defs.specs.declared.check_fault.CheckFault.TheVariants as faults
 use Rattle.bc_cert_defs.specs.declared.mismatch.Mismatch.{Mismatch}
-use Rattle.bc_cert_defs.specs.declared.verdict.Verdict as code
 use Rattle.bc_cert_defs.specs.Verdict.{Judged, Verdict}
 use Rattle.bc_cert_defs.specs.View.{verdict}
 use Rattle.bc_cert_defs.specs.Against.{Fit, Misfit, order, outside, differs, later}

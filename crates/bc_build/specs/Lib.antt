@@ -1,3 +1,4 @@
+pub mod Parsed
 pub mod Compiled
 pub mod Code
 pub mod Size

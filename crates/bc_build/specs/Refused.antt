@@ -1,5 +1,5 @@
 -- Why a program is not built: the first refusal in the order of the mains, each through lexer, parser, resolver and generator, and then
--- the linker's.
+-- the linker's. This is the order for lack of memory too: no error comes, `Memory` neither, unless every earlier part succeeded.
 use Rattle.std.specs.Prelude.{ℕ, ◌≡◌, ◌⊎◌, List, [], ◌∷◌, map, Err, Option, Some, None}
 use Rattle.bc_lex_tokens.specs.Token.{Lexeme}
 use Rattle.bc_lex.specs.declared.error.LexError.TheVariants as lex_errors
@@ -41,12 +41,13 @@ IsScopeFault due faults.FrameTooLarge = due ≡ Some scopes.AFrameTooLarge
 IsScopeFault due faults.CaseTwice = due ≡ Some scopes.ACaseTwice
 IsScopeFault due faults.TooManyPlaces = due ≡ Some scopes.ATooManyPlaces
 
--- If no code is generated, the section has no fault of its scopes and takes too many labels, unless memory ran out.
+-- If no code is generated, the section has no fault of its scopes, and takes too many labels unless memory ran out.
 abbrev pub IsGenFault : Declarations → GenError → Type 0
 IsGenFault section gen_errors.TooManyLabels = (section_fault section ≡ None) × ¬ labels_suffice coding (core_of section)
-IsGenFault section gen_errors.Memory = Unit {0}
+IsGenFault section gen_errors.Memory = section_fault section ≡ None
 
--- The error is the refusal of this main.
+-- The error is the refusal of this main: of a part that all earlier parts let it come to. The `Memory` within an error is that of the part
+-- that the error names, and comes only where this part is reached; a plain `Memory` comes only after the parser accepted the main.
 abbrev pub IsMainRefusal : List File → ℕ → BuildError → Type 0
 IsMainRefusal files main (Lex at e) = (at ≡ main) × ((e ≡ lex_errors.Memory) ⊎ HasFault files main e)
 IsMainRefusal files main (Parse at e) = (at ≡ main)
@@ -56,7 +57,7 @@ IsMainRefusal files main (Scope at e) = (at ≡ main) × ((tokens : List Lexeme)
 IsMainRefusal files main (Gen at e) = (at ≡ main) × ((tokens : List Lexeme) × (section : Declarations) × IsSection files main tokens section
     × IsGenFault section e)
 IsMainRefusal files main (Link e) = ⊥
-IsMainRefusal files main Memory = Unit {0}
+IsMainRefusal files main Memory = (tokens : List Lexeme) × (section : Declarations) × IsSection files main tokens section
 
 -- The error is the refusal of the first main that is refused; all mains before it are accepted.
 abbrev pub IsFirstRefusal : List File → List ℕ → BuildError → Type 0
@@ -71,9 +72,9 @@ IsLinkFault segments links.Memory = Unit {0}
 IsLinkFault segments (links.LabelTwice k label) = ⊥
 IsLinkFault segments (links.LabelUnset k label) = ⊥
 
--- The error is the refusal of the first refused main; or all mains are accepted and it is the linker's; or memory ran out.
+-- The error is the refusal of the first refused main, or all mains are accepted and it is the linker's. A plain `Memory` is either.
 abbrev pub IsRefused : List File → List ℕ → BuildError → Type 0
-IsRefused files mains Memory = Unit {0}
+IsRefused files mains Memory = IsFirstRefusal files mains Memory ⊎ ((sections : List Declarations) × AreAccepted files mains sections)
 IsRefused files mains (Link e) = (sections : List Declarations) × AreAccepted files mains sections × IsLinkFault (with_primitives (map items_of sections)) e
 IsRefused files mains (Lex at e) = IsFirstRefusal files mains (Lex at e)
 IsRefused files mains (Parse at e) = IsFirstRefusal files mains (Parse at e)

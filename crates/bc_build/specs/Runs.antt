@@ -24,10 +24,10 @@ meant sections image streams n = meaning_of_sections sections (addresses image) 
 abbrev pub started : Image → Content → State
 started image streams = start image.words image.stack_base streams
 
--- The addresses of the image are a map: places don't overlap, and are above the globals and below the stack. For all inputs of bytes
--- and every number n of turns: if the meaning of the sections ends within n turns, the machine's run from the image ends in the same
--- way with the same output; if the meaning is still going, the machine is still running after n or more instructions, with the same
--- output; or the meaning is wild.
+-- The addresses of the image are a map: statics, tables, strings and the first words of routines don't overlap, and are above the
+-- globals and below the stack. For all inputs of bytes and every number n of turns: if the meaning of the sections ends within n turns,
+-- the machine's run from the image ends in the same way with the same output; if the meaning is still going, the machine is still
+-- running after n or more instructions, with the same output; or the meaning is wild.
 pub record RunsAsMeant (sections : List Declarations) (image : Image) : Type 0 where
   pub is_map : IsMap (map core_of sections) (addresses image)
   pub same : (streams : Content) → HoldBytes streams.inputs → (n : ℕ) → Same (meant sections image streams n) n (started image streams)

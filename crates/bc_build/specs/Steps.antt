@@ -5,8 +5,9 @@ use Rattle.bc_rules_defs.specs.View.{entry as entry_view}
 use Rattle.bc_rules_defs.specs.declared.entry.Entry as code
 use Rattle.bc_parse_tree.specs.Tree.{Declarations}
 use Rattle.bc_lex.specs.Files.{File}
+use Rattle.bc_build.specs.Parsed.{AreParsed}
 use Rattle.bc_build.specs.Compiled.{AreAccepted}
-use Rattle.bc_build.specs.Code.{items_of, entries_from}
+use Rattle.bc_build.specs.Code.{items_of, entries_from, HasCode}
 use Rattle.bc_scope_defs.specs.Faults.{Fault}
 use Rattle.bc_link.specs.Refusals.{refusal_of}
 use Rattle.bc_link.specs.Linked.{image_of, IsRefusal}
@@ -47,8 +48,16 @@ pub record AreCoded (files : List File) (mains : List ℕ) (number : ℕ) (left 
   pub sections : List Declarations
   pub count : length sections ≡ number
   pub accepted : (rest : List Declarations) → AreAccepted files left rest → AreAccepted files mains (sections ++ rest)
-  pub only : (others : List Declarations) → AreAccepted files mains others → (rest : List Declarations) × AreAccepted files left rest
+  pub only : (others : List Declarations) → AreParsed files mains others → (rest : List Declarations) × AreParsed files left rest
       × (others ≡ sections ++ rest)
   pub refused : (e : BuildError) → IsFirstRefusal files left e → IsFirstRefusal files mains e
   pub segments_are : segments ≡ map items_of sections
   pub entries_are : map entry_view entries ≡ entries_from 0 sections
+
+-- All mains have code: they are accepted sections, and are parsed as no others. The program has their code.
+pub record IsWhole (files : List File) (mains : List ℕ) (built : Built) : Type 0 where
+  pub sections : List Declarations
+  pub accepted : AreAccepted files mains sections
+  pub only : (others : List Declarations) → AreParsed files mains others → others ≡ sections
+  pub coded : HasCode sections built
+  pub image : built.image ≡ image_of (with_primitives (map items_of sections))

@@ -6,8 +6,9 @@ ghost use Rattle.bc_parse_tree.specs.Tree.{Declarations};
 ghost use Rattle.bc_rules_defs.specs.View.{entry as entry_view};
 ghost use Rattle.bc_cert_write.specs.Workings.{WorkedOut};
 ghost use Rattle.bc_lex.specs.Files.{files_of};
+ghost use Rattle.bc_build.specs.Parsed.{AreParsed};
 ghost use Rattle.bc_build.specs.Compiled.{AreAccepted};
-ghost use Rattle.bc_build.specs.Code.{IsCompiled, in_segment};
+ghost use Rattle.bc_build.specs.Code.{HasCode, IsCompiled, in_segment};
 ghost use Rattle.bc_build.specs.Built.{IsBuilt};
 ghost use Rattle.bc_build.specs.Refused.{IsMainRefusal, IsRefused};
 ghost use Rattle.bc_build.specs.Steps.{IsLinked, IsLinkRefusal};
@@ -154,12 +155,16 @@ fn build_mains<'s>(
 ) -> Result<Built, BuildError>
     requires { All (λ main. main < length sources.now) mains.now }
     ensures built { IfOk result (IsBuilt (files_of sources.now) mains.now) }
-    ensures runs { IfOk result (λ built. (sections : List Declarations) → AreAccepted (files_of sources.now) mains.now sections
+    ensures runs { IfOk result (λ built. (sections : List Declarations) → AreParsed (files_of sources.now) mains.now sections
         → RunsAsMeant sections built.image) }
     ensures least { IfOk result (λ built. AreLeast built.segments.items (map entry_view built.entries.items)) }
     ensures certified { IfOk result (λ built. IsCertified (map entry_view built.entries.items)) }
+    ensures accepted { IfOk result (λ _. (sections : List Declarations) → AreParsed (files_of sources.now) mains.now sections
+        → AreAccepted (files_of sources.now) mains.now sections) }
+    ensures coded { IfOk result (λ built. (sections : List Declarations) → AreParsed (files_of sources.now) mains.now sections
+        → HasCode sections built) }
     ensures worked { IfOk result (λ built. AllZip WorkedOut (map entry_view built.entries.items) built.workings.items) }
-    ensures size { IfOk result (λ built. (sections : List Declarations) → AreAccepted (files_of sources.now) mains.now sections
+    ensures size { IfOk result (λ built. (sections : List Declarations) → AreParsed (files_of sources.now) mains.now sections
         → HasSize sections built.image) }
     ensures text { IfOk result (λ built. ReadsAs built.segments.items built.image) }
     ensures refused { IfErr result (IsRefused (files_of sources.now) mains.now) }
@@ -187,18 +192,20 @@ fn build_mains<'s>(
 /// Builds a program. `mains` are indexes into `sources`; the other sources are read only if a GET names them. Each main is lexed, parsed,
 /// resolved and translated in turn, and then the segments are linked after the primitives. The list of mains may be empty.
 ///
-/// Returns the first refusal in this order, or `Memory` if an allocation failed.
+/// Returns the first refusal in this order, or `Memory` where an allocation fails. An error comes only if every earlier part succeeded:
+/// the `Memory` of `Lex`, `Parse`, `Scope`, `Gen` or `Link` names the part that met it, and a plain `Memory` comes only after the parser
+/// accepted the main, or after all mains were compiled.
 pub fn build(alloc: Global, sources: &[Source<'_>], mains: &[usize]) -> Result<Built, BuildError>
     requires { All (λ main. main < length sources.now) mains.now }
 
-    // What is built: the mains are sections without fault, the segments are the code of these sections, and the entries belong to
-    // their roots, in order. The image is that of the primitives followed by the segments.
+    // What is built: the mains are parsed as sections, and the entries belong to the roots of these sections, in order. The image is that
+    // of the primitives followed by the segments.
     ensures built { IfOk result (IsBuilt (files_of sources.now) mains.now) }
 
     // The image does what its sources mean. For all inputs of bytes and every number n of turns: if the meaning of the sections ends in n
     // turns, the run from the image ends in the same way with the same output. If the meaning is cut off after n turns, the run has
     // the same output after n or more instructions and is still going. Only if the meaning is wild, nothing is claimed.
-    ensures runs { IfOk result (λ built. (sections : List Declarations) → AreAccepted (files_of sources.now) mains.now sections
+    ensures runs { IfOk result (λ built. (sections : List Declarations) → AreParsed (files_of sources.now) mains.now sections
         → RunsAsMeant sections built.image) }
 
     // The code is the shortest: each entry has the code of a derivation from the rule table that no derivation beats in words, and
@@ -206,16 +213,24 @@ pub fn build(alloc: Global, sources: &[Source<'_>], mains: &[usize]) -> Result<B
     ensures least { IfOk result (λ built. AreLeast built.segments.items (map entry_view built.entries.items)) }
     // The certificate of the entries is accepted, and what it says about each entry fits the segments.
     ensures certified { IfOk result (λ built. IsCertified (map entry_view built.entries.items)) }
+
+    // The four clauses above are the headline. The others say more of the same sections. They are accepted: the grammar spells them,
+    // within the limits of size and nesting, they have no fault, and their labels suffice.
+    ensures accepted { IfOk result (λ _. (sections : List Declarations) → AreParsed (files_of sources.now) mains.now sections
+        → AreAccepted (files_of sources.now) mains.now sections) }
+    // The segments and entries are the code of these sections, and the linker refuses nothing.
+    ensures coded { IfOk result (λ built. (sections : List Declarations) → AreParsed (files_of sources.now) mains.now sections
+        → HasCode sections built) }
     // The workings, from which the certificate is written, belong to the entries.
     ensures worked { IfOk result (λ built. AllZip WorkedOut (map entry_view built.entries.items) built.workings.items) }
     // The image has the fixed words of its commands and data, and the least words of each root.
-    ensures size { IfOk result (λ built. (sections : List Declarations) → AreAccepted (files_of sources.now) mains.now sections
+    ensures size { IfOk result (λ built. (sections : List Declarations) → AreParsed (files_of sources.now) mains.now sections
         → HasSize sections built.image) }
 
     // The printed text of the segments reads back as exactly these segments, and linking them gives this image.
     ensures text { IfOk result (λ built. ReadsAs built.segments.items built.image) }
     // An error is the first refusal, in the order of the mains, each through the parts of the compiler, and then the linker's; or memory
-    // ran out.
+    // ran out in a part for which every earlier part succeeded.
     ensures refused { IfErr result (IsRefused (files_of sources.now) mains.now) }
 {
     build_mains(alloc, sources, mains, false, &mut Vec::new(alloc))
@@ -231,12 +246,16 @@ pub fn build_keeping<'s>(
 ) -> Result<Built, BuildError>
     requires { All (λ main. main < length sources.now) mains.now }
     ensures built { IfOk result (IsBuilt (files_of sources.now) mains.now) }
-    ensures runs { IfOk result (λ built. (sections : List Declarations) → AreAccepted (files_of sources.now) mains.now sections
+    ensures runs { IfOk result (λ built. (sections : List Declarations) → AreParsed (files_of sources.now) mains.now sections
         → RunsAsMeant sections built.image) }
     ensures least { IfOk result (λ built. AreLeast built.segments.items (map entry_view built.entries.items)) }
     ensures certified { IfOk result (λ built. IsCertified (map entry_view built.entries.items)) }
+    ensures accepted { IfOk result (λ _. (sections : List Declarations) → AreParsed (files_of sources.now) mains.now sections
+        → AreAccepted (files_of sources.now) mains.now sections) }
+    ensures coded { IfOk result (λ built. (sections : List Declarations) → AreParsed (files_of sources.now) mains.now sections
+        → HasCode sections built) }
     ensures worked { IfOk result (λ built. AllZip WorkedOut (map entry_view built.entries.items) built.workings.items) }
-    ensures size { IfOk result (λ built. (sections : List Declarations) → AreAccepted (files_of sources.now) mains.now sections
+    ensures size { IfOk result (λ built. (sections : List Declarations) → AreParsed (files_of sources.now) mains.now sections
         → HasSize sections built.image) }
     ensures text { IfOk result (λ built. ReadsAs built.segments.items built.image) }
     ensures refused { IfErr result (IsRefused (files_of sources.now) mains.now) }

@@ -103,10 +103,30 @@ pub enum Fault {
     UnseenHeader,
     /// Something that an older system may read in another way, in a source that builds as it is.
     OldMeaning,
+    /// A sign of conditional compilation for a part that isn't closed.
+    OpenCondition,
+    /// A tag of conditional compilation that nothing sets.
+    TagNotSet,
+    /// A CASE or DEFAULT that can't be put into the list of its SWITCHON.
+    NestedCase,
+    /// START, where a pool for GETVEC was put.
+    PoolAdded,
+    /// A global of the program's own whose number EXTLIB has too, and was changed.
+    GlobalMoved,
+    /// One whose number can't be changed.
+    GlobalKept,
+    /// A product of constants over 65,535.
+    WideProduct,
+    /// A value of a TABLE that isn't a constant.
+    TableValue,
+    /// A step of a FOR that isn't a constant.
+    StepValue,
+    /// SELECTON.
+    Choice,
 }
 
 /// The message and the remedy for each fault, in the order of the faults.
-static WORDS: [(&str, &str); 49] = [
+static WORDS: [(&str, &str); 59] = [
     (
         "a jump can't leave a routine in this dialect",
         "instead of LEVEL and LONGJUMP, set a flag that each routine checks after a call",
@@ -302,6 +322,46 @@ static WORDS: [(&str, &str); 49] = [
     (
         "an older system may read this in another way, but the source builds as it is, so nothing was changed",
         "if it was written for an older system, name that by --dialect",
+    ),
+    (
+        "no $> with the same tag follows, so it is unknown which part this controls",
+        "write the missing $> with the tag at the end of that part, and convert the source again",
+    ),
+    (
+        "nothing sets the tag of this conditional compilation, so it counts as not set; the parts left out became comments",
+        "if it must be set, convert the old source again with --define and the tag; with a --define no tag is reported",
+    ),
+    (
+        "in this dialect a CASE or DEFAULT must be directly in the list of its SWITCHON",
+        "move it into the list, and put the commands that several cases share into a routine",
+    ),
+    (
+        "GETVEC needs a pool in this dialect, so a vector of 4000 words was put at the beginning of START",
+        "if GETVEC returns 0, write a larger size there in both places",
+    ),
+    (
+        "EXTLIB has globals from 30 to 58 and 92 to 99, so this number and others of the program's own were raised",
+        "if a file that isn't converted here declares them too, write the same numbers there",
+    ),
+    (
+        "EXTLIB has a global with this number too",
+        "write a number from 100 on that is free, in all files of the program",
+    ),
+    (
+        "this product is over 65535, and a word has 16 bits",
+        "use smaller sizes, or store the value in two words",
+    ),
+    (
+        "the values of a TABLE must be constants in this dialect",
+        "declare a vector with VEC, and assign the values to its words",
+    ),
+    (
+        "the step of a FOR must be a constant in this dialect",
+        "write a loop with WHILE, and add the step at its end",
+    ),
+    (
+        "this dialect has no SELECTON",
+        "write VALOF and SWITCHON, with RESULTIS in each case",
     ),
 ];
 

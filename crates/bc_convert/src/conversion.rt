@@ -5,18 +5,26 @@ ghost use Rattle.bc_convert.specs.Converted.{converted, RiseWithin, ChangesText}
 
 use crate::applied::apply;
 use crate::complaint::{Complaint, Fault};
+use crate::conditions::{Compiled, without_others};
+use crate::constants::{find_tables, find_variables};
 use crate::dialect::Dialect;
 use crate::doubts::{find_doubts, find_formats, find_old_meanings, find_stars};
+use crate::fields::{find_assigned_fields, find_fields};
+use crate::flags::find_flags;
 use crate::formats::{Format, format_at, gets_header};
 use crate::kind::Kind;
 use crate::names::{is_called, is_declared, is_for};
+use crate::nested_cases::find_nested_cases;
 use crate::notes::Notes;
 use crate::options::{Header, Lawful, Options};
+use crate::own_globals::move_globals;
+use crate::pools::{put_pool, tell_no_pool};
 use crate::prepared::{prepared, with_differences};
 use crate::program::Program;
 use crate::reading::Reading;
 use crate::replacement::Replacement;
 use crate::settled::settle;
+use crate::sized_vectors::find_sized_vectors;
 use crate::source::TokenizedText;
 use crate::spelling::{respell, respell_header};
 use crate::statics::find_statics;
@@ -66,7 +74,7 @@ fn find_parted_jumps(source: TokenizedText<'_>, notes: &mut Notes) {
 fn tell_formats(
     source: TokenizedText<'_>,
     notes: &mut Notes,
-    options: Options<'_>,
+    options: Options<'_, '_>,
     header: Header,
 ) {
     if matches!(header, Header::Further) {
@@ -83,7 +91,7 @@ fn tell_formats(
 }
 
 /// Reports the first token that needs EXTHDR, in a source with its own header.
-fn tell_want(source: TokenizedText<'_>, notes: &mut Notes, options: Options<'_>) {
+fn tell_want(source: TokenizedText<'_>, notes: &mut Notes, options: Options<'_, '_>) {
     for index in 0..source.tokens.len() {
         if let Some(Format::Further) = format_at(source, index, options.library) {
             return notes.complain(source, index, Fault::NoHeader);
@@ -92,7 +100,7 @@ fn tell_want(source: TokenizedText<'_>, notes: &mut Notes, options: Options<'_>)
 }
 
 /// Reports the first call of GETVEC, where no source of the program sets up its pool.
-fn tell_pool(source: TokenizedText<'_>, notes: &mut Notes, options: Options<'_>) {
+fn tell_pool(source: TokenizedText<'_>, notes: &mut Notes, options: Options<'_, '_>) {
     for index in 0..source.tokens.len() {
         if is_called(source, index) && is_for(source.bytes(index), options.library, b"GETVEC") {
             return notes.complain(source, index, Fault::NoPool);
@@ -104,9 +112,13 @@ fn tell_pool(source: TokenizedText<'_>, notes: &mut Notes, options: Options<'_>)
 fn tell_library(
     source: TokenizedText<'_>,
     notes: &mut Notes,
-    options: Options<'_>,
+    options: Options<'_, '_>,
     program: Program,
 ) {
+    let is_changed = options.lawful == Lawful::No;
+    if is_changed && program.wants_pool(options.header) {
+        put_pool(source, notes, options.library);
+    }
     if !notes.has_changes() {
         return;
     }
@@ -115,7 +127,7 @@ fn tell_library(
     if !program.gets_library && !source.names.gets_library_alone {
         tell_want(source, notes, options);
     }
-    if !program.makes_pool {
+    if !program.makes_pool && !program.wants_pool(options.header) {
         tell_pool(source, notes, options);
     }
 }
@@ -125,7 +137,7 @@ fn found(
     alloc: Global,
     source: TokenizedText<'_>,
     shown: Dialect,
-    options: Options<'_>,
+    options: Options<'_, '_>,
 ) -> Result<Notes, Memory> {
     let mut notes = Notes::new(alloc, source.tokens.len())?;
     find(
@@ -138,7 +150,7 @@ fn found(
 }
 
 /// The facts about the whole program, as they apply to a source whose own dialect is `shown`.
-fn shown_with(source: TokenizedText<'_>, shown: Dialect, options: Options<'_>) -> Program {
+fn shown_with(source: TokenizedText<'_>, shown: Dialect, options: Options<'_, '_>) -> Program {
     let program = match options.program {
         Some(program) => program.seen_from(shown),
         None => Program::shown(source, shown, options.library),
@@ -150,29 +162,49 @@ fn shown_with(source: TokenizedText<'_>, shown: Dialect, options: Options<'_>) -
 }
 
 /// Collects the notes on a source of a program.
-fn find(source: TokenizedText<'_>, notes: &mut Notes, options: Options<'_>, program: Program) {
+fn find(source: TokenizedText<'_>, notes: &mut Notes, options: Options<'_, '_>, program: Program) {
     find_changes(source, notes, options, program);
     match options.lawful {
         Lawful::No => {}
         Lawful::Header => {
             leave_lawful(source, notes);
             find_headers(source, notes, options, program);
+            find_globals(source, notes, options, program);
+            if program.wants_pool(options.header) {
+                tell_no_pool(source, notes, options.library);
+            }
         }
         Lawful::Whole => {
             leave_lawful(source, notes);
             find_formats(source, notes, options);
         }
-        Lawful::Unseen => leave_unseen(source, notes),
+        Lawful::Unseen => {
+            leave_unseen(source, notes);
+            find_globals(source, notes, options, program);
+        }
     }
     find_doubts(source, notes, options);
     find_stars(source, notes, program);
+}
+
+/// Moves or reports globals of the program's own that EXTLIB has too.
+fn find_globals(
+    source: TokenizedText<'_>,
+    notes: &mut Notes,
+    options: Options<'_, '_>,
+    program: Program,
+) {
+    if let Some(own) = program.moved_globals(options.header) {
+        let may_move = options.lawful != Lawful::Unseen;
+        move_globals(source, notes, own, may_move);
+    }
 }
 
 /// Exchanges the library's header in a lawful source.
 fn find_headers(
     source: TokenizedText<'_>,
     notes: &mut Notes,
-    options: Options<'_>,
+    options: Options<'_, '_>,
     program: Program,
 ) {
     let header = options.header.unwrap_or(program.header());
@@ -218,7 +250,7 @@ fn leave_unseen(source: TokenizedText<'_>, notes: &mut Notes) {
 fn find_changes(
     source: TokenizedText<'_>,
     notes: &mut Notes,
-    options: Options<'_>,
+    options: Options<'_, '_>,
     program: Program,
 ) {
     let dialect = program.dialect;
@@ -229,11 +261,21 @@ fn find_changes(
         dialect,
         depth: MOST_DEPTH,
     };
+    find_fields(source, notes);
     items(walk, notes, 0, source.tokens.len());
+    find_assigned_fields(source, notes);
     find_label_values(source, notes);
     find_parted_jumps(source, notes);
     find_valof_jumps(source, notes);
     find_statics(source, notes);
+    find_nested_cases(source, notes);
+    find_sized_vectors(source, notes, program.wants_pool(options.header));
+    find_tables(source, notes);
+    find_variables(source, notes);
+    find_flags(source, notes);
+    if options.lawful == Lawful::No {
+        find_globals(source, notes, options, program);
+    }
     find_old_meanings(source, notes, dialect);
     tell_library(source, notes, options, program);
 }
@@ -242,26 +284,54 @@ fn find_changes(
 fn found_in(
     alloc: Global,
     text: &[u8],
-    options: Options<'_>,
+    options: Options<'_, '_>,
 ) -> Result<(Vec<Replacement>, Vec<Complaint>), Memory> {
-    let reading = Reading::new(alloc, text)?;
+    let reading = Reading::new(alloc, text, options.shared)?;
     let source = reading.source(text);
     found(alloc, source, reading.dialect, options)?.finished(source)
 }
 
-/// All candidates for replacements: those found, and those that lead to the text as the lexer reads it. A lawful source has
-/// only those found.
+/// Two lists of candidates, each in the order of the text, as one such list.
+fn merged(
+    conditions: Vec<Replacement>,
+    found: Vec<Replacement>,
+) -> Result<Vec<Replacement>, Memory> {
+    if conditions.is_empty() {
+        return Ok(found);
+    }
+    let mut all = conditions;
+    for candidate in found {
+        all.push(candidate)?;
+    }
+    all.sort_by_key(|candidate| candidate.start)?;
+    Ok(all)
+}
+
+/// All candidates for replacements: those for conditional compilation, those found, and those that lead to the text as the
+/// lexer reads it. A lawful source has only those found.
 fn candidates(
     alloc: Global,
     text: &[u8],
     prepared: &[u8],
-    options: Options<'_>,
-    found: Vec<Replacement>,
+    options: Options<'_, '_>,
+    changes: (Vec<Replacement>, Vec<Replacement>),
 ) -> Result<Vec<Replacement>, Memory> {
+    let (conditions, found) = changes;
     match options.lawful {
-        Lawful::No => with_differences(alloc, text, prepared, found),
+        Lawful::No => {
+            let found = merged(conditions, found)?;
+            with_differences(alloc, text, prepared, found)
+        }
         Lawful::Header | Lawful::Whole | Lawful::Unseen => Ok(found),
     }
+}
+
+/// Two lists of complaints as one, in the order of the text.
+fn in_order(tags: Vec<Complaint>, further: Vec<Complaint>) -> Result<Vec<Complaint>, Memory> {
+    let mut complaints = tags;
+    complaints.extend_from_slice(further.as_slice())?;
+    complaints.sort_by_key(|complaint| complaint.start)?;
+    Ok(complaints)
 }
 
 /// Converts a source from an old dialect to this one.
@@ -273,16 +343,22 @@ fn candidates(
 /// # Errors
 ///
 /// `Memory` if an allocation failed.
-pub fn convert(alloc: Global, text: &[u8], options: Options<'_>) -> Result<Conversion, Memory>
+pub fn convert(alloc: Global, text: &[u8], options: Options<'_, '_>) -> Result<Conversion, Memory>
     ensures rise { IfOk result (λ c. RiseWithin 0 (length text.now) c.replacements.items) }
     ensures change { IfOk result (λ c. ChangesText text.now c.replacements.items) }
     ensures whole { IfOk result (λ c. c.text.items ≡ converted text.now c.replacements.items) }
     ensures kept { IfOk result (λ c. c.replacements.items ≡ [] → c.text.items ≡ text.now) }
 {
     let prepared = prepared(alloc, text)?;
-    let (found, mut complaints) = found_in(alloc, prepared.as_slice(), options)?;
-    complaints.sort_by_key(|complaint| complaint.start)?;
-    let candidates = candidates(alloc, text, prepared.as_slice(), options, found)?;
+    let Compiled {
+        text: read,
+        changes,
+        complaints: tags,
+    } = without_others(alloc, prepared.as_slice(), options.defines)?;
+    let (found, further) = found_in(alloc, read.as_slice(), options)?;
+    let complaints = in_order(tags, further)?;
+    let changes = (changes, found);
+    let candidates = candidates(alloc, text, prepared.as_slice(), options, changes)?;
     let replacements = settle(alloc, text, candidates)?;
     Ok(Conversion {
         text: apply(alloc, text, replacements.as_slice())?,

@@ -2,6 +2,7 @@
 
 use crate::context::is_let_or_and;
 use crate::kind::Kind;
+use crate::shared_names::SharedNames;
 use crate::source::{Token, TokenizedText};
 use crate::words::{MOST_WORDS, ReservedWord, is_same_word, is_small, reserved, reserved_place};
 use bc_word::Memory;
@@ -232,11 +233,22 @@ fn begins_command(source: TokenizedText<'_>, index: usize) -> bool {
         || is_same_word(source.bytes(index - 1), b"GOTO")
 }
 
+/// Whether the sign of an assignment is at an index: `:=`, `_`, or an operator and `:=`.
+fn is_assignment(source: TokenizedText<'_>, index: usize) -> bool {
+    match source.kind(index) {
+        Kind::Assign | Kind::Underline => true,
+        kind => kind.level() > 1 && source.kind(index.saturating_add(1)) == Kind::Assign,
+    }
+}
+
 /// Whether the reserved word at an index is declared there, assigned to, or a label.
 fn is_set_as_name(source: TokenizedText<'_>, index: usize, kind: Kind) -> bool {
-    match source.kind(index.saturating_add(1)) {
-        Kind::Assign => kind.level() == 0,
-        Kind::OpenRound => index > 0 && is_let_or_and(source, index - 1),
+    let next = index.saturating_add(1);
+    if kind.level() == 0 && is_assignment(source, next) {
+        return true;
+    }
+    match source.kind(next) {
+        Kind::OpenRound | Kind::OpenSquare => index > 0 && is_let_or_and(source, index - 1),
         Kind::Colon if begins_command(source, index) => kind != Kind::Default,
         Kind::Comma | Kind::CloseRound | Kind::Semicolon | Kind::Equal | Kind::Colon => {
             is_declared_at(source, index)
@@ -251,11 +263,21 @@ fn spelling_place(source: TokenizedText<'_>, index: usize, number: usize) -> usi
     number.saturating_mul(2).saturating_add(small)
 }
 
-/// For each spelling of each reserved word, whether it is a name somewhere in the source, and so everywhere.
+/// Whether a word is a name that the sources of a program share.
+fn is_shared_word(shared: Option<&SharedNames>, word: &[u8]) -> bool {
+    match shared {
+        Some(shared) => shared.has_word(word),
+        None => false,
+    }
+}
+
+/// For each spelling of each reserved word, whether it is a name somewhere in the source or in its program, and so
+/// everywhere.
 fn words_as_names(
     alloc: Global,
     source: TokenizedText<'_>,
     dialect: Dialect,
+    shared: Option<&SharedNames>,
 ) -> Result<Vec<bool>, Memory> {
     let mut are_names = vec![in alloc; false; 2 * MOST_WORDS]?;
     for index in 0..source.tokens.len() {
@@ -264,7 +286,9 @@ fn words_as_names(
         }
         if let Some((number, word)) = reserved_place(source.bytes(index), dialect.has_small_words) {
             let place = spelling_place(source, index, number);
-            if is_name_at(source, index, word) && place < are_names.len() {
+            let is_name = is_name_at(source, index, word)
+                || is_shared_word(shared, source.bytes(index));
+            if is_name && place < are_names.len() {
                 are_names[place] = true;
             }
         }
@@ -339,7 +363,8 @@ fn kind_of_square(before: Kind, is_separated: bool) -> Kind {
     }
 }
 
-/// The tokens with each word classified, and each square bracket taken for a parenthesis or a section bracket.
+/// The tokens with each word classified, and each square bracket taken for a parenthesis or a section bracket. `shared` has
+/// the names that the source shares with others.
 ///
 /// # Errors
 ///
@@ -348,8 +373,9 @@ pub fn classified(
     alloc: Global,
     source: TokenizedText<'_>,
     dialect: Dialect,
+    shared: Option<&SharedNames>,
 ) -> Result<Vec<Token>, Memory> {
-    let are_names = words_as_names(alloc, source, dialect)?;
+    let are_names = words_as_names(alloc, source, dialect, shared)?;
     let mut tokens = Vec::new(alloc);
     let mut open = Vec::new(alloc);
     let mut before = Kind::End;

@@ -13,9 +13,10 @@ use crate::operands::is_adjacent;
 use crate::options::Options;
 use crate::program::Program;
 use crate::source::TokenizedText;
+use crate::wide_values::find_wide_values;
 
 /// Reports shifts by 16 or more and parameters of START.
-pub fn find_doubts(source: TokenizedText<'_>, notes: &mut Notes, options: Options<'_>) {
+pub fn find_doubts(source: TokenizedText<'_>, notes: &mut Notes, options: Options<'_, '_>) {
     for index in 0..source.tokens.len() {
         let next = index.saturating_add(1);
         match source.kind(index) {
@@ -28,6 +29,7 @@ pub fn find_doubts(source: TokenizedText<'_>, notes: &mut Notes, options: Option
             _ => {}
         }
     }
+    find_wide_values(source, notes);
 }
 
 /// Whether START is declared with a parameter at an index.
@@ -67,7 +69,7 @@ pub fn find_stars(source: TokenizedText<'_>, notes: &mut Notes, program: Program
 }
 
 /// Reports calls of WRITEF that LIBHDR's doesn't support, in a lawful source that gets LIBHDR.
-pub fn find_formats(source: TokenizedText<'_>, notes: &mut Notes, options: Options<'_>) {
+pub fn find_formats(source: TokenizedText<'_>, notes: &mut Notes, options: Options<'_, '_>) {
     let gets_basic = (0..source.tokens.len()).any(|index| gets_header(source, index)
         && source.bytes(index) == b"\"LIBHDR\"".as_slice());
     if !gets_basic {
@@ -80,11 +82,13 @@ pub fn find_formats(source: TokenizedText<'_>, notes: &mut Notes, options: Optio
     }
 }
 
-/// Whether a source may be written for the Alto: it has LV, or a character written with a dollar sign.
+/// Whether a source may be written for the Alto: it has LV, a block in square brackets, or a character written with a dollar
+/// sign.
 fn may_be_alto(source: TokenizedText<'_>) -> bool {
     (0..source.tokens.len()).any(|index| match source.kind(index) {
         Kind::Address => source.bytes(index).eq_ignore_ascii_case(b"LV"),
         Kind::Character => source.bytes(index).starts_with(b"$".as_slice()),
+        Kind::OpenSection => source.bytes(index) == b"[".as_slice(),
         _ => false,
     })
 }

@@ -117,6 +117,8 @@ pub enum Kind {
     Joint,
     /// OF, SLCT and other words and signs that have no counterpart.
     Foreign,
+    /// `$$`, `$<`, `$>` or `$~` with a tag, a sign of conditional compilation.
+    Condition,
     /// A comment, a string or a character constant that isn't closed.
     Unclosed,
     /// A byte with which no token begins.

@@ -195,16 +195,17 @@ fn character_bytes(bytes: &[u8]) -> usize
     }
 }
 
-/// Whether a `$` is followed by one letter or digit, which is a character constant in the dialect of the Alto.
+/// Whether a `$` is followed by one letter, digit or sign, which is a character constant in the dialect of the Alto.
 fn is_dollar_character(bytes: &[u8]) -> bool {
     match bytes {
+        [b'$', sign, ..] if b".,:;!?+-=&%#/@^|".contains(sign) => true,
         [b'$', letter, next, ..] => letter.is_ascii_alphanumeric() && !is_name_byte(*next),
         [b'$', letter] => letter.is_ascii_alphanumeric(),
         _ => false,
     }
 }
 
-/// The sign at the start. A section bracket includes its whole tag.
+/// The sign at the start. A section bracket includes its whole tag, and so does a sign of conditional compilation.
 fn sign(bytes: &[u8]) -> (Kind, usize)
     requires { 0 < length bytes.now }
     ensures { result.1 ≤ length bytes.now }
@@ -212,10 +213,19 @@ fn sign(bytes: &[u8]) -> (Kind, usize)
     match bytes {
         [b'$', b'(', ..] => (Kind::OpenSection, 2 + name_bytes(following(bytes, 2))),
         [b'$', b')', ..] => (Kind::CloseSection, 2 + name_bytes(following(bytes, 2))),
+        [b'$', b'$' | b'<' | b'>' | b'~', letter, ..] if letter.is_ascii_alphanumeric() => (
+            Kind::Condition,
+            2 + name_bytes(following(bytes, 2)),
+        ),
         [0xc2, 0xac, b'=', ..] => (Kind::Relation, 3),
         [0xc2, 0xac, ..] => (Kind::Not, 2),
         [0xe2, 0x89, 0xa0 | 0xa4 | 0xa5, ..] => (Kind::Relation, 3),
+        [0xe2, 0x86, 0x90, ..] => (Kind::Assign, 3),
+        [0xe2, 0x86, 0x92, ..] => (Kind::Arrow, 3),
+        [0xe2, 0x88, 0xa7, ..] => (Kind::Conjunction, 3),
+        [0xe2, 0x88, 0xa8, ..] => (Kind::Disjunction, 3),
         [b'/', b'*', ..] => (Kind::Unclosed, bytes.len()),
+        [b'$', b'*', letter, ..] if letter.is_ascii_alphabetic() => (Kind::Character, 3),
         [b'$', _, ..] if is_dollar_character(bytes) => (Kind::Character, 2),
         _ => match long_sign(bytes) {
             Some(kind) => (kind, 2),

@@ -21,6 +21,12 @@ pub struct NameFacts {
     pub is_number: bool,
     /// The number that it gets once its underlines are dots, so that it is unique. 1 means none.
     pub suffix: u32,
+    /// Its value, if it is declared by MANIFEST with a number.
+    pub value: Option<u32>,
+    /// It is declared by MANIFEST.
+    pub is_constant: bool,
+    /// It is declared as a field of a word.
+    pub is_field: bool,
 }
 
 impl NameFacts {
@@ -34,6 +40,9 @@ impl NameFacts {
             is_vector: self.is_vector || other.is_vector,
             has_star: self.has_star || other.has_star,
             is_number: self.is_number || other.is_number,
+            value: self.value.or(other.value),
+            is_constant: self.is_constant || other.is_constant,
+            is_field: self.is_field || other.is_field,
             ..self
         }
     }

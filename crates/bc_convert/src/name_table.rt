@@ -5,6 +5,7 @@ use crate::formats::gets_header_alone;
 use crate::kind::Kind;
 use crate::name_facts::{NameFacts, NameTable};
 use crate::names::{shown_at, stands_as_number, with_dots};
+use crate::shared_names::SharedNames;
 use crate::source::TokenizedText;
 use bc_word::Memory;
 use indexmap::IndexMap;
@@ -44,12 +45,16 @@ fn temporary_number(bytes: &[u8]) -> Option<usize> {
 }
 
 impl Names {
-    /// Finds the names of a classified text.
+    /// Finds the names of a classified text. `shared` has the names that it shares with other sources.
     ///
     /// # Errors
     ///
     /// `Memory` if an allocation failed.
-    pub fn of(alloc: Global, source: TokenizedText<'_>) -> Result<Names, Memory> {
+    pub fn of(
+        alloc: Global,
+        source: TokenizedText<'_>,
+        shared: Option<&SharedNames>,
+    ) -> Result<Names, Memory> {
         let mut names = Names {
             numbers: Vec::new(alloc),
             facts: Vec::new(alloc),
@@ -62,6 +67,7 @@ impl Names {
             names.numbers.push(number)?;
         }
         names.note_numbers(source);
+        names.note_constants(source, shared);
         names.add_suffixes(alloc, source, &known)?;
         names.add_taken(alloc, source)?;
         Ok(names)
@@ -111,6 +117,18 @@ impl Names {
             if number < self.facts.len() && self.facts[number].has_star {
                 let is_number = self.facts[number].is_number || stands_as_number(source, index);
                 self.facts[number].is_number = is_number;
+            }
+        }
+    }
+
+    /// Notes which names are constants of the program, of those that are followed by a star and a parenthesis.
+    fn note_constants(&mut self, source: TokenizedText<'_>, shared: Option<&SharedNames>) {
+        let Some(shared) = shared else {
+            return;
+        };
+        for facts in &mut self.facts {
+            if facts.has_star && shared.has_constant(source.bytes(facts.first)) {
+                facts.is_number = true;
             }
         }
     }

@@ -2,6 +2,7 @@
 
 use crate::dialect::Dialect;
 use crate::doubts::shows_vector;
+use crate::fields::declares_field;
 use crate::kind::Kind;
 use crate::library::library_name;
 use crate::name_facts::NameFacts;
@@ -91,7 +92,7 @@ pub fn name_change(
     source: TokenizedText<'_>,
     index: usize,
     dialect: Dialect,
-    options: Options<'_>,
+    options: Options<'_, '_>,
 ) -> Result<Option<Vec<u8>>, Memory> {
     if let Some(new) = new_name(source, index, dialect, options) {
         return Ok(Some(Vec::from_slice(alloc, new)?));
@@ -113,7 +114,7 @@ fn new_name<'o>(
     source: TokenizedText<'_>,
     index: usize,
     dialect: Dialect,
-    options: Options<'o>,
+    options: Options<'o, '_>,
 ) -> Option<&'o [u8]> {
     if let Some(new) = options.library.renamed(source.bytes(index)) {
         return Some(new);
@@ -146,7 +147,38 @@ pub fn shown_at(source: TokenizedText<'_>, index: usize) -> NameFacts {
             && source.kind(next.saturating_add(1)) == Kind::OpenRound,
         is_number: false,
         suffix: 1,
+        value: declared_value(source, index),
+        is_constant: is_manifest_entry(source, index),
+        is_field: declares_field(source, index),
     }
+}
+
+/// The number that the name at an index is declared to be by MANIFEST.
+fn declared_value(source: TokenizedText<'_>, index: usize) -> Option<u32> {
+    let value = index.saturating_add(2);
+    let end = index.saturating_add(3);
+    let is_alone = source.is_separated(end) || source.kind(end).level() == 0;
+    let is_number = source.kind(index.saturating_add(1)) == Kind::Equal
+        && source.kind(value) == Kind::Number
+        && is_alone
+        && listing_word(source, index) == Kind::Manifest;
+    if is_number {
+        value_of_number(source, value).ok()
+    } else {
+        None
+    }
+}
+
+/// Whether the token at an index is a name that a list of MANIFEST declares.
+pub fn is_manifest_entry(source: TokenizedText<'_>, index: usize) -> bool {
+    source.kind(index) == Kind::Name
+        && listing_word(source, index) == Kind::Manifest
+        && declares(source, index)
+}
+
+/// Whether the token at an index is a name in a list of GLOBAL.
+pub fn is_declared_global(source: TokenizedText<'_>, index: usize) -> bool {
+    source.kind(index) == Kind::Name && listing_word(source, index) == Kind::Global
 }
 
 /// Whether the name at an index is declared there: after LET, AND or FOR, as a parameter, or in a list of GLOBAL,
@@ -171,6 +203,11 @@ pub fn is_entry(source: TokenizedText<'_>, index: usize) -> bool {
         listing_word(source, index),
         Kind::Global | Kind::Manifest | Kind::Static
     )
+}
+
+/// Whether a name is in a list of this kind.
+pub fn is_in_list_of(source: TokenizedText<'_>, index: usize, list: Kind) -> bool {
+    listing_word(source, index) == list
 }
 
 /// The token before the innermost section bracket around a name; `End` if the nearest section bracket before the name

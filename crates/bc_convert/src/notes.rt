@@ -206,6 +206,14 @@ impl Notes {
         }
     }
 
+    /// Drops what was put after a token.
+    pub fn clear_after(&mut self, index: usize) {
+        if index < self.slots.len() {
+            let slot = &mut self.slots[index];
+            slot.after = Vec::new(self.alloc);
+        }
+    }
+
     /// Removes a token and the blanks before it.
     pub fn take_out(&mut self, source: TokenizedText<'_>, index: usize) {
         self.clear(index);
@@ -313,6 +321,11 @@ impl Notes {
         if self.blocks.push(block).is_err() {
             self.refuse();
         }
+    }
+
+    /// Whether such a block ends before the token at an index.
+    pub fn ends_late_block(&self, index: usize) -> bool {
+        self.blocks.iter().any(|block| block.to == index)
     }
 
     /// Whether the token at `destination` is the destination of a GOTO that comes before such a block, with its label

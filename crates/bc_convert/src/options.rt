@@ -4,6 +4,7 @@ use crate::complaint::{Complaint, Fault};
 use crate::library::is_library_name;
 use crate::old_names::OldNames;
 use crate::program::Program;
+use crate::shared_names::SharedNames;
 use bc_word::Memory;
 use std::alloc::Global;
 
@@ -42,7 +43,7 @@ pub enum Lawful {
 
 /// The inputs of a conversion besides the source.
 #[derive(Clone, Copy)]
-pub struct Options<'o> {
+pub struct Options<'o, 'd> {
     /// The old names that have other names here.
     pub library: &'o OldNames<'o>,
     /// The header that sources get; `None` if it depends on what they need.
@@ -53,6 +54,10 @@ pub struct Options<'o> {
     pub lawful: Lawful,
     /// The system for which the source was written; `None` if the source must show its dialect.
     pub system: Option<System>,
+    /// The names that all sources of the program share; `None` if this source is the whole program.
+    pub shared: Option<&'o SharedNames>,
+    /// The tags of conditional compilation that are set where a source begins.
+    pub defines: &'d [&'d str],
 }
 
 /// The renamings of a list of names, and the faults in its lines.

@@ -3,10 +3,13 @@
 use crate::dialect::Dialect;
 use crate::formats::{Format, bit_at, format_at, gets_header, is_further_string};
 use crate::kind::Kind;
-use crate::names::{declares, declares_routine, is_declared, is_entry, is_for};
+use crate::names::{declares, declares_routine, is_called, is_declared, is_entry, is_for};
 use crate::old_names::OldNames;
 use crate::options::{Header, System};
+use crate::own_globals::OwnGlobals;
+use crate::pools::body_of_start;
 use crate::reading::Reading;
+use crate::sized_vectors::takes_vector;
 use crate::source::TokenizedText;
 use bc_word::Memory;
 use std::alloc::Global;
@@ -32,6 +35,12 @@ pub struct Program {
     has_several: bool,
     /// A source mentions INITVEC, or declares GETVEC as a routine.
     pub makes_pool: bool,
+    /// A source calls GETVEC, or will.
+    calls_pool: bool,
+    /// A source declares START with a block as its body.
+    has_start: bool,
+    /// The numbers of the program's own globals.
+    own: OwnGlobals,
     /// The names that only EXTHDR has, as bits: those that a source uses without declaring them, and those that a
     /// source declares by GLOBAL, MANIFEST or STATIC.
     used: u64,
@@ -52,7 +61,7 @@ impl Program {
     ///
     /// `Memory` if an allocation failed.
     pub fn of(alloc: Global, text: &[u8], library: &OldNames<'_>) -> Result<Program, Memory> {
-        let reading = Reading::new(alloc, text)?;
+        let reading = Reading::new(alloc, text, None)?;
         Ok(Program::shown(reading.source(text), reading.dialect, library))
     }
 
@@ -68,6 +77,9 @@ impl Program {
             gets_library_alone: source.names.gets_library_alone,
             has_several: false,
             makes_pool: false,
+            calls_pool: false,
+            has_start: false,
+            own: OwnGlobals::of(source),
             used: 0,
             declared: 0,
         };
@@ -90,6 +102,16 @@ impl Program {
         }
         if makes_pool(source, index, library) {
             self.makes_pool = true;
+        }
+        if is_called(source, index) && is_for(source.bytes(index), library, b"GETVEC") {
+            self.calls_pool = true;
+        }
+        if body_of_start(source, index, library).is_some() {
+            self.has_start = true;
+        }
+        if takes_vector(source, index) {
+            self.calls_pool = true;
+            self.needs_further = true;
         }
         let bit = bit_at(source, index, library);
         if bit == 0 {
@@ -127,6 +149,9 @@ impl Program {
             gets_library_alone: self.gets_library_alone && other.gets_library_alone,
             has_several: true,
             makes_pool: self.makes_pool || other.makes_pool,
+            calls_pool: self.calls_pool || other.calls_pool,
+            has_start: self.has_start || other.has_start,
+            own: self.own.with(other.own),
             used: self.used | other.used,
             declared: self.declared | other.declared,
         }
@@ -155,6 +180,26 @@ impl Program {
             },
             has_stars,
             ..self
+        }
+    }
+
+    /// Whether the sources get EXTHDR, if this header was chosen for them.
+    fn gets_further(self, chosen: Option<Header>) -> bool {
+        self.gets_library && matches!(chosen.unwrap_or(self.header()), Header::Further)
+    }
+
+    /// Whether START must set up a pool for GETVEC, and can, if this header was chosen for the sources.
+    pub fn wants_pool(self, chosen: Option<Header>) -> bool {
+        self.calls_pool && !self.makes_pool && self.has_start && self.gets_further(chosen)
+    }
+
+    /// The numbers of the program's own globals, if some of them are EXTLIB's and the sources get EXTHDR. This header was chosen
+    /// for them.
+    pub fn moved_globals(self, chosen: Option<Header>) -> Option<OwnGlobals> {
+        if self.own.clashes() && self.gets_further(chosen) {
+            Some(self.own)
+        } else {
+            None
         }
     }
 

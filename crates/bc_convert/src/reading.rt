@@ -7,6 +7,7 @@ use crate::dialect::{Dialect, classified};
 use crate::lexing::lex;
 use crate::name_facts::NameTable;
 use crate::name_table::Names;
+use crate::shared_names::SharedNames;
 use crate::source::{Token, TokenizedText};
 use bc_word::Memory;
 use std::alloc::Global;
@@ -21,23 +22,31 @@ pub struct Reading {
 }
 
 impl Reading {
-    /// Reads a text.
+    /// Reads a text. `shared` has the names that it shares with other sources.
     ///
     /// # Errors
     ///
     /// `Memory` if an allocation failed.
-    pub fn new(alloc: Global, text: &[u8]) -> Result<Reading, Memory> {
+    pub fn new(
+        alloc: Global,
+        text: &[u8],
+        shared: Option<&SharedNames>,
+    ) -> Result<Reading, Memory> {
         let tokens = with_arrows(alloc, text, lex(alloc, text)?)?;
         let raw = Paired::new(alloc, text, tokens)?;
-        Reading::classified(alloc, raw.source(text))
+        Reading::classified(alloc, raw.source(text), shared)
     }
 
     /// Classifies the tokens of a text.
-    fn classified(alloc: Global, raw: TokenizedText<'_>) -> Result<Reading, Memory> {
+    fn classified(
+        alloc: Global,
+        raw: TokenizedText<'_>,
+        shared: Option<&SharedNames>,
+    ) -> Result<Reading, Memory> {
         let dialect = Dialect::of(raw);
-        let tokens = classified(alloc, raw, dialect)?;
+        let tokens = classified(alloc, raw, dialect, shared)?;
         let paired = Paired::new(alloc, raw.text, tokens)?;
-        let names = Names::of(alloc, paired.source(raw.text))?;
+        let names = Names::of(alloc, paired.source(raw.text), shared)?;
         Ok(Reading {
             paired,
             names,

@@ -3,6 +3,7 @@
 use crate::bytes::span;
 use crate::complaint::Fault;
 use crate::dialect::Dialect;
+use crate::fields::is_of_field;
 use crate::formats::gets_header;
 use crate::kind::Kind;
 use crate::names::{dotted, is_declared, name_change};
@@ -19,7 +20,7 @@ pub fn respell(
     source: TokenizedText<'_>,
     notes: &mut Notes,
     dialect: Dialect,
-    options: Options<'_>,
+    options: Options<'_, '_>,
     header: Header,
 ) {
     for index in 0..source.tokens.len() {
@@ -43,8 +44,13 @@ fn respell_further(
         Kind::Number => respell_number(source, notes, index),
         Kind::Character => respell_character(source, notes, index),
         Kind::Floating => notes.complain(source, index, Fault::Floating),
-        Kind::Foreign => notes.complain(source, index, foreign_fault(source.bytes(index))),
+        Kind::Foreign if is_of_field(source, index) => {}
+        Kind::Foreign => {
+            notes.complain(source, index, foreign_fault(source.bytes(index)));
+            respell_sign(source, notes, index, kind, dialect);
+        }
         Kind::Unclosed => notes.complain(source, index, Fault::Unclosed),
+        Kind::Condition => notes.complain(source, index, Fault::OpenCondition),
         Kind::Unknown => respell_unknown(source, notes, index),
         _ => respell_sign(source, notes, index, kind, dialect),
     }
@@ -90,8 +96,6 @@ fn routine_fault(bytes: &[u8]) -> Option<Fault> {
     let is = |name: &[u8]| bytes.eq_ignore_ascii_case(name);
     if is(b"LEVEL") || is(b"LONGJUMP") {
         Some(Fault::LongJump)
-    } else if is(b"APTOVEC") {
-        Some(Fault::VectorOfAnySize)
     } else if is(b"CREATECO")
         || is(b"CALLCO")
         || is(b"COWAIT")
@@ -104,19 +108,30 @@ fn routine_fault(bytes: &[u8]) -> Option<Fault> {
     }
 }
 
+/// Whether the name at an index is SELECTON, which begins an expression in some dialects.
+fn is_choice(source: TokenizedText<'_>, index: usize) -> bool {
+    let next = index.saturating_add(1);
+    source.bytes(index).eq_ignore_ascii_case(b"SELECTON")
+        && matches!(source.kind(next), Kind::Name | Kind::OpenRound)
+        && !is_declared(source, index)
+}
+
 /// Rewrites a name.
 fn respell_name(
     source: TokenizedText<'_>,
     notes: &mut Notes,
     index: usize,
     dialect: Dialect,
-    options: Options<'_>,
+    options: Options<'_, '_>,
 ) {
     if source.kind(index.saturating_add(1)) == Kind::OpenRound
         && let Some(fault) = routine_fault(source.bytes(index))
         && !is_declared(source, index)
     {
         notes.complain(source, index, fault);
+    }
+    if is_choice(source, index) {
+        notes.complain(source, index, Fault::Choice);
     }
     let change = name_change(notes.alloc(), source, index, dialect, options);
     if let Some(Some(new)) = notes.made(change) {
@@ -182,8 +197,13 @@ fn respell_quoted(source: TokenizedText<'_>, notes: &mut Notes, index: usize) {
 
 /// Rewrites a character constant. One without a visible character becomes a number.
 fn respell_character(source: TokenizedText<'_>, notes: &mut Notes, index: usize) {
-    if let [b'$', letter] = source.bytes(index) {
-        return notes.replace(index, &[b'\'', *letter, b'\'']);
+    match source.bytes(index) {
+        [b'$', letter] => return notes.replace(index, &[b'\'', *letter, b'\'']),
+        [b'$', b'*', letter] => {
+            let letter = letter.to_ascii_uppercase();
+            return notes.replace(index, &[b'\'', b'*', letter, b'\'']);
+        }
+        _ => {}
     }
     match respelled(source, notes, index) {
         Some(respelled) if respelled.count != 1 => notes.complain(
@@ -252,12 +272,27 @@ fn respell_sign(
         Kind::Not => replace_if_other(source, notes, index, b"~"),
         Kind::Address if dialect.has_alto_contents => notes.replace(index, b"!"),
         Kind::Relation => respell_relation(source, notes, index),
+        Kind::Assign | Kind::Arrow | Kind::Conjunction | Kind::Disjunction => {
+            respell_drawn(source, notes, index);
+        }
         Kind::OpenRound => replace_if_other(source, notes, index, b"("),
         Kind::CloseRound => replace_if_other(source, notes, index, b")"),
         Kind::OpenSection => respell_section(source, notes, index, b"$("),
         Kind::CloseSection => respell_section(source, notes, index, b"$)"),
         _ => {}
     }
+}
+
+/// Rewrites an arrow, or a logical sign, that isn't ASCII.
+fn respell_drawn(source: TokenizedText<'_>, notes: &mut Notes, index: usize) {
+    let sign: &[u8] = match source.bytes(index) {
+        [0xe2, 0x86, 0x90] => b":=",
+        [0xe2, 0x86, 0x92] => b"->",
+        [0xe2, 0x88, 0xa7] => b"&",
+        [0xe2, 0x88, 0xa8] => b"|",
+        bytes => bytes,
+    };
+    replace_if_other(source, notes, index, sign)
 }
 
 /// Rewrites the sign of a relation.

@@ -11,6 +11,7 @@ use crate::complaint::Fault;
 use crate::declarations::{Values, continued, put_entry, put_values};
 use crate::dialect::Dialect;
 use crate::doubts::tell_star;
+use crate::fields::is_selection;
 use crate::kind::Kind;
 use crate::magnitudes::{put_absolute, tell_absolutes};
 use crate::names::is_number;
@@ -423,6 +424,11 @@ fn assignment(walk: Walk<'_>, notes: &mut Notes, at: usize, left: Operand, to: u
     start
 }
 
+/// Whether the token before an index has no counterpart here, as OF.
+fn is_after_foreign(source: TokenizedText<'_>, index: usize) -> bool {
+    index > 0 && source.kind(index - 1) == Kind::Foreign
+}
+
 /// An assignment with an operator to `left`. The operator follows it.
 #[cycle(walk)]
 fn compound(walk: Walk<'_>, notes: &mut Notes, at: usize, left: Operand, to: usize) -> usize {
@@ -440,6 +446,9 @@ fn compound(walk: Walk<'_>, notes: &mut Notes, at: usize, left: Operand, to: usi
         to,
     };
     let end = operators(walk.deeper(), notes, 1, part);
+    if is_after_foreign(source, at) {
+        return end;
+    }
     if !is_plain(source, at, left.end) {
         notes.complain(source, at, Fault::CallOnTheLeft);
         return end;
@@ -667,7 +676,7 @@ fn selected(walk: Walk<'_>, notes: &mut Notes, part: Part, calls_only: bool) -> 
             tell_star(source, notes, at, here);
             notes.replace(here, b"!");
             whole = Operand::plain(bracket(walk.deeper(), notes, following(here, to), to));
-        } else if kind == Kind::Bang || kind == Kind::Percent {
+        } else if kind == Kind::Bang || kind == Kind::Percent || is_selection(source, here) {
             finish(notes, at, whole);
             let start = following(here, to);
             let inner = operand(walk.deeper(), notes, start, to, true);

@@ -27,7 +27,7 @@ pub trait Observer {
 
 /// An observer that does nothing.
 #[derive(Clone, Copy)]
-pub(crate) struct Unobserved;
+pub struct Unobserved;
 
 impl Observer for Unobserved {
     #[inline(always)]

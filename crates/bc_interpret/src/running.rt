@@ -86,6 +86,35 @@ pub fn observe<S: Streams, O: Observer>(
     Ok(Interpreted { outcome, trail })
 }
 
+/// Runs resolved sections like `interpret`, and lets an observer see each step. What the observer does has no effect on the outcome and the
+/// output.
+///
+/// `Memory` if an allocation fails.
+pub fn interpret_observed<S: Streams, O: Observer>(
+    alloc: Global,
+    cores: &[Core],
+    image: &Image,
+    streams: &mut S,
+    turns: u64,
+    observer: &mut O,
+) -> Result<Interpreted, Memory>
+    ensures { IfOk result (λ i. InterpretedOn S.known S.content S.failures (map section_view cores.now) image.now turns streams.old streams.new i.outcome) }
+{
+    let places = after_first(image.places.as_slice());
+    let addresses = all_addresses(alloc, places)?;
+    let sections = sections_of(alloc, cores, addresses.as_slice())?;
+    let stack_base = image.stack_base.get();
+    let interpreted = observe(
+        alloc,
+        sections.as_slice(),
+        stack_base,
+        streams,
+        turns,
+        observer,
+    )?;
+    Ok(interpreted)
+}
+
 /// Runs resolved sections for at most `turns` turns. Their places have the addresses that they have in `image`, whose first segment must be
 /// that of the primitives.
 ///
@@ -103,18 +132,6 @@ pub fn interpret<S: Streams>(
 ) -> Result<Interpreted, Memory>
     ensures { IfOk result (λ i. InterpretedOn S.known S.content S.failures (map section_view cores.now) image.now turns streams.old streams.new i.outcome) }
 {
-    let places = after_first(image.places.as_slice());
-    let addresses = all_addresses(alloc, places)?;
-    let sections = sections_of(alloc, cores, addresses.as_slice())?;
-    let stack_base = image.stack_base.get();
     let mut unobserved = Unobserved;
-    let interpreted = observe(
-        alloc,
-        sections.as_slice(),
-        stack_base,
-        streams,
-        turns,
-        &mut unobserved,
-    )?;
-    Ok(interpreted)
+    interpret_observed(alloc, cores, image, streams, turns, &mut unobserved)
 }

@@ -16,7 +16,7 @@ use Rattle.bc_core.specs.Same.{Same}
 use Rattle.bc_scope_defs.specs.Translation.{core_of}
 use Rattle.bc_scope_defs.specs.Sections.{meaning_of_sections}
 use Rattle.bc_scope_laws.specs.Laws.{SectionsKeepTheirMeaning}
-use Rattle.bc_build.specs.Compiled.{IsAccepted, AreAccepted}
+use Rattle.bc_build.specs.Parsed.{IsParsed, AreParsed}
 use Rattle.bc_build.specs.Built.{IsBuilt}
 use Rattle.bc_build.specs.declared.building.Built.{Built}
 use Rattle.bc_build.specs.Runs.{addresses, meant, started, RunsAsMeant}
@@ -35,7 +35,7 @@ same_section x y r h k = let e : Ok x ≡ Ok y = sym h ∙ k in cc
 pub resolved_from : (files : List File) (main : ℕ) (tokens : List Lexeme) (section : Declarations) (core : Core)
     → ((others : List Lexeme) → HasTokens files main others → tokens ≡ others) → parsed tokens ≡ Ok section → core ≡ core_of section → IsResolved files main core
 resolved_from files main tokens section core only read is other o =
-    is ∙ ap core_of (same_section section other (parsed o.tokens) (ap parsed (sym (only o.tokens o.is_section.lexed)) ∙ read) o.is_section.read)
+    is ∙ ap core_of (same_section section other (parsed o.tokens) (ap parsed (sym (only o.tokens o.lexed)) ∙ read) o.read)
 
 -- the remaining mains begin with the next one
 pub next_main : (mains : List ℕ) (n : ℕ) → n < length mains → drop n mains ≡ get_or mains n 0 ∷ drop (n + 1) mains
@@ -48,22 +48,22 @@ pub resolved_none : (files : List File) (mains : List ℕ) → AreResolved files
 resolved_none files mains sections h = (sections, h, refl)
 
 more : (files : List File) (main : ℕ) (left : List ℕ) (cores whole : List Core) (core : Core) (rest : List Declarations) → IsResolved files main core
-    → AreAccepted files (main ∷ left) rest → whole ≡ cores ++ map core_of rest → (rest1 : List Declarations) × AreAccepted files left rest1 × (whole ≡ (cores ++ core ∷ []) ++ map core_of rest1)
+    → AreParsed files (main ∷ left) rest → whole ≡ cores ++ map core_of rest → (rest1 : List Declarations) × AreParsed files left rest1 × (whole ≡ (cores ++ core ∷ []) ++ map core_of rest1)
 more files main left cores whole core [] r h e = absurd h
 more files main left cores whole core (s ∷ ss) r h e =
     (ss, h.1, e ∙ (ap (λ x. cores ++ x ∷ map core_of ss) (sym (r s h.0)) ∙ sym (append_assoc cores (core ∷ []) (map core_of ss))))
 
 pub resolved_more : (files : List File) (mains : List ℕ) (main : ℕ) (left : List ℕ) (cores : List Core) (core : Core) → AreResolved files mains (main ∷ left) cores → IsResolved files main core → AreResolved files mains left (cores ++ core ∷ [])
-resolved_more files mains main left cores core h r sections accepted =
-    let x = h sections accepted in more files main left cores (map core_of sections) core x.0 r x.1 x.2
+resolved_more files mains main left cores core h r sections are_parsed =
+    let x = h sections are_parsed in more files main left cores (map core_of sections) core x.0 r x.1 x.2
 
-nothing_left : (files : List File) (cores whole : List Core) (rest : List Declarations) → AreAccepted files [] rest → whole ≡ cores ++ map core_of rest → whole ≡ cores
+nothing_left : (files : List File) (cores whole : List Core) (rest : List Declarations) → AreParsed files [] rest → whole ≡ cores ++ map core_of rest → whole ≡ cores
 nothing_left files cores whole [] h e = e ∙ append-nil cores
 nothing_left files cores whole (s ∷ ss) h e = absurd h
 
-pub all_resolved : (files : List File) (mains : List ℕ) (cores : List Core) → AreResolved files mains [] cores → (sections : List Declarations) → AreAccepted files mains sections → map core_of sections ≡ cores
-all_resolved files mains cores h sections accepted =
-    let x = h sections accepted in nothing_left files cores (map core_of sections) x.0 x.1 x.2
+pub all_resolved : (files : List File) (mains : List ℕ) (cores : List Core) → AreResolved files mains [] cores → (sections : List Declarations) → AreParsed files mains sections → map core_of sections ≡ cores
+all_resolved files mains cores h sections are_parsed =
+    let x = h sections are_parsed in nothing_left files cores (map core_of sections) x.0 x.1 x.2
 
 -- what the translations mean is what the sections mean
 pub means : SectionsKeepTheirMeaning → (sections : List Declarations) (cores : List Core) (image : Image) (before after : Content) (turns : ℕ) (o : Outcome) → map core_of sections ≡ cores
@@ -86,5 +86,5 @@ runs_to sections image before after turns (outs.Wild c) r bytes h = tt
 runs_to sections image before after turns outs.Device r bytes h = tt
 
 -- the image that was built is that of its mains
-pub built_is_image : (files : List File) (mains : List ℕ) (built : Built) → IsBuilt files mains built → ((sections : List Declarations) → AreAccepted files mains sections → RunsAsMeant sections built.image) → IsImageOf files mains built.image
-built_is_image files mains built b r = record { sections = b.sections; accepted = b.accepted; runs = r b.sections b.accepted }
+pub built_is_image : (files : List File) (mains : List ℕ) (built : Built) → IsBuilt files mains built → ((sections : List Declarations) → AreParsed files mains sections → RunsAsMeant sections built.image) → IsImageOf files mains built.image
+built_is_image files mains built b r = record { sections = b.sections; parsed = b.parsed; runs = r b.sections b.parsed }

@@ -4,5 +4,5 @@
 mod sources;
 
 pub use bc_build::{Image, Source};
-pub use bc_interpret::{Cause, Ending, Interpreted, Outcome, Standing, Trail};
-pub use sources::{BuiltProgram, interpret};
+pub use bc_interpret::{Cause, Ending, Interpreted, Observer, Outcome, Standing, Trail};
+pub use sources::{BuiltProgram, interpret, interpret_observed};

@@ -6,7 +6,7 @@ ghost use Rattle.bc_lex.specs.Files.{files_of};
 ghost use Rattle.bc_parse_tree.specs.Tree.{Declarations};
 ghost use Rattle.bc_core.specs.View.{section as section_view};
 ghost use Rattle.bc_build.specs.Built.{IsBuilt};
-ghost use Rattle.bc_build.specs.Compiled.{AreAccepted};
+ghost use Rattle.bc_build.specs.Parsed.{AreParsed};
 ghost use Rattle.bc_build.specs.Runs.{RunsAsMeant};
 ghost use Rattle.bc_interpret.specs.declared.run.Outcome.TheVariants as outcomes;
 ghost use Rattle.bc_interpret_sources.specs.Programs.{IsImageOf, MeansOn, NamesOn, RunsOn};
@@ -14,7 +14,7 @@ ghost use Rattle.bc_interpret_sources.specs.Resolving.{AreTranslated, IsResolved
 
 use bc_build::{Built, Image, Source};
 use bc_core::Core;
-use bc_interpret::Interpreted;
+use bc_interpret::{Interpreted, Observer, Unobserved};
 use bc_lex::lex;
 use bc_machine::Streams;
 use bc_parse::parse;
@@ -42,7 +42,7 @@ impl<'p> BuiltProgram<'p> {
         built: &'p Built,
     ) -> BuiltProgram<'p>
         requires built { IsBuilt (files_of sources.now) mains.now built.now }
-        requires runs { (sections : List Declarations) → AreAccepted (files_of sources.now) mains.now sections → RunsAsMeant sections built.now.image }
+        requires runs { (sections : List Declarations) → AreParsed (files_of sources.now) mains.now sections → RunsAsMeant sections built.now.image }
         ensures sources { result.sources.now ≡ sources.now }
         ensures mains { result.mains.now ≡ mains.now }
         ensures image { IsImageOf (files_of result.sources.now) result.mains.now result.image.now }
@@ -117,14 +117,46 @@ pub fn interpret<S: Streams>(
     ensures failed { IfOk result (λ i. i.outcome ≡ outcomes.Device → Rose (S.failures streams.old) (S.failures streams.new)) }
     ensures counted { IfOk result (λ i. S.failures streams.old ≤ S.failures streams.new) }
 {
+    let mut unobserved = Unobserved;
+    interpret_observed(alloc, program, streams, turns, &mut unobserved)
+}
+
+/// Runs the program like `interpret`, and lets an observer see each step. What the observer does has no effect on the outcome and the output.
+///
+/// The outcome `Device` comes only if the streams' count of failures rose or is at its greatest value.
+///
+/// `Memory` if an allocation fails.
+pub fn interpret_observed<S: Streams, O: Observer>(
+    alloc: Global,
+    program: &BuiltProgram<'_>,
+    streams: &mut S,
+    turns: u64,
+    observer: &mut O,
+) -> Result<Interpreted, Memory>
+    requires mains { All (λ main. main < length program.now.sources.now) program.now.mains.now }
+    requires built { IsImageOf (files_of program.now.sources.now) program.now.mains.now program.now.image.now }
+
+    // If the content of the streams is known, the outcome and the output are what the sections mean, or a device failed.
+    ensures means { IfOk result (λ i. MeansOn S.known S.content program.now turns streams.old streams.new i.outcome) }
+
+    // If the content is known and the run is wild, the machine reaches a step that is wild with the reported cause.
+    ensures names { IfOk result (λ i. NamesOn S.known S.content program.now turns streams.old i.outcome) }
+
+    // If the content is known, the image's run has the same ending and output, or goes on as well; nothing is said of a wild run.
+    ensures runs { IfOk result (λ i. RunsOn S.known S.content program.now turns streams.old streams.new i.outcome) }
+    ensures known { IfOk result (λ i. S.known streams.old → S.known streams.new) }
+    ensures failed { IfOk result (λ i. i.outcome ≡ outcomes.Device → Rose (S.failures streams.old) (S.failures streams.new)) }
+    ensures counted { IfOk result (λ i. S.failures streams.old ≤ S.failures streams.new) }
+{
     bc_scope_laws::laws::sections_keep_their_meaning();
     let cores = all_resolved(alloc, program.sources, program.mains)?;
-    let interpreted = bc_interpret::interpret(
+    let interpreted = bc_interpret::interpret_observed(
         alloc,
         cores.as_slice(),
         program.image,
         streams,
         turns,
+        observer,
     )?;
     Ok(interpreted)
 }

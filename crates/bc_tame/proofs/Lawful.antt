@@ -1,13 +1,17 @@
 -- The laws of the library say what a call does with enough turns; so it isn't wild with fewer turns either.
 use Rattle.std.proofs.Common.{◌≡◌, ℕ, zero, suc, ◌+◌, ◌<◌, ◌≤◌, ◌%◌, ◌==◌, ◌&&◌, ◌||◌, List, [], ◌∷◌, length, Bool, true, false, Option, Some, None, refl, sym, ap, ◌∙◌, subst, arith, ◌≢◌, ◌*◌, ◌/◌, ◌++◌}
 use Rattle.bc_word.specs.Words.{signed}
-use Rattle.bc_machine_defs.specs.Streams.{Content}
+use Rattle.bc_machine_defs.specs.Streams.{Input, Content, HoldBytes}
 use Rattle.bc_machine_defs.specs.StreamCalls.{after_write}
+use Rattle.bc_machine_defs.proofs.Bytes.{write_keeps}
 use Rattle.bc_core.specs.Map.{Placed}
 use Rattle.bc_core.specs.Store.{Cell, Set, cell_at}
 use Rattle.bc_core.specs.Outcome.{State, Outcome, Done, Ended, Going, Wild}
 use Rattle.bc_core.specs.Laws.{is_live}
-use Rattle.bc_core.specs.Meaning.{calls}
+use Rattle.bc_core.specs.Primitive.{Find}
+use Rattle.bc_core.specs.Meaning.{OfLibrary, calls, entered_at, entered_of}
+use Rattle.bc_machine_defs.specs.declared.streams.Side.{Side}
+use Rattle.bc_machine_defs.specs.declared.streams.Side.TheVariants as sides
 use Rattle.bc_library_laws.specs.Laws.{state, Ready, after_writes, turns_of}
 use Rattle.std.specs.Fmt.{signed_decimal}
 use Rattle.bc_library_laws.proofs.Steps.{Has, wrch, newline_does}
@@ -19,16 +23,22 @@ use Rattle.bc_core.specs.Words.{packed, string_words}
 use Rattle.bc_core.specs.Commands.{Core}
 use Rattle.bc_core.specs.Map.{IsMap, placed}
 use Rattle.bc_library_laws.specs.Library.{library}
-use Rattle.bc_library_laws.specs.Laws.{HoldsBytes, HoldsString, byte_in, Piece, Plain, OfNumber, OfCharacter, Escaped, format_of, taken_by, written_by, turns_by, ArePieces}
+use Rattle.bc_library_laws.specs.Laws.{HoldsBytes, HoldsString, byte_in, Piece, Plain, OfNumber, OfString, OfCharacter, Escaped, format_of, taken_by, written_by, turns_by, ArePieces}
 use Rattle.bc_library_laws.proofs.Joined.{writes_law, writef_law}
-use Rattle.bc_tame.specs.Programs.{library_global, library_fixed, library_speaks, are_bytes, fits_format}
+use Rattle.bc_tame.specs.Tame.{Note, AWord, AText, Says, is_text}
+use Rattle.bc_tame.specs.Programs.{library_global, library_fixed, library_speaks, with_text, with_format, are_bytes, fits_format}
+use Rattle.bc_tame.proofs.Primitives.{runs_find}
 use Rattle.bc_tame.proofs.Fine.{within, both_true, less_true, at_most_true, same_true, Gone, Fits, Shape, Inv, Fine, Runs, IsWord}
-use Rattle.bc_tame.proofs.Expressions.{HoldsWords, Ground, AreWords, CanSay, IsCallable}
+use Rattle.bc_tame.proofs.Expressions.{HoldsWords, Ground, AreWords, IsText, AreNoted, text_told, CanSay, IsCallable}
 use Rattle.bc_core.proofs.Turns.{Goes, later, more_calls}
 
 abbrev cells_in : Outcome ℕ → List Cell
 cells_in (Done x st) = st.cells
 cells_in _ = []
+
+abbrev inputs_in : Outcome ℕ → List Input
+inputs_in (Done x st) = st.streams.inputs
+inputs_in _ = []
 
 abbrev value_in : Outcome ℕ → ℕ
 value_in (Done x st) = x
@@ -38,28 +48,34 @@ abbrev is_wild : Outcome ℕ → Bool
 is_wild Wild = true
 is_wild _ = false
 
-fine_before : (σ : Shape) (d v : ℕ) (cells : List Cell) (st1 : State) (o o1 : Outcome ℕ) → Goes d o o1 → o1 ≡ Done v st1 → st1.cells ≡ cells → v < 65536 → Inv σ cells → Fine IsWord σ o
-fine_before σ d v cells st1 (Done x st) o1 g e same lt i =
+fine_before : (σ : Shape) (d v : ℕ) (cells : List Cell) (st1 : State) (o o1 : Outcome ℕ) → Goes d o o1 → o1 ≡ Done v st1 → st1.cells ≡ cells → v < 65536 → Inv σ cells → HoldBytes st1.streams.inputs → Fine IsWord σ o
+fine_before σ d v cells st1 (Done x st) o1 g e same lt i held =
     let f : Done x (later d st) ≡ Done v st1 = sym g ∙ e in
     let fx : x ≡ v = ap value_in f in
     let fc : st.cells ≡ cells = ap cells_in f ∙ same in
-    (subst (λ z. z < 65536) (sym fx) lt, subst (λ z. Inv σ z) (sym fc) i)
-fine_before σ d v cells st1 (Ended e1 streams) o1 g e same lt i = tt
-fine_before σ d v cells st1 (Going streams) o1 g e same lt i = tt
-fine_before σ d v cells st1 Wild o1 g e same lt i = let f : true ≡ false = ap is_wild (sym g ∙ e) in let z : ⊥ = cc in absurd z
+    let fi : st.streams.inputs ≡ st1.streams.inputs = ap inputs_in f in
+    (subst (λ z. z < 65536) (sym fx) lt, (subst (λ z. Inv σ z) (sym fc) i, subst (λ z. HoldBytes z) (sym fi) held))
+fine_before σ d v cells st1 (Ended e1 streams) o1 g e same lt i held = tt
+fine_before σ d v cells st1 (Going streams) o1 g e same lt i held = tt
+fine_before σ d v cells st1 Wild o1 g e same lt i held = let f : true ≡ false = ap is_wild (sym g ∙ e) in let z : ⊥ = cc in absurd z
+
+-- what is written changes no input
+writes_keep : (bytes : List ℕ) (c : Content) → HoldBytes c.inputs → HoldBytes (after_writes bytes c).inputs
+writes_keep [] c h = h
+writes_keep (byte ∷ bytes) c h = writes_keep bytes (after_write byte c) (write_keeps byte c h)
 
 -- a call that changes no cell if it has enough turns
-pub by_law : (σ : Shape) (program : List Placed) (a f n d v : ℕ) (vs : List ℕ) → v < 65536 → (change : Content → Content)
+pub by_law : (σ : Shape) (program : List Placed) (a f n d v : ℕ) (vs : List ℕ) → v < 65536 → (change : Content → Content) → ((c : Content) → HoldBytes c.inputs → HoldBytes (change c).inputs)
     → ((cells : List Cell) → Inv σ cells → (streams : Content) (t : ℕ) → calls program (d + n) a vs f (state cells streams (d + t)) ≡ Done v (state cells (change streams) t))
     → Runs σ IsWord σ (calls program n a vs f)
-by_law σ program a f n d v vs lt change law = record {
+by_law σ program a f n d v vs lt change keeps law = record {
   from = λ st i.
       let le : n ≤ d + n = omega arith in
       let turns : d + st.turns ≡ st.turns + d = omega arith in
       let goes = (more_calls d program n (d + n) le a vs f).from st in
       let e : calls program (d + n) a vs f (later d st) ≡ Done v (state st.cells (change st.streams) st.turns) =
-      subst (λ k. calls program (d + n) a vs f (state st.cells st.streams k) ≡ Done v (state st.cells (change st.streams) st.turns)) turns (law st.cells i st.streams st.turns) in
-      fine_before σ d v st.cells (state st.cells (change st.streams) st.turns) (calls program n a vs f st) (calls program (d + n) a vs f (later d st)) goes e refl lt i;
+      subst (λ k. calls program (d + n) a vs f (state st.cells st.streams k) ≡ Done v (state st.cells (change st.streams) st.turns)) turns (law st.cells i.0 st.streams st.turns) in
+      fine_before σ d v st.cells (state st.cells (change st.streams) st.turns) (calls program n a vs f st) (calls program (d + n) a vs f (later d st)) goes e refl lt i.0 (keeps st.streams i.1);
 }
 
 -- a store of this shape is ready for the library
@@ -84,7 +100,7 @@ pub wrch_callable : (program : List Placed) (address : ℕ → ℕ) (static : �
 wrch_callable program address static text place n h [] f σ args ground gone room = absurd (omega (arith, args.0))
 wrch_callable program address static text place n h (v ∷ w ∷ vs) f σ args ground gone room = absurd (omega (arith, args.0))
 wrch_callable program address static text place n h (v ∷ []) f σ args ground gone room =
-    by_law σ program 530 f n 1 0 (v ∷ []) (omega arith) (after_write (v % 256)) (λ cells i streams t.
+    by_law σ program 530 f n 1 0 (v ∷ []) (omega arith) (after_write (v % 256)) (write_keeps (v % 256)) (λ cells i streams t.
     let r = ready static text place address σ f 3 ground gone room cells i in
     let one : 1 + n ≡ suc n = omega arith in
     let turns : 1 + t ≡ suc t = omega arith in
@@ -94,7 +110,7 @@ pub newline_callable : (program : List Placed) (address : ℕ → ℕ) (static :
     → IsCallable library_fixed static text place (library_global address) (record { arguments = 0; room = 8 }) (calls program n (address 4))
 newline_callable program address static text place n h (v ∷ vs) f σ args ground gone room = absurd (omega (arith, args.0))
 newline_callable program address static text place n h [] f σ args ground gone room =
-    by_law σ program (address 4) f n 2 0 [] (omega arith) (after_write 10) (λ cells i streams t.
+    by_law σ program (address 4) f n 2 0 [] (omega arith) (after_write 10) (write_keeps 10) (λ cells i streams t.
     let r = ready static text place address σ f 8 ground gone room cells i in
     let two : 2 + n ≡ suc (suc n) = omega arith in
     let turns : 2 + t ≡ suc (suc t) = omega arith in
@@ -105,7 +121,7 @@ pub writen_callable : (program : List Placed) (address : ℕ → ℕ) (static : 
 writen_callable program address static text place n h [] f σ args ground gone room = absurd (omega (arith, args.0))
 writen_callable program address static text place n h (v ∷ w ∷ vs) f σ args ground gone room = absurd (omega (arith, args.0))
 writen_callable program address static text place n h (v ∷ []) f σ args ground gone room =
-    by_law σ program (address 5) f n (turns_of (signed v)) 0 (v ∷ []) (omega arith) (after_writes (signed_decimal (signed v))) (λ cells i streams t.
+    by_law σ program (address 5) f n (turns_of (signed v)) 0 (v ∷ []) (omega arith) (after_writes (signed_decimal (signed v))) (writes_keep (signed_decimal (signed v))) (λ cells i streams t.
     let r = ready static text place address σ f 20 ground gone room cells i in
     writen_does program address h v args.1.0 cells streams f n t r)
 
@@ -145,13 +161,16 @@ string_held σ cells i s bytes ok h =
     let e : s ≡ s + 0 = omega arith in
     packed_held σ cells i s 0 (length bytes ∷ bytes) ok (subst (λ z. HoldsWords σ z (string_words bytes)) e h)
 
+abbrev pub HoldTexts : (ℕ → Option (List ℕ)) → (ℕ → ℕ) → List Cell → Type 0
+HoldTexts text place cells = (m : ℕ) (bytes : List ℕ) → text m ≡ Some bytes → HoldsString cells (place m) bytes
+
 -- a format that passes the check is a list of pieces
-record Read (bs : List ℕ) (vs : List ℕ) : Type 0 where
+record Read (text : ℕ → Option (List ℕ)) (place : ℕ → ℕ) (bs : List ℕ) (vs : List ℕ) : Type 0 where
   pieces : List Piece
   more : List ℕ
   format : format_of pieces ≡ bs
   taken : vs ≡ taken_by pieces ++ more
-  are : (cells : List Cell) → ArePieces cells pieces
+  are : (cells : List Cell) → HoldTexts text place cells → ArePieces cells pieces
 
 abbrev following : Bool → List ℕ → List ℕ
 following true bs = 37 ∷ bs
@@ -168,35 +187,42 @@ none_of : (a b : Bool) → (a || b) ≡ false → (a ≡ false) × (b ≡ false)
 none_of true b e = let z : ⊥ = cc in absurd z
 none_of false b e = (refl, e)
 
-reads : (t : Bool) (bs : List ℕ) (n : ℕ) (vs : List ℕ) → fits_format t bs n ≡ true → length vs ≡ n → AreWords vs → Read (following t bs) vs
-reads true [] n vs ok many words = let z : ⊥ = cc in absurd z
-reads false [] n vs ok many words = record { pieces = []; more = vs; format = refl; taken = refl; are = λ cells. tt }
-reads false (b ∷ bs) n vs ok many words =
-    by (λ o. reads true bs n vs o many words) (λ o. reads false bs n vs o many words) (b == 37) refl ok where
-      by : (fits_format true bs n ≡ true → Read (37 ∷ bs) vs) → (fits_format false bs n ≡ true → Read bs vs) → (x : Bool) → (b == 37) ≡ x
-          → elim x as (λ z. Bool) [ true ↦ fits_format true bs n | false ↦ fits_format false bs n ] ≡ true → Read (b ∷ bs) vs
-      by f g true e o = subst (λ z. Read (z ∷ bs) vs) (sym (same_true b 37 e)) (f o)
-      by f g false e o = let r = g o in record { pieces = Plain b ∷ r.pieces; more = r.more; format = ap (λ z. b ∷ z) r.format; taken = r.taken; are = λ cells. (unlike_true b 37 e, r.are cells) }
-reads true (b ∷ bs) zero vs ok many words =
-    let oks = both_true (not ((b == 78) || ((b == 83) || (b == 67)))) (fits_format false bs zero) ok in
+reads : (text : ℕ → Option (List ℕ)) (place : ℕ → ℕ) (t : Bool) (bs : List ℕ) (notes : List Note) (vs : List ℕ) → fits_format t bs notes ≡ true → AreNoted text place notes vs → Read text place (following t bs) vs
+reads text place true [] notes vs ok told = let z : ⊥ = cc in absurd z
+reads text place false [] notes vs ok told = record { pieces = []; more = vs; format = refl; taken = refl; are = λ cells held. tt }
+reads text place false (b ∷ bs) notes vs ok told =
+    by (λ o. reads text place true bs notes vs o told) (λ o. reads text place false bs notes vs o told) (b == 37) refl ok where
+      by : (fits_format true bs notes ≡ true → Read text place (37 ∷ bs) vs) → (fits_format false bs notes ≡ true → Read text place bs vs) → (x : Bool) → (b == 37) ≡ x
+          → elim x as (λ z. Bool) [ true ↦ fits_format true bs notes | false ↦ fits_format false bs notes ] ≡ true → Read text place (b ∷ bs) vs
+      by f g true e o = subst (λ z. Read text place (z ∷ bs) vs) (sym (same_true b 37 e)) (f o)
+      by f g false e o = let r = g o in record { pieces = Plain b ∷ r.pieces; more = r.more; format = ap (λ z. b ∷ z) r.format; taken = r.taken; are = λ cells held. (unlike_true b 37 e, r.are cells held) }
+reads text place true (b ∷ bs) [] vs ok told =
+    let oks = both_true (not ((b == 78) || ((b == 83) || (b == 67)))) (fits_format false bs []) ok in
     let e1 = none_of (b == 78) ((b == 83) || (b == 67)) (not_false _ oks.0) in
     let e2 = none_of (b == 83) (b == 67) e1.1 in
-    let r = reads false bs zero vs oks.1 many words in
-    record { pieces = Escaped b ∷ r.pieces; more = r.more; format = ap (λ z. 37 ∷ b ∷ z) r.format; taken = r.taken; are = λ cells. ((unlike_true b 78 e1.0, unlike_true b 83 e2.0, unlike_true b 67 e2.1), r.are cells) }
-reads true (b ∷ bs) (suc n) [] ok many words = absurd (omega (arith, many))
-reads true (b ∷ bs) (suc n) (v ∷ vs) ok many words =
-    let few : length vs ≡ n = omega (arith, many) in
-    by (λ o. reads false bs n vs o few words.1) (λ o. reads false bs (suc n) (v ∷ vs) o many words) (b == 78) (b == 67) refl refl ok where
-      by : (fits_format false bs n ≡ true → Read bs vs) → (fits_format false bs (suc n) ≡ true → Read bs (v ∷ vs)) → (x y : Bool) → (b == 78) ≡ x → (b == 67) ≡ y
-          → elim x as (λ z. Bool) [ true ↦ fits_format false bs n | false ↦ elim y as (λ z. Bool) [ true ↦ fits_format false bs n | false ↦ not (b == 83) && fits_format false bs (suc n) ] ] ≡ true → Read (37 ∷ b ∷ bs) (v ∷ vs)
-      by f g true y ex ey o = let r = f o in subst (λ z. Read (37 ∷ z ∷ bs) (v ∷ vs)) (sym (same_true b 78 ex))
-          (record { pieces = OfNumber v ∷ r.pieces; more = r.more; format = ap (λ z. 37 ∷ 78 ∷ z) r.format; taken = ap (λ z. v ∷ z) r.taken; are = λ cells. (words.0, r.are cells) })
-      by f g false true ex ey o = let r = f o in subst (λ z. Read (37 ∷ z ∷ bs) (v ∷ vs)) (sym (same_true b 67 ey))
-          (record { pieces = OfCharacter v ∷ r.pieces; more = r.more; format = ap (λ z. 37 ∷ 67 ∷ z) r.format; taken = ap (λ z. v ∷ z) r.taken; are = λ cells. r.are cells })
-      by f g false false ex ey o =
-          let oks = both_true (not (b == 83)) (fits_format false bs (suc n)) o in
-          let r = g oks.1 in
-          record { pieces = Escaped b ∷ r.pieces; more = r.more; format = ap (λ z. 37 ∷ b ∷ z) r.format; taken = r.taken; are = λ cells. ((unlike_true b 78 ex, unlike_true b 83 (not_false _ oks.0), unlike_true b 67 ey), r.are cells) }
+    let r = reads text place false bs [] vs oks.1 told in
+    record { pieces = Escaped b ∷ r.pieces; more = r.more; format = ap (λ z. 37 ∷ b ∷ z) r.format; taken = r.taken; are = λ cells held. ((unlike_true b 78 e1.0, unlike_true b 83 e2.0, unlike_true b 67 e2.1), r.are cells held) }
+reads text place true (b ∷ bs) (note ∷ notes) [] ok told = absurd told
+reads text place true (b ∷ bs) (note ∷ notes) (v ∷ vs) ok told =
+    by (λ o. reads text place false bs notes vs o told.1) (λ o. reads text place false bs (note ∷ notes) (v ∷ vs) o told) (b == 83) (b == 78) (b == 67) refl refl refl ok where
+      by : (fits_format false bs notes ≡ true → Read text place bs vs) → (fits_format false bs (note ∷ notes) ≡ true → Read text place bs (v ∷ vs)) → (x y w : Bool) → (b == 83) ≡ x → (b == 78) ≡ y → (b == 67) ≡ w
+          → elim x as (λ z. Bool) [
+            | true ↦ is_text note && fits_format false bs notes
+            | false ↦ elim (y || w) as (λ z. Bool) [ true ↦ fits_format false bs notes | false ↦ fits_format false bs (note ∷ notes) ]
+          ] ≡ true → Read text place (37 ∷ b ∷ bs) (v ∷ vs)
+      by f g true y w ex ey ew o =
+          let oks = both_true (is_text note) (fits_format false bs notes) o in
+          let r = f oks.1 in
+          let t = text_told text place note v oks.0 told.0.1 in
+          subst (λ z. Read text place (37 ∷ z ∷ bs) (v ∷ vs)) (sym (same_true b 83 ex))
+          (record { pieces = OfString v t.bytes ∷ r.pieces; more = r.more; format = ap (λ z. 37 ∷ 83 ∷ z) r.format; taken = ap (λ z. v ∷ z) r.taken; are = λ cells held. (subst (λ z. HoldsString cells z t.bytes) (sym t.is) (held t.label t.bytes t.there), r.are cells held) })
+      by f g false true w ex ey ew o = let r = f o in subst (λ z. Read text place (37 ∷ z ∷ bs) (v ∷ vs)) (sym (same_true b 78 ey))
+          (record { pieces = OfNumber v ∷ r.pieces; more = r.more; format = ap (λ z. 37 ∷ 78 ∷ z) r.format; taken = ap (λ z. v ∷ z) r.taken; are = λ cells held. (told.0.0, r.are cells held) })
+      by f g false false true ex ey ew o = let r = f o in subst (λ z. Read text place (37 ∷ z ∷ bs) (v ∷ vs)) (sym (same_true b 67 ew))
+          (record { pieces = OfCharacter v ∷ r.pieces; more = r.more; format = ap (λ z. 37 ∷ 67 ∷ z) r.format; taken = ap (λ z. v ∷ z) r.taken; are = λ cells held. r.are cells held })
+      by f g false false false ex ey ew o =
+          let r = g o in
+          record { pieces = Escaped b ∷ r.pieces; more = r.more; format = ap (λ z. 37 ∷ b ∷ z) r.format; taken = r.taken; are = λ cells held. ((unlike_true b 78 ey, unlike_true b 83 ex, unlike_true b 67 ew), r.are cells held) }
 
 taken_few : (xs ys : List ℕ) (n : ℕ) → length (xs ++ ys) ≤ n → length xs ≤ n
 taken_few xs ys n h = omega (arith, h, length-append xs ys)
@@ -205,46 +231,98 @@ taken_few xs ys n h = omega (arith, h, length-append xs ys)
 abbrev program_of : Core → (ℕ → ℕ) → (ℕ → ℕ) → List Placed
 program_of core address other = placed (library ∷ core ∷ []) (address ∷ other ∷ [])
 
+abbrev number_of : Option ℕ → ℕ
+number_of o = elim o as (λ z. ℕ) [ Some k ↦ k | None ↦ 0 ]
+
+as_many : (text : ℕ → Option (List ℕ)) (place : ℕ → ℕ) (notes : List Note) (vs : List ℕ) → AreNoted text place notes vs → length vs ≡ length notes
+as_many text place [] [] h = refl
+as_many text place [] (v ∷ vs) h = absurd h
+as_many text place (note ∷ notes) [] h = absurd h
+as_many text place (note ∷ notes) (v ∷ vs) h = let e = as_many text place notes vs h.1 in omega (arith, e)
+
+-- the addresses of FINDINPUT and FINDOUTPUT
+abbrev pub find_address : Side → ℕ
+find_address sides.Input = 534
+find_address sides.Output = 537
+
+-- one argument, which is a string
+record One (text : ℕ → Option (List ℕ)) (place : ℕ → ℕ) (vs : List ℕ) (n room : ℕ) : Type 0 where
+  value : ℕ
+  alone : vs ≡ value ∷ []
+  word : value < 65536
+  string : IsText text place value
+  needs : n ≡ room
+
+one_text : (text : ℕ → Option (List ℕ)) (place : ℕ → ℕ) (notes : List Note) (vs : List ℕ) (n room : ℕ) → with_text notes n ≡ Some room → AreNoted text place notes vs → One text place vs n room
+one_text text place (AText ∷ []) (v ∷ []) n room e told = record { value = v; alone = refl; word = told.0.0; string = told.0.1; needs = ap number_of e }
+one_text text place (AText ∷ []) [] n room e told = absurd told
+one_text text place (AText ∷ []) (v ∷ w ∷ vs) n room e told = absurd told.1
+one_text text place (Says bytes ∷ []) (v ∷ []) n room e told = record { value = v; alone = refl; word = told.0.0; string = text_told text place (Says bytes) v refl told.0.1; needs = ap number_of e }
+one_text text place (Says bytes ∷ []) [] n room e told = absurd told
+one_text text place (Says bytes ∷ []) (v ∷ w ∷ vs) n room e told = absurd told.1
+one_text text place [] vs n room e told = let z : ⊥ = cc in absurd z
+one_text text place (AWord ∷ notes) vs n room e told = let z : ⊥ = cc in absurd z
+one_text text place (AText ∷ note ∷ notes) vs n room e told = let z : ⊥ = cc in absurd z
+one_text text place (Says bytes ∷ note ∷ notes) vs n room e told = let z : ⊥ = cc in absurd z
+
 pub spoken : (core : Core) (address other : ℕ → ℕ) (base : ℕ) → IsMap (library ∷ core ∷ []) (record { places = address ∷ other ∷ []; stack_base = base })
     → (static : ℕ → Bool) (text : ℕ → Option (List ℕ)) (place : ℕ → ℕ) → ((m : ℕ) (bytes : List ℕ) → text m ≡ Some bytes → are_bytes (length bytes ∷ bytes) ≡ true)
-    → (d g m n room : ℕ) (bytes : List ℕ) → library_speaks g bytes n ≡ Some room → text m ≡ Some bytes
-    → (g < 512) × (library_fixed g ≡ true) × CanSay library_fixed static text place (library_global address) room n (place m) (calls (program_of core address other) d (library_global address g))
-spoken core address other base map_is static text place fine d g m n room bytes e et = by (g == 22) ((g == 25) && (nat_le n 4 && (are_bytes (length bytes ∷ bytes) && fits_format false bytes n))) refl refl e where
-  number_of : Option ℕ → ℕ
-  number_of o = elim o as (λ z. ℕ) [ Some k ↦ k | None ↦ 0 ]
+    → ((side : Side) (a : ℕ) → a ≡ find_address side → entered_at (program_of core address other) a ≡ entered_of (Some (OfLibrary (Find side))))
+    → (d g room : ℕ) (notes : List Note) → library_speaks g notes ≡ Some room
+    → (g < 512) × (library_fixed g ≡ true) × CanSay library_fixed static text place (library_global address) room notes (calls (program_of core address other) d (library_global address g))
+spoken core address other base map_is static text place fine finds d g room notes e = by (g == 22) (g == 25) (g == 15) (g == 16) refl refl refl refl e where
+  at : (h : ℕ) → (g == h) ≡ true → (h < 512) × (library_fixed h ≡ true) × CanSay library_fixed static text place (library_global address) room notes (calls (program_of core address other) d (library_global address h))
+      → (g < 512) × (library_fixed g ≡ true) × CanSay library_fixed static text place (library_global address) room notes (calls (program_of core address other) d (library_global address g))
+  at h eg k = subst (λ (z : ℕ). (z < 512) × (library_fixed z ≡ true) × CanSay library_fixed static text place (library_global address) room notes (calls (program_of core address other) d (library_global address z))) (sym (same_true g h eg)) k
 
-  at : (h : ℕ) → g ≡ h → (h < 512) × (library_fixed h ≡ true) × CanSay library_fixed static text place (library_global address) room n (place m) (calls (program_of core address other) d (library_global address h))
-      → (g < 512) × (library_fixed g ≡ true) × CanSay library_fixed static text place (library_global address) room n (place m) (calls (program_of core address other) d (library_global address g))
-  at h eg k = subst (λ (z : ℕ). (z < 512) × (library_fixed z ≡ true) × CanSay library_fixed static text place (library_global address) room n (place m) (calls (program_of core address other) d (library_global address z))) (sym eg) k
+  held : (σ : Shape) (cells : List Cell) → Inv σ cells → Ground library_fixed static text place (library_global address) σ → HoldTexts text place cells
+  held σ cells i ground m bytes et = string_held σ cells i (place m) bytes (fine m bytes et) (ground.texts m bytes et)
 
-  writes : n ≡ 0 → 15 ≡ room → CanSay library_fixed static text place (library_global address) room n (place m) (calls (program_of core address other) d (address 3))
-  writes en er (v ∷ vs) f σ args ground gone top = absurd (omega (arith, args.0, en))
-  writes en er [] f σ args ground gone top =
-      by_law σ (program_of core address other) (address 3) f d (2 + 3 * length bytes) 0 (place m ∷ []) (omega arith) (after_writes bytes) (λ cells i streams t.
-      writes_law (place m) bytes (core ∷ []) address (other ∷ []) base map_is cells streams f d t
-      (ready static text place address σ f 15 ground gone (omega (arith, er, top)) cells i)
-      (string_held σ cells i (place m) bytes (fine m bytes et) (ground.texts m bytes et)))
+  writes : with_text notes 15 ≡ Some room → CanSay library_fixed static text place (library_global address) room notes (calls (program_of core address other) d (address 3))
+  writes ok vs f σ told ground gone top =
+      let o = one_text text place notes vs 15 room ok told in
+      subst (λ (z : List ℕ). Runs σ IsWord σ (calls (program_of core address other) d (address 3) z f)) (sym o.alone)
+      (by_law σ (program_of core address other) (address 3) f d (2 + 3 * length o.string.bytes) 0 (o.value ∷ []) (omega arith) (after_writes o.string.bytes) (writes_keep o.string.bytes) (λ cells i streams t.
+      writes_law o.value o.string.bytes (core ∷ []) address (other ∷ []) base map_is cells streams f d t
+      (ready static text place address σ f 15 ground gone (omega (arith, o.needs, top)) cells i)
+      (subst (λ z. HoldsString cells z o.string.bytes) (sym o.string.is) (held σ cells i ground o.string.label o.string.bytes o.string.there))))
 
-  writef : n ≤ 4 → fits_format false bytes n ≡ true → 37 ≡ room → CanSay library_fixed static text place (library_global address) room n (place m) (calls (program_of core address other) d (address 6))
-  writef few format er vs f σ args ground gone top =
-      let r = reads false bytes n vs format args.0 args.1 in
-      subst (λ (z : List ℕ). Runs σ IsWord σ (calls (program_of core address other) d (address 6) (place m ∷ z) f)) (sym r.taken)
-      (by_law σ (program_of core address other) (address 6) f d (2 + turns_by r.pieces) 0 (place m ∷ (taken_by r.pieces ++ r.more)) (omega arith) (after_writes (written_by r.pieces)) (λ cells i streams t.
-      writef_law (place m) r.pieces r.more (taken_few (taken_by r.pieces) r.more 4 (subst (λ (z : List ℕ). length z ≤ 4) r.taken (omega (arith, args.0, few)))) (core ∷ []) address (other ∷ []) base map_is cells streams f d t
+  finding : (side : Side) → with_text notes 3 ≡ Some room → CanSay library_fixed static text place (library_global address) room notes (calls (program_of core address other) d (find_address side))
+  finding side ok vs f σ told ground gone top =
+      let o = one_text text place notes vs 3 room ok told in
+      subst (λ (z : List ℕ). Runs σ IsWord σ (calls (program_of core address other) d (find_address side) z f)) (sym o.alone)
+      (runs_find (program_of core address other) (find_address side) side (finds side (find_address side) refl) d o.value f σ o.word gone (omega (arith, o.needs, top)) o.string.bytes
+      (subst (λ z. HoldsWords σ z (string_words o.string.bytes)) (sym o.string.is) (ground.texts o.string.label o.string.bytes o.string.there))
+      (λ τ cells i words. string_held τ cells i o.value o.string.bytes (fine o.string.label o.string.bytes o.string.there) words))
+
+  writef : (bytes : List ℕ) (more : List Note) → (nat_le (length more) 4 && fits_format false bytes more) ≡ true → 37 ≡ room
+      → CanSay library_fixed static text place (library_global address) room (Says bytes ∷ more) (calls (program_of core address other) d (address 6))
+  writef bytes more ok er [] f σ told ground gone top = absurd told
+  writef bytes more ok er (v ∷ vs) f σ told ground gone top =
+      let oks = both_true (nat_le (length more) 4) (fits_format false bytes more) ok in
+      let r = reads text place false bytes more vs oks.1 told.1 in
+      let few : length vs ≤ 4 = omega (arith, at_most_true (length more) 4 oks.0, as_many text place more vs told.1) in
+      subst (λ (z : List ℕ). Runs σ IsWord σ (calls (program_of core address other) d (address 6) (v ∷ z) f)) (sym r.taken)
+      (by_law σ (program_of core address other) (address 6) f d (2 + turns_by r.pieces) 0 (v ∷ (taken_by r.pieces ++ r.more)) (omega arith) (after_writes (written_by r.pieces)) (writes_keep (written_by r.pieces)) (λ cells i streams t.
+      writef_law v r.pieces r.more (taken_few (taken_by r.pieces) r.more 4 (subst (λ (z : List ℕ). length z ≤ 4) r.taken few)) (core ∷ []) address (other ∷ []) base map_is cells streams f d t
       (ready static text place address σ f 37 ground gone (omega (arith, er, top)) cells i)
-      (subst (λ (z : List ℕ). HoldsString cells (place m) z) (sym r.format) (string_held σ cells i (place m) bytes (fine m bytes et) (ground.texts m bytes et)), r.are cells)))
+      (subst (λ (z : List ℕ). HoldsString cells v z) (sym r.format) (subst (λ z. HoldsString cells z bytes) (sym told.0.1.is) (held σ cells i ground told.0.1.label bytes told.0.1.there)), r.are cells (held σ cells i ground))))
 
-  of_writes : (x : Bool) → (n == 0) ≡ x → elim x as (λ z. Option ℕ) [ true ↦ Some 15 | false ↦ None ] ≡ Some room → CanSay library_fixed static text place (library_global address) room n (place m) (calls (program_of core address other) d (address 3))
-  of_writes true ex e1 = writes (same_true n 0 ex) (ap number_of e1)
-  of_writes false ex e1 = let z : ⊥ = cc in absurd z
+  formatted : (ns : List Note) → with_format ns ≡ Some room → CanSay library_fixed static text place (library_global address) room ns (calls (program_of core address other) d (address 6))
+  formatted [] ok = let z : ⊥ = cc in absurd z
+  formatted (AWord ∷ ns) ok = let z : ⊥ = cc in absurd z
+  formatted (AText ∷ ns) ok = let z : ⊥ = cc in absurd z
+  formatted (Says bytes ∷ ns) ok = chosen (nat_le (length ns) 4 && fits_format false bytes ns) refl ok where
+    chosen : (t : Bool) → (nat_le (length ns) 4 && fits_format false bytes ns) ≡ t → elim t as (λ z. Option ℕ) [ true ↦ Some 37 | false ↦ None ] ≡ Some room
+        → CanSay library_fixed static text place (library_global address) room (Says bytes ∷ ns) (calls (program_of core address other) d (address 6))
+    chosen true et e1 = writef bytes ns et (ap number_of e1)
+    chosen false et e1 = let z : ⊥ = cc in absurd z
 
-  by : (x y : Bool) → (g == 22) ≡ x → ((g == 25) && (nat_le n 4 && (are_bytes (length bytes ∷ bytes) && fits_format false bytes n))) ≡ y
-      → elim x as (λ z. Option ℕ) [ true ↦ elim (n == 0) as (λ z. Option ℕ) [ true ↦ Some 15 | false ↦ None ] | false ↦ elim y as (λ z. Option ℕ) [ true ↦ Some 37 | false ↦ None ] ] ≡ Some room
-      → (g < 512) × (library_fixed g ≡ true) × CanSay library_fixed static text place (library_global address) room n (place m) (calls (program_of core address other) d (library_global address g))
-  by true y ex ey e1 = at 22 (same_true g 22 ex) (omega arith, refl, of_writes (n == 0) refl e1)
-  by false true ex ey e1 =
-      let o1 = both_true (g == 25) (nat_le n 4 && (are_bytes (length bytes ∷ bytes) && fits_format false bytes n)) ey in
-      let o2 = both_true (nat_le n 4) (are_bytes (length bytes ∷ bytes) && fits_format false bytes n) o1.1 in
-      let o3 = both_true (are_bytes (length bytes ∷ bytes)) (fits_format false bytes n) o2.1 in
-      at 25 (same_true g 25 o1.0) (omega arith, refl, writef (at_most_true n 4 o2.0) o3.1 (ap number_of e1))
-  by false false ex ey e1 = let z : ⊥ = cc in absurd z
+  by : (x y u w : Bool) → (g == 22) ≡ x → (g == 25) ≡ y → (g == 15) ≡ u → (g == 16) ≡ w
+      → elim x as (λ z. Option ℕ) [ true ↦ with_text notes 15 | false ↦ elim y as (λ z. Option ℕ) [ true ↦ with_format notes | false ↦ elim (u || w) as (λ z. Option ℕ) [ true ↦ with_text notes 3 | false ↦ None ] ] ] ≡ Some room
+      → (g < 512) × (library_fixed g ≡ true) × CanSay library_fixed static text place (library_global address) room notes (calls (program_of core address other) d (library_global address g))
+  by true y u w ex ey eu ew e1 = at 22 ex (omega arith, refl, writes e1)
+  by false true u w ex ey eu ew e1 = at 25 ey (omega arith, refl, formatted notes e1)
+  by false false true w ex ey eu ew e1 = at 15 eu (omega arith, refl, finding sides.Input e1)
+  by false false false true ex ey eu ew e1 = at 16 ew (omega arith, refl, finding sides.Output e1)
+  by false false false false ex ey eu ew e1 = let z : ⊥ = cc in absurd z

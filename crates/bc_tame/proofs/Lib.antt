@@ -3,6 +3,7 @@ pub mod Expressions
 pub mod Shapes
 pub mod Commands
 pub mod Routines
+pub mod Primitives
 pub mod Lawful
 pub mod Sections
 pub mod Beginning

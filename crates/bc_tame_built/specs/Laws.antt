@@ -12,7 +12,7 @@ use Rattle.bc_machine_defs.specs.declared.image.Image.{Image}
 use Rattle.bc_machine_defs.specs.declared.state.End.TheVariants as ends
 use Rattle.bc_library_laws.specs.Texts.{header_file, source_file}
 use Rattle.bc_tame.specs.Programs.{Rooms, is_tame}
-use Rattle.bc_build.specs.Compiled.{IsAccepted, AreAccepted}
+use Rattle.bc_build.specs.Parsed.{IsParsed, AreParsed}
 use Rattle.bc_build.specs.Runs.{RunsAsMeant, meant, started}
 
 -- The machine that starts from `s` does what the meaning in n turns is. If that ended, so does the machine at some point, with the same
@@ -31,16 +31,16 @@ EveryRunIsMeant sections image = (streams : Content) → HoldBytes streams.input
 abbrev pub TamePrograms : Type 0
 TamePrograms =
     (rest : List File) (main : ℕ) (blib own : Declarations) (image : Image) (rooms : Rooms)
-    → AreAccepted (header_file ∷ source_file ∷ rest) (1 ∷ main ∷ []) (blib ∷ own ∷ []) → RunsAsMeant (blib ∷ own ∷ []) image
+    → AreParsed (header_file ∷ source_file ∷ rest) (1 ∷ main ∷ []) (blib ∷ own ∷ []) → RunsAsMeant (blib ∷ own ∷ []) image
     → is_tame (core_of own) rooms ≡ true → image.stack_base + 2 + rooms.room ≤ 65536
     → EveryRunIsMeant (blib ∷ own ∷ []) image
 
 -- the resolved section of a main
 abbrev pub IsResolved : List File → ℕ → Core → Type 0
-IsResolved files main core = (section : Declarations) → IsAccepted files main section → core ≡ core_of section
+IsResolved files main core = (section : Declarations) → IsParsed files main section → core ≡ core_of section
 
--- if the first two of these files are LIBHDR and BLIB, and BLIB and this main are the program, every run of its image is meant
-abbrev pub RunsAsMeantWithLibrary : List File → ℕ → Image → Type 0
-RunsAsMeantWithLibrary files main image =
-    (rest : List File) (blib own : Declarations) → files ≡ header_file ∷ source_file ∷ rest → AreAccepted files (1 ∷ main ∷ []) (blib ∷ own ∷ [])
-    → RunsAsMeant (blib ∷ own ∷ []) image → EveryRunIsMeant (blib ∷ own ∷ []) image
+-- if the first two of these files are LIBHDR and BLIB, every run is meant of an image of these mains that runs as meant
+abbrev pub RunsAsMeantWithLibrary : List File → List ℕ → Image → Type 0
+RunsAsMeantWithLibrary files mains image =
+    (rest : List File) (sections : List Declarations) → files ≡ header_file ∷ source_file ∷ rest → AreParsed files mains sections
+    → RunsAsMeant sections image → EveryRunIsMeant sections image

@@ -1,6 +1,6 @@
 //! The public call: whether a program that was built is tame.
 
-ghost use Rattle.std.specs.Prelude.{◌≡◌, ◌+◌, ◌<◌, ◌≤◌, true, length, IfOk};
+ghost use Rattle.std.specs.Prelude.{◌≡◌, ◌+◌, ◌<◌, ◌≤◌, ◌∷◌, [], true, length, IfOk, IfSome};
 ghost use Rattle.bc_lex.specs.Files.{files_of};
 ghost use Rattle.bc_core.specs.View.{section as section_view};
 ghost use Rattle.bc_tame_built.specs.Laws.{IsResolved, RunsAsMeantWithLibrary};
@@ -43,27 +43,44 @@ fn has_room(image: &Image, rooms: &Rooms) -> bool
     rooms.room <= 65536 && base + 2 + rooms.room <= 65536
 }
 
-/// Decides whether a program is tame that was built from LIBHDR, BLIB and further files, with BLIB and this main. If it is, no run of
-/// the image meets a wild cell. Returns the number of cells that a run takes above the stack's base and its two cells.
+/// The beginning of the routine with this label.
+fn at_label(label: usize) -> Spot {
+    Spot {
+        body: BodyOf::Routine(label),
+        before: 0,
+    }
+}
+
+/// The main beside BLIB, which is the main before it, if these two are the only ones.
+fn own_main(sources: &[Source<'_>], mains: &[usize]) -> Option<usize>
+    ensures { IfSome result (λ main. (mains.now ≡ 1 ∷ main ∷ []) × (main < length sources.now)) }
+{
+    match mains {
+        [1, main] if *main < sources.len() => Some(*main),
+        _ => None,
+    }
+}
+
+/// Decides whether a program is tame that was built from LIBHDR, BLIB and further files, with these mains. If it is, no run of the image
+/// meets a wild cell. Returns the number of cells that a run takes above the stack's base and its two cells.
 ///
 /// An error says what the check can't accept; the program may be harmless nevertheless. `Memory` if an allocation fails.
 pub fn tame_room(
     alloc: Global,
     sources: &[Source<'_>],
-    main: usize,
+    mains: &[usize],
     image: &Image,
 ) -> Result<usize, NotTame>
-    requires { main < length sources.now }
-    ensures { IfOk result (λ _. RunsAsMeantWithLibrary (files_of sources.now) main image.now) }
+    ensures { IfOk result (λ _. RunsAsMeantWithLibrary (files_of sources.now) mains.now image.now) }
 {
+    let main = match own_main(sources, mains) {
+        Some(main) => main,
+        None => return Err(NotTame::Unknown(Cause::Sections, at_label(0))),
+    };
     let core = resolved(alloc, sources, main)?;
     let rooms = tame_rooms(alloc, &core)?;
     if has_room(image, &rooms) {
         return Ok(rooms.room);
     }
-    let start = Spot {
-        body: BodyOf::Routine(rooms.start),
-        before: 0,
-    };
-    Err(NotTame::Unknown(Cause::Stack, start))
+    Err(NotTame::Unknown(Cause::Stack, at_label(rooms.start)))
 }

@@ -1,39 +1,77 @@
 -- What passes after a byte of a format, before it.
-use Rattle.std.proofs.Common.{◌≡◌, ℕ, zero, suc, ◌+◌, ◌==◌, Bool, true, false, inl, inr, List, ◌∷◌, sym, subst, arith}
-use Rattle.std.specs.Prelude.{◌&&◌, ◌||◌, not}
+use Rattle.std.proofs.Common.{◌≡◌, ℕ, ◌==◌, ◌≤◌, Bool, true, false, inl, inr, List, [], ◌∷◌, length, map, Option, Some, None, refl, sym, ap, ◌∙◌, subst, arith}
+use Rattle.std.specs.Prelude.{◌&&◌, ◌||◌, not, nat_le}
+use Rattle.std.proofs.lemmas.Bool.{eq-eqb}
 use Rattle.std.proofs.lemmas.Bool.Decides.{eqb_tells}
-use Rattle.bc_tame.specs.Programs.{fits_format}
+use Rattle.bc_core.specs.declared.command.Place.{Place}
+use Rattle.bc_core.specs.declared.expression.CoreExp.{CoreExp}
+use Rattle.bc_core.specs.View.{exp, args, place_of}
+use Rattle.bc_core.specs.Tree as tree
+use Rattle.bc_tame.specs.Tame.{Note, AWord, AText, Says, is_text, note_of, note_of_place, notes_of}
+use Rattle.bc_tame.specs.Programs.{fits_format, with_text, with_format, text_from, gives_from}
+use Rattle.bc_tame_check.specs.Views.{notes_in}
+use Rattle.bc_tame_check.proofs.Tests.{and_true, most_true}
 
 apart : (a b : ℕ) → ((a ≡ b) → ⊥) → (a == b) ≡ false
 apart a b h = elim (eqb_tells a b) [ inl e ↦ absurd (h e.1) | inr e ↦ e.0 ]
 
-pub plain : (b n : ℕ) (left : List ℕ) → fits_format (b == 37) left n ≡ true → fits_format false (b ∷ left) n ≡ true
-plain b n left h = branch (b == 37) h where
-  branch : (t : Bool) → fits_format t left n ≡ true → elim t as (λ z. Bool) [ true ↦ fits_format true left n | false ↦ fits_format false left n ] ≡ true
+pub plain : (b : ℕ) (notes : List Note) (left : List ℕ) → fits_format (b == 37) left notes ≡ true → fits_format false (b ∷ left) notes ≡ true
+plain b notes left h = branch (b == 37) h where
+  branch : (t : Bool) → fits_format t left notes ≡ true → elim t as (λ z. Bool) [ true ↦ fits_format true left notes | false ↦ fits_format false left notes ] ≡ true
   branch true h = h
   branch false h = h
 
-pub number : (b n m : ℕ) (left : List ℕ) → b ≡ 78 → n ≡ m + 1 → fits_format false left m ≡ true → fits_format true (b ∷ left) n ≡ true
-number b n m left e f h =
-    let more : n ≡ suc m = omega (arith, f) in
-    subst (λ k. fits_format true (b ∷ left) k ≡ true) (sym more) (subst (λ c. fits_format true (c ∷ left) (suc m) ≡ true) (sym e) h)
+pub number : (note : Note) (notes : List Note) (left : List ℕ) → fits_format false left notes ≡ true → fits_format true (78 ∷ left) (note ∷ notes) ≡ true
+number note notes left h = h
 
-pub character : (b n m : ℕ) (left : List ℕ) → b ≡ 67 → n ≡ m + 1 → fits_format false left m ≡ true → fits_format true (b ∷ left) n ≡ true
-character b n m left e f h =
-    let more : n ≡ suc m = omega (arith, f) in
-    subst (λ k. fits_format true (b ∷ left) k ≡ true) (sym more) (subst (λ c. fits_format true (c ∷ left) (suc m) ≡ true) (sym e) h)
+pub character : (note : Note) (notes : List Note) (left : List ℕ) → fits_format false left notes ≡ true → fits_format true (67 ∷ left) (note ∷ notes) ≡ true
+character note notes left h = h
 
-pub other : (b n : ℕ) (left : List ℕ) → ((b ≡ 83) → ⊥) → ((b ≡ 78) → ⊥) → ((b ≡ 67) → ⊥) → fits_format false left n ≡ true → fits_format true (b ∷ left) n ≡ true
-other b zero left s w c h = none (b == 78) (b == 83) (b == 67) (apart b 78 w) (apart b 83 s) (apart b 67 c) where
-  none : (x y z : Bool) → x ≡ false → y ≡ false → z ≡ false → (not (x || (y || z)) && fits_format false left zero) ≡ true
+pub string : (note : Note) (notes : List Note) (left : List ℕ) → is_text note ≡ true → fits_format false left notes ≡ true → fits_format true (83 ∷ left) (note ∷ notes) ≡ true
+string note notes left e h = and_true (is_text note) (fits_format false left notes) e h
+
+pub other : (b : ℕ) (notes : List Note) (left : List ℕ) → ((b ≡ 83) → ⊥) → ((b ≡ 78) → ⊥) → ((b ≡ 67) → ⊥) → fits_format false left notes ≡ true → fits_format true (b ∷ left) notes ≡ true
+other b [] left s w c h = none (b == 78) (b == 83) (b == 67) (apart b 78 w) (apart b 83 s) (apart b 67 c) where
+  none : (x y z : Bool) → x ≡ false → y ≡ false → z ≡ false → (not (x || (y || z)) && fits_format false left []) ≡ true
   none true y z e f g = absurd (let n : ⊥ = cc in n)
   none false true z e f g = absurd (let n : ⊥ = cc in n)
   none false false true e f g = absurd (let n : ⊥ = cc in n)
   none false false false e f g = h
-other b (suc n) left s w c h = none (b == 78) (b == 67) (b == 83) (apart b 78 w) (apart b 67 c) (apart b 83 s) where
+other b (note ∷ notes) left s w c h = none (b == 83) (b == 78) (b == 67) (apart b 83 s) (apart b 78 w) (apart b 67 c) where
   none : (x y z : Bool) → x ≡ false → y ≡ false → z ≡ false
-      → elim x as (λ t. Bool) [ true ↦ fits_format false left n | false ↦ elim y as (λ t. Bool) [ true ↦ fits_format false left n | false ↦ not z && fits_format false left (suc n) ] ] ≡ true
+      → elim x as (λ t. Bool) [
+        | true ↦ is_text note && fits_format false left notes
+        | false ↦ elim (y || z) as (λ t. Bool) [ true ↦ fits_format false left notes | false ↦ fits_format false left (note ∷ notes) ]
+      ] ≡ true
   none true y z e f g = absurd (let n : ⊥ = cc in n)
   none false true z e f g = absurd (let n : ⊥ = cc in n)
   none false false true e f g = absurd (let n : ⊥ = cc in n)
   none false false false e f g = h
+
+-- a string alone
+pub alone : (note : Note) (room : ℕ) → is_text note ≡ true → with_text (note ∷ []) room ≡ Some room
+alone AWord room e = let z : ⊥ = cc in absurd z
+alone AText room e = refl
+alone (Says bytes) room e = refl
+
+many_notes : (text : ℕ → Option (List ℕ)) (gives : ℕ → Bool) (es : List CoreExp) → length (notes_of text gives (args es)) ≡ length es
+many_notes text gives [] = refl
+many_notes text gives (e ∷ es) = let h = many_notes text gives es in omega arith
+
+formatted : (text : ℕ → Option (List ℕ)) (gives : ℕ → Bool) (e : tree.Exp) (m : ℕ) (bytes : List ℕ) (notes : List Note)
+    → e ≡ tree.Place m → text m ≡ Some bytes → length notes ≤ 4 → fits_format false bytes notes ≡ true → with_format (note_of text gives e ∷ notes) ≡ Some 37
+formatted text gives e m bytes notes is there few fits =
+    ap (λ x. with_format (note_of text gives x ∷ notes)) is
+    ∙ (ap (λ o. with_format (note_of_place o ∷ notes)) there
+    ∙ ap (λ t. elim t as (λ z. Option ℕ) [ true ↦ Some 37 | false ↦ None ]) (and_true (nat_le (length notes) 4) (fits_format false bytes notes) (most_true (length notes) 4 few) fits))
+
+-- a format and what it takes
+pub formatted_with : (places : List Place) (es : List CoreExp) (e : CoreExp) (rest : List CoreExp) (m : ℕ) (bytes : List ℕ)
+    → es ≡ e ∷ rest → exp e ≡ tree.Place m → text_from (map place_of places) 1 m ≡ Some bytes → length rest ≤ 4 → fits_format false bytes (notes_in places rest) ≡ true
+    → with_format (notes_in places es) ≡ Some 37
+formatted_with places es e rest m bytes split is there few fits =
+    let text = text_from (map place_of places) 1 in
+    let gives = gives_from (text_from (map place_of places) 1) (map place_of places) 1 in
+    subst (λ xs. with_format (notes_in places xs) ≡ Some 37) (sym split)
+    (formatted (text_from (map place_of places) 1) (gives_from (text_from (map place_of places) 1) (map place_of places) 1) (exp e) m bytes (notes_in places rest) is there
+    (omega (arith, few, many_notes (text_from (map place_of places) 1) (gives_from (text_from (map place_of places) 1) (map place_of places) 1) rest)) fits)

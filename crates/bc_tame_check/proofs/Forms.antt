@@ -1,16 +1,16 @@
 -- What a part's check says of the whole, where the result of the part is that of the whole.
-use Rattle.std.proofs.Common.{◌≡◌, ℕ, ◌+◌, ◌≤◌, true, List, ◌++◌, Some, length, sym, subst}
+use Rattle.std.proofs.Common.{◌≡◌, ℕ, ◌+◌, true, List, ◌++◌, length, Some, sym, subst}
 use Rattle.std.specs.Prelude.{Result, Ok, Err, OnOk}
-use Rattle.bc_core.specs.Tree.{Exp, Call, argument, count}
+use Rattle.bc_core.specs.Tree.{Exp, Call}
 use Rattle.bc_core.specs.Commands.{Command, Variable, block, Items}
 use Rattle.bc_core.specs.View.{args}
 use Rattle.bc_core.specs.WellFormed.{has, labels_of}
 use Rattle.bc_core.specs.declared.expression.CoreExp.{CoreExp}
-use Rattle.bc_tame.specs.Tame.{Known, called, fits_call, fits_said, place_of, global_of, tame_args, tame_items, in_list, parameters_set}
+use Rattle.bc_tame.specs.Tame.{Known, called, fits_call, tame_args, tame_items, in_list, parameters_set}
 use Rattle.bc_tame_check.specs.declared.at.At.{At}
-use Rattle.bc_tame_check.specs.Views.{env_at, reads_at, exits_at, set_over, AreDeclared}
-use Rattle.bc_tame_check.specs.Passes.{ExpPasses, CommandPasses, BlockPasses, ListPasses}
-use Rattle.bc_tame_check.proofs.Calls.{call_true, said_true}
+use Rattle.bc_tame_check.specs.Views.{env_at, reads_at, exits_at, notes_in, set_over, AreDeclared}
+use Rattle.bc_tame_check.specs.Passes.{CallFits, ExpPasses, CommandPasses, BlockPasses, ListPasses}
+use Rattle.bc_tame_check.proofs.Calls.{known_call, call_true}
 use Rattle.bc_tame_check.proofs.Loops.{block_true, list_true}
 
 -- what holds on success, through a lemma
@@ -24,19 +24,13 @@ as_expression at r e f is h = subst (λ x. OnOk r (ExpPasses at x)) (sym is) h
 pub as_command : {A E : Type 0} (at : At) (r : Result A E) (k l : Command) → k ≡ l → OnOk r (CommandPasses at l) → OnOk r (CommandPasses at k)
 as_command at r k l e h = subst (λ c. OnOk r (CommandPasses at c)) (sym e) h
 
-pub call_passes : {A E : Type 0} (at : At) (r : Result A E) (values : List CoreExp) (f : Exp) (k : Known) (level : ℕ)
-    → called (env_at at) f ≡ Some k → fits_call (Some k) (length values) at.level at.around.size ≡ true → level ≡ at.level + 2
-    → OnOk r (tame_args (env_at at) (reads_at at) (args values) level ≡ true) → OnOk r (ExpPasses at (Call (args values) f))
-call_passes at r values f k level found fits e h =
-    on_ok r (λ passes. call_true (env_at at) (reads_at at) values f at.level k found fits (subst (λ n. tame_args (env_at at) (reads_at at) (args values) n ≡ true) e passes)) h
+pub call_passes : {A E : Type 0} (at : At) (r : Result A E) (values : List CoreExp) (f : Exp) (level : ℕ)
+    → level ≡ at.level + 2 → tame_args (env_at at) (reads_at at) (args values) level ≡ true → OnOk r (CallFits at values f) → OnOk r (ExpPasses at (Call (args values) f))
+call_passes at r values f level above all h = on_ok r (λ fits. call_true (env_at at) (reads_at at) (args values) f at.level level above all fits) h
 
-pub said_passes : {A E : Type 0} (at : At) (r : Result A E) (values : List CoreExp) (e f : Exp) (room cells level : ℕ)
-    → ((s : ℕ) → s + room ≤ at.around.size → fits_said (env_at at) (place_of e) (global_of f) (count (args values)) s ≡ true)
-    → cells ≡ at.level + room → cells ≤ at.around.size → level ≡ at.level + 3
-    → OnOk r (tame_args (env_at at) (reads_at at) (args values) level ≡ true) → OnOk r (ExpPasses at (Call (argument e (args values)) f))
-said_passes at r values e f room cells level said is fits above h =
-    on_ok r (λ passes. said_true (env_at at) (reads_at at) values e f at.level (said at.level (subst (λ n. n ≤ at.around.size) is fits))
-    (subst (λ n. tame_args (env_at at) (reads_at at) (args values) n ≡ true) above passes)) h
+pub known_passes : {A E : Type 0} (at : At) (r : Result A E) (values : List CoreExp) (f : Exp) (k : Known)
+    → called (env_at at) f ≡ Some k → OnOk r (fits_call (Some k) (length values) at.level at.around.size ≡ true) → OnOk r (CallFits at values f)
+known_passes at r values f k e h = on_ok r (λ fits. known_call (env_at at) values f (notes_in at.around.places.now values) at.level k e fits) h
 
 pub block_passes_on : {A E : Type 0} (at : At) (r : Result A E) (ds : List (List Variable)) (is : Items) (reads : List ℕ) (level : ℕ) → AreDeclared at ds reads level
     → OnOk r (tame_items (env_at at) (set_over (parameters_set at.parameters) reads) (in_list is (exits_at at)) is level ≡ true) → OnOk r (BlockPasses at (block ds is))

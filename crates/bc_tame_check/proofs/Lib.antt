@@ -3,6 +3,7 @@ pub mod Formats
 pub mod Offsets
 pub mod Places
 pub mod Calls
+pub mod Strings
 pub mod Valofs
 pub mod Labels
 pub mod Loops

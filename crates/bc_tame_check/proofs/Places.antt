@@ -6,7 +6,7 @@ use Rattle.bc_core.specs.Commands.{Routine, Place, Code, Static, Text}
 use Rattle.bc_tame.specs.Tame.{Known}
 use Rattle.bc_tame.specs.Programs.{known, routine_from, static_from, text_from}
 
-apart : (a b : ℕ) → ((a ≡ b) → ⊥) → (a == b) ≡ false
+pub apart : (a b : ℕ) → ((a ≡ b) → ⊥) → (a == b) ≡ false
 apart a b h = elim (eqb_tells a b) [ inl e ↦ absurd (h e.1) | inr e ↦ e.0 ]
 
 pub routine_here : (r : Routine) (ps : List Place) (room : ℕ) (rooms : List ℕ) (label m : ℕ) → label ≡ m

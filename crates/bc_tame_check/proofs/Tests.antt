@@ -24,14 +24,6 @@ byte_more b bs h e = and_true (nat_lt b 256) (are_bytes bs) (less_true b 256 h) 
 pub byte_first : (bs : List ℕ) → length bs < 256 → are_bytes bs ≡ true → are_bytes (length bs ∷ bs) ≡ true
 byte_first bs h e = byte_more (length bs) bs h e
 
-pub writef_speaks : (g n : ℕ) (bytes : List ℕ) → g ≡ 25 → n ≤ 4 → are_bytes (length bytes ∷ bytes) ≡ true → fits_format false bytes n ≡ true
-    → library_speaks g bytes n ≡ Some 37
-writef_speaks g n bytes e few are fits =
-    let all = and_true (nat_le n 4) (are_bytes (length bytes ∷ bytes) && fits_format false bytes n) (most_true n 4 few)
-    (and_true (are_bytes (length bytes ∷ bytes)) (fits_format false bytes n) are fits) in
-    subst (λ k. library_speaks k bytes n ≡ Some 37) (sym e)
-    (ap (λ t. elim t as (λ z. Option ℕ) [ true ↦ Some 37 | false ↦ None ]) all)
-
 -- a global that isn't fixed can be written
 pub global_written : (n : ℕ) (b : Bool) → n < 512 → b ≡ library_fixed n → b ≡ false → (nat_lt n 512 && not (library_fixed n)) ≡ true
 global_written n b h is isnt = and_true (nat_lt n 512) (not (library_fixed n)) (less_true n 512 h) (ap not (sym is ∙ isnt))

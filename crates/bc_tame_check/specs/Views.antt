@@ -4,12 +4,14 @@ use Rattle.bc_core.specs.Commands.{Variable, Core}
 use Rattle.bc_core.specs.Level.{cells_declared}
 use Rattle.bc_core.specs.declared.command.ListItem.{ListItem}
 use Rattle.bc_core.specs.declared.command.ListItem.TheVariants as entries
-use Rattle.bc_core.specs.View.{section, valof_of}
+use Rattle.bc_core.specs.declared.command.Place.{Place}
+use Rattle.bc_core.specs.declared.expression.CoreExp.{CoreExp}
+use Rattle.bc_core.specs.View.{section, valof_of, place_of, args}
 use Rattle.bc_core.specs.WellFormed.{has}
 use Rattle.bc_tame.specs.Tame as tame
-use Rattle.bc_tame.specs.Tame.{Reads, Env, and_also, and_declared, parameters_set, with_valofs, tame_valofs, tame_declarations}
+use Rattle.bc_tame.specs.Tame.{Note, notes_of, Reads, Env, and_also, and_declared, parameters_set, with_valofs, tame_valofs, tame_declarations}
 use Rattle.bc_tame.specs.Programs as programs
-use Rattle.bc_tame.specs.Programs.{env_of, is_tame}
+use Rattle.bc_tame.specs.Programs.{text_from, gives_from, env_of, is_tame}
 use Rattle.bc_tame_check.specs.declared.at.Around.{Around}
 use Rattle.bc_tame_check.specs.declared.at.At.{At}
 use Rattle.bc_tame_check.specs.declared.rooms.Rooms.{Rooms}
@@ -44,6 +46,10 @@ label_in (entries.Command c) = []
 label_in (entries.Case k) = []
 label_in entries.Default = []
 label_in (entries.Label l) = l ∷ []
+
+-- what is known of arguments, among places
+abbrev pub notes_in : List Place → List CoreExp → List Note
+notes_in places es = notes_of (text_from (map place_of places) 1) (gives_from (text_from (map place_of places) 1) (map place_of places) 1) (args es)
 
 -- declarations pass, these offsets are set after them, and this is the level then
 pub record AreDeclared (at : At) (ds : List (List Variable)) (reads : List ℕ) (level : ℕ) : Type 0 where

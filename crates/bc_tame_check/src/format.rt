@@ -1,36 +1,57 @@
 //! Which calls of the library's routines pass.
 
 ghost use Rattle.std.specs.Prelude.{◌≡◌, ◌∷◌, true, false, length, IfSome, Some, List, ℕ};
-ghost use Rattle.bc_tame.specs.Programs.{known, are_bytes as bytes_pass, fits_format as format_passes, library_callable, library_speaks, library_fixed};
+ghost use Rattle.bc_tame.specs.Tame.{Note};
+ghost use Rattle.bc_tame_check.specs.Views.{notes_in};
+ghost use Rattle.bc_tame.specs.Programs.{known, are_bytes as bytes_pass, fits_format as format_passes, library_callable, library_speaks, with_text, with_format, library_fixed, is_primitive as primitive_global};
 
 use crate::at::Known;
+use crate::lookup::{label_of, text_of};
+use crate::texts::is_string;
+use bc_core::{CoreExp, Place};
 
-/// How WRCH, WRITEN and NEWLINE can be called, by their globals.
+/// How the stream primitives, WRITEN and NEWLINE can be called, by their globals.
 pub(crate) fn callable(global: u16) -> Option<Known>
     ensures { IfSome result (λ k. library_callable global ≡ Some (known k.arguments k.room)) }
 {
-    match global {
-        14 => Some(Known {
-            arguments: 1,
-            room: 3,
-        }),
-        23 => Some(Known {
-            arguments: 1,
-            room: 20,
-        }),
-        24 => Some(Known {
-            arguments: 0,
-            room: 8,
-        }),
-        _ => None,
-    }
+    let (arguments, room) = match global {
+        11 => (1, 3),
+        12 => (1, 3),
+        13 => (0, 3),
+        14 => (1, 3),
+        17 => (0, 3),
+        18 => (0, 3),
+        23 => (1, 20),
+        24 => (0, 8),
+        _ => return None,
+    };
+    Some(Known { arguments, room })
+}
+
+/// Whether a global holds a primitive.
+fn is_primitive(global: u16) -> bool
+    ensures { result ≡ primitive_global global }
+{
+    global == 11
+        || global == 12
+        || global == 13
+        || global == 14
+        || global == 15
+        || global == 16
+        || global == 17
+        || global == 18
 }
 
 /// Whether a global holds a routine that the library needs, so that it may not be assigned.
 pub(crate) fn is_fixed(global: u16) -> bool
     ensures { result ≡ library_fixed global }
 {
-    global == 14 || global == 20 || global == 22 || global == 23 || global == 24 || global == 25
+    is_primitive(global)
+        || global == 20
+        || global == 22
+        || global == 23
+        || global == 24
+        || global == 25
 }
 
 /// Whether the bytes and their number are below 256.
@@ -47,35 +68,63 @@ pub(crate) fn are_bytes(bytes: &[u8]) -> bool
     bytes.len() < 256
 }
 
-/// What remains after a byte of a format: whether it is a %, and for how many words there is room. `None` if the byte isn't accepted.
-#[tactic(auto, using(crate::proofs::Formats::plain, crate::proofs::Formats::number, crate::proofs::Formats::character, crate::proofs::Formats::other))]
-fn format_step(byte: u8, after_percent: bool, words: usize) -> Option<(bool, usize)>
-    ensures { IfSome result (λ r. (left : List ℕ) → format_passes r.0 left r.1 ≡ true → format_passes after_percent (byte ∷ left) words ≡ true) }
+/// What remains of the arguments after one that %N, %C or %S takes. `None` if there is none, or if it is no string for %S.
+fn taken<'a>(places: &[Place], byte: u8, values: &'a [CoreExp]) -> Option<&'a [CoreExp]>
+    ensures { IfSome result (λ rest. (left : List ℕ) → format_passes false left (notes_in places.now rest.now) ≡ true
+        → format_passes true (byte ∷ left) (notes_in places.now values.now) ≡ true) }
 {
-    if !after_percent {
-        return Some((byte == b'%', words));
+    match values {
+        [] => None,
+        [first, rest @ ..] => match byte {
+            b'N' => Some(rest),
+            b'C' => Some(rest),
+            b'S' => {
+                if is_string(places, first) {
+                    Some(rest)
+                } else {
+                    None
+                }
+            }
+            _ => None,
+        },
     }
-    if byte == b'S' {
-        return None;
-    }
-    if byte == b'N' || byte == b'C' {
-        return Some((false, words.checked_sub(1)?));
-    }
-    Some((false, words))
 }
 
-/// Whether a format takes at most `n` words, and only by %N and %C.
-pub(crate) fn fits_format(format: &[u8], n: usize) -> bool
-    ensures { result ≡ true → format_passes false format.now n ≡ true }
+/// What remains after a byte of a format: whether it is a %, and which arguments. `None` if the byte isn't accepted.
+#[tactic(auto, using(crate::proofs::Formats::plain, crate::proofs::Formats::other))]
+fn format_step<'a>(
+    places: &[Place],
+    byte: u8,
+    after_percent: bool,
+    values: &'a [CoreExp],
+) -> Option<(bool, &'a [CoreExp])>
+    ensures { IfSome result (λ r. (left : List ℕ) → format_passes r.0 left (notes_in places.now r.1.now) ≡ true
+        → format_passes after_percent (byte ∷ left) (notes_in places.now values.now) ≡ true) }
+{
+    if !after_percent {
+        return Some((byte == b'%', values));
+    }
+    if byte == b'S' || byte == b'N' || byte == b'C' {
+        return match taken(places, byte, values) {
+            Some(rest) => Some((false, rest)),
+            None => None,
+        };
+    }
+    Some((false, values))
+}
+
+/// Whether a format takes no more than these arguments, and by %S a string.
+pub(crate) fn fits_format(places: &[Place], format: &[u8], values: &[CoreExp]) -> bool
+    ensures { result ≡ true → format_passes false format.now (notes_in places.now values.now) ≡ true }
 {
     let mut after_percent = false;
-    let mut words = n;
+    let mut values_left = values;
     let mut left = format;
     while let [byte, rest @ ..] = left {
-        match format_step(*byte, after_percent, words) {
+        match format_step(places, *byte, after_percent, values_left) {
             Some(next) => {
                 after_percent = next.0;
-                words = next.1;
+                values_left = next.1;
             }
             None => return false,
         }
@@ -84,16 +133,58 @@ pub(crate) fn fits_format(format: &[u8], n: usize) -> bool
     !after_percent
 }
 
-/// The room that WRITES or WRITEF needs with a string constant of these bytes and `n` further arguments, by their globals.
-#[tactic(auto, using(crate::proofs::Tests::writef_speaks))]
-pub(crate) fn speaks(global: u16, bytes: &[u8], n: usize) -> Option<usize>
-    ensures { IfSome result (λ room. library_speaks global bytes.now n ≡ Some room) }
+/// Whether the arguments are a string alone.
+#[tactic(auto, using(crate::proofs::Formats::alone))]
+fn is_string_alone(places: &[Place], values: &[CoreExp]) -> bool
+    ensures { result ≡ true → (room : ℕ) → with_text (notes_in places.now values.now) room ≡ Some room }
 {
-    if global == 22 {
-        return if n == 0 { Some(15) } else { None };
+    match values {
+        [only] => is_string(places, only),
+        _ => false,
     }
-    if global == 25 && n <= 4 && are_bytes(bytes) && fits_format(bytes, n) {
-        return Some(37);
+}
+
+/// Whether the arguments are a format and what it takes, at most four.
+fn are_formatted(places: &[Place], values: &[CoreExp]) -> bool
+    ensures { result ≡ true → with_format (notes_in places.now values.now) ≡ Some 37 }
+{
+    match values {
+        [first, rest @ ..] => match label_of(first) {
+            Some(label) => match text_of(places, label) {
+                Some(bytes) => rest.len() <= 4 && fits_format(places, bytes, rest),
+                None => false,
+            },
+            None => false,
+        },
+        [] => false,
     }
-    None
+}
+
+/// The room of a routine that takes a string alone, by its global.
+fn string_room(global: u16) -> Option<usize>
+    ensures { IfSome result (λ room. (notes : List Note) → with_text notes room ≡ Some room → library_speaks global notes ≡ Some room) }
+{
+    match global {
+        22 => Some(15),
+        15 => Some(3),
+        16 => Some(3),
+        _ => None,
+    }
+}
+
+/// The room that WRITES, WRITEF, FINDINPUT or FINDOUTPUT needs with these arguments, by their globals.
+pub(crate) fn speaks(places: &[Place], global: u16, values: &[CoreExp]) -> Option<usize>
+    ensures { IfSome result (λ room. library_speaks global (notes_in places.now values.now) ≡ Some room) }
+{
+    if let Some(room) = string_room(global) {
+        return if is_string_alone(places, values) {
+            Some(room)
+        } else {
+            None
+        };
+    }
+    match global {
+        25 if are_formatted(places, values) => Some(37),
+        _ => None,
+    }
 }

@@ -7,6 +7,7 @@ mod format;
 mod lookup;
 mod not_tame;
 mod rooms;
+mod texts;
 mod walk;
 
 pub use not_tame::{BodyOf, Cause, NotTame, Spot};

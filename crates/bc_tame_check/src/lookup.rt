@@ -140,7 +140,7 @@ pub(crate) fn text_of<'a>(places: &'a [Place], wanted: usize) -> Option<&'a [u8]
 
 /// The label, if the expression is the address of a place.
 pub(crate) fn label_of(e: &CoreExp) -> Option<usize>
-    ensures { IfSome result (λ m. tame.place_of (exp e.now) ≡ Some m) }
+    ensures { IfSome result (λ m. exp e.now ≡ tree.Place m) }
 {
     match e {
         CoreExp::Place(label) => Some(*label as usize),

@@ -4,7 +4,7 @@ use std::alloc::{AllocError, AllocFailed};
 use thiserror::Error;
 
 /// A body that has its own code.
-#[derive(Clone, Copy, Debug, PartialEq, Eq)]
+#[derive(Clone, Copy, Debug)]
 pub enum BodyOf {
     /// The body of the routine with this label, counted from 1.
     Routine(usize),
@@ -13,7 +13,7 @@ pub enum BodyOf {
 }
 
 /// A place in the text: a whole expression, test or assignment of a body.
-#[derive(Clone, Copy, Debug, PartialEq, Eq)]
+#[derive(Clone, Copy, Debug)]
 pub struct Spot {
     /// The body.
     pub body: BodyOf,
@@ -22,51 +22,41 @@ pub struct Spot {
 }
 
 /// What the check can't accept.
-#[derive(Clone, Copy, Debug, PartialEq, Eq, Error)]
+#[derive(Clone, Copy, Debug)]
 pub enum Cause {
     /// A cell that no variable, static or global names is read or written, as by `!`.
-    #[error("indirection")]
     Indirection,
-    /// The address of a string, table, routine or static is used as a value.
-    #[error("address")]
+    /// The address of a table, routine or static is used as a value.
     Address,
     /// A call whose routine is neither one of the section's, by its name, nor one of the library that the check knows.
-    #[error("call")]
     Call,
     /// A call with more or fewer arguments than the routine has parameters.
-    #[error("arguments")]
     Arguments,
-    /// WRITES or WRITEF with something else than a string constant and the numbers that it needs.
-    #[error("format")]
+    /// A library routine that takes strings, with something else than a string that is known and what its format takes.
     Format,
     /// A routine that calls itself, directly or through others.
-    #[error("recursion")]
     Recursion,
     /// A global that holds a routine of the library is assigned.
-    #[error("library-global")]
     LibraryGlobal,
     /// A routine sets a global other than START's.
-    #[error("own-global")]
     OwnGlobal,
     /// A TABLE.
-    #[error("table")]
     Table,
     /// The section has no START without parameters.
-    #[error("no-start")]
     NoStart,
     /// The image leaves too few cells for the stack.
-    #[error("stack")]
     Stack,
     /// The routines need more cells than the store has, or the text nests too deep.
-    #[error("size")]
     Size,
+    /// The program has other sections than BLIB and one more. `tame_rooms` never returns this.
+    Sections,
 }
 
 /// Why no answer of yes was found.
-#[derive(Clone, Copy, Debug, PartialEq, Eq, Error)]
+#[derive(Clone, Copy, Debug, Error)]
 pub enum NotTame {
     /// The check can't accept what is at this place. This means only that the answer isn't known.
-    #[error("not known to be tame: {0}")]
+    #[error("not known to be tame")]
     Unknown(Cause, Spot),
     /// The routine with this label must be checked first. `tame_rooms` never returns this.
     #[error("unchecked routine {0}")]

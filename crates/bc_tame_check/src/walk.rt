@@ -1,16 +1,17 @@
 //! The check of expressions, commands and blocks. The functions call one another and are proved as one cycle.
 
-ghost use Rattle.std.specs.Prelude.{◌≡◌, ◌+◌, ◌≤◌, ◌∷◌, ◌&&◌, nat_lt, true, map, ℕ, List, OnOk, IfOk};
+ghost use Rattle.std.specs.Prelude.{◌≡◌, ◌+◌, ◌≤◌, ◌∷◌, ◌&&◌, nat_lt, true, Some, map, ℕ, List, OnOk, IfOk};
 ghost use Rattle.bc_core.specs.Tree as tree;
 ghost use Rattle.bc_core.specs.Commands as forms;
 ghost use Rattle.bc_core.specs.View.{exp, args, variable, declarations as declarations_view, command as command_view, items as items_view};
 ghost use Rattle.bc_core.specs.View.{items_before, block_of, body_of};
 ghost use Rattle.bc_tame.specs.Tame as tame;
 ghost use Rattle.bc_tame.specs.Tame.{tame_exp, tame_args, tame_variables};
-ghost use Rattle.bc_tame_check.specs.Views.{env_at, reads_at, exits_at, AreDeclared};
-ghost use Rattle.bc_tame_check.specs.Passes.{exp_passes, block_passes, ExpPasses, CommandPasses, BlockPasses, ItemsPass, ListPasses};
+ghost use Rattle.bc_tame.specs.Programs.{known as known_as};
+ghost use Rattle.bc_tame_check.specs.Views.{env_at, reads_at, exits_at, notes_in, AreDeclared};
+ghost use Rattle.bc_tame_check.specs.Passes.{exp_passes, block_passes, CallFits, ExpPasses, CommandPasses, BlockPasses, ItemsPass, ListPasses};
 
-use crate::at::{At, Exits, Walk, is_set};
+use crate::at::{At, Exits, Known, Walk, is_set};
 use crate::binding::{cells_of_all, labels_with, set_all};
 use crate::format::{is_fixed, speaks};
 use crate::lookup::{called, global_of, is_static, label_of, text_of};
@@ -135,7 +136,7 @@ fn expression(at: At<'_>, e: &CoreExp, walk: &mut Walk) -> Result<(), NotTame>
             Ok(())
         }
         CoreExp::Frame(_) | CoreExp::Glob(_) => Ok(()),
-        CoreExp::Place(_) => walk.stop(Cause::Address),
+        CoreExp::Place(label) => place_value(at, *label as usize, walk),
         CoreExp::Load(address) => reading(at, address, walk),
         CoreExp::Neg(part) | CoreExp::Not(part) => expression(at, part, walk),
         CoreExp::Bin(_, left, right) => both(at, left, right, walk),
@@ -175,81 +176,86 @@ fn choice(
     expression(at, that, walk)
 }
 
+/// Checks that there is room for a call of a routine that is known.
+fn enters_known(
+    at: At<'_>,
+    routine: &CoreExp,
+    known: Known,
+    arguments: usize,
+    walk: &mut Walk,
+) -> Result<(), NotTame>
+    ensures { OnOk result (tame.fits_call (Some (known_as known.arguments known.room)) arguments at.entry.level at.entry.around.size ≡ true) }
+{
+    if let Some(label) = label_of(routine)
+        && known.room == 0
+    {
+        return Err(NotTame::Unchecked(label, walk.spot));
+    }
+    walk.fits(known, arguments, at.level, at.around.size)
+}
+
+/// Checks that there is room for a call of a library routine that takes strings.
+#[tactic(auto, using(crate::proofs::Calls::said_fits))]
+fn enters_said(
+    at: At<'_>,
+    values: &[CoreExp],
+    routine: &CoreExp,
+    walk: &mut Walk,
+) -> Result<(), NotTame>
+    ensures { OnOk result (tame.fits_room (tame.spoken (env_at at.entry) (exp routine.now) (notes_in at.entry.around.places.now values.now))
+        at.entry.level at.entry.around.size ≡ true) }
+{
+    let global = match global_of(routine) {
+        Some(global) => global,
+        None => return Err(NotTame::Unknown(Cause::Call, walk.spot)),
+    };
+    let room = match speaks(at.around.places, global, values) {
+        Some(room) => room,
+        None => return Err(NotTame::Unknown(said_cause(global), walk.spot)),
+    };
+    let cells = walk.above(at.level, room)?;
+    walk.needs(cells, at.around.size)
+}
+
+/// Checks that a call's routine can be called with these arguments, and that there is room for it.
+#[tactic(auto, using(crate::proofs::Calls::known_call, crate::proofs::Calls::said_call))]
+fn enters(at: At<'_>, values: &[CoreExp], routine: &CoreExp, walk: &mut Walk) -> Result<(), NotTame>
+    ensures { OnOk result (CallFits at.entry values.now (exp routine.now)) }
+{
+    match called(at, routine) {
+        Some(known) => enters_known(at, routine, known, values.len(), walk),
+        None => enters_said(at, values, routine, walk),
+    }
+}
+
 /// Checks a call.
 #[cycle(walk)]
 #[tactic(auto, using(crate::proofs::Calls::call_true))]
 fn call(at: At<'_>, values: &[CoreExp], routine: &CoreExp, walk: &mut Walk) -> Result<(), NotTame>
     ensures { OnOk result (ExpPasses at.entry (tree.Call (args values.now) (exp routine.now))) }
 {
-    match called(at, routine) {
-        Some(known) => {
-            if let Some(label) = label_of(routine)
-                && known.room == 0
-            {
-                return Err(NotTame::Unchecked(label, walk.spot));
-            }
-            walk.fits(known, values.len(), at.level, at.around.size)?;
-            let level = walk.above(at.level, 2)?;
-            arguments(At { level, ..at }, values, walk)
-        }
-        None => said(at, values, routine, walk),
-    }
+    let level = walk.above(at.level, 2)?;
+    arguments(At { level, ..at }, values, walk)?;
+    enters(at, values, routine, walk)
 }
 
-/// The room that a call of WRITES or WRITEF with a string constant needs.
-#[tactic(auto, using(crate::proofs::Calls::said_fits))]
-fn said_room(
-    at: At<'_>,
-    first: &CoreExp,
-    rest: &[CoreExp],
-    routine: &CoreExp,
-    walk: &Walk,
-) -> Result<usize, NotTame>
-    ensures { IfOk result (λ room. (s : ℕ) → s + room ≤ at.entry.around.size
-        → tame.fits_said (env_at at.entry) (tame.place_of (exp first.now)) (tame.global_of (exp routine.now)) (tree.count (args rest.now)) s ≡ true) }
+/// Checks the address of a place that is used as a value: only a string constant's passes.
+#[tactic(auto, using(crate::proofs::Strings::text_there))]
+fn place_value(at: At<'_>, label: usize, walk: &Walk) -> Result<(), NotTame>
+    ensures { OnOk result ((env_at at.entry).place label ≡ true) }
 {
-    let global = match global_of(routine) {
-        Some(global) => global,
-        None => return Err(NotTame::Unknown(Cause::Call, walk.spot)),
-    };
-    let label = match label_of(first) {
-        Some(label) => label,
-        None => return Err(NotTame::Unknown(said_cause(global), walk.spot)),
-    };
-    let bytes = match text_of(at.around.places, label) {
-        Some(bytes) => bytes,
-        None => return Err(NotTame::Unknown(said_cause(global), walk.spot)),
-    };
-    match speaks(global, bytes, rest.len()) {
-        Some(room) => Ok(room),
-        None => Err(NotTame::Unknown(said_cause(global), walk.spot)),
+    match text_of(at.around.places, label) {
+        Some(_) => Ok(()),
+        None => walk.stop(Cause::Address),
     }
 }
 
 /// What is wrong with a call of this global that doesn't pass.
 fn said_cause(global: u16) -> Cause {
-    if global == 22 || global == 25 {
+    if global == 22 || global == 25 || global == 15 || global == 16 {
         Cause::Format
     } else {
         Cause::Call
-    }
-}
-
-/// Checks a call of WRITES or WRITEF with a string constant.
-#[cycle(walk)]
-#[tactic(auto, using(crate::proofs::Calls::said_true))]
-fn said(at: At<'_>, values: &[CoreExp], routine: &CoreExp, walk: &mut Walk) -> Result<(), NotTame>
-    ensures { OnOk result (ExpPasses at.entry (tree.Call (args values.now) (exp routine.now))) }
-{
-    match values {
-        [] => walk.stop(Cause::Call),
-        [first, rest @ ..] => {
-            let room = said_room(at, first, rest, routine, walk)?;
-            let cells = walk.above(at.level, room)?;
-            walk.needs(cells, at.around.size)?;
-            let level = walk.above(at.level, 3)?;
-            arguments(At { level, ..at }, rest, walk)
-        }
     }
 }
 

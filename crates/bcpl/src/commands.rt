@@ -13,6 +13,7 @@ use crate::going::go;
 use crate::hints::{ExpectedFiles, help_on_arguments, with_hints};
 use crate::interpreting::interpret_files;
 use crate::listing::list;
+use crate::lost_output::print_lost;
 use crate::output::{print_lines, print_messages};
 use crate::running::{Ran, run, run_input};
 use crate::serving::{Served, serve};
@@ -91,14 +92,19 @@ fn run_input_command<F: Files, R: Read + Drop, O: Write + Drop, E: Write + Drop>
 /// Whether something is printed about a run.
 fn has_message(ran: &Result<Ran, Failure>) -> bool {
     match ran {
-        Ok(ran) => ran.done.is_err() || ran.high.is_some(),
+        Ok(ran) => ran.done.is_err() || ran.high.is_some() || !ran.lost.is_empty(),
         Err(_) => true,
     }
 }
 
-/// Reports how much of the store a run used, if that was recorded, and returns the run's result.
-fn with_high<E: Write + Drop>(ran: Result<Ran, Failure>, err: &mut E) -> Result<(), Failure> {
-    let Ran { done, high } = ran?;
+/// Reports what a run lost and how much of the store it used, if that was recorded, and returns the run's result.
+fn with_reports<E: Write + Drop>(
+    alloc: Global,
+    ran: Result<Ran, Failure>,
+    err: &mut Clean<E>,
+) -> Result<(), Failure> {
+    let Ran { done, high, lost } = ran?;
+    print_lost(alloc, lost.as_str(), err);
     if let Some(high) = high {
         print_high(high, err);
     }
@@ -126,7 +132,7 @@ fn run_command<F: Files, R: Read + Drop, O: Write + Drop, E: Write + Drop>(
     };
     let ran = run(rt, alloc, order, streams);
     out.end_line(has_message(&ran), &mut err);
-    let done = with_high(ran, &mut err);
+    let done = with_reports(alloc, ran, &mut err);
     status(with_hints(rt, alloc, done, files), files.explains, &mut err)
 }
 
@@ -150,8 +156,9 @@ fn go_command<F: Files, R: Read + Drop, O: Write + Drop, E: Write + Drop>(
         is_terminal,
         explains,
     };
-    let done = go(rt, alloc, order, streams, &mut err);
-    out.end_line(done.is_err(), &mut err);
+    let ran = go(rt, alloc, order, streams, &mut err);
+    out.end_line(has_message(&ran), &mut err);
+    let done = with_reports(alloc, ran, &mut err);
     let done = with_hints(rt, alloc, done, files);
     let explains = explains_answer(&done, order.program.places, err.is_terminal());
     status(done, explains, &mut err)
@@ -177,8 +184,9 @@ fn interpret_command<F: Files, R: Read + Drop, O: Write + Drop, E: Write + Drop>
         is_terminal,
         explains,
     };
-    let done = interpret_files(rt, alloc, order, streams, &mut err);
-    out.end_line(done.is_err(), &mut err);
+    let ran = interpret_files(rt, alloc, order, streams, &mut err);
+    out.end_line(has_message(&ran), &mut err);
+    let done = with_reports(alloc, ran, &mut err);
     let done = with_hints(rt, alloc, done, files);
     let explains = explains_answer(&done, order.program.places, err.is_terminal());
     status(done, explains, &mut err)
@@ -312,7 +320,8 @@ fn format_command<F: Files, R: Read + Drop, O: Write + Drop, E: Write + Drop>(
 {
     let sources = order.files.as_slice();
     let files = ExpectedFiles::new(Expected::Source, sources, console.explains);
-    let done = format_files(rt, alloc, order, files.explains, &mut console.out);
+    let mut out = Clean::new(&mut console.out, console.terminals.out);
+    let done = format_files(rt, alloc, order, files.explains, &mut out);
     finish(rt, alloc, done, files, console)
 }
 

@@ -5,6 +5,7 @@ use crate::explain::write_report;
 use crate::output::print_lines;
 use crate::source_files::Gathered;
 use crate::standard::{Console, Terminals};
+use crate::taming::is_tame_built;
 use bc_build::{Built, build};
 use bc_core::Core;
 use bc_machine::Named;
@@ -248,6 +249,7 @@ fn program_of<'p, 's>(
     gathered: &'p Gathered<'p, 's>,
     cores: &'p [Core],
     image: &'p Image,
+    is_tame: bool,
 ) -> DebugProgram<'p, 's> {
     let program = gathered.program();
     DebugProgram {
@@ -256,23 +258,25 @@ fn program_of<'p, 's>(
         library: gathered.library,
         cores,
         image,
+        is_tame,
     }
 }
 
-/// Debugs a program that was built from the files of the first part, resolved to the second and linked to the third.
+/// Debugs a program of the files of the first part, which were resolved to the second and built to the third.
 fn debug_resolved<'p, 's, F: Files, R: Read + Drop, O: Write + Drop>(
     rt: &F,
     alloc: Global,
     order: &DebugOrder<'_>,
-    parts: (&'p Gathered<'p, 's>, &'p [Core], &'p Image),
+    parts: (&'p Gathered<'p, 's>, &'p [Core], &'p Built),
     streams: (R, Terminals, &mut O),
 ) -> Result<(), Failure> {
-    let (gathered, cores, image) = parts;
+    let (gathered, cores, built) = parts;
+    let is_tame = order.out.is_some() && is_tame_built(alloc, gathered, built)?;
     debug_built(
         rt,
         alloc,
         order,
-        program_of(gathered, cores, image),
+        program_of(gathered, cores, &built.image, is_tame),
         streams,
     )
 }
@@ -298,7 +302,7 @@ fn debug_gathered<F: Files, R: Read + Drop, O: Write + Drop>(
     let built = built_of(alloc, gathered, explains)?;
     let program = gathered.program();
     let cores = all_resolved(alloc, program.named.sources, program.mains)?;
-    let parts = (&*gathered, cores.as_slice(), &built.image);
+    let parts = (&*gathered, cores.as_slice(), &built);
     debug_resolved(rt, alloc, order, parts, streams)
 }
 

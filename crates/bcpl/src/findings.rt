@@ -1,14 +1,16 @@
 //! What `build` says of a document that an editor has open: errors, or warnings.
 
 use crate::diagnostics::Program;
+use crate::explain::entries_of;
 use crate::source_files::Gathered;
-use bc_build::{BuildError, ParseError, Parsed, ScopeFault, build_keeping};
+use bc_build::{BuildError, Built, ParseError, Parsed, ScopeFault, build_keeping};
 use bc_word::Memory;
 use bcpl_advice::{advised, further_faults, likely_meaning};
 use bcpl_cli::BuildLine;
-use bcpl_lsp::{Document, Finding, Related, line_starts, range_of, uri_of};
+use bcpl_lsp::{Cost, Document, Finding, Related, line_starts, range_of, uri_of};
 use bcpl_messages::{Message, Note, message_of, shown};
 use bcpl_places::{Span, way_to};
+use bcpl_show::{CostedSection, root_costs};
 use bcpl_warnings::{all_warnings, unknown_names};
 use serde_json::Value;
 use std::alloc::Global;
@@ -245,5 +247,46 @@ pub fn findings_of(
         Ok(_) => checked.warnings(alloc, parsed.as_slice()),
         Err(BuildError::Memory) => Err(Memory),
         Err(fault) => checked.errors(alloc, &fault),
+    }
+}
+
+/// How many words the code of the expressions of the last main takes, which was built to the last segment.
+fn built_costs(
+    alloc: Global,
+    main: usize,
+    built: &Built,
+    parsed: &[Parsed<'_>],
+) -> Result<Vec<Cost>, Memory> {
+    let mut costs = Vec::new(alloc);
+    let (Some(segment), Some(own)) = (built.segments.last(), parsed.last()) else {
+        return Ok(costs);
+    };
+    let libraries = built.segments.len().saturating_sub(1);
+    let costed = CostedSection {
+        main,
+        tokens: own.tokens.as_slice(),
+        section: &own.section,
+        entries: entries_of(built.entries.as_slice(), libraries),
+        items: segment.items().len(),
+    };
+    for cost in &root_costs(alloc, costed)? {
+        costs.push(Cost {
+            value: cost.value,
+            address: cost.address,
+            words: cost.words,
+        })?;
+    }
+    Ok(costs)
+}
+
+/// How many words the code of the expressions of a document takes, whose source is the last file of this program; none if it is
+/// refused. Returns `Memory` if an allocation fails.
+pub fn costs_of(alloc: Global, gathered: &Gathered<'_, '_>) -> Result<Vec<Cost>, Memory> {
+    let program = gathered.program();
+    let mut parsed = Vec::new(alloc);
+    match build_keeping(alloc, program.named.sources, program.mains, &mut parsed) {
+        Ok(built) => built_costs(alloc, gathered.last, &built, parsed.as_slice()),
+        Err(BuildError::Memory) => Err(Memory),
+        Err(_) => Ok(Vec::new(alloc)),
     }
 }

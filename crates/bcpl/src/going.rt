@@ -5,7 +5,7 @@ use crate::diagnostics::Accepted;
 use crate::interpret_line::with_interpret_line;
 use crate::interpreting::{print_warnings, program_streams};
 use crate::output::unfinished;
-use crate::running::closed;
+use crate::running::{Ran, closed, lost_in};
 use crate::source_files::Gathered;
 use crate::standard::RunStreams;
 use bc_build::build_keeping;
@@ -23,25 +23,31 @@ fn run_built<F: Files, R: Read + Drop, O: Write + Drop>(
     order: &GoOrder<'_>,
     image: &Image,
     streams: RunStreams<R, O>,
-) -> Result<(), Failure> {
+) -> Result<Ran, Failure> {
+    let warns = streams.explains && order.program.warns;
     let mut streams = program_streams(rt, alloc, &order.program, streams)?;
     let (_machine, end) = run_image(alloc, image, &mut streams, order.steps)?;
-    match closed(&mut streams, end) {
+    let done = match closed(&mut streams, end) {
         Ok(()) => Ok(()),
         Err(failure) if end == End::Finished => Err(unfinished(alloc, failure)),
         Err(failure) => Err(with_interpret_line(alloc, failure, order)),
-    }
+    };
+    Ok(Ran {
+        done,
+        high: None,
+        lost: lost_in(alloc, &streams, warns),
+    })
 }
 
 /// Runs `go`: builds a program, prints its warnings, and runs it. Refusals are explained and warnings printed if
-/// `streams.explains`; a run that doesn't finish gets the command that shows where.
+/// `streams.explains`; a run that doesn't finish gets the command that shows where. Fails if nothing was run.
 pub fn go<F: Files, R: Read + Drop, O: Write + Drop, E: Write + Drop>(
     rt: &F,
     alloc: Global,
     order: &GoOrder<'_>,
     streams: RunStreams<R, O>,
     err: &mut Clean<E>,
-) -> Result<(), Failure> {
+) -> Result<Ran, Failure> {
     let given = &order.program.sources;
     let files = load_sources(rt, alloc, given)?;
     order.program.protect_files(rt, alloc, files.as_slice())?;

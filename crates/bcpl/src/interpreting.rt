@@ -3,13 +3,14 @@
 use crate::compiling::{refused, warnings_on};
 use crate::diagnostics::{Accepted, Program, error_lines};
 use crate::output::{print_messages, unfinished};
-use crate::running::{Streams, streams_of};
+use crate::running::{Ran, Streams, lost_in, streams_of};
 use crate::source_files::Gathered;
 use crate::standard::{RunConsole, RunStreams};
 use crate::strict::interpret_strictly;
 use bc_build::{Built, build_keeping};
 use bc_interpret_sources::{
     BuiltProgram as Sections, Cause as Access, Ending, Interpreted, Outcome, interpret,
+    interpret_observed,
 };
 use bc_machine_defs::End;
 use bc_word::Memory;
@@ -17,20 +18,20 @@ use bcpl_cli::{Cause, Clean, Failure, InterpretOrder, ProgramOrder, Wild, load_s
 use bcpl_messages::{Message, Note};
 use bcpl_places::Span;
 use bcpl_warnings::loop_around;
-use bcpl_wild::{Met, Stand, placed_message, wild_message};
+use bcpl_wild::{Met, ProgressLine, Stand, placed_message, wild_message};
 use std::alloc::Global;
 use std::io::{Read, Write};
 use std::rt::Files;
 
 /// Runs `interpret`. Refusals are explained and warnings printed if `streams.explains`; an abnormal end of the run is
-/// always explained.
+/// always explained. Fails if nothing was run.
 pub fn interpret_files<F: Files, R: Read + Drop, O: Write + Drop, E: Write + Drop>(
     rt: &F,
     alloc: Global,
     order: &InterpretOrder<'_>,
     streams: RunStreams<R, O>,
     err: &mut Clean<E>,
-) -> Result<(), Failure> {
+) -> Result<Ran, Failure> {
     let files = load_sources(rt, alloc, &order.program.sources)?;
     order.program.protect_files(rt, alloc, files.as_slice())?;
     let gathered = Gathered::new(alloc, &order.program.sources, files.as_slice())?;
@@ -38,8 +39,12 @@ pub fn interpret_files<F: Files, R: Read + Drop, O: Write + Drop, E: Write + Dro
     if order.is_strict {
         return interpret_strictly(rt, alloc, order, &gathered, console);
     }
-    let run = interpretation_of(rt, alloc, order, &gathered, console)?;
-    result_of(alloc, &gathered.program(), &run, gathered.library)
+    let (run, lost) = interpretation_of(rt, alloc, order, &gathered, console)?;
+    Ok(Ran {
+        done: result_of(alloc, &gathered.program(), &run, gathered.library),
+        high: None,
+        lost,
+    })
 }
 
 /// Prints the warnings about a program that was built to this, unless they are suppressed.
@@ -67,15 +72,16 @@ pub struct Interpretation {
     pub is_closed: bool,
 }
 
-/// Builds a program, prints its warnings, and runs it by its meaning.
+/// Builds a program, prints its warnings, and runs it by its meaning. Also gives what the run lost, as lines.
 fn interpretation_of<F: Files, R: Read + Drop, O: Write + Drop, E: Write + Drop>(
     rt: &F,
     alloc: Global,
     order: &InterpretOrder<'_>,
     gathered: &Gathered<'_, '_>,
     console: RunConsole<'_, R, O, E>,
-) -> Result<Interpretation, Failure> {
+) -> Result<(Interpretation, String), Failure> {
     let RunConsole { streams, err } = console;
+    let warns = streams.explains && order.program.warns;
     let program = gathered.program();
     let sources = program.named.sources;
     let mains = program.mains;
@@ -92,19 +98,29 @@ fn interpretation_of<F: Files, R: Read + Drop, O: Write + Drop, E: Write + Drop>
         print_warnings(alloc, &order.program, gathered, &accepted, err)?;
     }
     drop(parsed);
+    let is_shared = streams.is_terminal;
     let mut streams = program_streams(rt, alloc, &order.program, streams)?;
     let run = Sections {
         sources,
         mains,
         image: &built.image,
     };
-    let interpreted = interpret(alloc, &run, &mut streams, order.turns)?;
+    let interpreted = if err.is_terminal() {
+        let mut line = ProgressLine::new(err.inner(), is_shared);
+        let interpreted = interpret_observed(alloc, &run, &mut streams, order.turns, &mut line);
+        line.remove();
+        interpreted?
+    } else {
+        interpret(alloc, &run, &mut streams, order.turns)?
+    };
     let is_closed = streams.close().is_ok();
-    Ok(Interpretation {
+    let lost = lost_in(alloc, &streams, warns);
+    let run = Interpretation {
         built,
         interpreted,
         is_closed,
-    })
+    };
+    Ok((run, lost))
 }
 
 /// The streams of a run, in the order of the arguments.

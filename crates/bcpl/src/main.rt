@@ -19,6 +19,7 @@ mod image_formats;
 mod interpret_line;
 mod interpreting;
 mod listing;
+mod lost_output;
 mod output;
 mod routine_names;
 mod run_output;

@@ -15,11 +15,12 @@ use crate::texts::{
     texts_of,
 };
 use crate::watched_run::{RecordFiles, Records, high_of, is_watched, window_of};
-use bc_machine::{FileStreams, Machine, Named, StreamsError};
+use bc_machine::{Machine, Named, StreamsError};
 use bc_machine_defs::End;
 use bc_word::{Memory, Word};
 use bcpl_cli::{AtomicFile, Binding, Cause, Failure, RunOrder, WatchOrder};
 use bcpl_reports::{Stop, Text, ended_lines, stream_lines};
+use bcpl_streams::NotedStreams;
 use bcpl_trace::{High, Nowhere, ProfiledProgram, Watch, profile, run_image, run_watched};
 use std::alloc::Global;
 use std::fs;
@@ -127,7 +128,7 @@ fn outputs<F: Files, O: Write + Drop>(
 
 /// The result of a run after its streams are closed. If it finished but an output can't be flushed, that is a device
 /// failure.
-pub fn closed<R: Read, W: Write>(streams: &mut FileStreams<R, W>, end: End) -> Result<(), Failure>
+pub fn closed<R: Read, W: Write>(streams: &mut NotedStreams<R, W>, end: End) -> Result<(), Failure>
     ensures finished { IfOk result (λ _. end ≡ Finished) }
     ensures ended { end ≢ Finished → result ≡ Err (unexplained (causes.Ended end)) }
     ensures device { IfErr result (λ f. end ≡ Finished → f ≡ unexplained (causes.Ended Device)) }
@@ -197,7 +198,7 @@ fn result_of<R: Read, W: Write>(
     alloc: Global,
     setup: &RunSetup<'_, '_>,
     machine: &Machine,
-    streams: &mut FileStreams<R, W>,
+    streams: &mut NotedStreams<R, W>,
     end: &End,
 ) -> Result<(), Failure> {
     match closed(streams, *end) {
@@ -210,24 +211,40 @@ fn result_of<R: Read, W: Write>(
 fn run_linked<R: Read, W: Write>(
     alloc: Global,
     setup: &RunSetup<'_, '_>,
-    streams: &mut FileStreams<R, W>,
+    streams: &mut NotedStreams<R, W>,
 ) -> Result<(), Failure> {
     let (machine, end) = run_image(alloc, &setup.program.image, streams, setup.steps)?;
     result_of(alloc, setup, &machine, streams, &end)
 }
 
-/// A run that took place: its result and, if that was recorded, how much of the store it used.
+/// A run that took place: its result, how much of the store it used, if that was recorded, and what it lost, as lines.
 #[derive(Drop)]
 pub struct Ran {
     pub done: Result<(), Failure>,
     pub high: Option<High>,
+    pub lost: String,
+}
+
+/// What a run over these streams lost, as lines; empty if warnings aren't printed, or if memory runs out.
+pub fn lost_in<R: Read, W: Write>(
+    alloc: Global,
+    streams: &NotedStreams<R, W>,
+    warns: bool,
+) -> String {
+    if !warns {
+        return String::new(alloc);
+    }
+    match streams.lost_lines(alloc) {
+        Ok(lines) => lines,
+        Err(_) => String::new(alloc),
+    }
 }
 
 /// Runs a machine from its start and records what it does. The trace, if any, goes to its file.
 fn run_recorded<R: Read, W: Write, T: Write + Drop>(
     machine: &mut Machine,
     watch: &mut Watch,
-    streams: &mut FileStreams<R, W>,
+    streams: &mut NotedStreams<R, W>,
     steps: u64,
     trace: &mut Option<AtomicFile<T>>,
 ) -> End
@@ -311,7 +328,7 @@ fn watch_linked<F: Files, R: Read, W: Write>(
     alloc: Global,
     setup: &RunSetup<'_, '_>,
     order: &WatchOrder<'_>,
-    streams: &mut FileStreams<R, W>,
+    streams: &mut NotedStreams<R, W>,
 ) -> Result<Ran, Failure> {
     let image = &setup.program.image;
     let mut watch = Watch::new(alloc, window_of(order))?;
@@ -334,11 +351,12 @@ fn watch_linked<F: Files, R: Read, W: Write>(
     Ok(Ran {
         done: first_failure(done, finish_records(rt, alloc, order, notes, ran)),
         high: high_of(order, &watch),
+        lost: lost_in(alloc, streams, setup.explains),
     })
 }
 
 /// The streams of a run over devices.
-pub type Streams<R, O, F> = FileStreams<BufReader<Source<R, F>>, BufWriter<Sink<O, F>>>;
+pub type Streams<R, O, F> = NotedStreams<BufReader<Source<R, F>>, BufWriter<Sink<O, F>>>;
 
 /// The streams of a run over this input and output and these files.
 pub fn streams_of<F: Files, R: Read + Drop, O: Write + Drop>(
@@ -356,7 +374,7 @@ pub fn streams_of<F: Files, R: Read + Drop, O: Write + Drop>(
     } = streams;
     let inputs = inputs(rt, alloc, input, inputs_of)?;
     let outputs = outputs(rt, alloc, out, is_terminal, outputs_of)?;
-    match FileStreams::new(alloc, inputs, outputs) {
+    match NotedStreams::new(alloc, inputs, outputs) {
         Ok(streams) => Ok(streams),
         Err(fault) => Err(Failure::from(fault)),
     }
@@ -526,9 +544,11 @@ fn run_program<F: Files, R: Read + Drop, O: Write + Drop>(
             if is_watched(&order.watch) {
                 watch_linked(rt, alloc, setup, &order.watch, &mut streams)
             } else {
+                let done = run_linked(alloc, setup, &mut streams);
                 Ok(Ran {
-                    done: run_linked(alloc, setup, &mut streams),
+                    done,
                     high: None,
+                    lost: lost_in(alloc, &streams, setup.explains),
                 })
             }
         }

@@ -1,13 +1,15 @@
 //! The command `lsp`: a language server on standard input and output.
 
-use crate::findings::findings_of;
+use crate::findings::{costs_of, findings_of};
 use crate::served_files::{headers_of, library_for, sources_of};
 use crate::source_files::Gathered;
 use bc_library_ext::EXTHDR;
 use bc_run::LIBHDR;
 use bc_word::Memory;
 use bcpl_cli::{Cause, Failure, LinkedLibrary, LoadedSource, ServeOrder, Sources};
-use bcpl_lsp::{Answer, Document, Finding, Job, Received, Server, read_message, write_message};
+use bcpl_lsp::{
+    Answer, Cost, Document, Finding, Job, Received, Server, read_message, write_message,
+};
 use std::alloc::Global;
 use std::io::{BufReader, BufWriter, Read, Write};
 use std::rt::Files;
@@ -24,15 +26,15 @@ pub enum Served {
     CutOff,
 }
 
-/// What is wrong with a document that has these sources.
-fn checked(
+/// What the command line of a build of a document names, if it has these sources.
+fn given_for<'d>(
     alloc: Global,
-    document: &Document,
+    document: &'d Document,
     sources: &[LoadedSource],
-) -> Result<Vec<Finding>, Memory> {
+) -> Result<Sources<'d>, Memory> {
     let mut files = Vec::new(alloc);
     files.push(document.path())?;
-    let given = Sources {
+    Ok(Sources {
         library: library_for(alloc, sources)?,
         is_json: false,
         explains_all: true,
@@ -40,9 +42,29 @@ fn checked(
         gets: Vec::new(alloc),
         includes: Vec::new(alloc),
         files,
-    };
+    })
+}
+
+/// What is wrong with a document that has these sources.
+fn checked(
+    alloc: Global,
+    document: &Document,
+    sources: &[LoadedSource],
+) -> Result<Vec<Finding>, Memory> {
+    let given = given_for(alloc, document, sources)?;
     let gathered = Gathered::new(alloc, &given, sources)?;
     findings_of(alloc, document, &gathered)
+}
+
+/// How many words the code of the expressions of a document takes that has these sources.
+fn measured(
+    alloc: Global,
+    document: &Document,
+    sources: &[LoadedSource],
+) -> Result<Vec<Cost>, Memory> {
+    let given = given_for(alloc, document, sources)?;
+    let gathered = Gathered::new(alloc, &given, sources)?;
+    costs_of(alloc, &gathered)
 }
 
 /// Checks the document with this index. Returns the message to the client.
@@ -65,12 +87,49 @@ fn check<F: Files>(
     server.publish(index, findings)
 }
 
+/// Computes how many words the code of the document with this index takes.
+fn measure<F: Files>(
+    rt: &F,
+    alloc: Global,
+    order: &ServeOrder<'_>,
+    server: &mut Server,
+    index: usize,
+) -> Result<(), Memory> {
+    let costs = match server.document(index) {
+        Some(document) => {
+            let sources = sources_of(rt, alloc, server, document, order.includes.as_slice())?;
+            measured(alloc, document, sources.as_slice())?
+        }
+        None => return Ok(()),
+    };
+    server.set_costs(index, costs);
+    Ok(())
+}
+
+/// Passes a message to the server, with what the server asks for.
+fn answer_to<F: Files>(
+    rt: &F,
+    alloc: Global,
+    order: &ServeOrder<'_>,
+    server: &mut Server,
+    message: &[u8],
+) -> Result<Answer, Memory> {
+    let answer = server.take(message)?;
+    match answer.job {
+        Job::Measure(index) => {
+            measure(rt, alloc, order, server, index)?;
+            server.take(message)
+        }
+        _ => Ok(answer),
+    }
+}
+
 /// The indexes of the documents that a job checks.
 fn checked_by(job: Job, server: &Server) -> (usize, usize) {
     match job {
         Job::Check(index) => (index, index.saturating_add(1)),
         Job::CheckAll => (0, server.len()),
-        Job::Nothing | Job::Exit(_) => (0, 0),
+        Job::Nothing | Job::Measure(_) | Job::Exit(_) => (0, 0),
     }
 }
 
@@ -110,7 +169,7 @@ fn ended_by(job: Job) -> Option<Served> {
     match job {
         Job::Exit(true) => Some(Served::Properly),
         Job::Exit(false) => Some(Served::CutOff),
-        Job::Nothing | Job::Check(_) | Job::CheckAll => None,
+        Job::Nothing | Job::Check(_) | Job::CheckAll | Job::Measure(_) => None,
     }
 }
 
@@ -131,7 +190,7 @@ pub fn serve<F: Files, R: Read + Drop, O: Write + Drop>(
     let mut server = Server::new(alloc);
     for _each in 0..u64::MAX {
         let Answer { text, job } = match read_message(alloc, &mut input)? {
-            Received::Text(text) => server.take(text.as_slice())?,
+            Received::Text(text) => answer_to(rt, alloc, order, &mut server, text.as_slice())?,
             Received::BadHeader => server.take_bad_header()?,
             Received::End => return Ok(Served::CutOff),
         };

@@ -5,6 +5,7 @@ use crate::diagnostics::Accepted;
 use crate::interpreting::{
     Interpretation, explained_failure, print_warnings, program_streams, result_of,
 };
+use crate::running::{Ran, lost_in};
 use crate::source_files::Gathered;
 use crate::standard::{RunConsole, RunStreams};
 use bc_build::{Built, build_keeping};
@@ -74,15 +75,16 @@ fn run_built<S: Streams>(
     Ok(strict_run(alloc, &strict, streams, turns)?)
 }
 
-/// Builds a program, prints its warnings, and runs it strictly.
+/// Builds a program, prints its warnings, and runs it strictly. Fails if nothing was run.
 pub fn interpret_strictly<F: Files, R: Read + Drop, O: Write + Drop, E: Write + Drop>(
     rt: &F,
     alloc: Global,
     order: &InterpretOrder<'_>,
     gathered: &Gathered<'_, '_>,
     console: RunConsole<'_, R, O, E>,
-) -> Result<(), Failure> {
+) -> Result<Ran, Failure> {
     let RunConsole { streams, err } = console;
+    let warns = streams.explains && order.program.warns;
     let program = gathered.program();
     let mut parsed = Vec::new(alloc);
     let built = match build_keeping(alloc, program.named.sources, program.mains, &mut parsed) {
@@ -100,8 +102,14 @@ pub fn interpret_strictly<F: Files, R: Read + Drop, O: Write + Drop, E: Write + 
     let mut streams = program_streams(rt, alloc, &order.program, streams)?;
     let run = run_built(alloc, gathered, &built, &mut streams, order.turns)?;
     let is_closed = streams.close().is_ok();
+    let lost = lost_in(alloc, &streams, warns);
     if let Some(mistake) = run.mistake {
-        return Err(strict_failure(alloc, gathered, &built, &run, mistake));
+        let done = Err(strict_failure(alloc, gathered, &built, &run, mistake));
+        return Ok(Ran {
+            done,
+            high: None,
+            lost,
+        });
     }
     let StrictRun { outcome, trail, .. } = run;
     let whole = Interpretation {
@@ -109,5 +117,9 @@ pub fn interpret_strictly<F: Files, R: Read + Drop, O: Write + Drop, E: Write + 
         interpreted: Interpreted { outcome, trail },
         is_closed,
     };
-    result_of(alloc, &program, &whole, gathered.library)
+    Ok(Ran {
+        done: result_of(alloc, &program, &whole, gathered.library),
+        high: None,
+        lost,
+    })
 }

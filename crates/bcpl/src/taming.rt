@@ -1,30 +1,28 @@
 //! The command `tame`.
 
-ghost use Rattle.std.specs.Prelude.{◌<◌, length, IfSome};
-
 use crate::compiling::refused;
 use crate::diagnostics::{Program, error_lines};
 use crate::output::of_output;
 use crate::source_files::Gathered;
 use bc_build::{Built, build};
-use bc_tame_built::{NotTame, Spot, tame_room};
+use bc_tame_built::{Cause as Refused, NotTame, Spot, tame_room};
 use bc_word::Memory;
 use bcpl_cli::{Cause, Failure, TameOrder, load_sources};
-use bcpl_tame::{Reason, number_of, tame_message};
+use bcpl_tame::{number_of, tame_message};
 use std::alloc::Global;
 use std::io;
 use std::io::Write;
 use std::rt::Files;
 
-/// The explanation of why a main is not known to be tame.
+/// The explanation of why the program whose last file this is isn't known to be tame.
 fn lines_of(
     alloc: Global,
     program: &Program<'_, '_>,
-    reason: (Reason, Option<Spot>),
-    main: usize,
+    reason: (Refused, Spot),
+    last: usize,
     failure: &Failure,
 ) -> Result<String, Memory> {
-    let message = tame_message(alloc, program.named.sources, main, reason.0, reason.1)?;
+    let message = tame_message(alloc, program.named.sources, last, reason.0, reason.1)?;
     let code = format!(in alloc; "{failure}")?;
     error_lines(alloc, program, code.as_str(), message)
 }
@@ -33,24 +31,14 @@ fn lines_of(
 fn not_tame(
     alloc: Global,
     program: &Program<'_, '_>,
-    reason: (Reason, Option<Spot>),
-    main: usize,
+    reason: (Refused, Spot),
+    last: usize,
 ) -> Failure {
     let (number, name) = number_of(reason.0);
     let failure = Failure::new(Cause::Tame(number, name));
-    match lines_of(alloc, program, reason, main, &failure) {
+    match lines_of(alloc, program, reason, last, &failure) {
         Ok(lines) => failure.with(lines),
         Err(_) => Failure::new(Cause::Memory),
-    }
-}
-
-/// The one main beside BLIB, if there is only one.
-fn own_main(program: &Program<'_, '_>, library: usize) -> Option<usize>
-    ensures { IfSome result (λ main. main < length program.now.named.sources.now) }
-{
-    match program.mains {
-        [_, main] if library == 2 && *main < program.named.sources.len() => Some(*main),
-        _ => None,
     }
 }
 
@@ -66,16 +54,29 @@ pub fn room_of_built(
     built: &Built,
 ) -> Result<usize, Failure> {
     let program = gathered.program();
-    let main = match own_main(&program, gathered.library) {
-        Some(main) => main,
-        None => return Err(not_tame(alloc, &program, (Reason::Sections, None), gathered.last)),
-    };
-    match tame_room(alloc, program.named.sources, main, &built.image) {
+    match tame_room(alloc, program.named.sources, program.mains, &built.image) {
         Ok(room) => Ok(room),
         Err(NotTame::Unknown(cause, spot)) => {
-            let reason = (Reason::Section(cause), Some(spot));
-            Err(not_tame(alloc, &program, reason, main))
+            Err(not_tame(alloc, &program, (cause, spot), gathered.last))
         }
+        Err(NotTame::Unchecked(_, _) | NotTame::Memory) => Err(Failure::new(Cause::Memory)),
+    }
+}
+
+/// Whether it is known that no run of a built program meets a wild cell. Its library must not be cut.
+///
+/// # Errors
+///
+/// `Cause::Memory` if an allocation fails.
+pub fn is_tame_built(
+    alloc: Global,
+    gathered: &Gathered<'_, '_>,
+    built: &Built,
+) -> Result<bool, Failure> {
+    let program = gathered.program();
+    match tame_room(alloc, program.named.sources, program.mains, &built.image) {
+        Ok(_) => Ok(true),
+        Err(NotTame::Unknown(_, _)) => Ok(false),
         Err(NotTame::Unchecked(_, _) | NotTame::Memory) => Err(Failure::new(Cause::Memory)),
     }
 }

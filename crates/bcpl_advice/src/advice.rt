@@ -1,7 +1,7 @@
 //! Replaces what a message says in general by advice on the situation.
 
 use crate::characters::character_advice;
-use crate::names::{constant_advice, name_advice, vector_advice};
+use crate::names::{constant_advice, jump_advice, name_advice, use_advice, vector_advice};
 use crate::statements::statement_advice;
 use bc_build::{BuildError, LexError, ParseError, ScopeFault};
 use bc_lex::{Source, lex};
@@ -57,16 +57,37 @@ fn span_between(tokens: &[Token<'_>], first: usize, last: usize) -> Option<Span>
     })
 }
 
+/// Whether the help of a message on a name says no more than that it isn't declared.
+fn is_general(message: &Message) -> bool {
+    match &message.help {
+        Some(help) => help.as_str().as_bytes().starts_with(b"declare it before"),
+        None => false,
+    }
+}
+
+/// The advice on a name that isn't declared.
+fn undeclared_advice(tokens: &[Token<'_>], message: &Message, name: &[u8]) -> Option<Advice> {
+    let span = message.span?;
+    match name_advice(tokens, span, name) {
+        Some(advice) => Some(advice),
+        None if is_general(message) => use_advice(tokens, span),
+        None => None,
+    }
+}
+
 /// The advice on a refusal of the parser or the scopes.
 fn token_advice(tokens: &[Token<'_>], message: &Message, error: &BuildError) -> Option<Advice> {
     match error {
         BuildError::Parse(_, ParseError::Expected(at) | ParseError::NotOpen(at)) => {
             statement_advice(tokens, *at)
         }
-        // A note says where the name is declared, and the help of the message is about that.
-        BuildError::Scope(_, ScopeFault::Undeclared(name)) if message.notes.is_empty() => {
-            name_advice(tokens, message.span?, name.as_slice())
+        // A note says where the name is declared, and the help of the message is about that. A name with a dot that is
+        // declared elsewhere is probably a field.
+        BuildError::Scope(_, ScopeFault::Undeclared(name))
+            if message.notes.is_empty() || name.as_slice().contains(&b'.') => {
+            undeclared_advice(tokens, message, name.as_slice())
         }
+        BuildError::Scope(_, ScopeFault::Undeclared(_)) => jump_advice(tokens, message.span?),
         BuildError::Scope(_, ScopeFault::NotConstant) => constant_advice(tokens, message.span?),
         BuildError::Scope(_, ScopeFault::FrameTooLarge) => vector_advice(tokens),
         _ => None,

@@ -1,7 +1,7 @@
 //! Removes a faulty line from a text by writing blanks over its tokens, so that all other places stay as they are.
 
 use bc_lex_tokens::{Symbol, Token};
-use bcpl_messages::symbol_at;
+use bcpl_messages::{is_at, symbol_at};
 
 /// The tokens of the line, or lines, that a fault is blamed on: the first one, and the one after the last.
 #[derive(Clone, Copy)]
@@ -88,9 +88,25 @@ fn is_in_block(tokens: &[Token<'_>], at: usize) -> bool {
     depth > 0
 }
 
+/// Whether these tokens begin with CASE and have no colon, so that the lines after them are probably meant as the cases.
+fn is_choice(tokens: &[Token<'_>], faulty: Faulty) -> bool {
+    if !is_at(tokens, faulty.from, Symbol::Case) {
+        return false;
+    }
+    for at in faulty.from..faulty.to {
+        if is_at(tokens, at, Symbol::Colon) {
+            return false;
+        }
+    }
+    true
+}
+
 /// Whether the rest can be read without these tokens.
 pub fn is_removable(tokens: &[Token<'_>], faulty: Faulty, main: usize) -> bool {
     if !is_in_block(tokens, faulty.from) {
+        return false;
+    }
+    if is_choice(tokens, faulty) {
         return false;
     }
     for at in faulty.from..faulty.to {

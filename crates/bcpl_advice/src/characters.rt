@@ -51,11 +51,32 @@ fn has_comma(text: &[u8]) -> bool {
     false
 }
 
+/// What begins a line for a preprocessor, after `#`.
+const DIRECTIVES: [&str; 5] = ["DEFINE", "INCLUDE", "IF", "PRAGMA", "UNDEF"];
+
+/// Whether a text begins with a line for a preprocessor.
+fn is_directive(text: &[u8]) -> bool {
+    let Some(rest) = text.strip_prefix(b"#") else {
+        return false;
+    };
+    for word in DIRECTIVES {
+        if let Some(begin) = rest.get(..word.len())
+            && begin.eq_ignore_ascii_case(word.as_bytes())
+        {
+            return true;
+        }
+    }
+    false
+}
+
 /// The help on the byte or GET that `rest` begins with, after the text `before`.
 pub fn character_advice(before: &[u8], rest: &[u8]) -> Option<&'static str> {
     let line = line_end(before);
     let next = rest.get(1).copied();
     match *rest.first()? {
+        b'#' if is_directive(rest) => Some(
+            "there is no preprocessor: GET \"LIBHDR\" inserts a file, and MANIFEST $( SIZE = 10 $) declares a constant",
+        ),
         b'#' if matches!(next, Some(b' ' | b'!' | b'#')) => { Some("a comment begins with //") }
         b'.' if line.starts_with(b"CASE") => {
             Some("a CASE has one value; for a range, write several CASEs, or a TEST before")

@@ -7,6 +7,7 @@ mod advice;
 mod after_lexical;
 mod blanking;
 mod characters;
+mod foreign;
 mod further;
 mod names;
 mod statements;

@@ -1,14 +1,15 @@
 //! Advice on a token that the parser refuses, by the statement that it is in.
 
 use crate::advice::Advice;
+use crate::foreign::foreign_advice;
 use crate::words::{
     LOOK_BACK, begins_line, depth_at, has_symbol, is_at, is_joined, is_name, is_number, is_one_of,
-    is_word, line_start, opened_by, symbol_at, text_at,
+    is_string, is_word, line_start, opened_by, symbol_at, text_at,
 };
 use bc_lex_tokens::{Symbol, Token};
 
 /// A word, the word that is refused after it, and the help. An empty word is any.
-const PAIRS: [(&str, &str, &str); 13] = [
+const PAIRS: [(&str, &str, &str); 14] = [
     ("NOT", "=", "unequal is written ~= or NE"),
     ("FINISH", "(", "write FINISH without parentheses"),
     ("BREAK", "(", "write BREAK without parentheses"),
@@ -28,6 +29,11 @@ const PAIRS: [(&str, &str, &str); 13] = [
     ),
     ("", "DIV", "the quotient is written /"),
     (
+        "ABS",
+        "",
+        "there is no ABS: write X < 0 -> -X, X, or a function of your own",
+    ),
+    (
         "",
         "ELSIF",
         "write TEST .. THEN .. ELSE TEST .. THEN .. ELSE ..",
@@ -41,7 +47,7 @@ const PAIRS: [(&str, &str, &str); 13] = [
 ];
 
 /// Words that begin a declaration in other languages.
-const DEFINING: [&str; 12] = [
+const DEFINING: [&str; 10] = [
     "DEF",
     "FUNCTION",
     "FUNC",
@@ -52,8 +58,6 @@ const DEFINING: [&str; 12] = [
     "SUB",
     "VOID",
     "INT",
-    "VAR",
-    "CONST",
 ];
 
 /// Words that name types in other languages.
@@ -234,6 +238,42 @@ fn joined(tokens: &[Token<'_>], at: usize) -> Option<Advice> {
     if is_command {
         return Some(Advice::help(
             "a semicolon separates commands; where one is expected, put several between $( and $)",
+        ));
+    }
+    None
+}
+
+/// Whether the token with this index is the sign of a relation.
+fn is_relation(tokens: &[Token<'_>], at: usize) -> bool {
+    matches!(
+        symbol_at(tokens, at),
+        Some(
+            Symbol::Equal
+                | Symbol::NotEqual
+                | Symbol::Less
+                | Symbol::LessEqual
+                | Symbol::Greater
+                | Symbol::GreaterEqual
+        )
+    )
+}
+
+/// Advice on a relation without a left side after `&` or `|`, and on two strings side by side.
+fn operand(tokens: &[Token<'_>], at: usize) -> Option<Advice> {
+    let before = at.checked_sub(1)?;
+    let is_joining = is_at(tokens, before, Symbol::LogicalAnd)
+        || is_at(tokens, before, Symbol::LogicalOr);
+    if is_joining && is_relation(tokens, at) {
+        return Some(Advice::at(
+            at,
+            at,
+            "this relation has no left side",
+            "write both sides of each relation, as in X >= 0 & X <= 9",
+        ));
+    }
+    if is_string(tokens, at) && is_string(tokens, before) && !is_joined(tokens, at) {
+        return Some(Advice::help(
+            "no operator joins strings: write one string, or call WRITES for each",
         ));
     }
     None
@@ -494,6 +534,7 @@ fn line_before(tokens: &[Token<'_>], at: usize) -> Option<Advice> {
 /// The advice on a refused token.
 pub fn statement_advice(tokens: &[Token<'_>], at: usize) -> Option<Advice> {
     let tables = [
+        foreign_advice(tokens, at),
         paired(tokens, at),
         signs(tokens, at),
         colon(tokens, at),
@@ -501,6 +542,7 @@ pub fn statement_advice(tokens: &[Token<'_>], at: usize) -> Option<Advice> {
         parameter(tokens, at),
         comma(tokens, at),
         joined(tokens, at),
+        operand(tokens, at),
         table(tokens, at),
         outside(tokens, at),
         typed(tokens, at),

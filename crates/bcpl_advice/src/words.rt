@@ -51,6 +51,17 @@ pub fn is_number(tokens: &[Token<'_>], at: usize) -> bool {
     )
 }
 
+/// Whether the token with this index is a string.
+pub fn is_string(tokens: &[Token<'_>], at: usize) -> bool {
+    matches!(
+        tokens.get(at),
+        Some(Token {
+            kind: TokenKind::String(_),
+            ..
+        })
+    )
+}
+
 /// Whether a line begins with the token with this index.
 pub fn begins_line(tokens: &[Token<'_>], at: usize) -> bool {
     match tokens.get(at) {

@@ -62,6 +62,11 @@ impl<W: Write + Drop> Clean<W> {
         self.json
     }
 
+    /// The stream itself, for control characters that come from no source.
+    pub fn inner(&mut self) -> &mut W {
+        &mut self.out
+    }
+
     /// Whether the bytes go to a terminal.
     pub fn is_terminal(&self) -> bool {
         self.is_terminal

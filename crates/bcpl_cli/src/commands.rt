@@ -436,6 +436,7 @@ const DEBUG: CommandSpec = CommandSpec {
            With --out, writes the recording as a page for a browser instead. The page is self-contained.\n\n\
            The program's standard input is the file that --input names, or empty. --in and --to attach further streams, as\n\
            in `interpret`; the files of --to are written when the session ends.\n\n\
+           A program gets no arguments and no environment, and has no exit status of its own.\n\n\
            Exit status: 0 done, 1 refused, 3 invalid arguments.\n\n\
            Examples:\n  bcpl debug hello.bcpl\n  bcpl debug --out run.html hello.bcpl",
     arguments: &[
@@ -590,6 +591,12 @@ const CONVERT: CommandSpec = CommandSpec {
             form: Form::Option("SYSTEM"),
             constraint: Constraint::Free,
             help: "Take sources for those of this system: 1967 (mit), 1979 (cambridge, tripos, bbc) or alto [default: what they show]",
+        },
+        Argument {
+            name: "define",
+            form: Form::Repeated("TAG"),
+            constraint: Constraint::Free,
+            help: "Set this tag of conditional compilation; parts that aren't compiled become comments",
         },
         Argument {
             name: "library",

@@ -53,6 +53,8 @@ pub struct ConvertOrder<'a> {
     pub library: Option<&'a str>,
     pub header: ConvertHeader,
     pub dialect: ConvertDialect,
+    /// The tags of conditional compilation that are set.
+    pub defines: Vec<&'a str>,
     /// What happens to further names of the files that are written.
     pub links: Links,
     pub places: Places,
@@ -129,6 +131,7 @@ pub fn convert_order<'a>(reader: &mut ArgumentReader<'_, 'a>) -> ConvertOrder<'a
         library: reader.value("library"),
         header: header_of(reader),
         dialect: dialect_of(reader),
+        defines: reader.values("define"),
         links: links_option(reader),
         places: places_option(reader),
     }

@@ -25,6 +25,8 @@ pub struct Definition<'l> {
     pub is_reached: bool,
     /// Whether what it reaches was marked.
     pub is_marked: bool,
+    /// Whether a source has a routine of this name, and no global of its own with this name.
+    pub is_replaced: bool,
 }
 
 /// The text up to its first definition. The second part begins with that definition, or is empty.
@@ -52,6 +54,7 @@ fn first_definition(library: usize, text: &str) -> Option<(Definition<'_>, &str)
         text,
         is_reached: false,
         is_marked: false,
+        is_replaced: false,
     };
     Some((definition, rest))
 }

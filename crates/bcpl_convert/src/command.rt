@@ -5,10 +5,14 @@ use crate::lawful::{Given, lawful_files};
 use crate::protected_files::spare;
 use crate::summary::{add_told, told_of};
 use bc_convert::{
-    Header, Lawful, NameList, OldNames, Options, Program, System, convert, renamings,
+    Header, Lawful, NameList, OldNames, Options, Program, SharedNames, System, compiled_text,
+    convert, renamings,
 };
-use bcpl_cli::{Cause, ConvertDialect, ConvertHeader, ConvertOrder, Failure, Places, contents};
+use bcpl_cli::{
+    Cause, ConvertDialect, ConvertHeader, ConvertOrder, Escaped, Failure, Places, contents,
+};
 use std::alloc::Global;
+use std::fs;
 use std::io::Write;
 use std::rt::Files;
 
@@ -58,6 +62,25 @@ pub fn refuse_list(
     }
 }
 
+/// The failure to read the file with this path. If that is a folder, it has a hint on how to convert one.
+fn read_failure<F: Files>(rt: &F, alloc: Global, path: &str, failure: Failure) -> Failure {
+    let is_folder = match fs::metadata(rt, path) {
+        Ok(found) => found.is_dir(),
+        Err(_) => false,
+    };
+    if !is_folder {
+        return failure;
+    }
+    let shown = Escaped(path);
+    let told = format!(in alloc;
+        "{shown}: this is a folder\n  help: to convert all sources in it, use bcpl convert --project {shown} --out NEW\n"
+    );
+    match told {
+        Ok(told) => failure.with(told),
+        Err(_) => failure,
+    }
+}
+
 /// The texts of the sources.
 fn texts_of<F: Files>(
     rt: &F,
@@ -66,7 +89,10 @@ fn texts_of<F: Files>(
 ) -> Result<Vec<Vec<u8>>, Failure> {
     let mut texts = Vec::new(alloc);
     for file in &order.files {
-        texts.push(contents(rt, alloc, file)?)?;
+        match contents(rt, alloc, file) {
+            Ok(text) => texts.push(text)?,
+            Err(failure) => return Err(read_failure(rt, alloc, file, failure)),
+        }
     }
     Ok(texts)
 }
@@ -92,6 +118,22 @@ pub fn program_of(
     Ok(whole)
 }
 
+/// The names that these sources share: none if there is only one source.
+///
+/// # Errors
+///
+/// Fails if an allocation fails.
+pub fn shared_by(alloc: Global, texts: &[Vec<u8>]) -> Result<SharedNames, Failure> {
+    let mut shared = SharedNames::new(alloc);
+    if texts.len() < 2 {
+        return Ok(shared);
+    }
+    for text in texts {
+        shared.add(alloc, text.as_slice())?;
+    }
+    Ok(shared)
+}
+
 /// The system for which the sources were written.
 fn system_of(dialect: ConvertDialect) -> Option<System> {
     match dialect {
@@ -103,11 +145,11 @@ fn system_of(dialect: ConvertDialect) -> Option<System> {
 }
 
 /// How sources are converted that show this program together, and of which none is known to build as it is.
-pub fn options_of<'o>(
-    order: &ConvertOrder<'_>,
+pub fn options_of<'o, 'd>(
+    order: &'d ConvertOrder<'_>,
     library: &'o OldNames<'o>,
     program: Option<Program>,
-) -> Options<'o> {
+) -> Options<'o, 'd> {
     Options {
         library,
         header: match order.header {
@@ -118,7 +160,26 @@ pub fn options_of<'o>(
         program,
         lawful: Lawful::No,
         system: system_of(order.dialect),
+        shared: None,
+        defines: order.defines.as_slice(),
     }
+}
+
+/// These texts without the parts that conditional compilation leaves out.
+///
+/// # Errors
+///
+/// Fails if an allocation fails.
+pub fn compiled_texts(
+    alloc: Global,
+    order: &ConvertOrder<'_>,
+    texts: &[Vec<u8>],
+) -> Result<Vec<Vec<u8>>, Failure> {
+    let mut compiled = Vec::new(alloc);
+    for text in texts {
+        compiled.push(compiled_text(alloc, text.as_slice(), order.defines.as_slice())?)?;
+    }
+    Ok(compiled)
 }
 
 /// The conversion of each source, and where it goes. Files that `lawful` doesn't have need a conversion.
@@ -127,7 +188,7 @@ fn jobs_of<'a>(
     order: &ConvertOrder<'a>,
     texts: Vec<Vec<u8>>,
     lawful: &[Lawful],
-    options: Options<'_>,
+    options: Options<'_, '_>,
 ) -> Result<Vec<Job<'a>>, Failure> {
     let mut jobs = Vec::new(alloc);
     for (index, (file, old)) in order.files.iter().zip(texts).enumerate() {
@@ -177,8 +238,13 @@ fn convert_with<F: Files, O: Write + Drop>(
     out: &mut O,
 ) -> Result<(), Failure> {
     let texts = texts_of(rt, alloc, order)?;
-    let program = program_of(alloc, texts.as_slice(), library)?;
-    let options = options_of(order, library, program);
+    let compiled = compiled_texts(alloc, order, texts.as_slice())?;
+    let program = program_of(alloc, compiled.as_slice(), library)?;
+    let shared = shared_by(alloc, compiled.as_slice())?;
+    let options = Options {
+        shared: Some(&shared),
+        ..options_of(order, library, program)
+    };
     let given = Given {
         paths: order.files.as_slice(),
         texts: texts.as_slice(),

@@ -7,7 +7,10 @@ mod lawful;
 mod protected_files;
 mod summary;
 
-pub use command::{by_hand, convert_file, list_text, options_of, program_of, refuse_list};
+pub use command::{
+    by_hand, compiled_texts, convert_file, list_text, options_of, program_of, refuse_list,
+    shared_by,
+};
 pub use job::{name_of, write_file};
 pub use lawful::{Given, lawful_files};
 pub use summary::told_of;

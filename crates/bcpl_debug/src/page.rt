@@ -355,7 +355,7 @@ impl PageOf<'_, '_> {
         json.close("}")
     }
 
-    /// Appends the names of the mains.
+    /// Appends the names of the mains, and whether the program is known to be tame.
     fn add_program(&self, alloc: Global, json: &mut Json) -> Result<(), Memory> {
         let mut names = String::new(alloc);
         for main in self.program.mains {
@@ -367,7 +367,9 @@ impl PageOf<'_, '_> {
             }
         }
         json.key("program")?;
-        json.ascii(names.as_str())
+        json.ascii(names.as_str())?;
+        json.key("tame")?;
+        json.truth(self.program.is_tame)
     }
 }
 

@@ -6,7 +6,7 @@ pub(crate) const BEFORE: &str = r#"<!DOCTYPE html>
 <head>
 <meta charset="utf-8">
 <meta name="viewport" content="width=device-width, initial-scale=1">
-<meta http-equiv="Content-Security-Policy" content="default-src 'none'; script-src 'sha256-GAF+rgo6+IUF2kKI66kjKDtOWfDdaSYaRs6Zvoo18E0=';
+<meta http-equiv="Content-Security-Policy" content="default-src 'none'; script-src 'sha256-jMmzyJbnY3qEiJTpP5iIiBMmDRtsqlGtfMf6PKiBUYs=';
   style-src 'unsafe-inline'; img-src data:; base-uri 'none'; form-action 'none'">
 <meta name="referrer" content="no-referrer">
 <title>A run, step by step</title>
@@ -50,7 +50,7 @@ h1 { font-size: 1.1rem; margin: 0; }
 
 .dbg-head { padding: .1rem 0 .4rem; }
 .dbg-status { min-height: 1.45em; white-space: nowrap; overflow: hidden; text-overflow: ellipsis; }
-.dbg-cut { color: var(--quiet); font-size: .9rem; }
+.dbg-cut, .dbg-tame { color: var(--quiet); font-size: .9rem; }
 .dbg-cut::before { content: "! "; font-weight: 700; color: var(--error); }
 .dbg-controls { position: sticky; top: 0; z-index: 3; padding: .4rem .6rem; background: var(--panel); border: 1px solid var(--line);
   border-radius: 8px; display: flex; flex-wrap: wrap; gap: .3rem 1.2rem; align-items: center; }
@@ -645,7 +645,8 @@ h1 { font-size: 1.1rem; margin: 0; }
       if (dropped > 0) cut.push(`The recording was full: the first ${grouped(dropped)} stops were dropped, so you can go back to stop ${first} only.`);
       if (data.end.kind === "cut") cut.push(`The recording was full after stop ${last}; the run went on.`);
       this.status = made("p", { className: "dbg-status", role: "status" });
-      return made("div", { className: "dbg-head" }, this.status, ...cut.map((text) => made("p", { className: "dbg-cut", textContent: text })));
+      const tame = data.tame ? [made("p", { className: "dbg-tame", textContent: "Tame: no run of this program meets a wild cell, whatever it reads." })] : [];
+      return made("div", { className: "dbg-head" }, this.status, ...tame, ...cut.map((text) => made("p", { className: "dbg-cut", textContent: text })));
     }
 
     controls() {

@@ -22,6 +22,8 @@ pub struct DebugProgram<'p, 's> {
     pub cores: &'p [Core],
     /// The linked image.
     pub image: &'p Image,
+    /// Whether it is known that no run of it meets a wild cell. Only the page says so.
+    pub is_tame: bool,
 }
 
 impl<'p, 's> DebugProgram<'p, 's> {

@@ -176,6 +176,13 @@ impl Context {
         }
     }
 
+    /// Whether a line may be broken between a label CASE 1: and the word CASE or DEFAULT after it.
+    pub fn is_between_labels(&self, next: Shape) -> bool {
+        let is_label = matches!(next, Shape::Symbol(Symbol::Case | Symbol::Default));
+        let is_colon = matches!(self.previous, Some(Shape::Symbol(Symbol::Colon)));
+        is_label && is_colon && self.frames.len() < DEEP
+    }
+
     /// Whether the last atom that is no comment is a monadic sign.
     pub fn is_after_prefix(&self) -> bool {
         self.is_prefix

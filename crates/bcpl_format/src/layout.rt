@@ -136,7 +136,9 @@ impl Layout {
     fn may_break(&self, before: Option<Atom>, atom: Atom) -> bool {
         match before {
             Some(left) => {
-                !left.is_comment() && !atom.is_comment() && self.context.is_breakable()
+                let is_place = self.context.is_breakable()
+                    || self.context.is_between_labels(atom.shape);
+                is_place && !left.is_comment() && !atom.is_comment()
             }
             None => false,
         }

@@ -1,5 +1,6 @@
 //! A source that an editor has open, with the files that it gets and what its names mean.
 
+use crate::costs::Cost;
 use crate::finding::Finding;
 use crate::names::{Names, names_of};
 use crate::positions::{Position, line_starts, offset_of, range_of};
@@ -67,6 +68,9 @@ pub struct Document {
     pub names: Names,
     /// What is wrong with it, as far as that was computed.
     pub findings: Vec<Finding>,
+    /// How many words the code of its expressions, tests and assignments takes, as far as that was computed; empty if it can't
+    /// be built.
+    pub costs: Option<Vec<Cost>>,
 }
 
 impl Document {
@@ -82,6 +86,7 @@ impl Document {
             files,
             names: Names::new(alloc),
             findings: Vec::new(alloc),
+            costs: None,
         })
     }
 
@@ -134,6 +139,7 @@ impl Document {
             file.text = text;
             file.starts = starts;
         }
+        self.costs = None;
         Ok(())
     }
 
@@ -143,6 +149,7 @@ impl Document {
         for file in headers {
             self.files.push(file)?;
         }
+        self.costs = None;
         let sources = sources_of(alloc, self.files.as_slice())?;
         self.names = names_of(alloc, sources.as_slice())?;
         Ok(())

@@ -54,6 +54,16 @@ fn equal_before(text: &[u8], offset: usize) -> Option<usize> {
     None
 }
 
+/// The first `=` from one offset to another one.
+fn equal_within(text: &[u8], start: usize, end: usize) -> Option<usize> {
+    for at in start..end.min(text.len()) {
+        if is_equal(text, at) {
+            return Some(at);
+        }
+    }
+    None
+}
+
 /// The first word of a text.
 fn first_word(text: &str) -> &str {
     match text.split_once(' ') {
@@ -83,8 +93,11 @@ fn names_get(finding: &Finding, get: &str) -> bool {
 fn fix_there<'t>(text: &[u8], finding: &'t Finding) -> Option<Fix<'t>> {
     let (start, end) = (finding.start, finding.end);
     let help = finding.help.as_str();
-    if help.ends_with(WRITE_ASSIGN) {
-        let at = equal_before(text, start)?;
+    if help.contains(WRITE_ASSIGN) {
+        let at = match equal_within(text, start, end) {
+            Some(at) => at,
+            None => equal_before(text, start)?,
+        };
         return Some(Fix {
             start: at,
             end: at.saturating_add(1),

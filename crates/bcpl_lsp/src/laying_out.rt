@@ -7,17 +7,52 @@ use bcpl_format::{FormatError, Style, formatted};
 use serde_json::{Value, json};
 use std::alloc::Global;
 
-/// The edit that replaces a document's text by another; no edit if both are the same.
+/// The number of bytes of the lines with which both texts begin.
+fn common_start(left: &[u8], right: &[u8]) -> usize {
+    let mut start: usize = 0;
+    for (index, (a, b)) in left.iter().zip(right.iter()).enumerate() {
+        if a != b {
+            break;
+        }
+        if *a == b'\n' {
+            start = index.saturating_add(1);
+        }
+    }
+    start
+}
+
+/// The number of bytes of the lines with which both texts end; all of a text if the other one ends with it.
+fn common_end(left: &[u8], right: &[u8]) -> usize {
+    let mut end: usize = 0;
+    for (count, (a, b)) in left.iter().rev().zip(right.iter().rev()).enumerate() {
+        if a != b {
+            return end;
+        }
+        if *a == b'\n' {
+            end = count;
+        }
+    }
+    left.len().min(right.len())
+}
+
+/// The edit that makes another text of a document's: of the lines from the first to the last one that differ, so that an
+/// editor keeps its place in the others. No edit if both are the same.
 fn edits_to(alloc: Global, document: &Document, text: &[u8]) -> Result<Value, Memory> {
     let nothing: Vec<Value> = Vec::new(alloc);
-    if text == document.text() {
+    let old = document.text();
+    if text == old {
         return Ok(Value::from(nothing));
     }
-    let Ok(text) = std::str::from_utf8(text) else {
+    let start = common_start(old, text);
+    let old_rest = old.get(start..).unwrap_or(b"");
+    let rest = text.get(start..).unwrap_or(b"");
+    let end = common_end(old_rest, rest);
+    let new = rest.get(..rest.len().saturating_sub(end)).unwrap_or(b"");
+    let Ok(new) = std::str::from_utf8(new) else {
         return Ok(Value::from(nothing));
     };
-    let range = document.range(alloc, 0, document.text().len())?;
-    let value = json!(in alloc; [{"range": range, "newText": text}])?;
+    let range = document.range(alloc, start, old.len().saturating_sub(end))?;
+    let value = json!(in alloc; [{"range": range, "newText": new}])?;
     Ok(value)
 }
 

@@ -6,6 +6,7 @@
 
 mod changing;
 mod completing;
+mod costs;
 mod described;
 mod document;
 mod finding;
@@ -22,6 +23,7 @@ mod reply;
 mod scanned;
 mod server;
 
+pub use costs::Cost;
 pub use document::{Document, File};
 pub use finding::{Finding, Related};
 pub use framing::{Received, read_message, write_message};

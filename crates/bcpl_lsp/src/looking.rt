@@ -1,5 +1,6 @@
 //! Requests on the name at a position: what it is, where it is declared and used, and another name for it.
 
+use crate::costs::cost_at;
 use crate::described::{name_of, said_of};
 use crate::document::{Document, sources_of, tokens_of};
 use crate::names::{Declared, Mention};
@@ -11,20 +12,43 @@ use bc_word::Memory;
 use serde_json::{Map, Value, json};
 use std::alloc::Global;
 
-/// The answer to `textDocument/hover`. Returns `Memory` if an allocation fails.
+/// What is said of the name at an offset; empty if none is there.
+fn said_at(alloc: Global, document: &Document, offset: usize) -> Result<String, Memory> {
+    if let Some(mention) = document.names.mention_at(offset)
+        && let Some(declared) = document.names.get(mention.declared)
+    {
+        return said_of(alloc, document, mention.declared, declared);
+    }
+    Ok(String::new(alloc))
+}
+
+/// The range of the name at an offset; null if none is there.
+fn range_at(alloc: Global, document: &Document, offset: usize) -> Result<Value, Memory> {
+    match document.names.mention_at(offset) {
+        Some(mention) => document.range(alloc, mention.start, mention.end),
+        None => Ok(Value::Null),
+    }
+}
+
+/// The answer to `textDocument/hover`: what the name there is, and how many words the code of the expression takes. Returns
+/// `Memory` if an allocation fails.
 pub fn hover(alloc: Global, document: &Document, offset: usize) -> Result<Value, Memory> {
-    let Some(mention) = document.names.mention_at(offset) else {
+    let mut text = said_at(alloc, document, offset)?;
+    let cost = cost_at(alloc, document, offset)?;
+    if !text.is_empty() && !cost.is_empty() {
+        text.push_str("\n")?;
+    }
+    text.push_str(cost.as_str())?;
+    if text.is_empty() {
         return Ok(Value::Null);
+    }
+    let contents = json!(in alloc; {"kind": "markdown", "value": text})?;
+    let range = range_at(alloc, document, offset)?;
+    let value = if range.is_null() {
+        json!(in alloc; {"contents": contents})?
+    } else {
+        json!(in alloc; {"contents": contents, "range": range})?
     };
-    let Some(declared) = document.names.get(mention.declared) else {
-        return Ok(Value::Null);
-    };
-    let text = said_of(alloc, document, mention.declared, declared)?;
-    let range = document.range(alloc, mention.start, mention.end)?;
-    let value = json!(in alloc; {
-        "contents": {"kind": "markdown", "value": text},
-        "range": range
-    })?;
     Ok(value)
 }
 

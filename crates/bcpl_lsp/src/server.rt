@@ -2,6 +2,7 @@
 
 use crate::changing::change;
 use crate::completing::{completion, signature_help};
+use crate::costs::Cost;
 use crate::document::{Document, File};
 use crate::finding::{Finding, diagnostics};
 use crate::fixing::actions;
@@ -38,6 +39,8 @@ pub enum Job {
     Check(usize),
     /// Check all documents.
     CheckAll,
+    /// Compute how many words the code of the document with this index takes, pass it to `set_costs`, and take the message again.
+    Measure(usize),
     /// End; as after `shutdown` or not.
     Exit(bool),
 }
@@ -186,6 +189,13 @@ impl Server {
         }
     }
 
+    /// Sets how many words the code of a document's expressions takes, until the document changes.
+    pub fn set_costs(&mut self, index: usize, costs: Vec<Cost>) {
+        if let Some(document) = self.documents.get_mut(index) {
+            document.costs = Some(costs);
+        }
+    }
+
     /// Takes a message. Returns `Memory` if an allocation fails.
     pub fn take(&mut self, message: &[u8]) -> Result<Answer, Memory> {
         let Ok(text) = std::str::from_utf8(message) else {
@@ -223,8 +233,23 @@ impl Server {
         }
     }
 
+    /// The index of the document that a hover asks about, if how many words its code takes isn't known.
+    fn unmeasured(&self, method: &str, params: &Value) -> Option<usize> {
+        if self.phase != Phase::Running || method != "textDocument/hover" {
+            return None;
+        }
+        let index = self.index_of(params)?;
+        match self.documents.get(index) {
+            Some(document) if document.costs.is_none() => Some(index),
+            _ => None,
+        }
+    }
+
     /// Takes a request.
     fn request(&mut self, method: &str, id: &Value, params: &Value) -> Result<Answer, Memory> {
+        if let Some(index) = self.unmeasured(method, params) {
+            return Ok(only(Job::Measure(index)));
+        }
         let reply = self.reply_to(method, params)?;
         let text = reply_text(self.alloc, id, &reply)?;
         Ok(said(text))
@@ -254,6 +279,7 @@ impl Server {
         match method {
             "textDocument/documentSymbol"
             | "textDocument/foldingRange"
+            | "textDocument/formatting"
             | "textDocument/codeAction" => self.on_document(method, params),
             "textDocument/hover"
             | "textDocument/definition"

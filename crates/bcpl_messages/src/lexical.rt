@@ -17,7 +17,7 @@ const BYTES: [(u8, &str); 12] = [
     ),
     (
         b'%',
-        "GETBYTE(S, I) is byte I of the string S, and PUTBYTE(S, I, C) sets it; REM is the remainder",
+        "REM is the remainder, as in X REM 2; GETBYTE(S, I) is byte I of the string S, and PUTBYTE(S, I, C) sets it",
     ),
     (
         b'#',

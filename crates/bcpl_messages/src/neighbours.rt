@@ -5,7 +5,7 @@ use crate::words::{back, is_at, is_symbol};
 use bc_lex_tokens::{Symbol, Token, TokenKind};
 
 /// The helps for two adjacent spellings.
-const PAIRS: [(&[u8], &[u8], &str); 25] = [
+const PAIRS: [(&[u8], &[u8], &str); 31] = [
     (b"=", b"=", "write equality with a single ="),
     (b"=", b"<", "write <= for at most"),
     (b"=", b">", "write >= for at least"),
@@ -47,17 +47,23 @@ const PAIRS: [(&[u8], &[u8], &str); 25] = [
     (b"-", b"=", "to subtract from X, write X := X - 1"),
     (b"*", b"=", "to multiply X, write X := X * 2"),
     (b"/", b"=", "to divide X, write X := X / 2"),
+    (b"=", b"+", "to add to X, write X := X + 1"),
+    (b"=", b"/", "to divide X, write X := X / 2"),
+    (b"+", b":=", "to add to X, write X := X + 1"),
+    (b"-", b":=", "to subtract from X, write X := X - 1"),
+    (b"*", b":=", "to multiply X, write X := X * 2"),
+    (b"/", b":=", "to divide X, write X := X / 2"),
     (b"&", b"&", "write and with a single &"),
     (b"|", b"|", "write or with a single |"),
     (
         b"DO",
         b";",
-        "a command must follow DO; write $( $) for one that does nothing",
+        "leave out the ; after DO, since a command follows it; one that does nothing is $( $)",
     ),
     (
         b"THEN",
         b";",
-        "a command must follow THEN; write $( $) for one that does nothing",
+        "leave out the ; after THEN, since a command follows it; one that does nothing is $( $)",
     ),
     (b"DO", b"LET", DECLARED_BODY),
     (b"THEN", b"LET", DECLARED_BODY),

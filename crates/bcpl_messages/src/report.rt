@@ -103,6 +103,9 @@ impl MessageLines<'_, '_> {
 
     /// Appends the GETs that led from a main to a file.
     fn add_way(&mut self, main: usize, file: usize) -> Result<(), Memory> {
+        if main == file {
+            return Ok(());
+        }
         let way = way_to(self.alloc, self.named.sources, main, file)?;
         self.add_gets(way.as_slice())
     }

@@ -195,12 +195,12 @@ const NEXT_GUESSES: [Guess; 5] = [
     Guess {
         site: Site::AfterName,
         trial: Trial::AfterBrackets,
-        help: "declare and call a routine with parentheses, as in NEWLINE()",
+        help: "write parentheses after the name of a routine, as in NEWLINE()",
     },
     Guess {
         site: Site::BetweenNames,
         trial: Trial::AtBrackets,
-        help: "declare and call a routine with parentheses, as in NEWLINE()",
+        help: "write parentheses after the name of a routine, as in NEWLINE()",
     },
     Guess {
         site: Site::Any,
@@ -374,6 +374,8 @@ fn help_for_list(draft: &mut Draft, tokens: &[Token<'_>], index: usize) -> Optio
     if is_at(tokens, index, Symbol::Comma) {
         Some(if word.is(Symbol::Global) {
             "a ; or a line break separates the entries of a list, as in GLOBAL $( N:100; M:101 $)"
+        } else if word.is(Symbol::Static) {
+            "a ; or a line break separates the entries of a list, as in STATIC $( N = 0; M = 0 $)"
         } else {
             "a ; or a line break separates the entries of a list, as in MANIFEST $( N = 10; M = 20 $)"
         })
@@ -385,6 +387,8 @@ fn help_for_list(draft: &mut Draft, tokens: &[Token<'_>], index: usize) -> Optio
         None
     } else if word.is(Symbol::Global) {
         Some("give each name a number, as in GLOBAL $( N:100 $)")
+    } else if word.is(Symbol::Static) {
+        Some("give each name a value, as in STATIC $( N = 0 $)")
     } else {
         Some("give each name a value, as in MANIFEST $( N = 10 $)")
     }

@@ -7,18 +7,20 @@ use crate::folder::{
 use crate::headers::{Alias, Headers, headers_of};
 use crate::new_files::{NewFile, declares_start, gets_further};
 use crate::programs::{
-    ProjectProgram, Refusal, file_alone, parts_of, paths_of, programs_of, refusal_for, sources_of,
+    ProjectProgram, Refusal, file_alone, paths_of, programs_of, refusal_for, refusal_of_program,
+    sources_of,
 };
 use crate::renames::{Renamed, add_shared, shared_names};
 use crate::report::{Report, ShownDialect, page_of};
 use crate::script::script_of;
 use crate::unknown::unknown_in;
-use bc_convert::{Conversion, Lawful, OldNames, Options, Program, convert, renamings};
+use bc_convert::{Conversion, Lawful, OldNames, Options, Program, System, convert, renamings};
 use bc_lex::Source;
 use bc_word::Memory;
 use bcpl_cli::{ConvertDialect, ConvertOrder, ConvertTo, Failure, Links};
 use bcpl_convert::{
-    Given, by_hand, lawful_files, list_text, options_of, program_of, refuse_list, write_file,
+    Given, by_hand, compiled_texts, lawful_files, list_text, options_of, program_of, refuse_list,
+    shared_by, write_file,
 };
 use bcpl_messages::Named;
 use std::alloc::Global;
@@ -88,7 +90,7 @@ fn conversions_of(
     alloc: Global,
     files: &[OldFile],
     lawful: &[Lawful],
-    options: Options<'_>,
+    options: Options<'_, '_>,
 ) -> Result<Vec<Conversion>, Memory> {
     let mut conversions = Vec::new(alloc);
     for (index, file) in files.iter().enumerate() {
@@ -137,11 +139,11 @@ fn note_dialect(shown: &mut ShownDialect, program: Program) {
         .saturating_add(counted(dialect.has_quoted_strings));
 }
 
-/// What these sources show of their dialect.
+/// What sources with these texts show of their dialect.
 fn dialect_of(
     alloc: Global,
     order: &ConvertOrder<'_>,
-    files: &[OldFile],
+    texts: &[Vec<u8>],
     library: &OldNames<'_>,
 ) -> Result<ShownDialect, Memory> {
     let mut shown = ShownDialect {
@@ -156,11 +158,8 @@ fn dialect_of(
         stars: 0,
         quoted_strings: 0,
     };
-    for file in files {
-        note_dialect(
-            &mut shown,
-            Program::of(alloc, file.text.as_slice(), library)?,
-        );
+    for text in texts {
+        note_dialect(&mut shown, Program::of(alloc, text.as_slice(), library)?);
     }
     Ok(shown)
 }
@@ -211,18 +210,17 @@ fn refusals_of(
     Ok(refusals)
 }
 
-/// Why each program doesn't build.
+/// Why each program doesn't build, of those that don't even with the library cut to what they reach.
 fn unbuilt_of(
     alloc: Global,
-    programs: &[ProjectProgram],
+    programs: &mut [ProjectProgram],
     files: &[NewFile],
     named: Named<'_, '_>,
     is_further: bool,
 ) -> Result<Vec<Option<Refusal>>, Memory> {
     let mut unbuilt = Vec::new(alloc);
-    for program in programs {
-        let parts = parts_of(alloc, program, files, is_further)?;
-        unbuilt.push(refusal_for(alloc, named, parts.as_slice())?)?;
+    for program in programs.iter_mut() {
+        unbuilt.push(refusal_of_program(alloc, program, files, named, is_further)?)?;
     }
     Ok(unbuilt)
 }
@@ -397,9 +395,10 @@ fn write_project<F: Files, O: Write + Drop>(
         sources: sources.as_slice(),
         paths: paths.as_slice(),
     };
-    let programs = programs_of(alloc, files)?;
+    let mut programs = programs_of(alloc, files)?;
     let refusals = refusals_of(alloc, files, named)?;
-    let unbuilt = unbuilt_of(alloc, programs.as_slice(), files, named, project.is_further)?;
+    let is_further = project.is_further;
+    let unbuilt = unbuilt_of(alloc, programs.as_mut_slice(), files, named, is_further)?;
     let readable = with_missing(alloc, files, &project.headers)?;
     let all = Named {
         sources: readable.as_slice(),
@@ -423,6 +422,18 @@ fn write_project<F: Files, O: Write + Drop>(
     tell_left(alloc, order, &report)
 }
 
+/// These options, with one decision on `*(` in all files: if one of them assigns to a subscript with a star, it is a
+/// subscript in each.
+fn as_one_dialect<'o, 'd>(options: Options<'o, 'd>) -> Options<'o, 'd> {
+    match options.program {
+        Some(program) if options.system.is_none() && program.has_stars => Options {
+            system: Some(System::Of1967),
+            ..options
+        },
+        _ => options,
+    }
+}
+
 /// Converts these files with these names.
 fn converted<F: Files>(
     rt: &F,
@@ -431,10 +442,15 @@ fn converted<F: Files>(
     files: Vec<OldFile>,
     library: &OldNames<'_>,
 ) -> Result<(Vec<NewFile>, Headers, ShownDialect), Failure> {
-    let headers = headers_of(alloc, files.as_slice())?;
     let texts = texts_of(alloc, files.as_slice(), &[])?;
-    let program = program_of(alloc, texts.as_slice(), library)?;
-    let options = options_of(order, library, program);
+    let compiled = compiled_texts(alloc, order, texts.as_slice())?;
+    let headers = headers_of(alloc, files.as_slice(), compiled.as_slice())?;
+    let program = program_of(alloc, compiled.as_slice(), library)?;
+    let shared = shared_by(alloc, compiled.as_slice())?;
+    let options = Options {
+        shared: Some(&shared),
+        ..options_of(order, library, program)
+    };
     let lawful = match options.system {
         None => {
             let aliases = headers.aliases.as_slice();
@@ -448,7 +464,8 @@ fn converted<F: Files>(
         }
         Some(_) => Vec::new(alloc),
     };
-    let dialect = dialect_of(alloc, order, files.as_slice(), library)?;
+    let dialect = dialect_of(alloc, order, compiled.as_slice(), library)?;
+    let options = as_one_dialect(options);
     let conversions = conversions_of(alloc, files.as_slice(), lawful.as_slice(), options)?;
     let new = new_files(alloc, files, conversions, headers.is_header.as_slice())?;
     Ok((new, headers, dialect))

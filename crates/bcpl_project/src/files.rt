@@ -111,7 +111,66 @@ fn count_lines(bytes: &[u8]) -> usize {
     bytes.iter().filter(|byte| **byte == b'\n').count()
 }
 
-/// Adds the sections of the source with this path, each as a file. A source of one section keeps its name.
+/// Whether one of these tokens is this word.
+fn has_word(tokens: &Tokens<'_>, word: &[u8]) -> bool {
+    (0..tokens.count()).any(|index| tokens.is_word(index, word))
+}
+
+/// Whether a section only declares globals and constants, and so is a header for the sections after it.
+fn is_header_section(alloc: Global, text: &[u8]) -> Result<bool, Memory> {
+    let tokens = Tokens::of(alloc, text)?;
+    let declares = has_word(&tokens, b"GLOBAL") || has_word(&tokens, b"MANIFEST");
+    Ok(declares && !has_word(&tokens, b"LET") && !has_word(&tokens, b"STATIC"))
+}
+
+/// Whether a section gets a header.
+fn gets_header(alloc: Global, text: &[u8]) -> Result<bool, Memory> {
+    let tokens = Tokens::of(alloc, text)?;
+    Ok(has_word(&tokens, b"GET"))
+}
+
+/// Whether the first of these sections of a source is a header for the others: it only declares names, and they get no header.
+fn is_headed(alloc: Global, sections: &[OldFile]) -> Result<bool, Memory> {
+    for (number, section) in sections.iter().enumerate() {
+        let text = section.text.as_slice();
+        let is_plain = if number == 0 {
+            is_header_section(alloc, text)?
+        } else {
+            !gets_header(alloc, text)?
+        };
+        if !is_plain {
+            return Ok(false);
+        }
+    }
+    Ok(true)
+}
+
+/// The text of a section after a GET of the file with this name.
+fn with_get(alloc: Global, name: &str, text: &[u8]) -> Result<Vec<u8>, Memory> {
+    let get = format!(in alloc; "GET \"{name}\" ")?;
+    let mut whole = Vec::from_slice(alloc, get.as_bytes())?;
+    whole.extend_from_slice(text)?;
+    Ok(whole)
+}
+
+/// Puts a GET of the first of these sections of a source at the beginning of the others, if it is a header for them.
+fn get_first(alloc: Global, sections: &mut [OldFile]) -> Result<(), Memory> {
+    let name = match sections.first() {
+        Some(first) => String::from_str(alloc, first.name.as_str())?,
+        None => return Ok(()),
+    };
+    if !is_headed(alloc, sections)? {
+        return Ok(());
+    }
+    for number in 1..sections.len() {
+        let text = with_get(alloc, name.as_str(), sections[number].text.as_slice())?;
+        sections[number].text = text;
+    }
+    Ok(())
+}
+
+/// Adds the sections of the source with this path, each as a file. A source of one section keeps its name. If the first section
+/// only declares names, and the others get no header, they get the first one.
 ///
 /// # Errors
 ///
@@ -124,6 +183,7 @@ pub fn add_sections(
 ) -> Result<(), Memory> {
     let bounds = section_bounds(alloc, text)?;
     let is_whole = bounds.len() == 2;
+    let mut sections = Vec::new(alloc);
     for number in 1..bounds.len() {
         let start = bounds.get(number - 1).copied().unwrap_or(0);
         let end = bounds.get(number).copied().unwrap_or(0);
@@ -132,13 +192,17 @@ pub fn add_sections(
         } else {
             section_name(alloc, name_of(path), number)?
         };
-        files.push(OldFile {
+        sections.push(OldFile {
             beside: beside(alloc, path, name.as_str())?,
             name,
             source: String::from_str(alloc, path)?,
             lines_before: count_lines(text.get(..start).unwrap_or(&[])),
             text: Vec::from_slice(alloc, text.get(start..end).unwrap_or(&[]))?,
         })?;
+    }
+    get_first(alloc, sections.as_mut_slice())?;
+    for section in sections {
+        files.push(section)?;
     }
     Ok(())
 }

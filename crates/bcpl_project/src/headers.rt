@@ -154,12 +154,12 @@ fn add_gets(
     Ok(())
 }
 
-/// Finds the headers of a project.
+/// Finds the headers of a project, whose files have these texts as they are compiled.
 ///
 /// # Errors
 ///
 /// `Memory` if an allocation failed.
-pub fn headers_of(alloc: Global, files: &[OldFile]) -> Result<Headers, Memory> {
+pub fn headers_of(alloc: Global, files: &[OldFile], texts: &[Vec<u8>]) -> Result<Headers, Memory> {
     let mut headers = Headers {
         aliases: Vec::new(alloc),
         missing: Vec::new(alloc),
@@ -169,8 +169,8 @@ pub fn headers_of(alloc: Global, files: &[OldFile]) -> Result<Headers, Memory> {
         let is_header = is_library_header(file.name.as_str().as_bytes());
         headers.is_header.push(is_header)?;
     }
-    for (index, file) in files.iter().enumerate() {
-        add_gets(alloc, &mut headers, files, index, file.text.as_slice())?;
+    for (index, text) in texts.iter().enumerate() {
+        add_gets(alloc, &mut headers, files, index, text.as_slice())?;
     }
     Ok(headers)
 }

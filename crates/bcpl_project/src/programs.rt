@@ -10,7 +10,7 @@ use bc_library::{BLIB, LIBHDR};
 use bc_library_ext::{EXTHDR, EXTLIB};
 use bc_word::Memory;
 use bcpl_advice::advised;
-use bcpl_cli::{BuildLine, without_extension};
+use bcpl_cli::{BuildLine, lean_libraries, without_extension};
 use bcpl_messages::{Named, message_lines, message_of};
 use std::alloc::Global;
 
@@ -24,6 +24,8 @@ pub struct ProjectProgram {
     pub name: String,
     /// The index of the file with START, if there is one.
     pub start: Option<usize>,
+    /// Whether it is built with the library cut to what it reaches, and so with routines of its own in place of the library's.
+    pub is_lean: bool,
 }
 
 /// The programs of a project: one for each file with START, or one for all files if none has it.
@@ -38,6 +40,7 @@ pub fn programs_of(alloc: Global, files: &[NewFile]) -> Result<Vec<ProjectProgra
             programs.push(ProjectProgram {
                 name: String::from_str(alloc, without_extension(file.name()))?,
                 start: Some(index),
+                is_lean: false,
             })?;
         }
     }
@@ -45,6 +48,7 @@ pub fn programs_of(alloc: Global, files: &[NewFile]) -> Result<Vec<ProjectProgra
         programs.push(ProjectProgram {
             name: String::from_str(alloc, "program")?,
             start: None,
+            is_lean: false,
         })?;
     }
     Ok(programs)
@@ -191,6 +195,96 @@ pub fn refusal_for(
     }
 }
 
+/// The texts of the libraries, cut to what the files of a program reach.
+fn lean_texts(
+    alloc: Global,
+    program: &ProjectProgram,
+    files: &[NewFile],
+    is_further: bool,
+) -> Result<Vec<String>, Memory> {
+    let mut texts = Vec::new(alloc);
+    for (index, file) in files.iter().enumerate() {
+        if file.is_header || is_part(program, files, index) {
+            texts.push(file.text())?;
+        }
+    }
+    if is_further {
+        lean_libraries(alloc, &[BLIB, EXTLIB], texts.as_slice())
+    } else {
+        lean_libraries(alloc, &[BLIB], texts.as_slice())
+    }
+}
+
+/// These sources with other texts for the libraries.
+fn with_libraries<'s>(
+    alloc: Global,
+    sources: &[Source<'s>],
+    libraries: &'s [String],
+) -> Result<Vec<Source<'s>>, Memory> {
+    let mut new = Vec::new(alloc);
+    for (index, source) in sources.iter().enumerate() {
+        let library = match index {
+            1 => libraries.first(),
+            3 => libraries.get(1),
+            _ => None,
+        };
+        let text = match library {
+            Some(library) => library.as_str().as_bytes(),
+            None => source.text,
+        };
+        new.push(Source {
+            name: source.name,
+            text,
+        })?;
+    }
+    Ok(new)
+}
+
+/// Whether a program builds if the library is cut to what it reaches. These are its parts.
+fn builds_lean(
+    alloc: Global,
+    program: &ProjectProgram,
+    files: &[NewFile],
+    sources: &[Source<'_>],
+    parts: &[bool],
+) -> Result<bool, Memory> {
+    let further = parts.get(LIBRARY - 1).copied().unwrap_or(false);
+    let libraries = lean_texts(alloc, program, files, further)?;
+    let cut = with_libraries(alloc, sources, libraries.as_slice())?;
+    let mains = mains_of(alloc, cut.len(), parts)?;
+    match build(alloc, cut.as_slice(), mains.as_slice()) {
+        Ok(_) => Ok(true),
+        Err(BuildError::Memory) => Err(Memory),
+        Err(_) => Ok(false),
+    }
+}
+
+/// Why a program isn't built. If only the linker refuses it, the library is cut to what it reaches; if it builds then, that is
+/// noted.
+///
+/// # Errors
+///
+/// `Memory` if an allocation failed.
+pub fn refusal_of_program(
+    alloc: Global,
+    program: &mut ProjectProgram,
+    files: &[NewFile],
+    named: Named<'_, '_>,
+    is_further: bool,
+) -> Result<Option<Refusal>, Memory> {
+    let parts = parts_of(alloc, &*program, files, is_further)?;
+    let refusal = refusal_for(alloc, named, parts.as_slice())?;
+    let is_of_linking = match &refusal {
+        Some(refusal) => refusal.is_of_linking,
+        None => false,
+    };
+    if !is_of_linking || !builds_lean(alloc, &*program, files, named.sources, parts.as_slice())? {
+        return Ok(refusal);
+    }
+    program.is_lean = true;
+    Ok(None)
+}
+
 /// The sources with only the file with this index chosen.
 ///
 /// # Errors
@@ -206,11 +300,7 @@ pub fn file_alone(alloc: Global, index: usize) -> Result<Vec<bool>, Memory> {
 }
 
 /// The sources that are the mains of a program.
-///
-/// # Errors
-///
-/// `Memory` if an allocation failed.
-pub fn parts_of(
+fn parts_of(
     alloc: Global,
     program: &ProjectProgram,
     files: &[NewFile],

@@ -157,6 +157,13 @@ fn add_dialect(page: &mut Page, report: &Report<'_>) -> Result<(), Memory> {
         )])?,
     }
     add_shown_table(page, dialect, report.files.len())?;
+    if dialect.named.is_none() && dialect.stars > 0 {
+        page.paragraph(&[
+            Part::Text("A file assigns to a subscript with a star, so "),
+            Part::Code("*("),
+            Part::Text(" is taken for a subscript in all files that don't build as they are."),
+        ])?;
+    }
     let header = if report.is_further {
         "EXTHDR, so it is built with EXTLIB"
     } else {
@@ -253,7 +260,11 @@ fn add_programs(page: &mut Page, report: &Report<'_>) -> Result<(), Memory> {
         page.row(&[
             Part::Code(program.name.as_str()),
             Part::Text(start),
-            Part::Text(if report.is_built(index) { "yes" } else { "no" }),
+            Part::Text(match (report.is_built(index), program.is_lean) {
+                (true, true) => "yes, with --lean: its own routines replace the library's",
+                (true, false) => "yes",
+                (false, _) => "no",
+            }),
         ])?;
     }
     page.end_table()?;

@@ -84,6 +84,9 @@ pub fn script_of(
         if is_further {
             script.push_str(" --library ext")?;
         }
+        if program.is_lean {
+            script.push_str(" --lean")?;
+        }
         script.push_str(" --out")?;
         add_path(alloc, &mut script, text.as_str())?;
         add_gets(alloc, &mut script, files, aliases)?;

@@ -504,7 +504,7 @@ impl<'p, 's> Listing<'p, 's> {
 }
 
 /// The size of a root's code, in words.
-fn words_of_entry(alloc: Global, entry: &Entry) -> Result<u64, Memory> {
+pub(crate) fn words_of_entry(alloc: Global, entry: &Entry) -> Result<u64, Memory> {
     let pieces = code_of(
         alloc,
         &entry.root,

@@ -4,6 +4,7 @@
 #![tactic(auto)]
 
 mod code;
+mod costs;
 mod forms;
 mod lines;
 mod marks;
@@ -22,6 +23,7 @@ mod tokens;
 
 pub use bc_parse_tree::leaves_of;
 pub use code::{CodeListing, code_listing, unit};
+pub use costs::{CostedSection, RootCost, root_costs};
 pub use forms::{TreeForm, syntax_listing};
 pub use lines::{Files, Lines};
 pub use marks::{Marks, Own, Owner};

@@ -6,4 +6,4 @@ mod place;
 mod sentence;
 
 pub use message::tame_message;
-pub use sentence::{Reason, number_of};
+pub use sentence::number_of;

@@ -1,9 +1,9 @@
 //! The message as a whole.
 
 use crate::place::span_of_spot;
-use crate::sentence::{Reason, help, sentence};
+use crate::sentence::{help, sentence};
 use bc_lex::Source;
-use bc_tame_check::Spot;
+use bc_tame_check::{Cause, Spot};
 use bc_word::Memory;
 use bcpl_messages::{Draft, Message};
 use bcpl_wild::read;
@@ -14,13 +14,13 @@ pub fn tame_message(
     alloc: Global,
     sources: &[Source<'_>],
     main: usize,
-    reason: Reason,
-    spot: Option<Spot>,
+    cause: Cause,
+    spot: Spot,
 ) -> Result<Message, Memory> {
     let mut draft = Draft::new(alloc, main);
-    draft.say(sentence(reason), &[]);
-    draft.help(help(reason), &[]);
-    if let (Reason::Section(cause), Some(spot)) = (reason, spot)
+    draft.say(sentence(cause), &[]);
+    draft.help(help(cause), &[]);
+    if !matches!(cause, Cause::Sections)
         && let Some(read) = read(&mut draft, sources, main)
         && let Some(span) = span_of_spot(&read, sources, cause, spot)
     {

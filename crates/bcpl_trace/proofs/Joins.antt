@@ -1,13 +1,12 @@
 -- Runs composed of shorter runs, for the loop of `run_watched`.
-use Rattle.std.proofs.Common.{◌≡◌, ◌≢◌, ◌≤◌, ℕ, ◌+◌, ◌-◌, suc, Option, None, Some, sym, ap, ◌∙◌, refl, arith, subst}
+use Rattle.std.proofs.Common.{◌≡◌, ◌≢◌, ◌≤◌, ℕ, ◌+◌, suc, Option, None, Some, sym, ap, ◌∙◌, refl, arith, subst}
 use Rattle.bc_machine_defs.specs.State.{State}
-use Rattle.bc_machine_defs.specs.Run.{runs, ended, Comes}
+use Rattle.bc_machine_defs.specs.Run.{runs, ended}
 use Rattle.bc_machine_defs.specs.Laws.{goes_on_for}
 use Rattle.bc_machine_defs.specs.declared.state.End.{End}
 use Rattle.bc_machine_defs.specs.declared.state.End.TheVariants.{Finished, ZeroDivide, BadInstruction, BudgetSpent, Device}
 use Rattle.bc_machine_defs.proofs.Runs.{runs-zero, runs-add, runs-Comes, Comes-add}
 use Rattle.bc_machine.specs.Ran.{Ran, RanFrom, kept_end, kept_from}
-use Rattle.bc_machine.specs.Rose.{Rose}
 use Rattle.bc_machine.proofs.Failures.{rose_from}
 
 -- A run of no instructions.

@@ -1,3 +1,4 @@
--- What an instruction leaves alone, for the contracts of a trace.
+-- What an instruction writes, for the contracts of a trace.
 pub mod Changes
+pub mod Examples
 pub mod Told

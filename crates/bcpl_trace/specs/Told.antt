@@ -1,4 +1,4 @@
--- For proofs: the change of an instruction as the code computes it, from its function number and operand.
+-- For proofs: what an instruction writes as the code computes it, from its function number and operand.
 use Rattle.std.specs.Prelude.{ℕ, ◌+◌, ◌%◌, ◌==◌, cond}
 use Rattle.bc_machine_defs.specs.declared.state.Registers.{Registers}
 use Rattle.bcpl_trace.specs.declared.change.Change.{Change}

@@ -1,9 +1,9 @@
-//! What an instruction changes besides the registers.
+//! What an instruction writes to the store, or to the selected output.
 
 ghost use Rattle.std.specs.Prelude.{◌≡◌, slice_index};
 ghost use Rattle.bc_machine_defs.specs.Instruction.{code_of};
 ghost use Rattle.bc_machine_defs.specs.Operand.{operand_of};
-ghost use Rattle.bcpl_trace.specs.Changes.{IsChangeOf};
+ghost use Rattle.bcpl_trace.specs.Changes.{written_at, IsChangeOf};
 ghost use Rattle.bcpl_trace.specs.Told.{told};
 
 use bc_machine::Machine;
@@ -19,7 +19,7 @@ const ADDRESSES: u16 = 512;
 /// The operand of the operation that writes a byte.
 const WRITE: u16 = 27;
 
-/// What an instruction changes besides the registers.
+/// What an instruction writes to the store, or to the selected output.
 #[derive(Clone, Copy, PartialEq, Eq)]
 pub enum Change {
     /// No cell. An input or output may be selected, read or ended.
@@ -69,7 +69,7 @@ fn operand(machine: &Machine) -> u16
     }
 }
 
-/// What an instruction with this function and operand changes, if `registers` are the registers before it.
+/// What an instruction with this function and operand writes, if `registers` are the registers before it.
 fn told(function: u16, operand: u16, registers: Registers) -> Change
     ensures { result ≡ told function operand registers }
 {
@@ -81,10 +81,12 @@ fn told(function: u16, operand: u16, registers: Registers) -> Change
     }
 }
 
-/// What the instruction at C changes, provided that it does not end the run. Every cell that is not named stays the
-/// same.
+/// What the instruction at C writes: exactly the cells that it sets, or the byte that it writes, and `Nothing` if there is neither. An
+/// instruction that ends the run writes nothing. A cell counts as written even if it already has the word, and a byte even if no output
+/// is selected.
 pub fn change_of(machine: &Machine) -> Change
-    ensures { IsChangeOf machine.now result }
+    ensures written { result ≡ written_at machine.now }
+    ensures step { IsChangeOf machine.now result }
 {
     let registers = machine.registers();
     let word = cell(machine, registers.c);

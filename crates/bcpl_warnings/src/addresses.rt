@@ -9,7 +9,7 @@ use bcpl_messages::Draft;
 /// The declaration whose address an expression is, if that is of a routine's frame.
 fn local_of(known: &Known<'_, '_>, at: usize) -> Option<usize> {
     let fact = known.kinds.fact(at);
-    let of = fact.of?;
+    let of = fact.declaration()?;
     if !matches!(fact.kind, Kind::Vector | Kind::Local) {
         return None;
     }
@@ -87,7 +87,7 @@ pub fn warns_of_assignment(draft: &mut Draft, known: &Known<'_, '_>, at: usize) 
         return false;
     };
     if name_of(known, routine) == b"START".as_slice()
-        || known.flow.has_call(tree.end(at), tree.end(routine))
+        || known.flow.has_call(tree, tree.end(at), tree.end(routine))
         || !tree.contains(routine, node)
     {
         return false;

@@ -65,10 +65,12 @@ pub fn missing_arguments(
     if !is_called(tokens, index) {
         return None;
     }
-    let name = name_at(tokens, index)?;
-    let parameters = declarations.parameters(name)?;
+    let parameters = declarations.parameters_at(index)?;
     let arguments = arguments_after(tokens, index.saturating_add(1))?;
-    if arguments < parameters && !declarations.uses(name).is_assigned {
+    if arguments < parameters
+        && !declarations.uses_at(index).is_assigned
+        && !declarations.addresses_parameter(tokens, index)
+    {
         Some(Missing {
             arguments,
             parameters,

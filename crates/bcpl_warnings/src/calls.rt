@@ -5,6 +5,7 @@ use crate::known::Known;
 use crate::names::{Declared, Sort};
 use crate::node::Form;
 use crate::signatures::{Wanted, signature_of};
+use bc_parse_tree::BinaryOp;
 use bc_word::Word;
 use bcpl_messages::{Draft, Fill};
 
@@ -25,7 +26,7 @@ pub fn is_other(wanted: Wanted, fact: &Fact) -> bool {
             Kind::String | Kind::Vector | Kind::Table | Kind::Routine | Kind::Local
         ),
         Wanted::Vector => match fact.kind {
-            Kind::Number => matches!(fact.value, Some(word) if word.get() > 0),
+            Kind::Number => matches!(fact.value(), Some(word) if word.get() > 0),
             kind => matches!(kind, Kind::Character | Kind::Truth | Kind::Routine),
         },
     }
@@ -50,6 +51,14 @@ pub fn only_character(text: &[u8]) -> Option<&[u8]> {
     if is_one { Some(inside) } else { None }
 }
 
+/// Whether a node is a product of which one operand is a string.
+fn is_repeated_string(known: &Known<'_, '_>, at: usize) -> bool {
+    let tree = known.tree;
+    matches!(tree.form(at), Form::Bin(BinaryOp::Multiply))
+        && (known.kinds.kind(tree.first(at)) == Kind::String
+            || known.kinds.kind(tree.second(at)) == Kind::String)
+}
+
 /// Adds the help on an argument of another kind.
 pub fn help_on(draft: &mut Draft, known: &Known<'_, '_>, at: usize, wanted: Wanted) {
     let text = known.text(at, at);
@@ -70,6 +79,10 @@ pub fn help_on(draft: &mut Draft, known: &Known<'_, '_>, at: usize, wanted: Want
             "a number has no quotes; WRITES and %S write a string",
             &[],
         ),
+        (Wanted::String, Kind::Number) if is_repeated_string(known, at) => draft.help(
+            "no operator repeats a string; write it in a FOR, as in FOR I = 1 TO 20 DO WRITES(\"-\")",
+            &[],
+        ),
         (Wanted::String, Kind::Number) => draft.help("WRITEN and %N write a number", &[]),
         (Wanted::String, Kind::Character) => draft.help(
             "WRCH and %C write a character; a string is in double quotes",
@@ -80,6 +93,35 @@ pub fn help_on(draft: &mut Draft, known: &Known<'_, '_>, at: usize, wanted: Want
             &[Fill::Shown(text), Fill::Shown(text)],
         ),
         _ => draft.help("the value is taken for an address, whatever it is", &[]),
+    }
+}
+
+/// Adds the help on a string that is selected as a stream, or on the order of arguments. Returns whether there is one.
+fn helps_with_routine(draft: &mut Draft, known: &Known<'_, '_>, at: usize, name: &[u8]) -> bool {
+    let text = known.shown(at);
+    let is_number = matches!(known.kinds.kind(at), Kind::Number | Kind::Truth);
+    if is_number && (name == b"PUTBYTE".as_slice() || name == b"GETBYTE".as_slice()) {
+        draft.help(
+            "the arguments are the string, the number of the byte, and the character: GETBYTE(S, I), PUTBYTE(S, I, CH)",
+            &[],
+        );
+        true
+    } else if known.kinds.kind(at) != Kind::String {
+        false
+    } else if name == b"SELECTINPUT".as_slice() {
+        draft.help(
+            "FINDINPUT opens a stream: SELECTINPUT(FINDINPUT({}))",
+            &[text],
+        );
+        true
+    } else if name == b"SELECTOUTPUT".as_slice() {
+        draft.help(
+            "FINDOUTPUT opens a stream: SELECTOUTPUT(FINDOUTPUT({}))",
+            &[text],
+        );
+        true
+    } else {
+        false
     }
 }
 
@@ -103,7 +145,9 @@ fn warns_of_argument(
                 Fill::Text(fact.kind.name()),
             ],
         );
-        help_on(draft, known, at, wanted);
+        if !helps_with_routine(draft, known, at, name) {
+            help_on(draft, known, at, wanted);
+        }
         return true;
     }
     name == b"WRITEN".as_slice() && warns_of_large(draft, known, at)
@@ -137,8 +181,8 @@ pub fn is_negative(word: Word) -> bool {
 /// The value of a decimal literal that is too large for a signed word.
 pub fn large(known: &Known<'_, '_>, at: usize) -> Option<Word> {
     let fact = known.kinds.fact(at);
-    let word = fact.value?;
-    let first = known.tree.text(fact.literal?).first()?;
+    let word = fact.value()?;
+    let first = known.tree.text(fact.literal()?).first()?;
     if is_negative(word) && first.is_ascii_digit() {
         Some(word)
     } else {
@@ -258,9 +302,60 @@ fn warns_of_count(
     draft.help(
         if is_short {
             "a parameter without an argument has no value"
+        } else if is_writing(known, declared) {
+            "the others are lost; WRITEF writes several values, as in WRITEF(\"%S %N*N\", S, N)"
+        } else if is_reading(known, declared) {
+            "what it reads is its value, as in X := RDCH(), or X := READN() with EXTHDR"
         } else {
             "the arguments after the last parameter are lost"
         },
+        &[],
+    );
+    true
+}
+
+/// Whether a declaration is that of the library's WRITES or WRITEN.
+fn is_writing(known: &Known<'_, '_>, declared: &Declared) -> bool {
+    let name = known.tree.text(declared.node);
+    declared.is_library && (name == b"WRITES".as_slice() || name == b"WRITEN".as_slice())
+}
+
+/// Whether a declaration is that of the library's RDCH or READN.
+fn is_reading(known: &Known<'_, '_>, declared: &Declared) -> bool {
+    let name = known.tree.text(declared.node);
+    declared.is_library && (name == b"RDCH".as_slice() || name == b"READN".as_slice())
+}
+
+/// The letter after the first `%` of a text that WRITEF would write a value for, if there is one.
+fn format_letter(text: &[u8]) -> Option<u8> {
+    let mut is_after = false;
+    for byte in text {
+        if is_after && matches!(*byte, b'N' | b'S' | b'C' | b'n' | b's' | b'c' | b'd') {
+            return Some(*byte);
+        }
+        is_after = *byte == b'%';
+    }
+    None
+}
+
+/// Warns of a format that WRITES is given. Returns whether it is one.
+fn warns_of_plain_format(draft: &mut Draft, known: &Known<'_, '_>, at: usize, name: &[u8]) -> bool {
+    let tree = known.tree;
+    let text = tree.second(at);
+    if name != b"WRITES".as_slice() || !matches!(tree.form(text), Form::String) {
+        return false;
+    }
+    let Some(letter) = format_letter(tree.text(text)) else {
+        return false;
+    };
+    let sign = [letter];
+    known.begin(draft, text, text);
+    draft.say(
+        "WRITES writes %{} as it is, and no value",
+        &[Fill::Shown(&sign)],
+    );
+    draft.help(
+        "WRITEF writes a value for each %N, as in WRITEF(\"%N*N\", X)",
         &[],
     );
     true
@@ -275,7 +370,9 @@ pub fn warns_of_call(draft: &mut Draft, known: &Known<'_, '_>, at: usize) -> boo
         return false;
     }
     if declared.is_library {
-        warns_of_kinds(draft, known, at, known.tree.text(declared.node))
+        let name = known.tree.text(declared.node);
+        warns_of_kinds(draft, known, at, name)
+            || warns_of_plain_format(draft, known, at, name)
             || warns_of_count(draft, known, at, declared)
     } else {
         declared.sort == Sort::Routine && warns_of_count(draft, known, at, declared)

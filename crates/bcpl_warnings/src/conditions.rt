@@ -1,9 +1,11 @@
 //! Warnings on relations and conditions that are probably meant otherwise.
 
 use crate::calls::{large, only_character, say_signed, warns_of_large};
+use crate::habits::warns_of_end;
 use crate::kind::Kind;
 use crate::kinds::is_relation;
 use crate::known::{Known, sign_of};
+use crate::names::Sort;
 use crate::node::Form;
 use bc_parse_tree::{BinaryOp, UnaryOp};
 use bcpl_messages::{Draft, Fill};
@@ -86,6 +88,55 @@ fn warns_of_alternative(
             Fill::Text(sign_of(sign)),
             left,
             equals,
+            known.shown(second),
+        ],
+    );
+    true
+}
+
+/// The variable and the constant that a relation of this sign compares.
+fn compared(known: &Known<'_, '_>, at: usize, sign: BinaryOp) -> Option<(usize, u16)> {
+    let (left, right) = (known.tree.first(at), known.tree.second(at));
+    if relation_at(known, at)? != sign || !known.is_constant(right) {
+        return None;
+    }
+    let variable = known.kinds.names.index_at(left)?;
+    let value = known.kinds.value(right)?;
+    Some((variable, value.get()))
+}
+
+/// Warns of `X ~= 1 | X ~= 2`, which is always true, and of `X = 1 & X = 2`, which never is. Returns whether it is one.
+fn warns_of_exclusion(draft: &mut Draft, known: &Known<'_, '_>, at: usize, sign: BinaryOp) -> bool {
+    let is_or = sign == BinaryOp::Or;
+    let relation = if is_or {
+        BinaryOp::NotEqual
+    } else {
+        BinaryOp::Equal
+    };
+    let (first, second) = (known.tree.first(at), known.tree.second(at));
+    let (Some((name, one)), Some((same, other))) = (
+        compared(known, first, relation),
+        compared(known, second, relation),
+    ) else {
+        return false;
+    };
+    if name != same || one == other {
+        return false;
+    }
+    known.begin(draft, at, at);
+    draft.say(
+        if is_or {
+            "this is always true: {} differs from one of the two at least"
+        } else {
+            "this is never true: {} can't be both"
+        },
+        &[known.shown(known.tree.first(first))],
+    );
+    draft.help(
+        "write {} {} {}",
+        &[
+            known.shown(first),
+            Fill::Text(if is_or { "&" } else { "|" }),
             known.shown(second),
         ],
     );
@@ -204,30 +255,112 @@ fn say_routine(draft: &mut Draft, known: &Known<'_, '_>, at: usize) {
     draft.help("a call is written {}() or {}(A, B)", &[name, name]);
 }
 
+/// Whether a node is the name of a vector.
+fn is_vector(known: &Known<'_, '_>, at: usize) -> bool {
+    match known.kinds.names.at(at) {
+        Some(declared) => declared.sort == Sort::Vector && !declared.is_assigned,
+        None => false,
+    }
+}
+
+/// Warns of a vector that is compared with another one, or with 0. Returns whether it is.
+fn warns_of_vectors(draft: &mut Draft, known: &Known<'_, '_>, at: usize) -> bool {
+    let tree = known.tree;
+    let (left, right) = (tree.first(at), tree.second(at));
+    if !is_vector(known, left) {
+        return false;
+    }
+    let name = known.shown(left);
+    if is_vector(known, right) {
+        known.begin(draft, at, at);
+        draft.say("this compares the addresses of two vectors", &[]);
+        draft.help(
+            "compare the cells in a FOR, as in {}!I = {}!I",
+            &[name, known.shown(right)],
+        );
+        return true;
+    }
+    let is_zero = matches!(tree.form(right), Form::Number(word) if word.get() == 0);
+    if is_zero {
+        known.begin(draft, at, at);
+        draft.say("{} is the address of its cells, and never 0", &[name]);
+        draft.help("the first cell is written {}!0", &[name]);
+    }
+    is_zero
+}
+
+/// What is wrong with a relation of this sign to a number, if that is the greatest or the least one.
+fn extreme(sign: BinaryOp, number: u16) -> Option<&'static str> {
+    match (sign, number) {
+        (BinaryOp::Greater, 32767) => Some("this is never true: no number is greater than 32767"),
+        (BinaryOp::LessEqual, 32767) => {
+            Some("this is always true: no number is greater than 32767")
+        }
+        (BinaryOp::Less, 32768) => Some("this is never true: no number is less than -32768"),
+        (BinaryOp::GreaterEqual, 32768) => {
+            Some("this is always true: no number is less than -32768")
+        }
+        _ => None,
+    }
+}
+
+/// Warns of a relation to the greatest or the least number that is always or never true. Returns whether it is one.
+fn warns_of_extreme(draft: &mut Draft, known: &Known<'_, '_>, at: usize, sign: BinaryOp) -> bool {
+    let right = known.tree.second(at);
+    let Some(word) = known.kinds.value(right) else {
+        return false;
+    };
+    let Some(sentence) = extreme(sign, word.get()) else {
+        return false;
+    };
+    if !known.is_constant(right) {
+        return false;
+    }
+    known.begin(draft, at, at);
+    draft.say(sentence, &[]);
+    draft.help(
+        "a word holds -32768 to 32767, and after 32767 comes -32768",
+        &[],
+    );
+    true
+}
+
 /// Warns of a relation. Returns whether it does.
 fn warns_of_relation(draft: &mut Draft, known: &Known<'_, '_>, at: usize, sign: BinaryOp) -> bool {
     if warns_of_strings(draft, known, at) || warns_of_truth(draft, known, at) {
         return true;
     }
     if matches!(sign, BinaryOp::Equal | BinaryOp::NotEqual) {
-        return false;
+        return warns_of_vectors(draft, known, at) || warns_of_end(draft, known, at);
     }
     let (left, right) = (known.tree.first(at), known.tree.second(at));
     if large(known, left).is_some() && large(known, right).is_some() {
         return false;
     }
-    warns_of_large(draft, known, left) || warns_of_large(draft, known, right)
+    warns_of_large(draft, known, left)
+        || warns_of_large(draft, known, right)
+        || warns_of_extreme(draft, known, at, sign)
 }
 
-/// Warns of two strings that are added. Returns whether they are.
+/// Warns of two strings that are added, or of a string that is written out and something else. Returns whether they are.
 fn warns_of_sum(draft: &mut Draft, known: &Known<'_, '_>, at: usize) -> bool {
     let tree = known.tree;
-    if known.kinds.kind(tree.first(at)) != Kind::String
-        || known.kinds.kind(tree.second(at)) != Kind::String
-    {
+    let (left, right) = (tree.first(at), tree.second(at));
+    let are_both = known.kinds.kind(left) == Kind::String
+        && known.kinds.kind(right) == Kind::String;
+    let is_one = is_string(known, left) || is_string(known, right);
+    if !are_both && !is_one {
         return false;
     }
     known.begin(draft, at, at);
+    if !are_both {
+        draft.say("this adds to the address of a string", &[]);
+        draft.help(
+            "no operator joins a string and a number; WRITEF writes both, as in WRITEF(\"n = %N*N\", N)",
+            &[],
+        );
+        return true;
+    }
     draft.say("this adds the addresses of two strings", &[]);
     draft.help(
         "no operator joins strings; write one after the other, or copy them byte by byte with PUTBYTE",
@@ -250,6 +383,7 @@ pub fn warns_of_dyadic(
         BinaryOp::And | BinaryOp::Or => {
             warns_of_precedence(draft, known, at, sign)
                 || warns_of_alternative(draft, known, at, sign)
+                || warns_of_exclusion(draft, known, at, sign)
         }
         BinaryOp::Add => warns_of_sum(draft, known, at),
         _ if is_relation(sign) => warns_of_relation(draft, known, at, sign),
@@ -262,7 +396,7 @@ pub fn warns_of_not(draft: &mut Draft, known: &Known<'_, '_>, at: usize) -> bool
     let tree = known.tree;
     let operand = tree.first(at);
     let fact = known.kinds.fact(operand);
-    let Some(word) = fact.value else {
+    let Some(word) = fact.value() else {
         return false;
     };
     let is_flag = matches!(tree.form(operand), Form::Name)
@@ -283,16 +417,56 @@ pub fn warns_of_not(draft: &mut Draft, known: &Known<'_, '_>, at: usize) -> bool
     true
 }
 
-/// Warns of a routine's name that is a condition. Returns whether it is one.
+/// Warns that a name is an address, and so always true.
+fn say_address(draft: &mut Draft, known: &Known<'_, '_>, at: usize, kind: Kind) {
+    let name = known.shown(at);
+    known.begin(draft, at, at);
+    draft.say(
+        "{} is {}, whose address is always true",
+        &[name, Fill::Text(kind.name())],
+    );
+    draft.help(
+        if kind == Kind::String {
+            "its length is GETBYTE({}, 0)"
+        } else {
+            "its first cell is written {}!0"
+        },
+        &[name],
+    );
+}
+
+/// Warns of the name of a routine, string or vector that is a condition. Returns whether it is one.
 pub fn warns_of_name(draft: &mut Draft, known: &Known<'_, '_>, at: usize) -> bool {
-    if known.kinds.kind(at) != Kind::Routine || !known.is_condition(at) {
+    let kind = known.kinds.kind(at);
+    let is_address = matches!(kind, Kind::String | Kind::Vector | Kind::Table);
+    if !is_address && kind != Kind::Routine || !known.is_condition(at) {
         return false;
     }
-    say_routine(draft, known, at);
+    if is_address {
+        say_address(draft, known, at, kind);
+    } else {
+        say_routine(draft, known, at);
+    }
     true
 }
 
 /// Whether a monadic operator is NOT.
 pub fn is_not(sign: UnaryOp) -> bool {
     matches!(sign, UnaryOp::Not)
+}
+
+/// Warns of `!` before a truth value. Returns whether it is one.
+pub fn warns_of_load(draft: &mut Draft, known: &Known<'_, '_>, at: usize) -> bool {
+    let operand = known.tree.first(at);
+    if known.kinds.kind(operand) != Kind::Truth {
+        return false;
+    }
+    let name = known.shown(operand);
+    known.begin(draft, at, at);
+    draft.say(
+        "{} is a truth value, and ! takes it for an address",
+        &[name],
+    );
+    draft.help("write NOT {}", &[name]);
+    true
 }

@@ -1,11 +1,12 @@
 //! All declarations of a main, found by scanning its tokens. Warnings look names up here.
 
-use crate::routines::is_defined;
+use crate::interned::Interned;
+use crate::routines::{is_command_declared, is_defined, is_library_command};
 use crate::tokens::{begins_command, is_after, is_at, name_at, symbol_at, symbol_before};
 use crate::uses::Uses;
 use bc_lex_tokens::{Symbol, Token, TokenKind};
 use bc_word::Memory;
-use indexmap::{IndexMap, IndexSet};
+use indexmap::IndexMap;
 use std::alloc::Global;
 
 /// What a name is declared as.
@@ -47,10 +48,32 @@ struct DeclaredName {
     global: Option<(usize, Option<u16>)>,
     /// Whether it is also declared as something other than a routine or a global.
     is_other: bool,
+    /// Whether a routine with this name is declared with BE.
+    is_command: bool,
+    /// Whether it is also declared as something with a value.
+    has_value: bool,
     uses: Uses,
 }
 
 impl DeclaredName {
+    /// Records whether the declaration at this index is one of a routine with BE, or of something with a value.
+    fn add_routine(&mut self, tokens: &[Token<'_>], index: usize) {
+        match is_command_declared(tokens, index) {
+            Some(true) => self.is_command = true,
+            Some(false) => self.has_value = true,
+            None => {}
+        }
+    }
+
+    /// The token and the number of the global. `None` if the name has another meaning, too.
+    fn as_global(&self) -> Option<(usize, Option<u16>)> {
+        if self.routines == 0 && !self.is_other {
+            self.global
+        } else {
+            None
+        }
+    }
+
     /// Records one more declaration, at the token `at`; `index` is its index among all declarations.
     fn declare(&mut self, meaning: Meaning, at: usize, index: usize) {
         self.last = Some(index);
@@ -79,7 +102,8 @@ struct Numbered {
 pub struct Declarations<'s> {
     /// The declarations, in text order.
     pub all: Vec<Declared<'s>>,
-    names: IndexSet<&'s [u8]>,
+    /// The names, and the leaves of the main's tree.
+    pub interned: Interned<'s>,
     /// What is known about each of the names.
     known: Vec<DeclaredName>,
     /// For each file and number, the name of the first global declared with it.
@@ -143,11 +167,13 @@ impl Around {
         self.name = Some(index);
     }
 
-    /// Remembers the symbol with this index.
-    fn pass_symbol(&mut self, tokens: &[Token<'_>], index: usize, symbol: Symbol) {
-        match symbol {
-            Symbol::OpenSection if index > 0 => self.list = symbol_at(tokens, index - 1),
-            Symbol::OpenSection | Symbol::CloseSection => self.list = None,
+    /// Remembers the token with this index, which isn't a name.
+    fn pass_symbol(&mut self, tokens: &[Token<'_>], index: usize, kind: TokenKind<'_>) {
+        match kind {
+            TokenKind::Symbol(Symbol::OpenSection) if index > 0 => {
+                self.list = symbol_at(tokens, index - 1);
+            }
+            TokenKind::Symbol(Symbol::OpenSection | Symbol::CloseSection) => self.list = None,
             _ => {}
         }
     }
@@ -180,9 +206,6 @@ impl Around {
 
     /// What the token with this index declares a name as; `None` if it declares none.
     fn meaning(&self, tokens: &[Token<'_>], index: usize) -> Option<Meaning> {
-        if !may_declare(tokens, index) {
-            return None;
-        }
         let next = index.saturating_add(1);
         if is_defined(tokens, index) && is_at(tokens, next, Symbol::OpenBracket) {
             return Some(Meaning::Routine(parameters_after(tokens, next)));
@@ -227,19 +250,18 @@ impl<'s> Declarations<'s> {
     pub fn of(alloc: Global, tokens: &[Token<'s>]) -> Result<Declarations<'s>, Memory> {
         let mut declarations = Declarations {
             all: Vec::new(alloc),
-            names: IndexSet::new(alloc),
+            interned: Interned::new(alloc, tokens.len())?,
             known: Vec::new(alloc),
             numbers: IndexMap::new(alloc),
         };
         let mut around = Around::default();
         for (index, token) in tokens.iter().enumerate() {
-            match token.kind {
-                TokenKind::Name(name) => {
-                    declarations.add_name(tokens, &around, name, index)?;
-                    around.pass_name(tokens, index);
-                }
-                TokenKind::Symbol(symbol) => around.pass_symbol(tokens, index, symbol),
-                _ => {}
+            if let TokenKind::Name(name) = token.kind {
+                declarations.add_name(tokens, &around, name, index)?;
+                around.pass_name(tokens, index);
+            } else {
+                declarations.interned.add_other(token.kind, index)?;
+                around.pass_symbol(tokens, index, token.kind);
             }
         }
         Ok(declarations)
@@ -253,16 +275,21 @@ impl<'s> Declarations<'s> {
         name: &'s [u8],
         index: usize,
     ) -> Result<(), Memory> {
-        let (number, is_new) = self.names.insert_full(name)?;
-        if is_new {
+        let number = self.interned.add_name(name, index)?;
+        if self.known.len() < self.interned.len() {
             self.known.push(DeclaredName::default())?;
         }
+        let is_candidate = may_declare(tokens, index);
         if let Some(known) = self.known.get_mut(number) {
             known.uses.add(tokens, index);
+            if is_candidate {
+                known.add_routine(tokens, index);
+            }
         }
-        match around.meaning(tokens, index) {
-            Some(meaning) => self.declare(tokens, meaning, number, index),
-            None => Ok(()),
+        if is_candidate && let Some(meaning) = around.meaning(tokens, index) {
+            self.declare(tokens, meaning, number, index)
+        } else {
+            Ok(())
         }
     }
 
@@ -313,31 +340,28 @@ impl<'s> Declarations<'s> {
         Ok(())
     }
 
-    /// What is known about this name.
-    fn known(&self, name: &[u8]) -> DeclaredName {
-        match self.names.get_index_of(name) {
-            Some(number) => self.known_of(number),
-            None => DeclaredName::default(),
-        }
-    }
-
     /// What is known about the name with this number.
-    fn known_of(&self, number: usize) -> DeclaredName {
-        match self.known.get(number) {
-            Some(known) => *known,
-            None => DeclaredName::default(),
+    fn known_of(&self, number: Option<usize>) -> Option<&DeclaredName> {
+        self.known.get(number?)
+    }
+
+    /// What is known about the name at this index.
+    fn known_at(&self, index: usize) -> Option<&DeclaredName> {
+        self.known_of(self.interned.number_at(index))
+    }
+
+    /// How the name at this index is used in the main.
+    pub fn uses_at(&self, index: usize) -> Uses {
+        match self.known_at(index) {
+            Some(known) => known.uses,
+            None => Uses::default(),
         }
     }
 
-    /// How this name is used.
-    pub fn uses(&self, name: &[u8]) -> Uses {
-        self.known(name).uses
-    }
-
-    /// The number of parameters of the routine with this name. `None` if the name has another meaning in the main,
-    /// apart from the global that the routine sets.
-    pub fn parameters(&self, name: &[u8]) -> Option<usize> {
-        let known = self.known(name);
+    /// The number of parameters of the routine with the name at this index. `None` if the name has another meaning in the
+    /// main, apart from the global that the routine sets.
+    pub fn parameters_at(&self, index: usize) -> Option<usize> {
+        let known = self.known_at(index)?;
         if known.routines == 1 && !known.is_other {
             Some(known.parameters)
         } else {
@@ -345,14 +369,56 @@ impl<'s> Declarations<'s> {
         }
     }
 
-    /// The token and the number of the global with this name. `None` if the name has another meaning in the main.
-    pub fn global(&self, name: &[u8]) -> Option<(usize, Option<u16>)> {
-        let known = self.known(name);
-        if known.routines == 0 && !known.is_other {
-            known.global
-        } else {
-            None
+    /// The token of the last routine with the name at this index.
+    fn routine_at(&self, index: usize) -> Option<usize> {
+        let mut last = self.known_at(index)?.last;
+        for _ in 0..self.all.len() {
+            let declared = self.all.get(last?)?;
+            if let Meaning::Routine(_) = declared.meaning {
+                return Some(declared.at);
+            }
+            last = declared.before;
         }
+        None
+    }
+
+    /// Whether the routine with the name at this index takes the address of a parameter, as far as names tell: then it
+    /// may have as many arguments as it likes.
+    pub fn addresses_parameter(&self, tokens: &[Token<'_>], index: usize) -> bool {
+        let Some(routine) = self.routine_at(index) else {
+            return false;
+        };
+        for at in routine.saturating_add(2)..tokens.len() {
+            if is_at(tokens, at, Symbol::CloseBracket) {
+                break;
+            }
+            if self.uses_at(at).is_addressed {
+                return true;
+            }
+        }
+        false
+    }
+
+    /// The token and the number of the global with the name at this index. `None` if the name has another meaning in the
+    /// main.
+    pub fn global_at(&self, index: usize) -> Option<(usize, Option<u16>)> {
+        self.known_at(index)?.as_global()
+    }
+
+    /// Whether the name at this index is declared as a global somewhere in the main.
+    pub fn has_global(&self, index: usize) -> bool {
+        match self.known_at(index) {
+            Some(known) => known.global.is_some(),
+            None => false,
+        }
+    }
+
+    /// The number of the global with this name, and the first call of it, if both are known. `None` if the name has
+    /// another meaning in the main.
+    pub fn called_global(&self, name: &[u8]) -> Option<(u16, usize)> {
+        let known = self.known_of(self.interned.number_of(name))?;
+        let (_, number) = known.as_global()?;
+        Some((number?, known.uses.first_call?))
     }
 
     /// The declaration at this index; `None` if nothing is declared there.
@@ -379,9 +445,9 @@ impl<'s> Declarations<'s> {
         self.numbers.get(&Numbered { file, number }).copied()
     }
 
-    /// The token of the last declaration of this name before this index.
-    pub fn last_before(&self, name: &[u8], index: usize) -> Option<usize> {
-        let mut last = self.known(name).last;
+    /// The token of the last declaration of the name at this index before it.
+    pub fn last_before(&self, index: usize) -> Option<usize> {
+        let mut last = self.known_at(index)?.last;
         for _ in 0..self.all.len() {
             let declared = self.all.get(last?)?;
             if declared.at < index {
@@ -392,8 +458,21 @@ impl<'s> Declarations<'s> {
         None
     }
 
-    /// Whether a routine with this name is declared.
-    pub fn has_routine(&self, name: &[u8]) -> bool {
-        self.known(name).routines > 0
+    /// Whether a routine with the name at this index is declared.
+    pub fn has_routine(&self, index: usize) -> bool {
+        match self.known_at(index) {
+            Some(known) => known.routines > 0,
+            None => false,
+        }
+    }
+
+    /// Whether the name at this index means a routine declared with BE wherever it appears, here or in the library.
+    pub fn is_command(&self, tokens: &[Token<'_>], index: usize) -> bool {
+        match self.known_at(index) {
+            Some(known) if !known.has_value => {
+                known.is_command || is_library_command(tokens, index)
+            }
+            _ => false,
+        }
     }
 }

@@ -1,11 +1,13 @@
 //! The loop around a place where a run used up its turns, and what its condition depends on.
 
+use crate::interned::Interned;
 use crate::names::{Names, Sort};
 use crate::node::Form;
 use crate::tree::Tree;
 use bc_lex::{Source, lex};
+use bc_lex_tokens::Token;
 use bc_parse::parse;
-use bc_parse_tree::{BinaryOp, UnaryOp};
+use bc_parse_tree::{BinaryOp, Section, UnaryOp};
 use bc_word::Memory;
 use bcpl_messages::{Note, shown};
 use bcpl_places::Span;
@@ -79,7 +81,7 @@ fn reads_cell(form: Form) -> bool {
 }
 
 /// Whether a node is an assignment's left side that is the variable of this declaration.
-fn is_assigned_at(tree: &Tree<'_>, names: &Names<'_>, at: usize, index: usize) -> bool {
+fn is_assigned_at(tree: &Tree<'_>, names: &Names, at: usize, index: usize) -> bool {
     let is_place = matches!(tree.form_of_parent(at), Form::Places);
     match names.index_at(at) {
         Some(other) => is_place && other == index,
@@ -88,7 +90,7 @@ fn is_assigned_at(tree: &Tree<'_>, names: &Names<'_>, at: usize, index: usize) -
 }
 
 /// Whether something in the loop `at` may change the variable of this declaration.
-fn may_change(tree: &Tree<'_>, names: &Names<'_>, at: usize, index: usize) -> bool {
+fn may_change(tree: &Tree<'_>, names: &Names, at: usize, index: usize) -> bool {
     let Some(declared) = names.get(index) else {
         return true;
     };
@@ -117,7 +119,7 @@ fn has_name(names: &[&[u8]], name: &[u8]) -> bool {
 pub fn condition_terms<'s>(
     alloc: Global,
     tree: &Tree<'s>,
-    names: &Names<'s>,
+    names: &Names,
     at: usize,
     condition: usize,
 ) -> Result<Dependence<'s>, Memory> {
@@ -215,6 +217,38 @@ fn note_on(alloc: Global, tree: &Tree<'_>, at: usize) -> Result<Option<Note>, Me
     }
 }
 
+/// The innermost loop around a place of this tree, if there is one.
+fn loop_in_tree(alloc: Global, tree: &Tree<'_>, place: Span) -> Result<Option<Note>, Memory> {
+    let Some(leaf) = tree.leaf_from(place) else {
+        return Ok(None);
+    };
+    match loop_of(tree, leaf) {
+        Some(at) => note_on(alloc, tree, at),
+        None => Ok(None),
+    }
+}
+
+/// The innermost loop around a place of this section, if there is one.
+fn loop_in_section(
+    alloc: Global,
+    tokens: &[Token<'_>],
+    interned: &Interned<'_>,
+    section: &Section<'_>,
+    place: Span,
+) -> Result<Option<Note>, Memory> {
+    let tree = Tree::of(alloc, tokens, interned, section)?;
+    loop_in_tree(alloc, &tree, place)
+}
+
+/// The innermost loop around a place of these tokens, if they are a section and there is one.
+fn loop_in(alloc: Global, tokens: &[Token<'_>], place: Span) -> Result<Option<Note>, Memory> {
+    let Ok(section) = parse(alloc, tokens) else {
+        return Ok(None);
+    };
+    let interned = Interned::of(alloc, tokens)?;
+    loop_in_section(alloc, tokens, &interned, &section, place)
+}
+
 /// The innermost loop around a place, if this main has the place and it is in a loop: the loop's condition, and what it
 /// depends on. Returns `Memory` if an allocation fails.
 pub fn loop_around(
@@ -226,18 +260,8 @@ pub fn loop_around(
     if main >= sources.len() {
         return Ok(None);
     }
-    let Ok(tokens) = lex(alloc, sources, main) else {
-        return Ok(None);
-    };
-    let Ok(section) = parse(alloc, tokens.as_slice()) else {
-        return Ok(None);
-    };
-    let tree = Tree::of(alloc, tokens.as_slice(), &section)?;
-    let Some(leaf) = tree.leaf_from(place) else {
-        return Ok(None);
-    };
-    match loop_of(&tree, leaf) {
-        Some(at) => note_on(alloc, &tree, at),
-        None => Ok(None),
+    match lex(alloc, sources, main) {
+        Ok(tokens) => loop_in(alloc, tokens.as_slice(), place),
+        Err(_) => Ok(None),
     }
 }

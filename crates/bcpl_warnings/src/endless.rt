@@ -41,6 +41,41 @@ fn may_finish(known: &Known<'_, '_>, at: usize) -> bool {
     has_own && known.kinds.names.has_finish
 }
 
+/// The command after a loop, if it assigns to a name of the loop's condition.
+fn change_after(known: &Known<'_, '_>, at: usize, condition: usize) -> Option<usize> {
+    let tree = known.tree;
+    let item = tree.parent(at);
+    let next = tree.end(item);
+    let command = tree.first(next);
+    let is_next = matches!(tree.form(next), Form::Item)
+        && matches!(tree.form(command), Form::Assign)
+        && tree.parent(next) == tree.parent(item);
+    if !is_next {
+        return None;
+    }
+    let assigned = known.kinds.names.index_at(tree.first(tree.first(command)))?;
+    for node in condition..tree.end(condition) {
+        if known.kinds.names.index_at(node) == Some(assigned) {
+            return Some(command);
+        }
+    }
+    None
+}
+
+/// Adds the help on a loop whose condition nothing in it changes.
+fn help_on(draft: &mut Draft, known: &Known<'_, '_>, at: usize, condition: usize) {
+    match change_after(known, at, condition) {
+        Some(command) => draft.help(
+            "{} comes after the loop, not in it: write a body of several commands as $( .. $)",
+            &[known.shown(command)],
+        ),
+        None => draft.help(
+            "change a variable of the condition in the loop, or leave it by BREAK",
+            &[],
+        ),
+    }
+}
+
 /// Warns of a loop whose condition has variables that nothing in the loop changes, if nothing else leaves it. Returns
 /// whether it does.
 pub fn warns_of_endless(draft: &mut Draft, known: &Known<'_, '_>, at: usize) -> bool {
@@ -68,9 +103,6 @@ pub fn warns_of_endless(draft: &mut Draft, known: &Known<'_, '_>, at: usize) -> 
         "nothing in this loop changes {}, so its condition stays as it is",
         &[Fill::Text(list.as_str())],
     );
-    draft.help(
-        "change a variable of the condition in the loop, or leave it by BREAK",
-        &[],
-    );
+    help_on(draft, known, at, condition);
     true
 }

@@ -8,63 +8,22 @@ use crate::tree::Tree;
 use bc_word::Memory;
 use std::alloc::Global;
 
-/// The nodes of some forms, in text order.
-#[derive(Drop)]
-struct Marks {
-    /// BREAK and ENDCASE.
-    breaks: Vec<usize>,
-    /// BREAK, RETURN, FINISH, GOTO and RESULTIS.
-    jumps: Vec<usize>,
-    /// RETURN.
-    returns: Vec<usize>,
-    /// RESULTIS.
-    results: Vec<usize>,
-    /// Calls.
-    calls: Vec<usize>,
-}
-
-impl Marks {
-    /// No nodes.
-    fn new(alloc: Global) -> Marks {
-        Marks {
-            breaks: Vec::new(alloc),
-            jumps: Vec::new(alloc),
-            returns: Vec::new(alloc),
-            results: Vec::new(alloc),
-            calls: Vec::new(alloc),
-        }
-    }
-
-    /// Adds a node, if it has one of these forms.
-    fn add(&mut self, at: usize, form: Form) -> Result<(), Memory> {
-        match form {
-            Form::Break => {
-                self.breaks.push(at)?;
-                self.jumps.push(at)?;
-            }
-            Form::EndCase => self.breaks.push(at)?,
-            Form::Return => {
-                self.returns.push(at)?;
-                self.jumps.push(at)?;
-            }
-            Form::Finish | Form::Goto => self.jumps.push(at)?,
-            Form::ResultIs => {
-                self.results.push(at)?;
-                self.jumps.push(at)?;
-            }
-            Form::Call => self.calls.push(at)?,
-            _ => {}
-        }
-        Ok(())
-    }
-}
-
 /// Whether an ascending list has an index from the first to before the second.
 fn has_between(list: &[usize], from: usize, to: usize) -> bool {
     let first = list.partition_point(|at| *at < from);
     match list.get(first) {
         Some(at) => *at < to,
         None => false,
+    }
+}
+
+/// Which of the SWITCHONs a node is, if it is one.
+fn switch_at(tree: &Tree<'_>, at: usize) -> Option<usize> {
+    let switches = &tree.marks().switches;
+    let found = switches.partition_point(|switch| *switch < at);
+    match switches.get(found) {
+        Some(switch) if *switch == at => Some(found),
+        _ => None,
     }
 }
 
@@ -86,11 +45,8 @@ pub struct Cases {
 pub struct Flow {
     /// For each list of items and each item, whether control reaches its end.
     reached: Vec<bool>,
-    /// The SWITCHONs, in text order.
-    switches: Vec<usize>,
     /// What is known of each SWITCHON's list.
     cases: Vec<Cases>,
-    marks: Marks,
 }
 
 /// That control reaches the ends of this many nodes.
@@ -102,30 +58,19 @@ fn all_reached(alloc: Global, count: usize) -> Result<Vec<bool>, Memory> {
 
 impl Flow {
     /// Finds where control goes. Records in `kinds` which routines return. Returns `Memory` if an allocation fails.
-    pub fn of<'s>(alloc: Global, tree: &Tree<'s>, kinds: &mut Kinds<'s>) -> Result<Flow, Memory> {
+    pub fn of(alloc: Global, tree: &Tree<'_>, kinds: &mut Kinds) -> Result<Flow, Memory> {
         let mut flow = Flow {
             reached: all_reached(alloc, tree.len())?,
-            switches: Vec::new(alloc),
             cases: Vec::new(alloc),
-            marks: Marks::new(alloc),
         };
-        for (at, node) in tree.nodes().iter().enumerate() {
-            flow.meet(at, node.form)?;
+        for at in &tree.marks().switches {
+            flow.reach(*at, false);
+            flow.cases.push(Cases::default())?;
         }
-        for at in tree.closed() {
+        for at in tree.commands() {
             flow.close(tree, kinds, *at);
         }
         Ok(flow)
-    }
-
-    /// Prepares for a node.
-    fn meet(&mut self, at: usize, form: Form) -> Result<(), Memory> {
-        if let Form::SwitchOn = form {
-            self.reach(at, false);
-            self.switches.push(at)?;
-            self.cases.push(Cases::default())?;
-        }
-        self.marks.add(at, form)
     }
 
     /// Whether control reaches the end of a list of items or an item.
@@ -136,18 +81,9 @@ impl Flow {
         }
     }
 
-    /// Which of the SWITCHONs a node is, if it is one.
-    fn switch_at(&self, at: usize) -> Option<usize> {
-        let found = self.switches.partition_point(|switch| *switch < at);
-        match self.switches.get(found) {
-            Some(switch) if *switch == at => Some(found),
-            _ => None,
-        }
-    }
-
     /// What is known of the list of a SWITCHON.
-    pub fn cases(&self, at: usize) -> Cases {
-        match self.switch_at(at) {
+    pub fn cases(&self, tree: &Tree<'_>, at: usize) -> Cases {
+        match switch_at(tree, at) {
             Some(number) => self.cases_of(number),
             None => Cases::default(),
         }
@@ -163,22 +99,17 @@ impl Flow {
 
     /// Whether a node contains a BREAK or ENDCASE.
     fn has_break(&self, tree: &Tree<'_>, at: usize) -> bool {
-        has_between(self.marks.breaks.as_slice(), at, tree.end(at))
+        has_between(tree.marks().breaks.as_slice(), at, tree.end(at))
     }
 
     /// Whether a node contains a jump out of it.
     pub fn has_jump(&self, tree: &Tree<'_>, at: usize) -> bool {
-        has_between(self.marks.jumps.as_slice(), at, tree.end(at))
-    }
-
-    /// Whether a node contains a RESULTIS.
-    pub fn has_result(&self, tree: &Tree<'_>, at: usize) -> bool {
-        has_between(self.marks.results.as_slice(), at, tree.end(at))
+        has_between(tree.marks().jumps.as_slice(), at, tree.end(at))
     }
 
     /// Whether a call is among the nodes from the first to before the second.
-    pub fn has_call(&self, from: usize, to: usize) -> bool {
-        has_between(self.marks.calls.as_slice(), from, to)
+    pub fn has_call(&self, tree: &Tree<'_>, from: usize, to: usize) -> bool {
+        has_between(tree.marks().calls.as_slice(), from, to)
     }
 
     /// Records whether control reaches the end of a list or an item.
@@ -189,32 +120,16 @@ impl Flow {
     }
 
     /// Records what a node means for its parent, once its own parts were visited.
-    fn close<'s>(&mut self, tree: &Tree<'s>, kinds: &mut Kinds<'s>, at: usize) {
+    fn close(&mut self, tree: &Tree<'_>, kinds: &mut Kinds, at: usize) {
         match tree.form(at) {
-            // Expressions and declarations mean nothing for the list around them.
-            Form::Name
-            | Form::Number(_)
-            | Form::Character(_)
-            | Form::String
-            | Form::True
-            | Form::False
-            | Form::Unary(_)
-            | Form::Bin(_)
-            | Form::Cond
-            | Form::Call
-            | Form::Places
-            | Form::Values
-            | Form::Variable
-            | Form::Case
-            | Form::Label => {}
             Form::Item => self.item(tree, at, tree.parent(at)),
-            Form::Default => self.default(tree.parent(tree.parent(at))),
+            Form::Default => self.default(tree, tree.parent(tree.parent(at))),
             _ => self.command(tree, kinds, at, tree.parent(at)),
         }
     }
 
     /// A command of an item, or the block of a routine.
-    fn command<'s>(&mut self, tree: &Tree<'s>, kinds: &mut Kinds<'s>, at: usize, parent: usize) {
+    fn command(&mut self, tree: &Tree<'_>, kinds: &mut Kinds, at: usize, parent: usize) {
         match tree.form(parent) {
             Form::Item => {
                 let ends = self.ends(tree, kinds, at);
@@ -228,8 +143,8 @@ impl Flow {
     }
 
     /// Records that a SWITCHON has a DEFAULT.
-    fn default(&mut self, at: usize) {
-        if let Some(number) = self.switch_at(at)
+    fn default(&mut self, tree: &Tree<'_>, at: usize) {
+        if let Some(number) = switch_at(tree, at)
             && let Some(cases) = self.cases.get_mut(number)
         {
             cases.has_default = true;
@@ -245,15 +160,15 @@ impl Flow {
             && matches!(label, Form::Case | Form::Default)
             && at != tree.second(parent)
         {
-            self.case(at, parent, is_entered);
+            self.case(tree, at, parent, is_entered);
         }
         let is_reached = (is_entered || is_labelled) && self.is_reached(at);
         self.reach(parent, is_reached);
     }
 
     /// A labelled item of a SWITCHON, after the first.
-    fn case(&mut self, at: usize, parent: usize, is_entered: bool) {
-        let Some(number) = self.switch_at(parent) else {
+    fn case(&mut self, tree: &Tree<'_>, at: usize, parent: usize, is_entered: bool) {
+        let Some(number) = switch_at(tree, parent) else {
             return;
         };
         let Some(cases) = self.cases.get_mut(number) else {
@@ -270,8 +185,8 @@ impl Flow {
     }
 
     /// Records whether a routine with this block returns.
-    fn routine<'s>(&self, tree: &Tree<'s>, kinds: &mut Kinds<'s>, at: usize, block: usize) {
-        let has_return = has_between(self.marks.returns.as_slice(), at, tree.end(at));
+    fn routine(&self, tree: &Tree<'_>, kinds: &mut Kinds, at: usize, block: usize) {
+        let has_return = has_between(tree.marks().returns.as_slice(), at, tree.end(at));
         let returns = has_return || self.is_reached(block);
         if let Some(index) = kinds.names.index_at(at) {
             kinds.names.set_returns(index, returns);
@@ -279,7 +194,7 @@ impl Flow {
     }
 
     /// Whether control can go on after a command.
-    fn ends<'s>(&self, tree: &Tree<'s>, kinds: &Kinds<'s>, at: usize) -> bool {
+    fn ends(&self, tree: &Tree<'_>, kinds: &Kinds, at: usize) -> bool {
         match tree.form(at) {
             Form::Break
             | Form::Loop
@@ -299,7 +214,7 @@ impl Flow {
                 !matches!(tree.form(tree.first(at)), Form::False) || self.has_break(tree, at)
             }
             Form::SwitchOn => {
-                !self.cases(at).has_default || self.is_reached(at) || self.has_break(tree, at)
+                !self.cases(tree, at).has_default || self.is_reached(at) || self.has_break(tree, at)
             }
             _ => true,
         }
@@ -307,7 +222,7 @@ impl Flow {
 }
 
 /// Whether a call of this expression is known to be able to return.
-fn returns<'s>(tree: &Tree<'s>, kinds: &Kinds<'s>, called: usize) -> bool {
+fn returns(tree: &Tree<'_>, kinds: &Kinds, called: usize) -> bool {
     let Some(declared) = kinds.names.at(called) else {
         return false;
     };

@@ -77,7 +77,7 @@ fn format_at<'s>(
     if !is_called(tokens, routine) || name_at(tokens, routine)? != b"WRITEF".as_slice() {
         return None;
     }
-    let (declared, number) = declarations.global(b"WRITEF")?;
+    let (declared, number) = declarations.global_at(routine)?;
     if tokens.get(declared)?.file >= library {
         return None;
     }

@@ -15,7 +15,8 @@ fn declared_number(
     index: usize,
 ) -> Option<u16> {
     let next = index.saturating_add(1);
-    if is_at(tokens, next, Symbol::Colon) || is_at(tokens, next, Symbol::Equal) {
+    let is_entry = is_at(tokens, next, Symbol::Colon) || is_at(tokens, next, Symbol::Equal);
+    if is_entry && declarations.has_global(index) {
         declarations.number_of(index)
     } else {
         None
@@ -80,7 +81,7 @@ pub fn is_library_assigned(
     if is_name_alone(tokens, index.saturating_add(2)) {
         return false;
     }
-    let Some((declared, _)) = declarations.global(name) else {
+    let Some((declared, _)) = declarations.global_at(index) else {
         return false;
     };
     let is_of_library = match tokens.get(declared) {

@@ -60,7 +60,7 @@ pub fn warns_of_breaks(draft: &mut Draft, known: &Known<'_, '_>, at: usize) -> b
 }
 
 /// Whether a call is one of the library's routine with this name.
-fn is_library_call(known: &Known<'_, '_>, at: usize, name: &[u8]) -> bool {
+pub fn is_library_call(known: &Known<'_, '_>, at: usize, name: &[u8]) -> bool {
     let called = known.tree.first(at);
     match known.kinds.names.at(called) {
         Some(declared) => declared.is_library && known.tree.text(declared.node) == name,
@@ -190,12 +190,22 @@ pub fn warns_of_lost_vector(draft: &mut Draft, known: &Known<'_, '_>, at: usize)
         _ => false,
     };
     let kind = known.kinds.kind(value);
-    if !is_single || !is_vector || !kind.is_plain() && kind != Kind::Vector {
+    let is_address = matches!(kind, Kind::Vector | Kind::String);
+    if !is_single || !is_vector || !kind.is_plain() && !is_address {
         return false;
     }
     let name = known.shown(place);
     known.begin(draft, place, place);
-    if kind == Kind::Vector {
+    if kind == Kind::String {
+        draft.say(
+            "this replaces the address of the vector {} by that of a string, and copies nothing",
+            &[name],
+        );
+        draft.help(
+            "copy the bytes in a FOR from 0 to GETBYTE(T, 0), as in PUTBYTE({}, I, GETBYTE(T, I))",
+            &[name],
+        );
+    } else if kind == Kind::Vector {
         draft.say(
             "this replaces the address of the vector {}, and copies no cell",
             &[name],
@@ -243,6 +253,37 @@ pub fn warns_of_character_test(draft: &mut Draft, known: &Known<'_, '_>, at: usi
     );
     draft.help(
         "write {} ~= ENDSTREAMCH, which RDCH returns at the end",
+        &[name],
+    );
+    true
+}
+
+/// Whether a node is the test of a loop.
+fn is_test_of_loop(tree: &Tree<'_>, at: usize) -> bool {
+    match tree.form_of_parent(at) {
+        Form::While | Form::Until => tree.is_first(at),
+        Form::RepeatWhile | Form::RepeatUntil => !tree.is_first(at),
+        _ => false,
+    }
+}
+
+/// Warns of a loop over what is read that ends with a character 0. Returns whether it is one.
+pub fn warns_of_end(draft: &mut Draft, known: &Known<'_, '_>, at: usize) -> bool {
+    let tree = known.tree;
+    let (left, right) = (tree.first(at), tree.second(at));
+    let is_zero = matches!(tree.form(right), Form::Number(word) if word.get() == 0);
+    if !is_zero
+        || known.kinds.kind(left) != Kind::Character
+        || !is_test_of_loop(tree, at)
+        || !reads_character(known, tree.parent(at))
+    {
+        return false;
+    }
+    let name = known.shown(left);
+    known.begin(draft, at, at);
+    draft.say("{} isn't 0 at the end of the input", &[name]);
+    draft.help(
+        "RDCH returns ENDSTREAMCH there, as in UNTIL {} = ENDSTREAMCH DO ..",
         &[name],
     );
     true

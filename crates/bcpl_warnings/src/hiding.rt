@@ -38,7 +38,7 @@ fn is_read_at(known: &Known<'_, '_>, at: usize, index: usize) -> bool {
 }
 
 /// Whether the variable with this index is read from this node on, up to the end of its scope.
-fn is_read_from(known: &Known<'_, '_>, from: usize, index: usize, end: usize) -> bool {
+pub fn is_read_from(known: &Known<'_, '_>, from: usize, index: usize, end: usize) -> bool {
     for at in from..end {
         if is_read_at(known, at, index) {
             return true;

@@ -12,9 +12,9 @@ use std::alloc::Global;
 
 /// What is known of the nodes of a section.
 #[derive(Drop)]
-pub struct Kinds<'s> {
+pub struct Kinds {
     /// The declarations.
-    pub names: Names<'s>,
+    pub names: Names,
     facts: Vec<Fact>,
     /// Whether this is the second pass.
     is_second: bool,
@@ -48,7 +48,7 @@ fn kind_of(sign: BinaryOp, left: Kind, right: Kind) -> Kind {
 }
 
 /// The value of an operator, if those of its operands are known.
-fn value_of(sign: BinaryOp, left: Option<Word>, right: Option<Word>) -> Option<Word> {
+pub fn value_of(sign: BinaryOp, left: Option<Word>, right: Option<Word>) -> Option<Word> {
     apply(operator(sign)?, left?, right?)
 }
 
@@ -74,47 +74,64 @@ fn unknown_facts(alloc: Global, count: usize) -> Result<Vec<Fact>, Memory> {
     Ok(facts)
 }
 
-impl<'s> Kinds<'s> {
+impl Kinds {
     /// What is known of the nodes of a section. Returns `Memory` if an allocation fails.
-    pub fn of(alloc: Global, tree: &Tree<'s>, library: usize) -> Result<Kinds<'s>, Memory> {
+    pub fn of(alloc: Global, tree: &Tree<'_>, library: usize) -> Result<Kinds, Memory> {
         let mut kinds = Kinds {
             names: Names::of(alloc, tree, library)?,
             facts: unknown_facts(alloc, tree.len())?,
             is_second: false,
         };
-        kinds.pass(tree);
+        kinds.first_pass(tree);
         kinds.is_second = true;
-        kinds.pass(tree);
+        kinds.second_pass(tree);
         Ok(kinds)
     }
 
-    /// Visits all nodes, children before parents.
-    fn pass(&mut self, tree: &Tree<'s>) {
-        for at in tree.closed() {
-            self.visit(tree, *at);
+    /// Visits all expressions, and what gives names their values, children before parents.
+    fn first_pass(&mut self, tree: &Tree<'_>) {
+        for at in tree.valued() {
+            self.visit(tree, *at, tree.form(*at));
+        }
+    }
+
+    /// Visits those again of which the first pass found nothing.
+    fn second_pass(&mut self, tree: &Tree<'_>) {
+        for at in tree.valued() {
+            if self.kind(*at) == Kind::Unknown {
+                self.visit(tree, *at, tree.form(*at));
+            }
         }
     }
 
     /// Finds what a node is, and records what it gives to names.
-    fn visit(&mut self, tree: &Tree<'s>, at: usize) {
-        if self.is_to_find(tree.form(at)) {
-            let fact = self.found(tree, at);
-            self.set(at, fact);
-        }
-        self.give(tree, at);
-    }
-
-    /// Whether this pass finds what a node is: it is an expression that depends on others, or the pass is the first.
-    fn is_to_find(&self, form: Form) -> bool {
+    fn visit(&mut self, tree: &Tree<'_>, at: usize, form: Form) {
         match form {
-            Form::Name | Form::Unary(_) | Form::Bin(_) | Form::Cond | Form::Call => true,
-            Form::Number(_)
-            | Form::Character(_)
-            | Form::String
-            | Form::True
-            | Form::False
-            | Form::Table => !self.is_second,
-            _ => false,
+            Form::Name => {
+                let fact = self.named(at);
+                self.set(at, fact);
+            }
+            Form::Unary(sign) => {
+                let fact = self.monadic(tree, at, sign);
+                self.set(at, fact);
+            }
+            Form::Bin(sign) => {
+                let fact = self.dyadic(tree, at, sign);
+                self.set(at, fact);
+            }
+            Form::Cond => {
+                let this = self.kind(tree.second(at));
+                let either = this.or(self.kind(tree.third(at)));
+                self.set(at, Fact::plain(either));
+            }
+            Form::Call => {
+                let fact = Fact::plain(self.given(tree, at));
+                self.set(at, fact);
+                if !self.is_second {
+                    self.arguments(tree, at);
+                }
+            }
+            _ => self.give(tree, at, form),
         }
     }
 
@@ -144,28 +161,13 @@ impl<'s> Kinds<'s> {
     /// The value of a node, if it is known.
     pub fn value(&self, at: usize) -> Option<Word> {
         match self.facts.get(at) {
-            Some(fact) => fact.value,
+            Some(fact) => fact.value(),
             None => None,
         }
     }
 
-    /// Finds what an expression is from its parts.
-    fn found(&self, tree: &Tree<'s>, at: usize) -> Fact {
-        match tree.form(at) {
-            Form::Name => self.named(at),
-            Form::Unary(sign) => self.monadic(tree, at, sign),
-            Form::Bin(sign) => self.dyadic(tree, at, sign),
-            Form::Cond => {
-                let this = self.kind(tree.second(at));
-                Fact::plain(this.or(self.kind(tree.third(at))))
-            }
-            Form::Call => Fact::plain(self.given(tree, at)),
-            _ => written(tree, at),
-        }
-    }
-
     /// What a monadic operator gives.
-    fn monadic(&self, tree: &Tree<'s>, at: usize, sign: UnaryOp) -> Fact {
+    fn monadic(&self, tree: &Tree<'_>, at: usize, sign: UnaryOp) -> Fact {
         let operand = tree.first(at);
         let kind = self.kind(operand);
         match sign {
@@ -194,7 +196,7 @@ impl<'s> Kinds<'s> {
     }
 
     /// What a dyadic operator gives.
-    fn dyadic(&self, tree: &Tree<'s>, at: usize, sign: BinaryOp) -> Fact {
+    fn dyadic(&self, tree: &Tree<'_>, at: usize, sign: BinaryOp) -> Fact {
         let (left, right) = (tree.first(at), tree.second(at));
         Fact::constant(
             kind_of(sign, self.kind(left), self.kind(right)),
@@ -203,7 +205,7 @@ impl<'s> Kinds<'s> {
     }
 
     /// What a call gives.
-    fn given(&self, tree: &Tree<'s>, at: usize) -> Kind {
+    fn given(&self, tree: &Tree<'_>, at: usize) -> Kind {
         let Some(declared) = self.names.at(tree.first(at)) else {
             return Kind::Unknown;
         };
@@ -227,10 +229,9 @@ impl<'s> Kinds<'s> {
             Sort::Global if declared.is_library && !declared.is_assigned => {
                 Fact::of(Kind::Routine, index)
             }
-            Sort::Vector if !declared.is_assigned && !declared.is_addressed => Fact {
-                of: index,
-                ..declared.first
-            },
+            Sort::Vector if !declared.is_assigned && !declared.is_addressed => {
+                declared.first.with_declaration(index)
+            }
             Sort::Variable | Sort::Static | Sort::Counter | Sort::Parameter => self.held(declared),
             _ => Fact::unknown(),
         }
@@ -252,17 +253,18 @@ impl<'s> Kinds<'s> {
         }
     }
 
-    /// Records what a declaration, an assignment or a call gives to names.
-    fn give(&mut self, tree: &Tree<'s>, at: usize) {
-        match tree.form(at) {
+    /// Records what a declaration or an assignment gives to names, and what a constant is. The second pass leaves out what
+    /// the first one found for good.
+    fn give(&mut self, tree: &Tree<'_>, at: usize, form: Form) {
+        match form {
             Form::Entry(storage) => self.entry(tree, at, storage),
             Form::Variables => self.variables(tree, at),
             Form::Vector => self.vector(tree, at),
             Form::For => self.counter(tree, at),
-            Form::Assign if !self.is_second => self.assignment(tree, at),
-            Form::Call if !self.is_second => self.arguments(tree, at),
             Form::Function => self.function(tree, at),
-            _ => {}
+            _ if self.is_second => {}
+            Form::Assign => self.assignment(tree, at),
+            _ => self.set(at, written(tree, at, form)),
         }
     }
 
@@ -285,7 +287,7 @@ impl<'s> Kinds<'s> {
     }
 
     /// An entry of a list of constants.
-    fn entry(&mut self, tree: &Tree<'s>, at: usize, storage: Storage) {
+    fn entry(&mut self, tree: &Tree<'_>, at: usize, storage: Storage) {
         let fact = self.fact(tree.first(at));
         let index = self.names.index_at(at);
         match storage {
@@ -293,14 +295,14 @@ impl<'s> Kinds<'s> {
             Storage::Static => self.begin(index, Fact::plain(fact.kind)),
             Storage::Global => {
                 if let Some(index) = index {
-                    self.names.set_number(index, number_of(fact.value));
+                    self.names.set_number(index, number_of(fact.value()));
                 }
             }
         }
     }
 
     /// Variables with their initial values.
-    fn variables(&mut self, tree: &Tree<'s>, at: usize) {
+    fn variables(&mut self, tree: &Tree<'_>, at: usize) {
         let end = tree.end(at);
         let mut value = tree.first(at);
         for node in tree.first(at)..end {
@@ -321,20 +323,19 @@ impl<'s> Kinds<'s> {
     }
 
     /// A vector.
-    fn vector(&mut self, tree: &Tree<'s>, at: usize) {
-        let greatest = number_of(self.value(tree.first(at)));
-        let fact = Fact {
-            greatest,
-            ..Fact::plain(Kind::Vector)
-        };
+    fn vector(&mut self, tree: &Tree<'_>, at: usize) {
+        let fact = Fact::cells(Kind::Vector, self.value(tree.first(at)));
         let index = self.names.index_at(at);
         self.begin(index, fact);
     }
 
     /// The variable of a FOR, which is declared before its block.
-    fn counter(&mut self, tree: &Tree<'s>, at: usize) {
+    fn counter(&mut self, tree: &Tree<'_>, at: usize) {
         let node = tree.first(at);
-        let kind = if self.kind(tree.end(node)).is_plain() {
+        let start = tree.end(node);
+        let kind = if matches!(tree.form(start), Form::Character(_)) {
+            Kind::Character
+        } else if self.kind(start).is_plain() {
             Kind::Number
         } else {
             Kind::Unknown
@@ -344,7 +345,7 @@ impl<'s> Kinds<'s> {
     }
 
     /// An assignment.
-    fn assignment(&mut self, tree: &Tree<'s>, at: usize) {
+    fn assignment(&mut self, tree: &Tree<'_>, at: usize) {
         let places = tree.first(at);
         let values = tree.second(at);
         let mut place = tree.first(places);
@@ -364,7 +365,7 @@ impl<'s> Kinds<'s> {
     }
 
     /// The arguments of a call, which the parameters are given.
-    fn arguments(&mut self, tree: &Tree<'s>, at: usize) {
+    fn arguments(&mut self, tree: &Tree<'_>, at: usize) {
         let Some(declared) = self.names.at(tree.first(at)) else {
             return;
         };
@@ -391,7 +392,7 @@ impl<'s> Kinds<'s> {
     }
 
     /// What a routine returns.
-    fn function(&mut self, tree: &Tree<'s>, at: usize) {
+    fn function(&mut self, tree: &Tree<'_>, at: usize) {
         let mut value = tree.first(at);
         for node in tree.first(at)..tree.end(at) {
             value = node;
@@ -407,26 +408,20 @@ impl<'s> Kinds<'s> {
 }
 
 /// What a constant that is written out is, or a table.
-fn written(tree: &Tree<'_>, at: usize) -> Fact {
-    match tree.form(at) {
-        Form::Number(word) => Fact {
-            literal: Some(at),
-            ..Fact::constant(Kind::Number, Some(word))
-        },
+fn written(tree: &Tree<'_>, at: usize, form: Form) -> Fact {
+    match form {
+        Form::Number(word) => Fact::literal_at(at, word),
         Form::Character(word) => Fact::constant(Kind::Character, Some(word)),
         Form::String => Fact::plain(Kind::String),
         Form::True => Fact::constant(Kind::Truth, Some(Word::new(65535))),
         Form::False => Fact::constant(Kind::Truth, Some(Word::new(0))),
-        Form::Table => Fact {
-            greatest: greatest_of(tree, at),
-            ..Fact::plain(Kind::Table)
-        },
+        Form::Table => Fact::cells(Kind::Table, greatest_of(tree, at)),
         _ => Fact::unknown(),
     }
 }
 
 /// The greatest subscript of a table.
-fn greatest_of(tree: &Tree<'_>, at: usize) -> Option<u16> {
+fn greatest_of(tree: &Tree<'_>, at: usize) -> Option<Word> {
     let end = tree.end(at);
     let mut child = tree.first(at);
     let mut count: u16 = 0;
@@ -437,5 +432,5 @@ fn greatest_of(tree: &Tree<'_>, at: usize) -> Option<u16> {
         count = count.saturating_add(1);
         child = tree.end(child);
     }
-    count.checked_sub(1)
+    Some(Word::new(count.checked_sub(1)?))
 }

@@ -19,7 +19,7 @@ pub struct Known<'m, 's> {
     /// The nodes of the main.
     pub tree: &'m Tree<'s>,
     /// What they are.
-    pub kinds: &'m Kinds<'s>,
+    pub kinds: &'m Kinds,
     /// Where control goes.
     pub flow: &'m Flow,
 }
@@ -27,17 +27,92 @@ pub struct Known<'m, 's> {
 /// How far up in the tree a search goes.
 const HIGHEST: usize = 100;
 
+/// How many parentheses a text closes without opening them, and how many it opens without closing them.
+fn unpaired(text: &[u8]) -> (usize, usize) {
+    let mut closed: usize = 0;
+    let mut open: usize = 0;
+    for byte in text {
+        if *byte == b'(' {
+            open = open.saturating_add(1);
+        } else if *byte == b')' && open > 0 {
+            open = open.saturating_sub(1);
+        } else if *byte == b')' {
+            closed = closed.saturating_add(1);
+        }
+    }
+    (closed, open)
+}
+
+/// The offset of the first of so many opening parentheses directly before an offset.
+fn before_parentheses(text: &[u8], start: usize, count: usize) -> usize {
+    let mut at = start;
+    let mut left = count;
+    for _ in 0..start {
+        if left == 0 {
+            break;
+        }
+        let Some(before) = at.checked_sub(1) else {
+            break;
+        };
+        let Some(byte) = text.get(before) else {
+            break;
+        };
+        if *byte == b'(' {
+            left = left.saturating_sub(1);
+        } else if *byte != b' ' {
+            break;
+        }
+        at = before;
+    }
+    at
+}
+
+/// The offset after the last of so many closing parentheses directly after an offset.
+fn after_parentheses(text: &[u8], end: usize, count: usize) -> usize {
+    let mut at = end;
+    let mut left = count;
+    for _ in end..text.len() {
+        if left == 0 {
+            break;
+        }
+        let Some(byte) = text.get(at) else {
+            break;
+        };
+        if *byte == b')' {
+            left = left.saturating_sub(1);
+        } else if *byte != b' ' {
+            break;
+        }
+        at = at.saturating_add(1);
+    }
+    at
+}
+
+/// The text between two offsets, with the parentheses around it that belong to others in it.
+fn balanced(text: &[u8], start: usize, end: usize) -> &[u8] {
+    let Some(inside) = text.get(start..end) else {
+        return b"";
+    };
+    let (closed, open) = unpaired(inside);
+    if closed == 0 && open == 0 {
+        return inside;
+    }
+    let first = before_parentheses(text, start, closed);
+    match text.get(first..after_parentheses(text, end, open)) {
+        Some(whole) => whole,
+        None => inside,
+    }
+}
+
 impl<'s> Known<'_, 's> {
-    /// The text of the source from the first leaf of one node to the last one of another.
+    /// The text of the source from the first leaf of one node to the last one of another, and the parentheses around it
+    /// that belong to others in it.
     pub fn text(&self, from: usize, to: usize) -> &'s [u8] {
         let Some(span) = self.tree.span(from, to) else {
             return b"";
         };
         match self.sources.get(span.file) {
-            Some(source) => match source.text.get(span.start..span.end) {
-                Some(text) => text,
-                None => b"",
-            },
+            Some(source) => balanced(source.text, span.start, span.end),
             None => b"",
         }
     }

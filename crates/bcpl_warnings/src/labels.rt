@@ -22,7 +22,7 @@ pub fn idle_label(
     let name = name_at(tokens, index)?;
     if !is_at(tokens, index.saturating_add(1), Symbol::Colon)
         || !matches!(declarations.at(index)?.meaning, Meaning::Label)
-        || declarations.uses(name).is_target
+        || declarations.uses_at(index).is_target
     {
         return None;
     }

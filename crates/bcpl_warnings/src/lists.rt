@@ -7,10 +7,21 @@ use crate::tree::Tree;
 use bcpl_messages::Draft;
 use bcpl_places::Span;
 
-/// Warns of a VALOF that can end without RESULTIS. One that has none gets another warning. Returns whether it can.
+/// Whether a VALOF has a RESULTIS, apart from those of inner VALOFs.
+fn has_own_result(known: &Known<'_, '_>, at: usize) -> bool {
+    let end = known.tree.end(at);
+    for result in &known.tree.marks().results {
+        if at < *result && *result < end && known.valof_of(*result) == Some(at) {
+            return true;
+        }
+    }
+    false
+}
+
+/// Warns of a VALOF that can end without RESULTIS. Returns whether it can.
 pub fn warns_of_valof(draft: &mut Draft, known: &Known<'_, '_>, at: usize) -> bool {
     let tree = known.tree;
-    if !known.flow.has_result(tree, at) || !known.flow.is_reached(tree.first(at)) {
+    if !known.flow.is_reached(tree.first(at)) {
         return false;
     }
     if let Some(token) = tree.leaf(at) {
@@ -20,11 +31,19 @@ pub fn warns_of_valof(draft: &mut Draft, known: &Known<'_, '_>, at: usize) -> bo
             end: token.end,
         });
     }
-    draft.say("warning: this VALOF can end without a RESULTIS", &[]);
-    draft.help(
-        "its value is 0 then; end it with a RESULTIS for what is left",
-        &[],
-    );
+    let (sentence, help) = if has_own_result(known, at) {
+        (
+            "warning: this VALOF can end without a RESULTIS",
+            "its value is 0 then; end it with a RESULTIS for what is left",
+        )
+    } else {
+        (
+            "warning: this VALOF has no RESULTIS, so its value is always 0",
+            "give it a value with RESULTIS E; declare a routine without a value with BE",
+        )
+    };
+    draft.say(sentence, &[]);
+    draft.help(help, &[]);
     true
 }
 
@@ -89,14 +108,13 @@ fn is_odd(tree: &Tree<'_>, switch: usize, at: usize, cases: &Cases) -> bool {
 
 /// Warns of the first CASE of a SWITCHON that is reached from the one before, if that is probably a mistake. Returns
 /// whether it does.
-pub fn warns_of_cases(draft: &mut Draft, known: &Known<'_, '_>, at: usize) -> bool {
+pub fn warns_of_cases(draft: &mut Draft, known: &Known<'_, '_>, switch: usize) -> bool {
     let tree = known.tree;
-    let switch = tree.parent(at);
-    if !matches!(tree.form(switch), Form::SwitchOn) {
+    let cases = known.flow.cases(tree, switch);
+    let Some(at) = cases.first else {
         return false;
-    }
-    let cases = known.flow.cases(switch);
-    if cases.first != Some(at) || !is_odd(tree, switch, at, &cases) || has_comment(known, at) {
+    };
+    if !is_odd(tree, switch, at, &cases) || has_comment(known, at) {
         return false;
     }
     let label = tree.first(at);

@@ -1,7 +1,10 @@
 //! Warnings on FOR loops that do nothing or never end, and the numbers that one counts through.
 
 use crate::calls::{is_negative, warns_of_large};
+use crate::habits::is_library_call;
+use crate::kind::Kind;
 use crate::known::Known;
+use crate::names::Sort;
 use crate::node::Form;
 use bc_word::Word;
 use bcpl_messages::Draft;
@@ -148,10 +151,44 @@ fn endless(counting: &Counting) -> Option<(&'static str, &'static str)> {
     }
 }
 
+/// Whether a node is a variable whose only value is a character that RDCH returned.
+fn is_read_once(known: &Known<'_, '_>, at: usize) -> bool {
+    let tree = known.tree;
+    let Some(declared) = known.kinds.names.at(at) else {
+        return false;
+    };
+    let definition = tree.parent(declared.node);
+    let value = tree.second(definition);
+    declared.sort == Sort::Variable
+        && !declared.is_assigned
+        && !declared.is_addressed
+        && matches!(tree.form(value), Form::Call)
+        && is_library_call(known, value, b"RDCH".as_slice())
+}
+
+/// Warns of a FOR that counts from a number to a character that was read. Returns whether it does.
+fn warns_of_read_limit(draft: &mut Draft, known: &Known<'_, '_>, counting: &Counting) -> bool {
+    let limit = counting.limit_at;
+    if known.kinds.kind(counting.start_at) != Kind::Number || !is_read_once(known, limit) {
+        return false;
+    }
+    let name = known.shown(limit);
+    known.begin(draft, limit, limit);
+    draft.say(
+        "{} is a character, whose code isn't the digit that it shows",
+        &[name],
+    );
+    draft.help(
+        "the number that a digit shows is {} - '0'; READN of EXTHDR reads a number",
+        &[name],
+    );
+    true
+}
+
 /// Warns of a FOR. Returns whether it does.
 pub fn warns_of_for(draft: &mut Draft, known: &Known<'_, '_>, at: usize) -> bool {
     let counting = counting_of(known, at);
-    if warns_of_nothing(draft, known, &counting) {
+    if warns_of_nothing(draft, known, &counting) || warns_of_read_limit(draft, known, &counting) {
         return true;
     }
     let Some((sentence, help)) = endless(&counting) else {

@@ -3,7 +3,7 @@
 use crate::addresses::{warns_of_assignment, warns_of_result};
 use crate::arithmetic::{warns_of_compared_digit, warns_of_digit, warns_of_product};
 use crate::calls::warns_of_call;
-use crate::conditions::{is_not, warns_of_dyadic, warns_of_name, warns_of_not};
+use crate::conditions::{is_not, warns_of_dyadic, warns_of_load, warns_of_name, warns_of_not};
 use crate::endless::warns_of_endless;
 use crate::format_arguments::warns_of_format;
 use crate::habits::{
@@ -18,11 +18,13 @@ use crate::node::Form;
 use crate::own_values::warns_of_own_value;
 use crate::packing::warns_of_unpacked;
 use crate::recursions::warns_of_recursion;
+use crate::starting::{warns_of_no_round, warns_of_start};
 use crate::subscripts::{warns_of_divisor, warns_of_index, warns_of_shift};
+use crate::swaps::warns_of_swap;
 use crate::warning::warnings;
 use bc_build::Parsed;
 use bc_lex::Source;
-use bc_parse_tree::BinaryOp;
+use bc_parse_tree::{BinaryOp, UnaryOp};
 use bc_word::Memory;
 use bcpl_messages::{Draft, Message, Named, message_lines};
 use indexmap::IndexSet;
@@ -68,18 +70,23 @@ fn warn_of_call(draft: &mut Draft, known: &Known<'_, '_>, at: usize) {
 }
 
 /// Adds a warning on a command or a declaration.
-fn warn_of_more(draft: &mut Draft, known: &Known<'_, '_>, at: usize) {
-    match known.tree.form(at) {
+fn warn_of_more(draft: &mut Draft, known: &Known<'_, '_>, at: usize, form: Form) {
+    match form {
         Form::While | Form::Until => {
-            if !warns_of_endless(draft, known, at) {
+            if !warns_of_no_round(draft, known, at) && !warns_of_endless(draft, known, at) {
                 warns_of_two_reads(draft, known, at);
             }
         }
         Form::RepeatWhile | Form::RepeatUntil => {
             warns_of_endless(draft, known, at);
         }
+        Form::If => {
+            warns_of_swap(draft, known, at);
+        }
         Form::SwitchOn => {
-            warns_of_breaks(draft, known, at);
+            if !warns_of_breaks(draft, known, at) {
+                warns_of_cases(draft, known, at);
+            }
         }
         Form::Do => {
             warns_of_unused_value(draft, known, at);
@@ -87,23 +94,49 @@ fn warn_of_more(draft: &mut Draft, known: &Known<'_, '_>, at: usize) {
         Form::Variable => {
             warns_of_hiding(draft, known, at);
         }
+        Form::Variables => {
+            warns_of_own_value(draft, known, at);
+        }
         Form::Routine => {
-            warns_of_copies(draft, known, at);
+            if !warns_of_copies(draft, known, at) {
+                warns_of_start(draft, known, at);
+            }
         }
         _ => {}
     }
 }
 
-/// Adds the first warning that applies to a node of this form.
-pub(crate) fn warn_of_use(draft: &mut Draft, known: &Known<'_, '_>, at: usize) {
-    match known.tree.form(at) {
+/// Whether there may be a warning on a node of this form. Most nodes have one of those that are listed here.
+pub(crate) fn may_be_warned_of(form: Form) -> bool {
+    !matches!(
+        form,
+        Form::Number(_)
+            | Form::Character(_)
+            | Form::String
+            | Form::Places
+            | Form::Values
+            | Form::Block
+            | Form::Item
+            | Form::Case
+            | Form::Let
+            | Form::Cond
+            | Form::EndCase
+    )
+}
+
+/// Adds the first warning that applies to a node, which has this form.
+pub(crate) fn warn_of_use(draft: &mut Draft, known: &Known<'_, '_>, at: usize, form: Form) {
+    match form {
         Form::Call => warn_of_call(draft, known, at),
         Form::Bin(sign) => warn_of_operator(draft, known, at, sign),
         Form::Unary(sign) if is_not(sign) => {
             warns_of_not(draft, known, at);
         }
+        Form::Unary(UnaryOp::Load) => {
+            warns_of_load(draft, known, at);
+        }
         Form::Name => {
-            if !warns_of_name(draft, known, at) && !warns_of_own_value(draft, known, at) {
+            if !warns_of_name(draft, known, at) {
                 warns_of_character_test(draft, known, at);
             }
         }
@@ -113,9 +146,6 @@ pub(crate) fn warn_of_use(draft: &mut Draft, known: &Known<'_, '_>, at: usize) {
         Form::Valof => {
             warns_of_valof(draft, known, at);
         }
-        Form::Item => {
-            warns_of_cases(draft, known, at);
-        }
         Form::ResultIs => {
             warns_of_result(draft, known, at);
         }
@@ -124,7 +154,7 @@ pub(crate) fn warn_of_use(draft: &mut Draft, known: &Known<'_, '_>, at: usize) {
                 warns_of_lost_vector(draft, known, at);
             }
         }
-        _ => warn_of_more(draft, known, at),
+        _ => warn_of_more(draft, known, at, form),
     }
 }
 

@@ -37,9 +37,8 @@ pub fn gets_further(declarations: &Declarations<'_>) -> bool {
 fn first_replaced(declarations: &Declarations<'_>) -> Option<usize> {
     let mut first: Option<usize> = None;
     for name in REPLACED {
-        if let Some((_, Some(number))) = declarations.global(name)
+        if let Some((number, call)) = declarations.called_global(name)
             && number < FIRST_NUMBER
-            && let Some(call) = declarations.uses(name).first_call
         {
             first = match first {
                 Some(earlier) if earlier < call => Some(earlier),

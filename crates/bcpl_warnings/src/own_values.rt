@@ -1,7 +1,7 @@
 //! Warnings on variables that are used in their own initial values, where they have no value yet.
 
 use crate::known::Known;
-use crate::names::{Declared, Sort};
+use crate::names::Declared;
 use crate::node::Form;
 use bc_parse_tree::UnaryOp;
 use bcpl_messages::{Draft, Fill};
@@ -24,17 +24,6 @@ fn is_computed_in(known: &Known<'_, '_>, definition: usize, at: usize) -> bool {
     false
 }
 
-/// Whether a node is in the initial value of the only variable of a definition.
-fn is_own_value(known: &Known<'_, '_>, at: usize, declared: &Declared) -> bool {
-    let tree = known.tree;
-    let definition = tree.parent(declared.node);
-    declared.sort == Sort::Variable
-        && tree.contains(definition, at)
-        && tree.second(definition) <= at
-        && !matches!(tree.form(tree.second(definition)), Form::Variable)
-        && is_computed_in(known, definition, at)
-}
-
 /// The place of the name that a declaration hides, if there is one.
 fn hidden_place(known: &Known<'_, '_>, declared: &Declared) -> Option<Span> {
     let outer = known.kinds.names.get(declared.before?)?;
@@ -49,14 +38,32 @@ fn hidden_place(known: &Known<'_, '_>, declared: &Declared) -> Option<Span> {
     })
 }
 
-/// Warns of a variable that is used in its own initial value. Returns whether it is.
-pub fn warns_of_own_value(draft: &mut Draft, known: &Known<'_, '_>, at: usize) -> bool {
-    let Some(declared) = known.kinds.names.at(at) else {
+/// The node in the initial value of the only variable of a definition that uses this variable, which has this index.
+fn own_use(known: &Known<'_, '_>, definition: usize, index: usize) -> Option<usize> {
+    let tree = known.tree;
+    let value = tree.second(definition);
+    if matches!(tree.form(value), Form::Variable) {
+        return None;
+    }
+    for at in value..tree.end(definition) {
+        if known.kinds.names.index_at(at) == Some(index) && is_computed_in(known, definition, at) {
+            return Some(at);
+        }
+    }
+    None
+}
+
+/// Warns of a variable that is used in its own initial value. Returns whether the one of this definition is.
+pub fn warns_of_own_value(draft: &mut Draft, known: &Known<'_, '_>, definition: usize) -> bool {
+    let Some(index) = known.kinds.names.index_at(known.tree.first(definition)) else {
         return false;
     };
-    if !is_own_value(known, at, declared) {
+    let Some(declared) = known.kinds.names.get(index) else {
         return false;
-    }
+    };
+    let Some(at) = own_use(known, definition, index) else {
+        return false;
+    };
     let name = Fill::Shown(known.tree.text(at));
     known.begin(draft, at, at);
     draft.say("this is the new {}, which has no value yet", &[name]);

@@ -57,6 +57,24 @@ fn is_continued(tokens: &[Token<'_>], index: usize) -> bool {
     )
 }
 
+/// How many tokens of a line are searched.
+const LONGEST: usize = 60;
+
+/// Whether a `:=` is on the line that begins at this index.
+fn is_assigned_on_line(tokens: &[Token<'_>], index: usize) -> bool {
+    let mut at = index;
+    for _ in 0..LONGEST {
+        if is_at(tokens, at, Symbol::Assign) {
+            return true;
+        }
+        at = at.saturating_add(1);
+        if is_line_start(tokens, at) {
+            return false;
+        }
+    }
+    false
+}
+
 /// How the line that begins at this index looks, if it is read otherwise.
 pub fn misread(sources: &[Source<'_>], tokens: &[Token<'_>], index: usize) -> Option<Looks> {
     if index == 0 || !is_line_start(tokens, index) || !can_end(tokens, index - 1) {
@@ -76,7 +94,7 @@ pub fn misread(sources: &[Source<'_>], tokens: &[Token<'_>], index: usize) -> Op
         } else {
             None
         }
-    } else if is_bracket || own > before {
+    } else if own > before || is_bracket && !is_assigned_on_line(tokens, index) {
         Some(Looks::Together)
     } else {
         None

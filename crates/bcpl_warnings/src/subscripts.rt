@@ -6,6 +6,7 @@ use crate::known::Known;
 use crate::loops::counting_of;
 use crate::names::{Declared, Sort};
 use crate::node::Form;
+use crate::tree::Tree;
 use bc_parse_tree::BinaryOp;
 use bc_word::Word;
 use bcpl_messages::{Draft, Fill};
@@ -53,7 +54,7 @@ fn outside_at(known: &Known<'_, '_>, at: usize, greatest: u16) -> Option<Outside
 /// Warns of a subscript outside of a vector or table. Returns whether it is.
 fn warns_of_subscript(draft: &mut Draft, known: &Known<'_, '_>, at: usize, vector: &Fact) -> bool {
     let tree = known.tree;
-    let Some(greatest) = vector.greatest else {
+    let Some(greatest) = vector.greatest() else {
         return false;
     };
     let Some(found) = outside_at(known, tree.second(at), greatest) else {
@@ -81,6 +82,14 @@ fn warns_of_subscript(draft: &mut Draft, known: &Known<'_, '_>, at: usize, vecto
     true
 }
 
+/// Whether a node is assigned to a cell, so that a whole word is copied.
+fn is_copied(tree: &Tree<'_>, at: usize) -> bool {
+    let values = tree.parent(at);
+    let place = tree.first(tree.first(tree.parent(values)));
+    matches!(tree.form(values), Form::Values)
+        && matches!(tree.form(place), Form::Bin(BinaryOp::Index))
+}
+
 /// Warns of a word of a string that is taken for a character. Returns whether it is.
 fn warns_of_string(draft: &mut Draft, known: &Known<'_, '_>, at: usize) -> bool {
     let tree = known.tree;
@@ -89,7 +98,7 @@ fn warns_of_string(draft: &mut Draft, known: &Known<'_, '_>, at: usize) -> bool 
         tree.form_of_parent(at),
         Form::Bin(BinaryOp::ShiftRight | BinaryOp::ShiftLeft | BinaryOp::And)
     );
-    if !is_plain || is_unpacked {
+    if !is_plain || is_unpacked || is_copied(tree, at) {
         return false;
     }
     known.begin(draft, at, at);
@@ -144,7 +153,7 @@ fn is_address(declared: &Declared) -> bool {
 fn warns_of_address(draft: &mut Draft, known: &Known<'_, '_>, at: usize, fact: &Fact) -> bool {
     let tree = known.tree;
     let is_first = matches!(known.kinds.value(tree.second(at)), Some(word) if word.get() == 0);
-    let declared = match fact.of {
+    let declared = match fact.declaration() {
         Some(index) => known.kinds.names.get(index),
         None => None,
     };

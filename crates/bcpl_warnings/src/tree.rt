@@ -1,10 +1,11 @@
 //! A section as a list of nodes with their tokens, and how to move around in it. An index that is out of range names
 //! a node of the form `Nothing`.
 
-use crate::flatten::{Flat, flatten};
+use crate::flatten::{Flat, Marks, flatten};
+use crate::interned::Interned;
 use crate::node::{Form, Node};
 use bc_lex_tokens::Token;
-use bc_parse_tree::{Section, is_leaf};
+use bc_parse_tree::Section;
 use bc_word::Memory;
 use bcpl_places::Span;
 use std::alloc::Global;
@@ -14,40 +15,45 @@ use std::alloc::Global;
 pub struct Tree<'s> {
     flat: Flat,
     tokens: &'s [Token<'s>],
-    /// The indexes of the tokens that are leaves.
-    leaves: Vec<usize>,
-}
-
-/// The indexes of the tokens that are leaves. Returns `Memory` if an allocation fails.
-fn leaf_indexes(alloc: Global, tokens: &[Token<'_>]) -> Result<Vec<usize>, Memory> {
-    let mut leaves = Vec::with_capacity(alloc, tokens.len())?;
-    for (index, token) in tokens.iter().enumerate() {
-        if is_leaf(token.kind) {
-            leaves.push(index)?;
-        }
-    }
-    Ok(leaves)
+    /// The names and the leaves among the tokens.
+    interned: &'s Interned<'s>,
 }
 
 impl<'s> Tree<'s> {
-    /// The nodes of the section that was parsed from these tokens. Returns `Memory` if an allocation fails.
+    /// The nodes of the section that was parsed from these tokens, whose names and leaves are `interned`. Returns `Memory`
+    /// if an allocation fails.
     pub fn of(
         alloc: Global,
         tokens: &'s [Token<'s>],
+        interned: &'s Interned<'s>,
         section: &Section<'_>,
     ) -> Result<Tree<'s>, Memory> {
-        let flat = flatten(alloc, section, tokens.len())?;
-        let leaves = leaf_indexes(alloc, tokens)?;
         Ok(Tree {
-            flat,
+            flat: flatten(alloc, section, tokens.len())?,
             tokens,
-            leaves,
+            interned,
         })
     }
 
     /// The leaf with this number.
     fn leaf_at(&self, number: usize) -> Option<&'s Token<'s>> {
-        self.tokens.get(*self.leaves.get(number)?)
+        self.tokens.get(*self.interned.leaves().get(number)?)
+    }
+
+    /// The number of the name that is the first leaf of a node; `None` if that isn't a name.
+    pub fn name(&self, at: usize) -> Option<usize> {
+        let leaf = self.interned.leaves().get(self.leaves_before(at))?;
+        self.interned.number_at(*leaf)
+    }
+
+    /// The number of this name, if the main has it.
+    pub fn number_of(&self, name: &[u8]) -> Option<usize> {
+        self.interned.number_of(name)
+    }
+
+    /// How many names there are.
+    pub fn names(&self) -> usize {
+        self.interned.len()
     }
 
     /// How many nodes there are.
@@ -55,9 +61,19 @@ impl<'s> Tree<'s> {
         self.flat.nodes.len()
     }
 
-    /// The indexes of the nodes, children before parents.
-    pub fn closed(&self) -> &[usize] {
-        self.flat.closed.as_slice()
+    /// The indexes of expressions, and of what gives names their values, children before parents.
+    pub fn valued(&self) -> &[usize] {
+        self.flat.valued.as_slice()
+    }
+
+    /// The indexes of commands, blocks, items and DEFAULTs, children before parents.
+    pub fn commands(&self) -> &[usize] {
+        self.flat.commands.as_slice()
+    }
+
+    /// The nodes of some forms.
+    pub fn marks(&self) -> &Marks {
+        &self.flat.marks
     }
 
     /// The nodes.
@@ -172,7 +188,7 @@ impl<'s> Tree<'s> {
 
     /// The number of leaves before the first one of a place; `None` if no leaf follows its start in its file.
     pub fn leaf_from(&self, place: Span) -> Option<usize> {
-        for number in 0..self.leaves.len() {
+        for number in 0..self.interned.leaves().len() {
             if let Some(token) = self.leaf_at(number)
                 && token.file == place.file
                 && token.start >= place.start

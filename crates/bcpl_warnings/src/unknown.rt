@@ -1,21 +1,24 @@
 //! The names of a main that are used and declared nowhere in it.
 
+use crate::interned::Interned;
 use crate::names::Names;
 use crate::tree::Tree;
 use bc_lex::{Source, lex};
+use bc_lex_tokens::Token;
 use bc_parse::parse;
+use bc_parse_tree::Section;
 use bc_word::Memory;
 use bcpl_places::Span;
 use indexmap::IndexSet;
 use std::alloc::Global;
 
 /// The first uses of the names that are declared nowhere, in text order.
-fn first_uses(alloc: Global, tree: &Tree<'_>, names: &Names<'_>) -> Result<Vec<Span>, Memory> {
+fn first_uses(alloc: Global, tree: &Tree<'_>, names: &Names) -> Result<Vec<Span>, Memory> {
     let mut met: IndexSet<&[u8]> = IndexSet::new(alloc);
     let mut spans = Vec::new(alloc);
     for at in names.unknown() {
         let name = tree.text(*at);
-        if !names.is_declared(name)
+        if !names.is_declared(tree, *at)
             && met.insert(name)?
             && let Some(span) = tree.span(*at, *at)
         {
@@ -23,6 +26,27 @@ fn first_uses(alloc: Global, tree: &Tree<'_>, names: &Names<'_>) -> Result<Vec<S
         }
     }
     Ok(spans)
+}
+
+/// The first uses of the names that this section declares nowhere, in text order.
+fn unknown_in_section(
+    alloc: Global,
+    tokens: &[Token<'_>],
+    interned: &Interned<'_>,
+    section: &Section<'_>,
+) -> Result<Vec<Span>, Memory> {
+    let tree = Tree::of(alloc, tokens, interned, section)?;
+    let names = Names::of(alloc, &tree, 0)?;
+    first_uses(alloc, &tree, &names)
+}
+
+/// The first uses of the names that these tokens declare nowhere, in text order. None if they are no section.
+fn unknown_in(alloc: Global, tokens: &[Token<'_>]) -> Result<Vec<Span>, Memory> {
+    let Ok(section) = parse(alloc, tokens) else {
+        return Ok(Vec::new(alloc));
+    };
+    let interned = Interned::of(alloc, tokens)?;
+    unknown_in_section(alloc, tokens, &interned, &section)
 }
 
 /// The first use of each name that this main uses and declares nowhere, in text order. None if the main can't be read.
@@ -35,13 +59,8 @@ pub fn unknown_names(
     if main >= sources.len() {
         return Ok(Vec::new(alloc));
     }
-    let Ok(tokens) = lex(alloc, sources, main) else {
-        return Ok(Vec::new(alloc));
-    };
-    let Ok(section) = parse(alloc, tokens.as_slice()) else {
-        return Ok(Vec::new(alloc));
-    };
-    let tree = Tree::of(alloc, tokens.as_slice(), &section)?;
-    let names = Names::of(alloc, &tree, 0)?;
-    first_uses(alloc, &tree, &names)
+    match lex(alloc, sources, main) {
+        Ok(tokens) => unknown_in(alloc, tokens.as_slice()),
+        Err(_) => Ok(Vec::new(alloc)),
+    }
 }

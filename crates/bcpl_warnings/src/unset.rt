@@ -3,7 +3,6 @@
 use crate::arguments::is_called;
 use crate::declared::{Declarations, Meaning};
 use crate::mixed::gets_further;
-use crate::tokens::name_at;
 use bc_build::Parsed;
 use bc_lex_tokens::Token;
 use bc_library::library_name;
@@ -52,21 +51,21 @@ impl<'s> Settings<'s> {
         self.gets_further = self.gets_further || is_own && gets_further(declarations);
         for declared in &declarations.all {
             if let Meaning::Global(number) = declared.meaning {
-                self.add_global(declarations, declared.name, number)?;
+                self.add_global(declarations, declared.at, number)?;
             }
         }
         Ok(())
     }
 
-    /// Adds the global with this name and number, if the main with these declarations may set it.
+    /// Adds the global with the name at this index and this number, if the main with these declarations may set it.
     fn add_global(
         &mut self,
         declarations: &Declarations<'_>,
-        name: &[u8],
+        at: usize,
         number: Option<u16>,
     ) -> Result<(), Memory> {
-        let uses = declarations.uses(name);
-        if declarations.has_routine(name) || uses.is_assigned || uses.is_listed {
+        let uses = declarations.uses_at(at);
+        if declarations.has_routine(at) || uses.is_assigned || uses.is_listed {
             match number {
                 Some(number) => {
                     self.numbers.insert(number)?;
@@ -96,10 +95,9 @@ pub fn unset_global(
     if !is_called(tokens, index) {
         return None;
     }
-    let name = name_at(tokens, index)?;
-    let (_, number) = declarations.global(name)?;
+    let (_, number) = declarations.global_at(index)?;
     let number = number?;
-    if declarations.uses(name).first_call? == index && settings.is_unset(number) {
+    if declarations.uses_at(index).first_call? == index && settings.is_unset(number) {
         Some(number)
     } else {
         None

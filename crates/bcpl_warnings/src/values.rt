@@ -1,6 +1,6 @@
 //! Warning: a routine without a value that is called for its value.
 
-use crate::routines::Routines;
+use crate::declared::Declarations;
 use crate::tokens::{is_at, is_line_start, name_at, symbol_at};
 use bc_lex_tokens::{Symbol, Token};
 
@@ -43,12 +43,13 @@ fn wants_value(symbol: Symbol) -> bool {
 }
 
 /// Whether the token with this index is the name of a routine without a value that is called where a value is needed.
-pub fn is_used(tokens: &[Token<'_>], routines: &Routines<'_>, index: usize) -> bool {
+pub fn is_used(tokens: &[Token<'_>], declarations: &Declarations<'_>, index: usize) -> bool {
     let next = index.saturating_add(1);
-    let Some(name) = name_at(tokens, index) else {
-        return false
-    };
-    if index < 2 || !is_at(tokens, next, Symbol::OpenBracket) || is_line_start(tokens, next) {
+    if index < 2
+        || name_at(tokens, index).is_none()
+        || !is_at(tokens, next, Symbol::OpenBracket)
+        || is_line_start(tokens, next)
+    {
         return false;
     }
     let is_wanted = match symbol_at(tokens, index - 1) {
@@ -56,5 +57,5 @@ pub fn is_used(tokens: &[Token<'_>], routines: &Routines<'_>, index: usize) -> b
         Some(symbol) => wants_value(symbol),
         None => false,
     };
-    is_wanted && routines.has(name)
+    is_wanted && declarations.is_command(tokens, index)
 }

@@ -2,7 +2,7 @@
 
 use crate::arguments::is_called;
 use crate::declared::Declarations;
-use crate::tokens::{is_at, name_at};
+use crate::tokens::is_at;
 use bc_lex_tokens::{Symbol, Token};
 
 /// Whether the section that is innermost at the first token is still open at the second.
@@ -27,17 +27,14 @@ pub fn is_vector_called(
     declarations: &Declarations<'_>,
     index: usize,
 ) -> bool {
-    let Some(name) = name_at(tokens, index) else {
-        return false
-    };
     if !is_called(tokens, index) {
         return false;
     }
-    match declarations.last_before(name, index) {
+    match declarations.last_before(index) {
         Some(at) => {
             is_at(tokens, at.saturating_add(2), Symbol::Vector)
                 && is_open_still(tokens, at, index)
-                && !declarations.uses(name).is_assigned
+                && !declarations.uses_at(index).is_assigned
         }
         None => false,
     }

@@ -1,22 +1,21 @@
 //! The warnings on an accepted program: which ones there are, in which order they are tried, and their texts.
 
 use crate::arguments::{Missing, is_called, missing_arguments};
-use crate::comments::swallowed_do;
+use crate::comments::{commented_division, has_comment_before, swallowed_do};
 use crate::declared::Declarations;
 use crate::flow::Flow;
 use crate::formats::{Lacking, lacking_arguments, unknown_format};
 use crate::globals::{is_library_assigned, library_global, number_twice};
+use crate::interned::Interned;
 use crate::kinds::Kinds;
 use crate::known::Known;
 use crate::labels::{Idle, idle_label};
-use crate::main_warnings::warn_of_use;
+use crate::main_warnings::{may_be_warned_of, warn_of_use};
 use crate::mixed::is_mixed;
-use crate::results::has_no_result;
-use crate::routines::Routines;
 use crate::separated::{Looks, is_repeat_in_front, misread, seeming_head};
 use crate::starts::{Likeness, likeness_at};
 use crate::strings::has_backslash;
-use crate::tokens::symbol_at;
+use crate::tokens::{is_at, symbol_at};
 use crate::tree::Tree;
 use crate::unreachable::unreached;
 use crate::unset::{Settings, unset_global};
@@ -55,12 +54,6 @@ const VALUE: (&str, &str) = (
 const BACKSLASH: (&str, &str) = (
     "a backslash in a string has no special meaning",
     "write *N for a line break, and *T for a tab",
-);
-
-/// For a VALOF without a RESULTIS.
-const NO_RESULT: (&str, &str) = (
-    "this VALOF has no RESULTIS, so its value is always 0",
-    "give it a value with RESULTIS E; declare a routine without a value with BE",
 );
 
 /// For a vector that is called.
@@ -106,7 +99,6 @@ struct Main<'m, 'p, 's> {
     /// How many of the sources are the library's.
     library: usize,
     tokens: &'m [Token<'s>],
-    routines: &'m Routines<'s>,
     declarations: &'m Declarations<'s>,
     /// The globals that the whole program may set.
     settings: &'m Settings<'s>,
@@ -328,9 +320,29 @@ fn warns_of_comment(draft: &mut Draft, main: &Main<'_, '_, '_>, at: usize) -> bo
     true
 }
 
+/// Warns if the `//` before the line that begins at this index is meant as a division. Returns whether it is.
+fn warns_of_division(draft: &mut Draft, main: &Main<'_, '_, '_>, at: usize) -> bool {
+    let Some(span) = commented_division(main.sources, main.tokens, at) else {
+        return false;
+    };
+    draft.place(span);
+    draft.say(
+        "warning: // begins a comment here, and divides nothing",
+        &[],
+    );
+    draft.help("the quotient is written /, as in N / 2", &[]);
+    true
+}
+
+/// Warns of a comment before the line that begins at this index. Returns whether it does.
+fn warns_of_gap(draft: &mut Draft, main: &Main<'_, '_, '_>, at: usize) -> bool {
+    has_comment_before(main.sources, main.tokens, at)
+        && (warns_of_comment(draft, main, at) || warns_of_division(draft, main, at))
+}
+
 /// The sentence and the help on a called name that is probably wrong. A `{}` is the name.
 fn call_oddity(main: &Main<'_, '_, '_>, at: usize) -> Option<(&'static str, &'static str)> {
-    if is_used(main.tokens, main.routines, at) {
+    if is_used(main.tokens, main.declarations, at) {
         Some(VALUE)
     } else if is_vector_called(main.tokens, main.declarations, at) {
         Some(VECTOR)
@@ -422,9 +434,6 @@ fn warns_of_kind(
     match kind {
         TokenKind::Name(_) => warns_of_name(draft, main, at),
         TokenKind::String(_) => warns_of_string(draft, main, at),
-        TokenKind::Symbol(Symbol::ValueOf) => {
-            has_no_result(main.tokens, at) && warns_by(draft, main, at, Some(NO_RESULT))
-        }
         TokenKind::Symbol(_) => warns_of_unreached(draft, main, at),
         TokenKind::Number(_) | TokenKind::Character(_) => false,
     }
@@ -436,13 +445,13 @@ fn warn_at(draft: &mut Draft, main: &Main<'_, '_, '_>, at: usize, token: &Token<
         return;
     }
     if token.line_before
-        && (warns_of_comment(draft, main, at)
+        && (warns_of_gap(draft, main, at)
             || warns_of_body(draft, main, at)
             || warns_by(draft, main, at, line_oddity(main, at)))
     {
         return;
     }
-    if let TokenKind::Name(_) = token.kind {
+    if is_at(main.tokens, at.saturating_add(1), Symbol::Colon) {
         warns_by(draft, main, at, label_oddity(main, at));
     }
 }
@@ -507,12 +516,10 @@ impl<'p, 's> WarningList<'p, 's> {
         main: usize,
         tokens: &'m [Token<'s>],
     ) -> Result<(), Memory> {
-        let routines = Routines::of(self.alloc, tokens)?;
         let known = Main {
             sources: self.sources,
             library: self.library,
             tokens,
-            routines: &routines,
             declarations,
             settings,
         };
@@ -528,9 +535,14 @@ impl<'p, 's> WarningList<'p, 's> {
         self.add_draft(draft)
     }
 
-    /// Adds the warnings on how values are used in a main that was parsed to this.
-    fn add_uses(&mut self, main: usize, read: &Parsed<'s>) -> Result<(), Memory> {
-        let tree = Tree::of(self.alloc, read.tokens.as_slice(), &read.section)?;
+    /// Adds the warnings on how values are used in a main that was parsed to this, and whose names are `interned`.
+    fn add_uses(
+        &mut self,
+        interned: &Interned<'s>,
+        main: usize,
+        read: &Parsed<'s>,
+    ) -> Result<(), Memory> {
+        let tree = Tree::of(self.alloc, read.tokens.as_slice(), interned, &read.section)?;
         let mut kinds = Kinds::of(self.alloc, &tree, self.library)?;
         let flow = Flow::of(self.alloc, &tree, &mut kinds)?;
         let known = Known {
@@ -541,10 +553,12 @@ impl<'p, 's> WarningList<'p, 's> {
             flow: &flow,
         };
         let mut draft = Draft::new(self.alloc, main);
-        for at in 0..tree.nodes().len() {
-            warn_of_use(&mut draft, &known, at);
-            if !draft.is_empty() {
-                draft = self.renewed(main, draft)?;
+        for (at, node) in tree.nodes().iter().enumerate() {
+            if may_be_warned_of(node.form) {
+                warn_of_use(&mut draft, &known, at, node.form);
+                if !draft.is_empty() {
+                    draft = self.renewed(main, draft)?;
+                }
             }
         }
         self.add_draft(draft)
@@ -584,7 +598,7 @@ pub(crate) fn warnings<'s>(
     for ((main, read), declarations) in mains.iter().zip(parsed).zip(&settings.declarations) {
         if *main >= library {
             warnings.add_tokens(&settings, declarations, *main, read.tokens.as_slice())?;
-            warnings.add_uses(*main, read)?;
+            warnings.add_uses(&declarations.interned, *main, read)?;
         }
     }
     Ok(warnings.messages)

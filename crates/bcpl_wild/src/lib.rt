@@ -1,5 +1,5 @@
 //! The message for a wild access in a run of the sources: where it is, whose cell the run met, and the calls that led
-//! there. Also the messages for what ends a strict run.
+//! there. Also the messages for what ends a strict run, and the line that shows that a run goes on.
 #![tactic(auto)]
 
 mod calls;
@@ -8,6 +8,7 @@ mod message;
 mod naming;
 mod owner;
 mod placed;
+mod progress;
 mod sentence;
 mod strict;
 
@@ -19,4 +20,5 @@ pub use extent::Extent;
 pub use message::{Met, Stand, WildProgram, placed_message, wild_message};
 pub use naming::named_globals;
 pub use placed::{ReadMain, read};
+pub use progress::ProgressLine;
 pub use strict::strict_message;

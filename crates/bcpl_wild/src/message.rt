@@ -310,6 +310,24 @@ fn is_in_putbyte(draft: &mut Draft, program: &WildProgram<'_, '_>, standings: &[
     }
 }
 
+/// Whether a text has this word in it.
+fn has_word(text: &[u8], word: &[u8]) -> bool {
+    for (at, byte) in text.iter().enumerate() {
+        if *byte == b'G'
+            && let Some(rest) = text.get(at..)
+            && rest.starts_with(word)
+        {
+            return true;
+        }
+    }
+    false
+}
+
+/// Whether a source calls GETVEC, other than the library that declares it.
+fn calls_getvec(text: &[u8]) -> bool {
+    has_word(text, b"GETVEC(") && !has_word(text, b"GETVEC(UPB) =") && !has_word(text, b"GETVEC:")
+}
+
 /// Describes a wild access of a program's run.
 fn tell(draft: &mut Draft, program: &WildProgram<'_, '_>, met: &Met<'_>) {
     let stand = stand_of(met);
@@ -321,6 +339,10 @@ fn tell(draft: &mut Draft, program: &WildProgram<'_, '_>, met: &Met<'_>) {
         is_not_handed: not_handed.is_some(),
         is_exact: spot.is_exact,
         is_in_putbyte: is_in_putbyte(draft, program, stand.standings),
+        has_pool: program
+            .sources
+            .iter()
+            .any(|source| calls_getvec(source.text)),
     };
     say(draft, met, known);
     if let Some(help) = help(met, known) {

@@ -16,6 +16,8 @@ pub struct WildContext<'k> {
     pub is_exact: bool,
     /// Whether the run is in PUTBYTE.
     pub is_in_putbyte: bool,
+    /// Whether the program calls GETVEC.
+    pub has_pool: bool,
 }
 
 impl WildContext<'_> {
@@ -181,9 +183,13 @@ pub fn help(met: &Met<'_>, known: WildContext<'_>) -> Option<&'static str> {
         Cause::Dead(_) | Cause::NoCell(_) if is_code => Some(
             "call a routine by parentheses after its name; use `!` with vectors, tables and strings",
         ),
-        Cause::Dead(address) | Cause::NoCell(address) if address < GLOBALS => Some(
-            "there is no vector at this address; was the address set, and did GETVEC have a pool?",
-        ),
+        Cause::Dead(address) | Cause::NoCell(address) if address < GLOBALS => {
+            Some(if known.has_pool {
+                "there is no vector at this address; was the address set, and did GETVEC have a pool?"
+            } else {
+                "there is no vector at this address; was the address set, as in LET V = VEC 10?"
+            })
+        }
         Cause::Dead(_) | Cause::NoCell(_) if known.owner.is_none() => Some(
             "TABLE 1, 2, 3 has the cells 0 to 2, and VEC 2 has them too; character I of the string S is GETBYTE(S, I)",
         ),

@@ -10,7 +10,7 @@ use Rattle.bc_library_laws.specs.Library.{library}
 use Rattle.bc_library_laws.proofs.Joined.{newline_law, writen_law, getbyte_law, writes_law, putbyte_law, writef_law}
 use Rattle.bc_library_laws.specs.Texts.{header_file, source_file}
 use Rattle.bc_library_laws.proofs.Built.{library_of}
-use Rattle.bc_build.specs.Compiled.{AreAccepted}
+use Rattle.bc_build.specs.Parsed.{AreParsed}
 use Rattle.bc_build.specs.Runs.{RunsAsMeant, addresses}
 use Rattle.bc_programs.specs.library.Laws.{RoutinesDo, HasLibrary, BuiltProgramsHaveTheLibrary}
 
@@ -40,8 +40,8 @@ has_library section sections image (address ∷ places) e is m = record {
 }
 
 pub built_programs_have_the_library : BuiltProgramsHaveTheLibrary
-built_programs_have_the_library rest more [] image accepted runs = absurd accepted
-built_programs_have_the_library rest more (section ∷ sections) image accepted runs =
-    let is : core_of section ≡ library = library_of rest accepted.0.tokens section accepted.0.is_section.lexed accepted.0.is_section.read in
+built_programs_have_the_library rest more [] image are_parsed runs = absurd are_parsed
+built_programs_have_the_library rest more (section ∷ sections) image are_parsed runs =
+    let is : core_of section ≡ library = library_of rest are_parsed.0.tokens section are_parsed.0.lexed are_parsed.0.read in
     has_library section sections image (addresses image).places refl is
     (subst (λ (core : Core). IsMap (core ∷ map core_of sections) (addresses image)) is runs.is_map)

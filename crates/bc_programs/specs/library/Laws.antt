@@ -11,7 +11,7 @@ use Rattle.bc_machine_defs.specs.declared.image.Image.{Image}
 use Rattle.bc_library_laws.specs.Library.{library}
 use Rattle.bc_library_laws.specs.Laws.{CallIn, IsWordOf, byte_in, with_byte, HoldsString, Piece, ArePieces, format_of, taken_by, written_by, turns_of, turns_by, anything, unchanged}
 use Rattle.bc_library_laws.specs.Texts.{header_file, source_file}
-use Rattle.bc_build.specs.Compiled.{AreAccepted}
+use Rattle.bc_build.specs.Parsed.{AreParsed}
 use Rattle.bc_build.specs.Runs.{RunsAsMeant, addresses}
 
 -- Each routine of the library does in this program what its law says of every program.
@@ -47,4 +47,4 @@ pub record HasLibrary (sections : List Declarations) (image : Image) : Type 0 wh
 abbrev pub BuiltProgramsHaveTheLibrary : Type 0
 BuiltProgramsHaveTheLibrary =
     (rest : List File) (more : List ℕ) (sections : List Declarations) (image : Image)
-    → AreAccepted (header_file ∷ source_file ∷ rest) (1 ∷ more) sections → RunsAsMeant sections image → HasLibrary sections image
+    → AreParsed (header_file ∷ source_file ∷ rest) (1 ∷ more) sections → RunsAsMeant sections image → HasLibrary sections image

@@ -8,8 +8,8 @@ pub fn programs_run()
     ensures { ProgramsRun }
 {}
 
-/// If the linker refuses nothing, the addresses in its image are a map: no two places overlap, and all are between the globals and
-/// the stack.
+/// If the linker refuses nothing, the addresses in its image are a map: statics, tables, strings and the first words of routines don't
+/// overlap, and all are between the globals and the stack.
 pub fn linked_map_is_map()
     ensures { LinkedMapIsMap }
 {}

@@ -6,5 +6,5 @@ use Rattle.bc_tame_built.proofs.program.tame_room.Goals as goal
 
 pub returns-then-has_room : goal.returns-then-has_room
 returns-then-has_room c =
-    found_tame (files_of c.args.sources.now) c.args.main c.args.image.now (section c.in_ok-core.core) (hint c.in_ok-rooms.rooms) c.in_ok-core.ensures c.in_ok-rooms.ensures
+    found_tame (files_of c.args.sources.now) c.args.mains.now c.in-Some.main c.args.image.now (section c.in_ok-core.core) (hint c.in_ok-rooms.rooms) c.in-Some.ensures.0 c.in_ok-core.ensures c.in_ok-rooms.ensures
     (c.has_room.ensures c.if-has_room.true)

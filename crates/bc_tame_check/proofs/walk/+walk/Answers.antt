@@ -9,7 +9,7 @@ use Rattle.bc_tame.specs.Tame.{tame_variables}
 use Rattle.bc_tame.specs.Programs.{known}
 use Rattle.bc_tame_check.specs.Views.{env_at, reads_at}
 use Rattle.bc_tame_check.specs.Passes.{ExpPasses}
-use Rattle.bc_tame_check.proofs.Forms.{as_expression, as_command, call_passes, said_passes}
+use Rattle.bc_tame_check.proofs.Forms.{as_expression, as_command, call_passes}
 use Rattle.bc_tame_check.proofs.Lists.{apart}
 use Rattle.bc_tame_check.proofs.walk.+walk.Goals as goal
 
@@ -36,18 +36,9 @@ expression-returns-in-Call t c =
     as_expression c.args.at c.call.result (exp c.args.e.now) (tree.Call (args c.deref-in-Call.result.now) (exp c.deref-in-Call-2.result.now))
     (ap exp c.in-Call.is ∙ (call_view c.in-Call.values c.in-Call.routine ∙ sym (λ i. tree.Call (args (q i)) (exp (q1 i))))) c.call.ensures
 
-pub call-returns-in_ok-level-in-Some : goal.call-returns-in_ok-level-in-Some
-call-returns-in_ok-level-in-Some t c =
-    call_passes c.args.at c.arguments.result c.args.values.now (exp c.args.routine.now) (known c.in-Some.known.arguments c.in-Some.known.room) c.in_ok-level-in-Some.level
-    c.in-Some.ensures c.in_ok-fits-in-Some.ensures c.in_ok-level-in-Some.ensures c.arguments.ensures
-
-pub said-returns-in_ok-level-in-len1-up : goal.said-returns-in_ok-level-in-len1-up
-said-returns-in_ok-level-in-len1-up t c =
-    let following = take (length c.args.values.now - 1) (drop 1 c.args.values.now) in
-    let split : c.args.values.now ≡ c.first-item.result ∷ following = first_of (search (rules, apart), grind (arith, common_steps, apart)) in
-    subst (λ es. OnOk c.arguments.result (ExpPasses c.args.at (tree.Call es (exp c.args.routine.now)))) (sym (ap args split))
-    (said_passes c.args.at c.arguments.result following (exp c.first-item.result) (exp c.args.routine.now) c.in_ok-room-in-len1-up.room c.in_ok-cells-in-len1-up.cells c.in_ok-level-in-len1-up.level
-    c.in_ok-room-in-len1-up.ensures c.in_ok-cells-in-len1-up.ensures c.in_ok-needs-in-len1-up.ensures c.in_ok-level-in-len1-up.ensures c.arguments.ensures)
+pub call-returns : goal.call-returns
+call-returns t c =
+    call_passes c.args.at c.enters.result c.args.values.now (exp c.args.routine.now) c.in_ok-level.level c.in_ok-level.ensures c.in_ok-arguments.ensures c.enters.ensures
 
 pub variables-loop-left-preserved : goal.variables-loop-left-preserved
 variables-loop-left-preserved t c h =

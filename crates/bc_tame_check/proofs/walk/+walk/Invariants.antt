@@ -17,9 +17,6 @@ decreases-choice l = 8 * l.at.depth + 1
 abbrev pub decreases-call : goal.decreases-call
 decreases-call l = 8 * l.at.depth + 3
 
-abbrev pub decreases-said : goal.decreases-said
-decreases-said l = 8 * l.at.depth + 2
-
 abbrev pub decreases-arguments : goal.decreases-arguments
 decreases-arguments l = 8 * l.at.depth + 1
 

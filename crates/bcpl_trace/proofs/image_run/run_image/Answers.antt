@@ -1,4 +1,4 @@
-use Rattle.std.proofs.Common.{◌≡◌, subst, None, Option}
+use Rattle.std.proofs.Common.{subst, None, Option}
 use Rattle.bc_machine.specs.Ran.{Ran, RanFrom, held_state}
 use Rattle.bc_machine_defs.specs.State.{State}
 use Rattle.bc_machine_defs.specs.declared.state.End.{End}

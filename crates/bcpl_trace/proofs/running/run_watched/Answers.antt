@@ -1,4 +1,4 @@
-use Rattle.std.proofs.Common.{arith, sym, ◌≡◌, ◌-◌, ◌+◌}
+use Rattle.std.proofs.Common.{arith, sym, ◌-◌}
 use Rattle.bcpl_trace.proofs.Joins.{ran_nothing, ran_same, ran_one_more, ran_to_end, runs_still, ended_so}
 use Rattle.bcpl_trace.proofs.running.run_watched.Goals as goal
 

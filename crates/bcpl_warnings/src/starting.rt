@@ -1,0 +1,156 @@
+//! Warnings on what is wrong from the start: a loop whose condition ends it before its first round, and parameters of START.
+
+use crate::hiding::is_read_from;
+use crate::kinds::{is_relation, value_of};
+use crate::known::Known;
+use crate::names::Sort;
+use crate::node::Form;
+use bc_word::Word;
+use bcpl_messages::{Draft, Fill};
+
+/// How many nodes between a declaration and a loop are searched.
+const MOST: usize = 2000;
+
+/// Whether something between a declaration and a loop, which has this index, may change the variable.
+fn may_change(known: &Known<'_, '_>, from: usize, to: usize, index: usize) -> bool {
+    let tree = known.tree;
+    for at in from..to {
+        let is_assigned = matches!(tree.form_of_parent(at), Form::Places)
+            && known.kinds.names.index_at(at) == Some(index);
+        if is_assigned || matches!(tree.form(at), Form::Label) {
+            return true;
+        }
+    }
+    false
+}
+
+/// The value that a variable named at a node has before the first round of a loop of the same block.
+fn first_value(known: &Known<'_, '_>, at: usize, around: usize) -> Option<Word> {
+    let tree = known.tree;
+    let index = known.kinds.names.index_at(at)?;
+    let declared = known.kinds.names.get(index)?;
+    let block = tree.parent(tree.parent(around));
+    let is_near = declared.sort == Sort::Variable
+        && !declared.is_addressed
+        && matches!(tree.form_of_parent(around), Form::Item)
+        && matches!(tree.form(block), Form::Block)
+        && tree.parent(tree.parent(tree.parent(declared.node))) == block
+        && around.saturating_sub(declared.node) < MOST;
+    if is_near && !may_change(known, declared.node, around, index) {
+        declared.first.value()
+    } else {
+        None
+    }
+}
+
+/// The value of an operand of a condition before the first round of a loop.
+fn operand_value(known: &Known<'_, '_>, at: usize, around: usize) -> Option<Word> {
+    if known.is_constant(at) {
+        known.kinds.value(at)
+    } else if matches!(known.tree.form(at), Form::Name) {
+        first_value(known, at, around)
+    } else {
+        None
+    }
+}
+
+/// The value of the condition of a WHILE or UNTIL before the first round, if it compares a variable and that is known.
+fn first_condition(known: &Known<'_, '_>, at: usize) -> Option<bool> {
+    let tree = known.tree;
+    let condition = tree.first(at);
+    let sign = match tree.form(condition) {
+        Form::Bin(sign) if is_relation(sign) => sign,
+        _ => return None,
+    };
+    if known.is_constant(condition) {
+        return None;
+    }
+    let left = operand_value(known, tree.first(condition), at);
+    let right = operand_value(known, tree.second(condition), at);
+    let value = value_of(sign, left, right)?;
+    Some(value.get() != 0)
+}
+
+/// Warns of a WHILE or UNTIL that has no round. Returns whether it is one.
+pub fn warns_of_no_round(draft: &mut Draft, known: &Known<'_, '_>, at: usize) -> bool {
+    let is_until = matches!(known.tree.form(at), Form::Until);
+    match first_condition(known, at) {
+        Some(is_true) if is_true == is_until => {}
+        _ => return false,
+    }
+    let condition = known.tree.first(at);
+    known.begin(draft, condition, condition);
+    if is_until {
+        draft.say(
+            "this loop does nothing: {} is true from the start",
+            &[known.shown(condition)],
+        );
+    } else {
+        draft.say(
+            "this loop does nothing: {} is false from the start",
+            &[known.shown(condition)],
+        );
+    }
+    draft.help(
+        "WHILE goes on while its condition is true, and UNTIL while it is false",
+        &[],
+    );
+    true
+}
+
+/// Whether the section calls the routine with this index.
+fn is_called(known: &Known<'_, '_>, index: usize) -> bool {
+    let tree = known.tree;
+    for call in &tree.marks().calls {
+        if known.kinds.names.index_at(tree.first(*call)) == Some(index) {
+            return true;
+        }
+    }
+    false
+}
+
+/// The first parameter of the routine `at` that is read in it.
+fn read_parameter(known: &Known<'_, '_>, at: usize) -> Option<usize> {
+    let tree = known.tree;
+    for node in tree.first(at)..tree.end(at) {
+        if !matches!(tree.form(node), Form::Parameter) {
+            return None;
+        }
+        let index = known.kinds.names.index_at(node)?;
+        if is_read_from(known, tree.end(node), index, tree.end(at)) {
+            return Some(node);
+        }
+    }
+    None
+}
+
+/// Warns of a parameter of START that is read. Returns whether there is one.
+pub fn warns_of_start(draft: &mut Draft, known: &Known<'_, '_>, at: usize) -> bool {
+    let Some(index) = known.kinds.names.index_at(at) else {
+        return false;
+    };
+    let is_start = match known.kinds.names.get(index) {
+        Some(declared) => declared.sets_global && known.tree.text(at) == b"START".as_slice(),
+        None => false,
+    };
+    if !is_start {
+        return false;
+    }
+    let Some(parameter) = read_parameter(known, at) else {
+        return false;
+    };
+    if is_called(known, index) {
+        return false;
+    }
+    let name = Fill::Shown(known.tree.text(parameter));
+    known.begin(draft, parameter, parameter);
+    draft.say(
+        "a run passes no arguments to START, so {} has no value",
+        &[name],
+    );
+    draft.help(
+        "declare it as LET START() BE ..; a program reads its input with RDCH, or READN of EXTHDR",
+        &[],
+    );
+    true
+}

@@ -1,0 +1,4 @@
+// Header of the ledger, 1968. abs is our own routine, and loop was no reserved word then.
+get "libhdr"
+manifest [ size = 3 ]
+global [ sums:200; loop:201; abs:202; report:203; width:204 ]
