@@ -2,32 +2,23 @@
 
 ghost use Rattle.std.specs.Prelude.{◌≤◌};
 
-use crate::assembling::assemble;
-use crate::checking::check_certificate;
-use crate::compiling::compile;
-use crate::debugging::debug;
-use crate::explain::explain;
 use crate::failures::{argument_status, status};
-use crate::formatting::format_files;
-use crate::going::go;
 use crate::hints::{ExpectedFiles, help_on_arguments, with_hints};
-use crate::interpreting::interpret_files;
-use crate::listing::list;
-use crate::lost_output::print_lost;
-use crate::output::{print_lines, print_messages};
-use crate::running::{Ran, run, run_input};
-use crate::serving::{Served, serve};
-use crate::showing::show;
-use crate::standard::{Console, RunStreams, Standard, Terminals, explains_at};
-use crate::taming::tame;
-use crate::watched_run::print_high;
 use bcpl_cli::{
     ArgumentError, AssembleOrder, BuildOrder, CheckOrder, Clean, ConvertOrder, DebugOrder,
     Expected, ExplainOrder, Failure, FormatOrder, GoOrder, InterpretOrder, ListOrder, Order,
     Places, RunOrder, ServeOrder, ShowOrder, TameOrder, parse_arguments, places_in,
 };
 use bcpl_convert::convert_file;
+use bcpl_inspect::{Served, check_certificate, format_files, list, serve, show};
 use bcpl_project::convert_project;
+use bcpl_running::{
+    Ran, assemble, debug, go, interpret_files, print_high, print_lost, run, run_input,
+};
+use bcpl_sources::{
+    Console, RunStreams, Standard, Terminals, compile, explain, explains_at, print_lines,
+    print_messages, tame,
+};
 use std::alloc::Global;
 use std::io::{Read, Write};
 use std::rt::Files;

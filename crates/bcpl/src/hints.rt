@@ -1,6 +1,5 @@
 //! Hints printed after a refusal of a file or of a command line if another command was probably meant.
 
-use crate::texts::readable;
 use bc_build::BuildError;
 use bc_link::LinkError;
 use bc_word::Memory;
@@ -8,6 +7,7 @@ use bcpl_cli::{
     ArgumentError, Cause, Escaped, Expected, Failure, FileKind, Guess, file_kind, get_hint,
     guess_of, hint, named_twice, without_extension,
 };
+use bcpl_sources::readable;
 use std::alloc::Global;
 use std::rt::Files;
 

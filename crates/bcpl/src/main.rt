@@ -1,42 +1,12 @@
 //! The program `bcpl`: compiles and interprets BCPL, checks certificates, and assembles, links and runs INTCODE.
 #![tactic(auto)]
 
-mod assembling;
-mod checking;
 mod commands;
-mod compiling;
-mod debugging;
-mod devices;
-mod diagnostics;
-mod explain;
 mod failures;
-mod findings;
-mod formatting;
-mod going;
-mod growing_list;
 mod hints;
-mod image_formats;
-mod interpret_line;
-mod interpreting;
-mod listing;
-mod lost_output;
-mod output;
-mod routine_names;
-mod run_output;
-mod running;
-mod served_files;
-mod serving;
-mod showing;
-mod source_files;
-mod standard;
-mod strict;
-mod taming;
-mod texts;
-mod unused_gets;
-mod watched_run;
 
 use crate::commands::command_on;
-use crate::standard::{Standard, Terminals};
+use bcpl_sources::{Standard, Terminals};
 use std::io::{BufWriter, IsTerminal};
 use std::process::ExitCode;
 use std::{env, fs, io};

@@ -1,19 +1,16 @@
 //! The command `interpret --strict`: a run by the meaning that also stops at lawful accesses that are nearly always mistakes.
 
-use crate::compiling::refused;
-use crate::diagnostics::Accepted;
 use crate::interpreting::{
     Interpretation, explained_failure, print_warnings, program_streams, result_of,
 };
 use crate::running::{Ran, lost_in};
-use crate::source_files::Gathered;
-use crate::standard::{RunConsole, RunStreams};
 use bc_build::{Built, build_keeping};
 use bc_interpret_sources::Interpreted;
 use bc_interpret_strict::{Mistake, StrictProgram, StrictRun, strict_run};
 use bc_machine::Streams;
 use bcpl_cli::{Cause, Failure, InterpretOrder, Strict};
 use bcpl_debug::all_resolved;
+use bcpl_sources::{Accepted, Gathered, RunConsole, RunStreams, refused};
 use bcpl_wild::{Stand, WildProgram, named_globals, strict_message};
 use std::alloc::Global;
 use std::io::{Read, Write};

@@ -1,9 +1,9 @@
 -- What remains in a source and what was written to a sink, for the contracts of streams.
 use Rattle.std.specs.Prelude.{ℕ, List, [], Option, Some}
-use Rattle.bcpl.specs.declared.devices.Sink.{Sink}
-use Rattle.bcpl.specs.declared.devices.Sink.TheVariants as sinks
-use Rattle.bcpl.specs.declared.devices.Source.{Source}
-use Rattle.bcpl.specs.declared.devices.Source.TheVariants as sources
+use Rattle.bcpl_sources.specs.declared.devices.Sink.{Sink}
+use Rattle.bcpl_sources.specs.declared.devices.Sink.TheVariants as sinks
+use Rattle.bcpl_sources.specs.declared.devices.Source.{Source}
+use Rattle.bcpl_sources.specs.declared.devices.Source.TheVariants as sources
 
 -- The bytes that a source has yet to give, if they are known.
 abbrev pub source_remaining : {R F : Type 0} → (R → Option (List ℕ)) → (F → Option (List ℕ)) → Source R F → Option (List ℕ)

@@ -1,9 +1,9 @@
 //! Prints what a run lost.
 
-use crate::output::print_messages;
 use bc_word::Memory;
 use bcpl_cli::Clean;
 use bcpl_reports::{Label, Severity, text_objects};
+use bcpl_sources::print_messages;
 use std::alloc::Global;
 use std::io::Write;
 

@@ -1,11 +1,5 @@
 //! The command `debug`: a session at the terminal, or a page with the recorded run.
 
-use crate::compiling::refused;
-use crate::explain::write_report;
-use crate::output::print_lines;
-use crate::source_files::Gathered;
-use crate::standard::{Console, Terminals};
-use crate::taming::is_tame_built;
 use bc_build::{Built, build};
 use bc_core::Core;
 use bc_machine::Named;
@@ -15,6 +9,9 @@ use bcpl_cli::{Binding, Cause, DebugOrder, Failure, contents, load_sources};
 use bcpl_debug::{
     DebugProgram, Flow, PageOf, RunInput, Session, SessionError, SessionLimits, all_resolved,
     page_of, recorded,
+};
+use bcpl_sources::{
+    Console, Gathered, Terminals, is_tame_built, print_lines, refused, write_report,
 };
 use std::alloc::Global;
 use std::io::{BufRead, BufReader, Read, Write};

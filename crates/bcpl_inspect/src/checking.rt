@@ -1,12 +1,11 @@
 //! The command `check`.
 
-use crate::output::of_output;
-use crate::texts::{explained, read_texts, readable, segments_of, texts_of};
 use bc_cert::{CheckFault, Judged, Mismatch, Verdict, check, check_against, check_sums};
 use bc_text_items::Segment;
 use bc_word::Memory;
 use bcpl_cli::{Cause, CheckOrder, Failure, shown_path};
 use bcpl_reports::{Text, against_lines, check_lines};
+use bcpl_sources::{explained, of_output, read_texts, readable, segments_of, texts_of};
 use std::alloc::Global;
 use std::io::{BufReader, Read, Write};
 use std::rt::Files;

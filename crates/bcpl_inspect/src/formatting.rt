@@ -1,8 +1,5 @@
 //! The command `format`.
 
-use crate::compiling::refused;
-use crate::diagnostics::Program;
-use crate::growing_list::Growing;
 use bc_build::BuildError;
 use bc_lex::{LexError, Source};
 use bc_library_ext::EXTHDR;
@@ -11,6 +8,7 @@ use bc_word::Memory;
 use bcpl_cli::{AtomicFile, Cause, Failure, FormatOrder, FormatTo, Places, contents};
 use bcpl_format::{FormatError, Style, formatted};
 use bcpl_messages::Named;
+use bcpl_sources::{Growing, Program, refused};
 use std::alloc::Global;
 use std::io::Write;
 use std::rt::Files;

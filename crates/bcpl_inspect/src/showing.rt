@@ -5,12 +5,6 @@ ghost use Rattle.bc_lex_tokens.specs.Token.{lexemes_of};
 ghost use Rattle.bc_parse_tree.specs.Size.{declarations_size};
 ghost use Rattle.bc_parse_tree.specs.View.{section_view};
 
-use crate::compiling::refused;
-use crate::diagnostics::Program;
-use crate::explain::entries_of;
-use crate::output::{of_listing, print_all};
-use crate::source_files::Gathered;
-use crate::texts::in_memory;
 use bc_build::{BuildError, Built, build};
 use bc_lex::{Token, lex};
 use bc_parse::{ParseError, Section, parse, spell};
@@ -23,6 +17,7 @@ use bcpl_show::{
     Files, Scopes, Setter, TreeForm, code_listing, scope_listing, source_listing, syntax_listing,
     token_listing,
 };
+use bcpl_sources::{Gathered, Program, entries_of, in_memory, of_listing, print_all, refused};
 use std::alloc::Global;
 use std::io::Write;
 use std::mem::forget;

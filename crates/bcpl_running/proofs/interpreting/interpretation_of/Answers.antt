@@ -1,6 +1,6 @@
 use Rattle.bc_interpret_sources.proofs.Resolved.{built_is_image}
 use Rattle.bc_lex.specs.Files.{files_of}
-use Rattle.bcpl.proofs.interpreting.interpretation_of.Goals as goal
+use Rattle.bcpl_running.proofs.interpreting.interpretation_of.Goals as goal
 
 -- The image that is passed to `interpret` is that of the sources.
 pub interpret-requires-clause-built : goal.interpret-requires-clause-built

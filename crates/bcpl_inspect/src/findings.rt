@@ -1,8 +1,5 @@
 //! What `build` says of a document that an editor has open: errors, or warnings.
 
-use crate::diagnostics::Program;
-use crate::explain::entries_of;
-use crate::source_files::Gathered;
 use bc_build::{BuildError, Built, ParseError, Parsed, ScopeFault, build_keeping};
 use bc_word::Memory;
 use bcpl_advice::{advised, further_faults, likely_meaning};
@@ -11,6 +8,7 @@ use bcpl_lsp::{Cost, Document, Finding, Related, line_starts, range_of, uri_of};
 use bcpl_messages::{Message, Note, message_of, shown};
 use bcpl_places::{Span, way_to};
 use bcpl_show::{CostedSection, root_costs};
+use bcpl_sources::{Gathered, Program, entries_of};
 use bcpl_warnings::{all_warnings, unknown_names};
 use serde_json::Value;
 use std::alloc::Global;

@@ -1,9 +1,8 @@
 //! The routines of sources with their lines, for a listing of the texts that were built from them, and for the profile of a run.
 
 use crate::compiling::refused;
-use crate::explain::{Front, add_fronts};
+use crate::explaining::{Front, add_fronts};
 use crate::growing_list::Growing;
-use crate::listing::Remark;
 use crate::source_files::Gathered;
 use crate::texts::{LinkedProgram, in_memory};
 use bc_build::build;
@@ -17,6 +16,14 @@ use bcpl_trace::NamedRoutine;
 use std::alloc::Global;
 use std::mem::forget;
 use std::rt::Files as Access;
+
+/// A note on an entry of a certificate or on a routine, and the item where it begins.
+#[derive(Drop)]
+pub struct Remark {
+    pub segment: usize,
+    pub item: usize,
+    pub text: String,
+}
 
 /// Whether two segments have the same items.
 fn is_same_segment(one: &Segment, other: &Segment) -> bool {

@@ -1,16 +1,12 @@
 //! The command `go`.
 
-use crate::compiling::refused;
-use crate::diagnostics::Accepted;
 use crate::interpret_line::with_interpret_line;
 use crate::interpreting::{print_warnings, program_streams};
-use crate::output::unfinished;
 use crate::running::{Ran, closed, lost_in};
-use crate::source_files::Gathered;
-use crate::standard::RunStreams;
 use bc_build::build_keeping;
 use bc_machine_defs::{End, Image};
 use bcpl_cli::{Clean, Failure, GoOrder, load_sources};
+use bcpl_sources::{Accepted, Gathered, RunStreams, refused, unfinished};
 use bcpl_trace::run_image;
 use std::alloc::Global;
 use std::io::{Read, Write};

@@ -1,9 +1,8 @@
 //! The command `asm`.
 
 use crate::image_formats::print_image;
-use crate::output::of_output;
-use crate::texts::{LinkedProgram, program_of, read_texts};
 use bcpl_cli::{AssembleOrder, Failure};
+use bcpl_sources::{LinkedProgram, of_output, program_of, read_texts};
 use std::alloc::Global;
 use std::io::Write;
 use std::rt::Files;

@@ -5,21 +5,16 @@ ghost use Rattle.bc_machine_defs.specs.declared.state.End.TheVariants.{Finished,
 ghost use Rattle.bcpl_cli.specs.Statuses.{unexplained};
 ghost use Rattle.bcpl_cli.specs.declared.failure.Cause.TheVariants as causes;
 
-use crate::devices::{Sink, Source};
-use crate::listing::Remark;
-use crate::output::unfinished;
-use crate::routine_names::{named_routines, routines_at};
-use crate::standard::RunStreams;
-use crate::texts::{
-    LinkedProgram, TextFile, add, explained, linked, program_of, read_texts, standard_text,
-    texts_of,
-};
 use crate::watched_run::{RecordFiles, Records, high_of, is_watched, window_of};
 use bc_machine::{Machine, Named, StreamsError};
 use bc_machine_defs::End;
 use bc_word::{Memory, Word};
 use bcpl_cli::{AtomicFile, Binding, Cause, Failure, RunOrder, WatchOrder};
 use bcpl_reports::{Stop, Text, ended_lines, stream_lines};
+use bcpl_sources::{
+    LinkedProgram, Remark, RunStreams, Sink, Source, TextFile, add, explained, linked,
+    named_routines, program_of, read_texts, routines_at, standard_text, texts_of, unfinished,
+};
 use bcpl_streams::NotedStreams;
 use bcpl_trace::{High, Nowhere, ProfiledProgram, Watch, profile, run_image, run_watched};
 use std::alloc::Global;

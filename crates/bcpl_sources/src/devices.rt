@@ -1,6 +1,6 @@
 //! The devices that the streams of a run read from and write to.
 
-ghost use Rattle.bcpl.specs.Devices.{source_remaining, sink_contents};
+ghost use Rattle.bcpl_sources.specs.Devices.{source_remaining, sink_contents};
 
 use bcpl_cli::Failure;
 use std::alloc::Global;

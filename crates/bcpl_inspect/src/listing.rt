@@ -1,10 +1,6 @@
 //! The command `list`.
 
 use crate::checking::verdict_of;
-use crate::growing_list::Growing;
-use crate::output::{of_listing, print_all};
-use crate::routine_names::named_routines;
-use crate::texts::{LinkedProgram, in_memory, linked, read_texts, segments_of, texts_of};
 use bc_cert::{Judged, check_against};
 use bc_core::Root;
 use bc_text_items::Segment;
@@ -12,6 +8,10 @@ use bc_word::Memory;
 use bcpl_cli::{Cause, Failure, ListOrder};
 use bcpl_list::{ListedProgram, Note, image_listing};
 use bcpl_reports::Text;
+use bcpl_sources::{
+    Growing, LinkedProgram, Remark, in_memory, linked, named_routines, of_listing, print_all,
+    read_texts, segments_of, texts_of,
+};
 use std::alloc::Global;
 use std::io::Write;
 use std::rt::Files;
@@ -45,14 +45,6 @@ fn note_on(alloc: Global, entry: &Judged) -> Result<String, Memory> {
         Root::Assign { .. } => "an assignment",
     };
     Ok(format!(in alloc; "{what}, {words} {unit}, the least")?)
-}
-
-/// A note on an entry of a certificate or on a routine, and the item where it begins.
-#[derive(Drop)]
-pub struct Remark {
-    pub segment: usize,
-    pub item: usize,
-    pub text: String,
 }
 
 /// The note on this entry. Segment 0 is the primitives, which certificates don't count.

@@ -2,7 +2,6 @@
 
 use crate::findings::{costs_of, findings_of};
 use crate::served_files::{headers_of, library_for, sources_of};
-use crate::source_files::Gathered;
 use bc_library_ext::EXTHDR;
 use bc_run::LIBHDR;
 use bc_word::Memory;
@@ -10,6 +9,7 @@ use bcpl_cli::{Cause, Failure, LinkedLibrary, LoadedSource, ServeOrder, Sources}
 use bcpl_lsp::{
     Answer, Cost, Document, Finding, Job, Received, Server, read_message, write_message,
 };
+use bcpl_sources::Gathered;
 use std::alloc::Global;
 use std::io::{BufReader, BufWriter, Read, Write};
 use std::rt::Files;

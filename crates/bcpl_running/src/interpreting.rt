@@ -1,11 +1,6 @@
 //! The command `interpret`.
 
-use crate::compiling::{refused, warnings_on};
-use crate::diagnostics::{Accepted, Program, error_lines};
-use crate::output::{print_messages, unfinished};
 use crate::running::{Ran, Streams, lost_in, streams_of};
-use crate::source_files::Gathered;
-use crate::standard::{RunConsole, RunStreams};
 use crate::strict::interpret_strictly;
 use bc_build::{Built, build_keeping};
 use bc_interpret_sources::{
@@ -17,6 +12,10 @@ use bc_word::Memory;
 use bcpl_cli::{Cause, Clean, Failure, InterpretOrder, ProgramOrder, Wild, load_sources};
 use bcpl_messages::{Message, Note};
 use bcpl_places::Span;
+use bcpl_sources::{
+    Accepted, Gathered, Program, RunConsole, RunStreams, error_lines, print_messages, refused,
+    unfinished, warnings_on,
+};
 use bcpl_warnings::loop_around;
 use bcpl_wild::{Met, ProgressLine, Stand, placed_message, wild_message};
 use std::alloc::Global;

@@ -1,2 +1,0 @@
--- The definitions that contracts of the program cite.
-pub mod Devices
