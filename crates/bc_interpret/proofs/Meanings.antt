@@ -14,9 +14,11 @@ use Rattle.bc_interpret_steps.specs.declared.continuations.Rest.{Rest}
 use Rattle.bc_interpret_steps.specs.declared.state.State.{State}
 use Rattle.bc_interpret_steps.specs.Code.{stack}
 use Rattle.bc_interpret_steps.specs.Came.{state_of}
+use Rattle.bc_interpret_trace.specs.Shown.{Shows}
+use Rattle.bc_interpret.specs.declared.run.Interpreted.{Interpreted}
 use Rattle.bc_interpret.specs.declared.run.Outcome.{Outcome}
 use Rattle.bc_interpret.specs.declared.run.Outcome.TheVariants as outs
-use Rattle.bc_interpret.specs.Results.{IsResult, Names}
+use Rattle.bc_interpret.specs.Results.{IsResult, Names, NamesBy}
 use Rattle.bc_interpret.specs.Interpreted.{NamesFrom}
 use Rattle.bc_interpret.specs.Moving.{at_of, left_of}
 
@@ -45,16 +47,16 @@ meaning_is program cores map base turns before after o e b h =
     (subst (λ p. IsResult (meaning_over (start_cells (standing p)) (entered_at p) base before turns) o after) e h)
 
 -- the reported wild access, from the start
-pub run_names : (program : List Placed) (base turns : ℕ) (rests : List Rest) (st : State) (before : Content) (o : Outcome) → st.store ≡ start_cells (standing program) → st.turns ≡ turns
-    → stack rests ≡ machine.Loads ∷ machine.Calls [] (base + 2) ∷ [] → Names program (at_of (works.Number 9) rests) (state_of st before) o → Names program (start_at base) (start_state program before turns) o
-run_names program base turns rests st before o e t r h =
-    let begun : state_of st before ≡ start_state program before turns = λ i. record { cells = e i; streams = before; turns = t i } in
-    subst (λ rs. Names program (record { work = machine.Give (machine.Number 9); rests = rs }) (start_state program before turns) o) r
-    (subst (λ s. Names program (at_of (works.Number 9) rests) s o) begun h)
+pub run_names : (program : List Placed) (base turns : ℕ) (rests : List Rest) (st : State) (before : Content) (i : Interpreted) (calls : List machine.OpenCall) → st.store ≡ start_cells (standing program) → st.turns ≡ turns
+    → stack rests ≡ machine.Loads ∷ machine.Calls [] (base + 2) ∷ [] → Names program (at_of (works.Number 9) rests) (state_of st before) i.outcome calls → Shows i.trail calls → NamesBy program (start_at base) (start_state program before turns) i
+run_names program base turns rests st before i calls e t r h shown =
+    let begun : state_of st before ≡ start_state program before turns = λ j. record { cells = e j; streams = before; turns = t j } in
+    (calls, subst (λ rs. Names program (record { work = machine.Give (machine.Number 9); rests = rs }) (start_state program before turns) i.outcome calls) r
+    (subst (λ s. Names program (at_of (works.Number 9) rests) s i.outcome calls) begun h), shown)
 
-pub names_is : (program : List Placed) (cores : List Core) (map : Map) (base turns : ℕ) (before : Content) (o : Outcome) → program ≡ placed cores map.places → base ≡ map.stack_base
-    → Names program (start_at base) (start_state program before turns) o → NamesFrom cores map before turns o
-names_is program cores map base turns before o e b h =
+pub names_is : (program : List Placed) (cores : List Core) (map : Map) (base turns : ℕ) (before : Content) (i : Interpreted) → program ≡ placed cores map.places → base ≡ map.stack_base
+    → NamesBy program (start_at base) (start_state program before turns) i → NamesFrom cores map before turns i
+names_is program cores map base turns before i e b h =
     let program1 = placed cores map.places in
-    subst (λ n. Names program1 (start_at n) (start_state program1 before turns) o) b
-    (subst (λ p. Names p (start_at base) (start_state p before turns) o) e h)
+    subst (λ n. NamesBy program1 (start_at n) (start_state program1 before turns) i) b
+    (subst (λ p. NamesBy p (start_at base) (start_state p before turns) i) e h)

@@ -16,18 +16,20 @@ use Rattle.bc_interpret_defs.specs.Running.{Moves}
 use Rattle.bc_interpret_defs.proofs.Running.{steps_keep, steps_lessen}
 use Rattle.bc_interpret_defs.specs.Causes as met
 use Rattle.bc_interpret_defs.specs.Meeting.{IsWildBy, Meets, ByArgument, after_steps, ComesTo}
+use Rattle.bc_interpret_defs.specs.OpenCalls.{calls_in, AreOpen, Calling}
 use Rattle.bc_interpret_pure.specs.declared.context.Cause.{Cause}
 use Rattle.bc_interpret_pure.specs.Causes.{cause_of}
 use Rattle.bc_interpret_steps.specs.declared.forms.Work.{Work}
 use Rattle.bc_interpret_steps.specs.declared.forms.Work.TheVariants as works
 use Rattle.bc_interpret_steps.specs.declared.forms.Progress.{Progress}
 use Rattle.bc_interpret_steps.specs.declared.forms.Progress.TheVariants as progress
+use Rattle.bc_interpret_steps.specs.declared.forms.OpenCall.{OpenCall}
 use Rattle.bc_interpret_steps.specs.declared.forms.Primitive.{Primitive}
 use Rattle.bc_interpret_steps.specs.declared.forms.Ending.{Ending}
 use Rattle.bc_interpret_steps.specs.declared.continuations.Rest.{Rest}
 use Rattle.bc_interpret_steps.specs.declared.sections.Callable.{Callable}
 use Rattle.bc_interpret_steps.specs.declared.state.State.{State}
-use Rattle.bc_interpret_steps.specs.Code.{stack}
+use Rattle.bc_interpret_steps.specs.Code.{stack, open_call}
 use Rattle.bc_interpret_steps.specs.Came.{state_of, primitive_of}
 use Rattle.bc_interpret_steps.specs.Endings.{ending}
 use Rattle.bc_interpret_steps.specs.declared.state.Stacks.{Stacks}
@@ -62,18 +64,18 @@ on_keeps program n a old next rests1 new streams h l = through program n a old s
 pub on_lessens : (program : List Placed) (a : machine.At) (old : State) (next : Work) (rests1 : List Rest) (new : State) → StepIs program a old (progress.On next) rests1 new → (new.turns ≤ old.turns) × (old.turns ≤ new.turns → weight_of next rests1 < weight a.work a.rests)
 on_lessens program a old next rests1 new h = lessened_by program a old _ h.0 (h.1 no_streams)
 
-pub served_keeps : (program : List Placed) (n : ℕ) (a : machine.At) (old : State) (q : Primitive) (f v : ℕ) (rests1 : List Rest) (mid new : State) (before after : Content) → StepIs program a old (progress.Serve q f) rests1 mid → Serves (λ st. left 1 (f + 2) (primitive_work (primitive_of q) f st)) mid before (forms.Number v) new after → old.turns < n → left_from program n a old before ≡ left_of program n (works.Number v) rests1 new after
-served_keeps program n a old q f v rests1 mid new before after h s l =
+pub served_keeps : (program : List Placed) (n : ℕ) (a : machine.At) (old : State) (q : Primitive) (call : OpenCall) (v : ℕ) (rests1 : List Rest) (mid new : State) (before after : Content) → StepIs program a old (progress.Serve q call) rests1 mid → Serves (λ st. left 1 (call.frame + 2) (primitive_work (primitive_of q) call.frame st)) mid before (forms.Number v) new after → old.turns < n → left_from program n a old before ≡ left_of program n (works.Number v) rests1 new after
+served_keeps program n a old q call v rests1 mid new before after h s l =
     through program n a old before _ (h.1.served.comes before ∙ ap (λ o. followed o (λ x. give (machine.Number x) (stack rests1))) s) l
 
-pub served_lessens : (program : List Placed) (a : machine.At) (old : State) (q : Primitive) (f v : ℕ) (rests1 : List Rest) (mid new : State) → StepIs program a old (progress.Serve q f) rests1 mid → Numbers (λ st. left 1 (f + 2) (primitive_work (primitive_of q) f st)) mid (forms.Number v) new → (new.turns ≤ old.turns) × (old.turns ≤ new.turns → weight_of (works.Number v) rests1 < weight a.work a.rests)
-served_lessens program a old q f v rests1 mid new h k =
+pub served_lessens : (program : List Placed) (a : machine.At) (old : State) (q : Primitive) (call : OpenCall) (v : ℕ) (rests1 : List Rest) (mid new : State) → StepIs program a old (progress.Serve q call) rests1 mid → Numbers (λ st. left 1 (call.frame + 2) (primitive_work (primitive_of q) call.frame st)) mid (forms.Number v) new → (new.turns ≤ old.turns) × (old.turns ≤ new.turns → weight_of (works.Number v) rests1 < weight a.work a.rests)
+served_lessens program a old q call v rests1 mid new h k =
     let k0 = k no_streams in
     lessened_by program a old (outcomes.Done (record { work = machine.Give (machine.Number k0.0); rests = stack rests1 }) (state_of new k0.1)) h.0
     (h.1.served.comes no_streams ∙ ap (λ o. followed o (λ x. give (machine.Number x) (stack rests1))) k0.2)
 
-pub served_wild : (program : List Placed) (n : ℕ) (a : machine.At) (old : State) (q : Primitive) (f : ℕ) (c : Cause) (rests1 : List Rest) (mid new : State) (before after : Content) → StepIs program a old (progress.Serve q f) rests1 mid → Serves (λ st. left 1 (f + 2) (primitive_work (primitive_of q) f st)) mid before (forms.Wild c) new after → old.turns < n → left_from program n a old before ≡ meanings.Wild
-served_wild program n a old q f c rests1 mid new before after h s l =
+pub served_wild : (program : List Placed) (n : ℕ) (a : machine.At) (old : State) (q : Primitive) (call : OpenCall) (c : Cause) (rests1 : List Rest) (mid new : State) (before after : Content) → StepIs program a old (progress.Serve q call) rests1 mid → Serves (λ st. left 1 (call.frame + 2) (primitive_work (primitive_of q) call.frame st)) mid before (forms.Wild c) new after → old.turns < n → left_from program n a old before ≡ meanings.Wild
+served_wild program n a old q call c rests1 mid new before after h s l =
     through program n a old before _ (h.1.served.comes before ∙ ap (λ o. followed o (λ x. give (machine.Number x) (stack rests1))) s) l
 
 pub answered : (program : List Placed) (n : ℕ) (a : machine.At) (old : State) (rests1 : List Rest) (new : State) (streams : Content) → StepIs program a old progress.Answered rests1 new → left_from program n a old streams ≡ meanings.Ended (output_of streams) outcomes.Finished
@@ -92,37 +94,39 @@ was_wild program n a old c rests1 new streams h l = through program n a old stre
 -- reaching a wild access
 
 -- one that is reached after a step
-pub one_more : (program : List Placed) (from at : machine.At) (start st : outcomes.State) (c : met.Cause) → step program from.work from.rests start ≡ outcomes.Done at st → ComesTo program at st c → ComesTo program from start c
-one_more program from at start st c e h = record {
+pub one_more : (program : List Placed) (from at : machine.At) (start st : outcomes.State) (c : met.Cause) (calls : List machine.OpenCall) → step program from.work from.rests start ≡ outcomes.Done at st → ComesTo program at st c calls → ComesTo program from start c calls
+one_more program from at start st c calls e h = record {
   steps = suc h.steps;
   at = h.at;
   state = h.state;
   comes = ap (λ o. followed o (after_steps program h.steps)) e ∙ h.comes;
   wild = h.wild;
   meets = h.meets;
+  during = h.during;
 }
 
 -- one that this step meets
-pub at_once : (program : List Placed) (from : machine.At) (start : outcomes.State) (c : met.Cause) → step program from.work from.rests start ≡ outcomes.Wild → Meets program from.work from.rests start.cells c → ComesTo program from start c
-at_once program from start c e m = record { steps = 0; at = from; state = start; comes = refl; wild = e; meets = m }
+pub at_once : (program : List Placed) (from : machine.At) (start : outcomes.State) (c : met.Cause) (calls : List machine.OpenCall) → step program from.work from.rests start ≡ outcomes.Wild → Meets program from.work from.rests start.cells c → AreOpen from.work from.rests calls → ComesTo program from start c calls
+at_once program from start c calls e m a = record { steps = 0; at = from; state = start; comes = refl; wild = e; meets = m; during = a }
 
-pub was_met : (program : List Placed) (a : machine.At) (old : State) (c : Cause) (rests1 : List Rest) (new : State) (streams : Content) → StepIs program a old (progress.Wild c) rests1 new → Names program a (state_of old streams) (outs.Wild c)
-was_met program a old c rests1 new streams h = at_once program a (state_of old streams) (cause_of c) (h.1 streams) h.2
+pub was_met : (program : List Placed) (a : machine.At) (old : State) (c : Cause) (rests1 : List Rest) (new : State) (streams : Content) → StepIs program a old (progress.Wild c) rests1 new → Names program a (state_of old streams) (outs.Wild c) (calls_in (stack rests1))
+was_met program a old c rests1 new streams h = at_once program a (state_of old streams) (cause_of c) (calls_in (stack rests1)) (h.1 streams) h.2 h.3
 
-served_leads : (program : List Placed) (a : machine.At) (old : State) (q : Primitive) (f v : ℕ) (rests1 : List Rest) (mid new : State) (before after : Content) (c : met.Cause) → StepIs program a old (progress.Serve q f) rests1 mid → Serves (λ st. left 1 (f + 2) (primitive_work (primitive_of q) f st)) mid before (forms.Number v) new after
-    → ComesTo program (at_of (works.Number v) rests1) (state_of new after) c → ComesTo program a (state_of old before) c
-served_leads program a old q f v rests1 mid new before after c h s g =
-    one_more program a (at_of (works.Number v) rests1) (state_of old before) (state_of new after) c
+served_leads : (program : List Placed) (a : machine.At) (old : State) (q : Primitive) (call : OpenCall) (v : ℕ) (rests1 : List Rest) (mid new : State) (before after : Content) (c : met.Cause) (calls : List machine.OpenCall) → StepIs program a old (progress.Serve q call) rests1 mid → Serves (λ st. left 1 (call.frame + 2) (primitive_work (primitive_of q) call.frame st)) mid before (forms.Number v) new after
+    → ComesTo program (at_of (works.Number v) rests1) (state_of new after) c calls → ComesTo program a (state_of old before) c calls
+served_leads program a old q call v rests1 mid new before after c calls h s g =
+    one_more program a (at_of (works.Number v) rests1) (state_of old before) (state_of new after) c calls
     (h.1.served.comes before ∙ ap (λ o. followed o (λ x. give (machine.Number x) (stack rests1))) s) g
 
-served_met : (program : List Placed) (a : machine.At) (old : State) (q : Primitive) (f : ℕ) (c : Cause) (rests1 : List Rest) (mid new : State) (before after : Content) → StepIs program a old (progress.Serve q f) rests1 mid → Serves (λ st. left 1 (f + 2) (primitive_work (primitive_of q) f st)) mid before (forms.Wild c) new after
-    → Blames (primitive_work (primitive_of q) f) mid (forms.Wild c) → Names program a (state_of old before) (outs.Wild c)
-served_met program a old q f c rests1 mid new before after h s blamed =
-    let call = h.1 in
-    let there : IsWildBy (primitive_work (primitive_of q) call.frame) mid.store (cause_of c) = subst (λ z. IsWildBy (primitive_work (primitive_of q) z) mid.store (cause_of c)) call.served.frame blamed in
-    let passed_on = subst (λ z. IsWildBy (primitive_work (primitive_of q) call.frame) z (cause_of c)) call.served.has_argument there in
-    at_once program a (state_of old before) (cause_of c) (call.served.comes before ∙ ap (λ o. followed o (λ x. give (machine.Number x) (stack rests1))) s)
-    (ByArgument call.value call.arguments call.frame (primitive_of q) call.calls call.served.is_primitive call.served.fits passed_on)
+served_met : (program : List Placed) (a : machine.At) (old : State) (q : Primitive) (call : OpenCall) (c : Cause) (rests1 : List Rest) (mid new : State) (before after : Content) → StepIs program a old (progress.Serve q call) rests1 mid → Serves (λ st. left 1 (call.frame + 2) (primitive_work (primitive_of q) call.frame st)) mid before (forms.Wild c) new after
+    → Blames (primitive_work (primitive_of q) call.frame) mid (forms.Wild c) → Names program a (state_of old before) (outs.Wild c) (open_call call ∷ calls_in (stack rests1))
+served_met program a old q call c rests1 mid new before after h s blamed =
+    let made = h.1 in
+    let there : IsWildBy (primitive_work (primitive_of q) made.frame) mid.store (cause_of c) = subst (λ z. IsWildBy (primitive_work (primitive_of q) z) mid.store (cause_of c)) made.served.frame blamed in
+    let passed_on = subst (λ z. IsWildBy (primitive_work (primitive_of q) made.frame) z (cause_of c)) made.served.has_argument there in
+    at_once program a (state_of old before) (cause_of c) (open_call call ∷ calls_in (stack rests1)) (made.served.comes before ∙ ap (λ o. followed o (λ x. give (machine.Number x) (stack rests1))) s)
+    (ByArgument made.value made.arguments made.frame (primitive_of q) made.calls made.served.is_primitive made.served.fits passed_on)
+    (Calling made.value made.arguments made.frame made.calls (λ i. record { routine = made.named i; frame = made.served.frame i } ∷ made.kept i))
 
 -- steps that change nothing
 
@@ -139,9 +143,9 @@ passes_lessen program a (m ∷ along) to old h =
     let more = passes_lessen program a along m old h.0 in
     omega (arith, less, more)
 
-passes_lead : (program : List Placed) (a : machine.At) (along : List machine.At) (to : machine.At) (old : State) (streams : Content) (c : met.Cause) → Passes program old a along to → ComesTo program to (state_of old streams) c → ComesTo program a (state_of old streams) c
-passes_lead program a [] to old streams c h g = subst (λ z. ComesTo program z (state_of old streams) c) (sym h) g
-passes_lead program a (m ∷ along) to old streams c h g = passes_lead program a along m old streams c h.0 (one_more program m to (state_of old streams) (state_of old streams) c (h.2 streams) g)
+passes_lead : (program : List Placed) (a : machine.At) (along : List machine.At) (to : machine.At) (old : State) (streams : Content) (c : met.Cause) (calls : List machine.OpenCall) → Passes program old a along to → ComesTo program to (state_of old streams) c calls → ComesTo program a (state_of old streams) c calls
+passes_lead program a [] to old streams c calls h g = subst (λ z. ComesTo program z (state_of old streams) c calls) (sym h) g
+passes_lead program a (m ∷ along) to old streams c calls h g = passes_lead program a along m old streams c calls h.0 (one_more program m to (state_of old streams) (state_of old streams) c calls (h.2 streams) g)
 
 pub ran_answered : (program : List Placed) (n : ℕ) (w : Work) (rests : List Rest) (old : State) (rests1 : List Rest) (new : State) (streams : Content) → RanIs program w rests old progress.Answered rests1 new → old.turns < n → left_of program n w rests old streams ≡ meanings.Ended (output_of streams) outcomes.Finished
 ran_answered program n w rests old rests1 new streams h l = passes_keep program n (at_of w rests) h.along h.middle old streams h.passes l ∙ answered program n h.middle old rests1 new streams h.comes
@@ -155,14 +159,14 @@ ran_going program n w rests old rests1 new streams h l = passes_keep program n (
 pub ran_wild : (program : List Placed) (n : ℕ) (w : Work) (rests : List Rest) (old : State) (c : Cause) (rests1 : List Rest) (new : State) (streams : Content) → RanIs program w rests old (progress.Wild c) rests1 new → old.turns < n → left_of program n w rests old streams ≡ meanings.Wild
 ran_wild program n w rests old c rests1 new streams h l = passes_keep program n (at_of w rests) h.along h.middle old streams h.passes l ∙ was_wild program n h.middle old c rests1 new streams h.comes l
 
-pub ran_met : (program : List Placed) (w : Work) (rests : List Rest) (old : State) (c : Cause) (rests1 : List Rest) (new : State) (streams : Content) → RanIs program w rests old (progress.Wild c) rests1 new → Names program (at_of w rests) (state_of old streams) (outs.Wild c)
-ran_met program w rests old c rests1 new streams h = passes_lead program (at_of w rests) h.along h.middle old streams (cause_of c) h.passes (was_met program h.middle old c rests1 new streams h.comes)
+pub ran_met : (program : List Placed) (w : Work) (rests : List Rest) (old : State) (c : Cause) (rests1 : List Rest) (new : State) (streams : Content) → RanIs program w rests old (progress.Wild c) rests1 new → Names program (at_of w rests) (state_of old streams) (outs.Wild c) (calls_in (stack rests1))
+ran_met program w rests old c rests1 new streams h = passes_lead program (at_of w rests) h.along h.middle old streams (cause_of c) (calls_in (stack rests1)) h.passes (was_met program h.middle old c rests1 new streams h.comes)
 
-leads_from : (program : List Placed) (from from1 : machine.At) (start start1 : outcomes.State) (moved : Moved) (new : Run) (after : Content) → ((c : met.Cause) → ComesTo program from1 start1 c → ComesTo program from start c) → Leads program from1 start1 moved new after → Leads program from start moved new after
-leads_from program from from1 start start1 On new after f h = λ c g. f c (h c g)
+leads_from : (program : List Placed) (from from1 : machine.At) (start start1 : outcomes.State) (moved : Moved) (new : Run) (after : Content) → ((c : met.Cause) (calls : List machine.OpenCall) → ComesTo program from1 start1 c calls → ComesTo program from start c calls) → Leads program from1 start1 moved new after → Leads program from start moved new after
+leads_from program from from1 start start1 On new after f h = λ c calls g. f c calls (h c calls g)
 leads_from program from from1 start start1 (Over (outs.Ended e)) new after f h = tt
 leads_from program from from1 start start1 (Over outs.Going) new after f h = tt
-leads_from program from from1 start start1 (Over (outs.Wild c)) new after f h = f (cause_of c) h
+leads_from program from from1 start start1 (Over (outs.Wild c)) new after f h = f (cause_of c) (calls_in (stack new.stacks.rests.items)) h
 leads_from program from from1 start start1 (Over outs.Device) new after f h = tt
 
 pub tracks_on : (table : List Callable) (w : Work) (start old new : Run) (before middle after : Content) (moved : Moved) → Tracks table w start before On old middle → Tracks table (next_of old) old middle moved new after → Tracks table w start before moved new after
@@ -202,10 +206,10 @@ on_advances table w old new known before failures next p s is = record {
       passes_keep program n (at_of w old.stacks.rests.items) r.along r.middle old.state before r.passes l
       ∙ (on_keeps program n r.middle old.state next new.stacks.rests.items new.state before r.comes l
       ∙ ap (λ x. left_of program n x new.stacks.rests.items new.state before) (sym is));
-  tracks = λ k program t c g. let r = s program t in
-      passes_lead program (at_of w old.stacks.rests.items) r.along r.middle old.state before c r.passes
-      (one_more program r.middle (at_of next new.stacks.rests.items) (state_of old.state before) (state_of new.state before) c (r.comes.1 before)
-      (subst (λ x. ComesTo program (at_of x new.stacks.rests.items) (state_of new.state before) c) is g));
+  tracks = λ k program t c calls g. let r = s program t in
+      passes_lead program (at_of w old.stacks.rests.items) r.along r.middle old.state before c calls r.passes
+      (one_more program r.middle (at_of next new.stacks.rests.items) (state_of old.state before) (state_of new.state before) c calls (r.comes.1 before)
+      (subst (λ x. ComesTo program (at_of x new.stacks.rests.items) (state_of new.state before) c calls) is g));
   lessened = let r = s p.0 p.1 in
       let k = on_lessens p.0 r.middle old.state next new.stacks.rests.items new.state r.comes in
       let more = passes_lessen p.0 (at_of w old.stacks.rests.items) r.along r.middle old.state r.passes in
@@ -217,7 +221,7 @@ on_advances table w old new known before failures next p s is = record {
 
 pub over_advances : (table : List Callable) (w : Work) (old new : Run) (known : Type 0) (before : Content) (failures : ℕ) (o : outcome.Outcome) → (o ≡ outs.Device → ⊥)
     → ((program : List Placed) → IsTable program table → (n : ℕ) → old.state.turns < n → IsResult (left_of program n w old.stacks.rests.items old.state before) o before)
-    → ((program : List Placed) → IsTable program table → Names program (at_of w old.stacks.rests.items) (state_of old.state before) o)
+    → ((program : List Placed) → IsTable program table → Names program (at_of w old.stacks.rests.items) (state_of old.state before) o (calls_in (stack new.stacks.rests.items)))
     → Advanced table w old new known known before before failures failures (Over o)
 over_advances table w old new known before failures o other s m = record {
   keeps = λ k program t n l. s program t n l;
@@ -232,19 +236,19 @@ over_advances table w old new known before failures o other s m = record {
 abbrev put_next : Stacks → Work → Stacks
 put_next stacks w = record stacks { next = progress.On w }
 
-served_number : (table : List Callable) (w : Work) (old new : Run) (q : Primitive) (f v : ℕ) (stacks : Stacks) (mid : State) (known tells : Type 0) (before after : Content) (failures risen : ℕ) → HasProgram table
-    → ((program : List Placed) → IsTable program table → RanIs program w old.stacks.rests.items old.state (progress.Serve q f) stacks.rests.items mid)
-    → Works (primitive_work (primitive_of q) f) (λ st. left 1 (f + 2) (primitive_work (primitive_of q) f st)) mid new.state known tells before after failures risen (forms.Number v)
+served_number : (table : List Callable) (w : Work) (old new : Run) (q : Primitive) (call : OpenCall) (v : ℕ) (stacks : Stacks) (mid : State) (known tells : Type 0) (before after : Content) (failures risen : ℕ) → HasProgram table
+    → ((program : List Placed) → IsTable program table → RanIs program w old.stacks.rests.items old.state (progress.Serve q call) stacks.rests.items mid)
+    → Works (primitive_work (primitive_of q) call.frame) (λ st. left 1 (call.frame + 2) (primitive_work (primitive_of q) call.frame st)) mid new.state known tells before after failures risen (forms.Number v)
     → Advanced table w old (record new { stacks = put_next stacks (works.Number v) }) known tells before after failures risen On
-served_number table w old new q f v stacks mid known tells before after failures risen p s x = record {
+served_number table w old new q call v stacks mid known tells before after failures risen p s x = record {
   keeps = λ k program t n l. let r = s program t in
       passes_keep program n (at_of w old.stacks.rests.items) r.along r.middle old.state before r.passes l
-      ∙ served_keeps program n r.middle old.state q f v stacks.rests.items mid new.state before after r.comes (x.exact k) l;
-  tracks = λ k program t c g. let r = s program t in
-      passes_lead program (at_of w old.stacks.rests.items) r.along r.middle old.state before c r.passes
-      (served_leads program r.middle old.state q f v stacks.rests.items mid new.state before after c r.comes (x.exact k) g);
+      ∙ served_keeps program n r.middle old.state q call v stacks.rests.items mid new.state before after r.comes (x.exact k) l;
+  tracks = λ k program t c calls g. let r = s program t in
+      passes_lead program (at_of w old.stacks.rests.items) r.along r.middle old.state before c calls r.passes
+      (served_leads program r.middle old.state q call v stacks.rests.items mid new.state before after c calls r.comes (x.exact k) g);
   lessened = let r = s p.0 p.1 in
-      let k = served_lessens p.0 r.middle old.state q f v stacks.rests.items mid new.state r.comes x.numbers in
+      let k = served_lessens p.0 r.middle old.state q call v stacks.rests.items mid new.state r.comes x.numbers in
       let more = passes_lessen p.0 (at_of w old.stacks.rests.items) r.along r.middle old.state r.passes in
       (k.0, λ le. let less = k.1 le in omega (arith, less, more));
   kept = x.kept;
@@ -252,30 +256,31 @@ served_number table w old new q f v stacks mid known tells before after failures
   counted = x.counted;
 }
 
-pub served_advances : (table : List Callable) (w : Work) (old new : Run) (q : Primitive) (f : ℕ) (stacks : Stacks) (mid : State) (known tells : Type 0) (before after : Content) (failures risen : ℕ) (served : Served) (moved : Moved) → HasProgram table
-    → ((program : List Placed) → IsTable program table → RanIs program w old.stacks.rests.items old.state (progress.Serve q f) stacks.rests.items mid)
-    → Works (primitive_work (primitive_of q) f) (λ st. left 1 (f + 2) (primitive_work (primitive_of q) f st)) mid new.state known tells before after failures risen served
-    → MovesBy served moved new.stacks stacks
+pub served_advances : (table : List Callable) (w : Work) (old new : Run) (q : Primitive) (call : OpenCall) (stacks : Stacks) (mid : State) (known tells : Type 0) (before after : Content) (failures risen : ℕ) (served : Served) (moved : Moved) → HasProgram table
+    → ((program : List Placed) → IsTable program table → RanIs program w old.stacks.rests.items old.state (progress.Serve q call) stacks.rests.items mid)
+    → Works (primitive_work (primitive_of q) call.frame) (λ st. left 1 (call.frame + 2) (primitive_work (primitive_of q) call.frame st)) mid new.state known tells before after failures risen served
+    → MovesBy served call moved new.stacks stacks
     → Advanced table w old new known tells before after failures risen moved
-served_advances table w old new q f stacks mid known tells before after failures risen (forms.Number v) moved p s x m =
+served_advances table w old new q call stacks mid known tells before after failures risen (forms.Number v) moved p s x m =
     subst (λ y. Advanced table w old new known tells before after failures risen y) (sym m.0)
     (subst (λ st. Advanced table w old (record new { stacks = st }) known tells before after failures risen On) (sym m.1)
-    (served_number table w old new q f v stacks mid known tells before after failures risen p s x))
-served_advances table w old new q f stacks mid known tells before after failures risen (forms.Wild c) moved p s x m =
+    (served_number table w old new q call v stacks mid known tells before after failures risen p s x))
+served_advances table w old new q call stacks mid known tells before after failures risen (forms.Wild c) moved p s x m =
     subst (λ y. Advanced table w old new known tells before after failures risen y) (sym m.0) (record {
       keeps = λ k program t n l. let r = s program t in
           passes_keep program n (at_of w old.stacks.rests.items) r.along r.middle old.state before r.passes l
-          ∙ served_wild program n r.middle old.state q f c stacks.rests.items mid new.state before after r.comes (x.exact k) l;
+          ∙ served_wild program n r.middle old.state q call c stacks.rests.items mid new.state before after r.comes (x.exact k) l;
       tracks = λ k program t. let r = s program t in
-          passes_lead program (at_of w old.stacks.rests.items) r.along r.middle old.state before (cause_of c) r.passes
-          (served_met program r.middle old.state q f c stacks.rests.items mid new.state before after r.comes (x.exact k) x.blamed);
+          subst (λ calls. Names program (at_of w old.stacks.rests.items) (state_of old.state before) (outs.Wild c) calls) (sym m.1)
+          (passes_lead program (at_of w old.stacks.rests.items) r.along r.middle old.state before (cause_of c) (open_call call ∷ calls_in (stack stacks.rests.items)) r.passes
+          (served_met program r.middle old.state q call c stacks.rests.items mid new.state before after r.comes (x.exact k) x.blamed));
       lessened = tt;
       kept = x.kept;
       failed = λ e. absurd cc;
       counted = x.counted;
     })
-served_advances table w old new q f stacks mid known tells before after failures risen forms.Device moved p s x m =
-    subst (λ y. Advanced table w old new known tells before after failures risen y) (sym m.0) (record {
+served_advances table w old new q call stacks mid known tells before after failures risen forms.Device moved p s x m =
+    subst (λ y. Advanced table w old new known tells before after failures risen y) (sym m) (record {
       keeps = λ k program t n l. tt;
       tracks = λ k program t. tt;
       lessened = tt;

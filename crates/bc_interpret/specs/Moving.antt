@@ -1,5 +1,5 @@
 -- For proofs: what a step, a stretch of steps, and a whole run preserve.
-use Rattle.std.specs.Prelude.{ℕ, ◌≡◌, ◌<◌, ◌≤◌, List}
+use Rattle.std.specs.Prelude.{ℕ, ◌≡◌, ◌<◌, ◌≤◌, List, ◌∷◌}
 use Rattle.bc_machine_defs.specs.Streams.{Content}
 use Rattle.bc_machine.specs.Rose.{Rose}
 use Rattle.bc_core.specs.Map.{Placed, standing}
@@ -11,6 +11,7 @@ use Rattle.bc_interpret_defs.specs.Resume.{meant}
 use Rattle.bc_interpret_defs.specs.Weight.{weight}
 use Rattle.bc_interpret_defs.specs.Causes.{Cause}
 use Rattle.bc_interpret_defs.specs.Meeting.{ComesTo}
+use Rattle.bc_interpret_defs.specs.OpenCalls.{calls_in}
 use Rattle.bc_interpret_defs.specs.Running.{start_at, start_state}
 use Rattle.bc_interpret_steps.specs.declared.forms.Work.{Work}
 use Rattle.bc_interpret_steps.specs.declared.forms.Work.TheVariants as works
@@ -20,7 +21,8 @@ use Rattle.bc_interpret_steps.specs.declared.continuations.Rest.{Rest}
 use Rattle.bc_interpret_steps.specs.declared.sections.Callable.{Callable}
 use Rattle.bc_interpret_steps.specs.declared.state.State.{State}
 use Rattle.bc_interpret_steps.specs.declared.state.Stacks.{Stacks}
-use Rattle.bc_interpret_steps.specs.Code.{stack, given}
+use Rattle.bc_interpret_steps.specs.declared.forms.OpenCall.{OpenCall}
+use Rattle.bc_interpret_steps.specs.Code.{stack, given, open_call}
 use Rattle.bc_interpret_steps.specs.Came.{state_of, at}
 use Rattle.bc_interpret_steps.specs.Sections.{IsTable}
 use Rattle.bc_interpret_steps.specs.Stepped.{Stepped}
@@ -28,11 +30,12 @@ use Rattle.bc_interpret_steps.specs.Passing.{Ran, work_next}
 use Rattle.bc_interpret.specs.declared.run.Run.{Run}
 use Rattle.bc_interpret.specs.declared.run.Moved.{Moved}
 use Rattle.bc_interpret.specs.declared.run.Moved.TheVariants.{On, Over}
+use Rattle.bc_interpret.specs.declared.run.Interpreted.{Interpreted}
 use Rattle.bc_interpret.specs.declared.run.Outcome.{Outcome}
 use Rattle.bc_interpret.specs.declared.run.Outcome.TheVariants as outs
 use Rattle.bc_interpret.specs.declared.serve.Served.{Served}
 use Rattle.bc_interpret.specs.declared.serve.Served.TheVariants as forms
-use Rattle.bc_interpret.specs.Results.{IsResult, Names}
+use Rattle.bc_interpret.specs.Results.{IsResult, Names, NamesBy}
 
 -- some program has this table
 abbrev pub HasProgram : List Callable → Type 0
@@ -70,11 +73,12 @@ StepsTo table old new =
     (program : List Placed) → IsTable program table
     → RanIs program (next_of old) old.stacks.rests.items old.state new.stacks.next new.stacks.rests.items new.state
 
--- how the result of a primitive continues or ends a run
-abbrev pub MovesBy : Served → Moved → (after : Stacks) → (before : Stacks) → Type 0
-MovesBy (forms.Number v) moved after before = (moved ≡ On) × (after ≡ record before { next = progress.On (works.Number v) })
-MovesBy (forms.Wild c) moved after before = (moved ≡ Over (outs.Wild c)) × (after ≡ before)
-MovesBy forms.Device moved after before = (moved ≡ Over outs.Device) × (after ≡ before)
+-- how the result of a primitive, which this call called, continues or ends a run; if it ends, that call is open
+abbrev pub MovesBy : Served → OpenCall → Moved → (after : Stacks) → (before : Stacks) → Type 0
+MovesBy (forms.Number v) call moved after before = (moved ≡ On) × (after ≡ record before { next = progress.On (works.Number v) })
+MovesBy (forms.Wild c) call moved after before =
+    (moved ≡ Over (outs.Wild c)) × (calls_in (stack after.rests.items) ≡ open_call call ∷ calls_in (stack before.rests.items))
+MovesBy forms.Device call moved after before = moved ≡ Over outs.Device
 
 -- this is the result of the remaining run, or the one with which the run is over
 abbrev pub Comes : List Placed → ℕ → Result → Moved → Run → Content → Type 0
@@ -86,11 +90,13 @@ Keeps table w old before moved new after =
     (program : List Placed) → IsTable program table → (n : ℕ) → old.state.turns < n
     → Comes program n (left_of program n w old.stacks.rests.items old.state before) moved new after
 
--- a wild step that the machine reaches from the next work, it also reaches from here; if the run is over, it reaches the reported one
+-- a wild step that the machine reaches from the next work, it also reaches from here; if the run is over, it reaches the reported one, in
+-- the calls of the continuations that are left
 abbrev pub Leads : List Placed → machine.At → outcomes.State → Moved → Run → Content → Type 0
 Leads program from start On run streams =
-    (cause : Cause) → ComesTo program (at_of (next_of run) run.stacks.rests.items) (state_of run.state streams) cause → ComesTo program from start cause
-Leads program from start (Over o) run streams = Names program from start o
+    (cause : Cause) (calls : List machine.OpenCall)
+    → ComesTo program (at_of (next_of run) run.stacks.rests.items) (state_of run.state streams) cause calls → ComesTo program from start cause calls
+Leads program from start (Over o) run streams = Names program from start o (calls_in (stack run.stacks.rests.items))
 
 abbrev pub Tracks : List Callable → Work → Run → Content → Moved → Run → Content → Type 0
 Tracks table w old before moved new after =
@@ -127,11 +133,12 @@ pub record Stretched (table : List Callable) (w : Work) (old new : Run)
   pub counted : failures ≤ risen
 
 -- the outcome of a run to its end
-pub record Completed (table : List Callable) (w : Work) (old : Run)
+pub record Completed (table : List Callable) (w : Work) (old new : Run)
     (known tells : Type 0) (before after : Content) (failures risen : ℕ) (outcome : Outcome) : Type 0 where
   pub means : known → (program : List Placed) → IsTable program table → (n : ℕ) → old.state.turns < n
       → IsResult (left_of program n w old.stacks.rests.items old.state before) outcome after
   pub names : known → (program : List Placed) → IsTable program table → Names program (at_of w old.stacks.rests.items) (state_of old.state before) outcome
+      (calls_in (stack new.stacks.rests.items))
   pub kept : known → tells
   pub failed : outcome ≡ outs.Device → Rose failures risen
   pub counted : failures ≤ risen
@@ -150,21 +157,21 @@ StretchedOn {T} known content failures table w old new streams streams_new moved
 
 -- the same of a run to its end
 abbrev pub CompletedOn :
-    {T : Type 0} → (T → Type 0) → (T → Content) → (T → ℕ) → List Callable → Work → Run → T → T → Outcome → Type 0
-CompletedOn {T} known content failures table w old streams streams_new outcome =
-    Completed table w old (known streams) (known streams_new) (content streams) (content streams_new) (failures streams) (failures streams_new) outcome
+    {T : Type 0} → (T → Type 0) → (T → Content) → (T → ℕ) → List Callable → Work → (old new : Run) → T → T → Outcome → Type 0
+CompletedOn {T} known content failures table w old new streams streams_new outcome =
+    Completed table w old new (known streams) (known streams_new) (content streams) (content streams_new) (failures streams) (failures streams_new) outcome
 
 -- the outcome of a program's run from its start
 pub record RunOf (program : List Placed) (stack_base turns : ℕ)
-    (known tells : Type 0) (before after : Content) (failures risen : ℕ) (outcome : Outcome) : Type 0 where
-  pub means : known → IsResult (meaning_over (start_cells (standing program)) (entered_at program) stack_base before turns) outcome after
-  pub names : known → Names program (start_at stack_base) (start_state program before turns) outcome
+    (known tells : Type 0) (before after : Content) (failures risen : ℕ) (i : Interpreted) : Type 0 where
+  pub means : known → IsResult (meaning_over (start_cells (standing program)) (entered_at program) stack_base before turns) i.outcome after
+  pub names : known → NamesBy program (start_at stack_base) (start_state program before turns) i
   pub kept : known → tells
-  pub failed : outcome ≡ outs.Device → Rose failures risen
+  pub failed : i.outcome ≡ outs.Device → Rose failures risen
   pub counted : failures ≤ risen
 
 -- the same of a program's run, given what is known of the streams, what they hold and how often they failed
 abbrev pub RunOn :
-    {T : Type 0} → (T → Type 0) → (T → Content) → (T → ℕ) → List Placed → ℕ → ℕ → T → T → Outcome → Type 0
-RunOn {T} known content failures program stack_base turns streams streams_new outcome =
-    RunOf program stack_base turns (known streams) (known streams_new) (content streams) (content streams_new) (failures streams) (failures streams_new) outcome
+    {T : Type 0} → (T → Type 0) → (T → Content) → (T → ℕ) → List Placed → ℕ → ℕ → T → T → Interpreted → Type 0
+RunOn {T} known content failures program stack_base turns streams streams_new i =
+    RunOf program stack_base turns (known streams) (known streams_new) (content streams) (content streams_new) (failures streams) (failures streams_new) i

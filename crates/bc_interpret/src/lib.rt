@@ -12,8 +12,8 @@ mod table;
 
 pub use bc_interpret_pure::Cause;
 pub use bc_interpret_steps::{Ending, Section, Stacks, State};
-pub use bc_interpret_trace::Standing;
+pub use bc_interpret_trace::{Standing, Trail};
 pub use observer::{Observer, Unobserved};
 pub use places::{after_first, all_addresses};
-pub use run::{Interpreted, Outcome, Trail};
+pub use run::{Interpreted, Outcome};
 pub use running::{interpret, interpret_observed, observe};

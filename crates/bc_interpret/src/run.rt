@@ -2,13 +2,16 @@
 //! two loops because each has its own measure: the weight decreases within a stretch, and the remaining turns from stretch to stretch.
 
 ghost use Rattle.std.specs.Prelude.{◌≡◌, IfOk};
+ghost use Rattle.bc_interpret_defs.specs.OpenCalls.{calls_in};
+ghost use Rattle.bc_interpret_steps.specs.Code.{stack};
+ghost use Rattle.bc_interpret_trace.specs.Shown.{Shows};
 ghost use Rattle.bc_interpret.specs.Moving.{HasProgram, StepsTo, MovesBy, next_of, AdvancedOn, StretchedOn, CompletedOn};
 
 use crate::observer::Observer;
 use crate::serve::{Served, serve};
 use bc_interpret_pure::Cause;
-use bc_interpret_steps::{Callable, Ending, Progress, Stacks, State, Work, step};
-use bc_interpret_trace::{Standing, Trace};
+use bc_interpret_steps::{Callable, Ending, OpenCall, Progress, Stacks, State, Work, keep_open, step};
+use bc_interpret_trace::{Trace, Trail};
 use bc_machine::Streams;
 use bc_word::Memory;
 use std::alloc::Global;
@@ -35,28 +38,16 @@ pub(crate) struct Run<'c> {
     pub stacks: Stacks<'c>,
     /// A buffer for the names of streams.
     pub name: Vec<u8>,
-    /// The calls that the run is in.
+    /// The branches that the run is in.
     pub trace: Trace<'c>,
 }
-
-/// Where a run was at its end.
-#[derive(Debug, Drop)]
-pub struct Trail {
-    /// Its newest calls, the newest first, at most ten.
-    pub standings: Vec<Standing>,
-    /// The number of calls that it was in.
-    pub calls: usize,
-}
-
-/// The greatest number of calls in a trail.
-const MOST: usize = 10;
 
 /// The outcome of a run, and where it was then.
 #[derive(Debug, Drop)]
 pub struct Interpreted {
     /// The outcome.
     pub outcome: Outcome,
-    /// Where the run was. No contract speaks of it.
+    /// Where the run was. If it is wild, these are the calls that are open then; of the place in each of them no contract speaks.
     pub trail: Trail,
 }
 
@@ -64,13 +55,10 @@ impl Run<'_> {
     /// Where the run is.
     ///
     /// `Memory` if an allocation fails.
-    pub(crate) fn trail(&self, alloc: Global) -> Result<Trail, Memory> {
-        Ok(Trail {
-            standings: self
-                .trace
-                .standings(alloc, self.stacks.rests.as_slice(), MOST)?,
-            calls: self.trace.calls(),
-        })
+    pub(crate) fn trail(&self, alloc: Global) -> Result<Trail, Memory>
+        ensures { IfOk result (λ trail. Shows trail (calls_in (stack self.now.stacks.rests.items))) }
+    {
+        self.trace.trail(alloc, self.stacks.rests.as_slice())
     }
 }
 
@@ -83,17 +71,25 @@ enum Moved {
     Over(Outcome),
 }
 
-/// How the result of a primitive continues or ends a run.
-fn moved_by(served: Served, stacks: &mut Stacks<'_>) -> Moved
-    ensures { MovesBy served result stacks.new stacks.old }
+/// How the result of a primitive, which this call called, continues or ends a run.
+///
+/// `Memory` if an allocation fails.
+fn moved_by<'c>(served: Served, call: OpenCall, stacks: &mut Stacks<'c>) -> Result<Moved, Memory>
+    ensures { IfOk result (λ moved. MovesBy served call moved stacks.new stacks.old) }
 {
     match served {
         Served::Number(v) => {
             stacks.next = Progress::On(Work::Number(v));
-            Moved::On
+            Ok(Moved::On)
         }
-        Served::Wild(cause) => Moved::Over(Outcome::Wild(cause)),
-        Served::Device => Moved::Over(Outcome::Device),
+        Served::Wild(cause) => {
+            keep_open(call, &mut stacks.rests)?;
+            Ok(Moved::Over(Outcome::Wild(cause)))
+        }
+        Served::Device => {
+            keep_open(call, &mut stacks.rests)?;
+            Ok(Moved::Over(Outcome::Device))
+        }
     }
 }
 
@@ -128,7 +124,6 @@ fn seen_step<'c, O: Observer>(
     see_before(run, observer)?;
     run.trace.follow(&run.stacks)?;
     step(table, &mut run.stacks, &mut run.state)?;
-    run.trace.enter(&run.stacks)?;
     see_after(run, observer)?;
     Ok(())
 }
@@ -149,15 +144,15 @@ fn advance<'c, S: Streams, O: Observer>(
     seen_step(table, run, observer)?;
     match run.stacks.next {
         Progress::On(_) => Ok(Moved::On),
-        Progress::Serve(primitive, frame) => {
+        Progress::Serve(primitive, call) => {
             let served = serve(
                 primitive,
-                frame as usize,
+                call.frame as usize,
                 &mut run.state,
                 streams,
                 &mut run.name,
             )?;
-            Ok(moved_by(served, &mut run.stacks))
+            Ok(moved_by(served, call, &mut run.stacks)?)
         }
         Progress::Answered => Ok(Moved::Over(Outcome::Ended(Ending::Finished))),
         Progress::Ended(ending) => Ok(Moved::Over(Outcome::Ended(ending))),
@@ -203,7 +198,7 @@ pub(crate) fn to_end<'c, S: Streams, O: Observer>(
     observer: &mut O,
 ) -> Result<Outcome, Memory>
     requires { HasProgram table.now }
-    ensures { IfOk result (λ outcome. CompletedOn S.known S.content S.failures table.now (next_of run.old) run.old streams.old streams.new outcome) }
+    ensures { IfOk result (λ outcome. CompletedOn S.known S.content S.failures table.now (next_of run.old) run.old run.new streams.old streams.new outcome) }
 {
     loop {
         let moved = stretch(table, run, streams, observer)?;

@@ -69,7 +69,7 @@ pub fn observe<S: Streams, O: Observer>(
     turns: u64,
     observer: &mut O,
 ) -> Result<Interpreted, Memory>
-    ensures { IfOk result (λ i. RunOn S.known S.content S.failures (program_of sections.now) stack_base turns streams.old streams.new i.outcome) }
+    ensures { IfOk result (λ i. RunOn S.known S.content S.failures (program_of sections.now) stack_base turns streams.old streams.new i) }
 {
     let table = table_of(alloc, sections)?;
     let store = start_store(alloc, sections)?;
@@ -98,7 +98,7 @@ pub fn interpret_observed<S: Streams, O: Observer>(
     turns: u64,
     observer: &mut O,
 ) -> Result<Interpreted, Memory>
-    ensures { IfOk result (λ i. InterpretedOn S.known S.content S.failures (map section_view cores.now) image.now turns streams.old streams.new i.outcome) }
+    ensures { IfOk result (λ i. InterpretedOn S.known S.content S.failures (map section_view cores.now) image.now turns streams.old streams.new i) }
 {
     let places = after_first(image.places.as_slice());
     let addresses = all_addresses(alloc, places)?;
@@ -119,8 +119,8 @@ pub fn interpret_observed<S: Streams, O: Observer>(
 /// that of the primitives.
 ///
 /// If the content of the streams is known, the outcome and the output are what the sections mean, unless a device failed; and if the run
-/// is wild, the machine of `bc_interpret_defs` reaches a step that is wild with the reported cause. `Device` comes only if the streams'
-/// count of failures rose or is at its greatest value.
+/// is wild, the machine of `bc_interpret_defs` reaches a step that is wild with the reported cause, and the trail has the calls that are
+/// open during that step. `Device` comes only if the streams' count of failures rose or is at its greatest value.
 ///
 /// `Memory` if an allocation fails.
 pub fn interpret<S: Streams>(
@@ -130,7 +130,7 @@ pub fn interpret<S: Streams>(
     streams: &mut S,
     turns: u64,
 ) -> Result<Interpreted, Memory>
-    ensures { IfOk result (λ i. InterpretedOn S.known S.content S.failures (map section_view cores.now) image.now turns streams.old streams.new i.outcome) }
+    ensures { IfOk result (λ i. InterpretedOn S.known S.content S.failures (map section_view cores.now) image.now turns streams.old streams.new i) }
 {
     let mut unobserved = Unobserved;
     interpret_observed(alloc, cores, image, streams, turns, &mut unobserved)

@@ -1,5 +1,5 @@
 -- A step of the machine preserves the meaning of the remaining run: commands, blocks, lists and loops.
-use Rattle.std.proofs.Common.{◌≡◌, ℕ, ◌+◌, List, [], ◌∷◌, Bool, true, false, refl, ◌||◌, ◌∙◌, sym, subst}
+use Rattle.std.proofs.Common.{None, ◌≡◌, ℕ, ◌+◌, List, [], ◌∷◌, Bool, true, false, refl, ◌||◌, ◌∙◌, sym, subst}
 use Rattle.bc_word.specs.Words.{holds}
 use Rattle.bc_core.specs.Tree.{Exp}
 use Rattle.bc_core.specs.Commands.{Variable, Initial, Vector, Command, Block, block, Items, no_item, command, case, default, label}
@@ -27,7 +27,7 @@ use Rattle.bc_interpret_defs.proofs.Quiet.{quiet_assign}
 pub from_round : {A : Type 0} (call : Calling) (rs : List Rest) (f : A → Run (Round A Exit)) (x : A) (st : State) (o : Outcome Answer) → repeated f x st ≡ followed (f x st) (next_round (repeated f)) → followed (followed (followed (f x st) (next_round (repeated f))) out) (resume call rs) ≡ o → followed (followed (repeated f x st) out) (resume call rs) ≡ o
 from_round call rs f x st o h k = subst (λ z. followed (followed z out) (resume call rs) ≡ o) (sym h) k
 
-for_kept : (call : Calling) (E : Spot) (start limit : Exp) (by : ℕ) (b : Block) (s : ℕ) (rs : List Rest) (st : State) → meant call (record { work = Perform E (commands.For start limit by b) s; rests = rs }) st ≡ meant call (record { work = machine.Evaluate E start (level_in_for s); rests = machine.StoresAt (cell_of E s) ∷ machine.Limits E limit by b s ∷ machine.Closes 1 (E.frame + s) ∷ rs }) (record st { cells = opened 1 (E.frame + s) st.cells })
+for_kept : (call : Calling) (E : Spot) (start limit : Exp) (by : ℕ) (b : Block) (s : ℕ) (rs : List Rest) (st : State) → meant call (record { work = Perform E (commands.For start limit by b) s; rests = rs }) st ≡ meant call (record { work = machine.Evaluate E start (level_in_for s); rests = machine.StoresAt (cell_of E s) ∷ machine.Limits E limit by b s ∷ machine.Closes None 1 (E.frame + s) ∷ rs }) (record st { cells = opened 1 (E.frame + s) st.cells })
 for_kept call E start limit by b s rs st =
     let C = context_at call E in
     let a = E.frame + s in
@@ -35,9 +35,9 @@ for_kept call E start limit by b s rs st =
     let v = value C start E.frame (level_in_for s) in
     let l = value C limit E.frame (level_in_for s) in
     let rounds : ℕ → Run Exit = λ n. repeated (for_round C n by b E.frame s) tt in
-    let closes = resume call (machine.Closes 1 a ∷ rs) in
-    let limits = resume call (machine.Limits E limit by b s ∷ machine.Closes 1 a ∷ rs) in
-    let stores = resume call (machine.StoresAt (cell_of E s) ∷ machine.Limits E limit by b s ∷ machine.Closes 1 a ∷ rs) in
+    let closes = resume call (machine.Closes None 1 a ∷ rs) in
+    let limits = resume call (machine.Limits E limit by b s ∷ machine.Closes None 1 a ∷ rs) in
+    let stores = resume call (machine.StoresAt (cell_of E s) ∷ machine.Limits E limit by b s ∷ machine.Closes None 1 a ∷ rs) in
     subst (λ z. followed (followed (left 1 a (followed z (λ u. then_do l rounds))) out) (resume call rs) ≡ followed (followed (v st1) number) stores)
     (sym (assign_frame C start s E.frame (level_in_for s) st1))
     (join_within2 1 a (v st1) (λ w. write (cell_of E s) w) (λ u. then_do l rounds) out (resume call rs) number stores
@@ -93,8 +93,8 @@ declare_kept program call t E (vs ∷ ds) is s level rs st =
     let a = E.frame + s in
     let st1 = record st { cells = opened n a st.cells } in
     let r = declare C ds E.frame (s + n) (listed (has_label is) (perform_items C is E.frame level) Beginning) in
-    join_within n a (initialise C vs E.frame s (s + n) st1) (λ u. r) out (resume call rs) nothing (resume call (machine.Declares E ds is (s + n) level ∷ machine.Closes n a ∷ rs))
-    (λ u st2. join_left n a (r st2) out (resume call rs) out (resume call (machine.Closes n a ∷ rs)) (λ x st3. refl))
+    join_within n a (initialise C vs E.frame s (s + n) st1) (λ u. r) out (resume call rs) nothing (resume call (machine.Declares E ds is (s + n) level ∷ machine.Closes None n a ∷ rs))
+    (λ u st2. join_left n a (r st2) out (resume call rs) out (resume call (machine.Closes None n a ∷ rs)) (λ x st3. refl))
 
 pub enter_kept : (program : List Placed) (call : Calling) → AlikeCall 0 call call → (E : Spot) (b : Block) (s : ℕ) (rs : List Rest) (st : State) → Kept program call (Enter E b s) rs st
 enter_kept program call t E (block ds is) s rs st = declare_kept program call t E ds is s (s + cells_declared ds) rs st

@@ -428,13 +428,13 @@ given_keeps t (Ended e streams) rs w = tt
 given_keeps t (Going streams) rs w = tt
 given_keeps t Wild rs w = tt
 
-arrive_less : (c : Option Callee) (vs : List ℕ) (f m : ℕ) (rs : List Rest) (st : State) → Lessens st.turns m (arrive c vs f rs st)
-arrive_less None vs f m rs st = tt
-arrive_less (Some (OfSection section r)) vs f m rs st =
-    let work : Step = machine.with_passed r.parameters (f + 2) vs (body_step (spot_in section f) r.body (level_after_parameters r.parameters) (machine.Closes r.parameters (f + 2) ∷ rs)) in
+arrive_less : (c : Option Callee) (v : ℕ) (vs : List ℕ) (f m : ℕ) (rs : List Rest) (st : State) → Lessens st.turns m (arrive c v vs f rs st)
+arrive_less None v vs f m rs st = tt
+arrive_less (Some (OfSection section r)) v vs f m rs st =
+    let work : Step = machine.with_passed r.parameters (f + 2) vs (body_step (spot_in section f) r.body (level_after_parameters r.parameters) (machine.Closes (Some (record { routine = v; frame = f })) r.parameters (f + 2) ∷ rs)) in
     less_choose (nat_le (f + frame_size section.core.valofs r) 65536) (in_turn work) wild st.turns m st
-    (less_turn work m st (λ st1. body_keeps (spot_in section f) r.body (level_after_parameters r.parameters) (machine.Closes r.parameters (f + 2) ∷ rs) (record st1 { cells = passed r.parameters (f + 2) vs st1.cells }))) tt
-arrive_less (Some (OfLibrary q)) vs f m rs st =
+    (less_turn work m st (λ st1. body_keeps (spot_in section f) r.body (level_after_parameters r.parameters) (machine.Closes (Some (record { routine = v; frame = f })) r.parameters (f + 2) ∷ rs) (record st1 { cells = passed r.parameters (f + 2) vs st1.cells }))) tt
+arrive_less (Some (OfLibrary q)) v vs f m rs st =
     let body = with_arguments 1 (f + 2) vs (primitive_work q f) in
     let work : Step = then_do body (λ v. give (Number v) rs) in
     let h = alike_opened free 0 0 1 (f + 2) (passed 1 (f + 2) vs) (primitive_work q f) (primitive_work q f) (alike_primitive 0 q f) in
@@ -479,7 +479,7 @@ next_less program (machine.Selects E x y s) (Verdict false) rs st = (omega arith
 next_less program (machine.Selects E x y s) a rs st = tt
 next_less program (machine.Argues E vs es level f m s) (Number v) rs st = (omega arith, λ le. omega arith)
 next_less program (machine.Argues E vs es level f m s) a rs st = tt
-next_less program (machine.Calls vs f) (Number r) rs st = arrive_less (callee program r) vs f _ rs st
+next_less program (machine.Calls vs f) (Number r) rs st = arrive_less (callee program r) r vs f _ rs st
 next_less program (machine.Calls vs f) a rs st = tt
 next_less program (machine.Stores E address s) (Number w) rs st = (omega arith, λ le. omega arith)
 next_less program (machine.Stores E address s) a rs st = tt
@@ -487,7 +487,7 @@ next_less program (machine.Stored w) (Number v) rs st = after_still (write v w) 
 next_less program (machine.Stored w) a rs st = tt
 next_less program (machine.StoresAt v) (Number w) rs st = after_still (write v w) (λ u. give Nothing rs) _ st (still_write v w) (λ u st1. (omega arith, λ le. omega arith))
 next_less program (machine.StoresAt v) a rs st = tt
-next_less program (machine.Closes m b) a rs st = let h = answer_shrinks a (machine.Closes m b) rs in (omega arith, λ le. omega arith)
+next_less program (machine.Closes o m b) a rs st = let h = answer_shrinks a (machine.Closes o m b) rs in (omega arith, λ le. omega arith)
 next_less program machine.Returns (Left x) rs st =
     let h = exit_shrinks x machine.Returns rs in
     after_still (routine_value x) (λ w. give (Number w) rs) _ st (still_routine x) (λ w st1. (omega arith, λ le. omega arith))

@@ -16,7 +16,7 @@ use Rattle.bc_core.specs.Loop.{LoopRound, back, leave, after_body, agrees}
 use Rattle.bc_core.specs.Command.{step_of_for, perform_block, perform_items}
 use Rattle.bc_core.specs.Primitive.{primitive_frame, primitive_work}
 use Rattle.bc_core.specs.Meaning.{Call as Calling, routine_value, valof_value, body_value, with_arguments, Callee, OfSection, OfLibrary, callee, entered, entered_of, calls}
-use Rattle.bc_interpret_defs.specs.Machine.{Spot, cell_of, Answer, Number, Verdict, Nothing, Left, Work, Evaluate, Decide, Perform, Enter, Listing, Give, Rest, At, Step, go, give, enter, following, jump, follow, after_listing, spot_in, body_step, with_passed, frame_taken, arrive, next, step}
+use Rattle.bc_interpret_defs.specs.Machine.{Spot, cell_of, Answer, Number, Verdict, Nothing, Left, Work, Evaluate, Decide, Perform, Enter, Listing, Give, Rest, OpenCall, At, Step, go, give, enter, following, jump, follow, after_listing, spot_in, body_step, with_passed, frame_taken, arrive, next, step}
 use Rattle.bc_interpret_defs.specs.Machine as machine
 use Rattle.bc_interpret_defs.specs.Resume.{context_at, number, verdict, nothing, out, while_round, repeat_round, test_round, repeat_while_round, for_step, for_round, list_round, around, rest, resume, meant}
 use Rattle.bc_interpret_defs.proofs.Joining.{join2, join3, join4, join5, join6, join_taken2, join_taken3, join_left, join_within, choose2, choose3}
@@ -26,32 +26,32 @@ use Rattle.bc_interpret_defs.proofs.Rounds.{context_alike, list_again, assign_fr
 use Rattle.bc_interpret_defs.proofs.Doing.{from_round, listing_kept, enter_kept}
 
 -- into a routine
-body_kept : (call : Calling) (section : Placed) (b : Body) (f s n a : ℕ) (rs : List Rest) (st : State) → followed (followed (left n a (body_value (context_at call (spot_in section f)) b f s st)) number) (resume call rs) ≡ followed (body_step (spot_in section f) b s (machine.Closes n a ∷ rs) st) (meant call)
-body_kept call section (Gives e) f s n a rs st =
-    join_left n a (value (context_at call (spot_in section f)) e f s st) number (resume call rs) number (resume call (machine.Closes n a ∷ rs)) (λ x st1. refl)
-body_kept call section (Does b) f s n a rs st =
-    join_within n a (perform_block (context_at call (spot_in section f)) b f s st) routine_value number (resume call rs) out (resume call (machine.Returns ∷ machine.Closes n a ∷ rs))
-    (λ x st1. join_left n a (routine_value x st1) number (resume call rs) number (resume call (machine.Closes n a ∷ rs)) (λ v st2. refl))
+body_kept : (o : Option OpenCall) (call : Calling) (section : Placed) (b : Body) (f s n a : ℕ) (rs : List Rest) (st : State) → followed (followed (left n a (body_value (context_at call (spot_in section f)) b f s st)) number) (resume call rs) ≡ followed (body_step (spot_in section f) b s (machine.Closes o n a ∷ rs) st) (meant call)
+body_kept o call section (Gives e) f s n a rs st =
+    join_left n a (value (context_at call (spot_in section f)) e f s st) number (resume call rs) number (resume call (machine.Closes o n a ∷ rs)) (λ x st1. refl)
+body_kept o call section (Does b) f s n a rs st =
+    join_within n a (perform_block (context_at call (spot_in section f)) b f s st) routine_value number (resume call rs) out (resume call (machine.Returns ∷ machine.Closes o n a ∷ rs))
+    (λ x st1. join_left n a (routine_value x st1) number (resume call rs) number (resume call (machine.Closes o n a ∷ rs)) (λ v st2. refl))
 
-arrive_kept : (call : Calling) (c : Option Callee) (vs : List ℕ) (f : ℕ) (rs : List Rest) (st : State) → followed (followed (entered call (entered_of c) vs f st) number) (resume call rs) ≡ followed (arrive c vs f rs st) (meant call)
-arrive_kept call None vs f rs st = refl
-arrive_kept call (Some (OfSection section r)) vs f rs st =
+arrive_kept : (call : Calling) (c : Option Callee) (v : ℕ) (vs : List ℕ) (f : ℕ) (rs : List Rest) (st : State) → followed (followed (entered call (entered_of c) vs f st) number) (resume call rs) ≡ followed (arrive c v vs f rs st) (meant call)
+arrive_kept call None v vs f rs st = refl
+arrive_kept call (Some (OfSection section r)) v vs f rs st =
     let n = r.parameters in
     let s = level_after_parameters r.parameters in
     let body : Run ℕ = with_arguments n (f + 2) vs (body_value (context_at call (spot_in section f)) r.body f s) in
-    let work : Step = with_passed n (f + 2) vs (body_step (spot_in section f) r.body s (machine.Closes n (f + 2) ∷ rs)) in
+    let work : Step = with_passed n (f + 2) vs (body_step (spot_in section f) r.body s (machine.Closes (Some (record { routine = v; frame = f })) n (f + 2) ∷ rs)) in
     choose2 (nat_le (f + frame_size section.core.valofs r) 65536) st (in_turn body) wild number (in_turn work) wild (resume call rs) (meant call)
-    (join_taken2 st.turns st body number work (resume call rs) (meant call) (λ st1. body_kept call section r.body f s n (f + 2) rs _)) refl
-arrive_kept call (Some (OfLibrary q)) vs f rs st =
+    (join_taken2 st.turns st body number work (resume call rs) (meant call) (λ st1. body_kept (Some (record { routine = v; frame = f })) call section r.body f s n (f + 2) rs _)) refl
+arrive_kept call (Some (OfLibrary q)) v vs f rs st =
     let body : Run ℕ = with_arguments 1 (f + 2) vs (primitive_work q f) in
     let work : Step = then_do body (λ v. give (Number v) rs) in
     choose2 (nat_le (f + primitive_frame) 65536) st (in_turn body) wild number (in_turn work) wild (resume call rs) (meant call)
     (join_taken2 st.turns st body number work (resume call rs) (meant call) (λ st1. join2 (body st1) number (resume call rs) (λ v. give (Number v) rs) (meant call) (λ v st2. refl))) refl
 
-call_kept : (program : List Placed) (n : ℕ) (vs : List ℕ) (f r : ℕ) (rs : List Rest) (st : State) → st.turns < n → followed (followed (calls program n r vs f st) number) (resume (calls program n) rs) ≡ followed (arrive (callee program r) vs f rs st) (meant (calls program n))
+call_kept : (program : List Placed) (n : ℕ) (vs : List ℕ) (f r : ℕ) (rs : List Rest) (st : State) → st.turns < n → followed (followed (calls program n r vs f st) number) (resume (calls program n) rs) ≡ followed (arrive (callee program r) r vs f rs st) (meant (calls program n))
 call_kept program n vs f r rs st l =
-    subst (λ z. followed (followed z number) (resume (calls program n) rs) ≡ followed (arrive (callee program r) vs f rs st) (meant (calls program n)))
-    (sym (call_unrolled program n r vs f st l)) (arrive_kept (calls program n) (callee program r) vs f rs st)
+    subst (λ z. followed (followed z number) (resume (calls program n) rs) ≡ followed (arrive (callee program r) r vs f rs st) (meant (calls program n)))
+    (sym (call_unrolled program n r vs f st l)) (arrive_kept (calls program n) (callee program r) r vs f rs st)
 
 -- after a loop's body
 after_kept : (call : Calling) (rs : List Rest) (f : Unit {0} → LoopRound) (r : LoopRound) (again : Step) (st : State) → followed (followed (followed (r st) (next_round (repeated f))) out) (resume call rs) ≡ followed (again st) (meant call) → (x : Exit) → followed (around f (after_body r x) st) (resume call rs) ≡ followed (following again x rs st) (meant call)
@@ -176,7 +176,7 @@ next_kept program n (machine.Stored w) (Number v) rs st l = join2 (write v w st)
 next_kept program n (machine.Stored w) a rs st l = refl
 next_kept program n (machine.StoresAt v) (Number w) rs st l = join2 (write v w st) nothing (resume (calls program n) rs) (λ u. give Nothing rs) (meant (calls program n)) (λ x st1. refl)
 next_kept program n (machine.StoresAt v) a rs st l = refl
-next_kept program n (machine.Closes m b) a rs st l = refl
+next_kept program n (machine.Closes o m b) a rs st l = refl
 next_kept program n machine.Returns (Left x) rs st l =
     join2 (routine_value x st) number (resume (calls program n) rs) (λ w. give (Number w) rs) (meant (calls program n)) (λ v st1. refl)
 next_kept program n machine.Returns a rs st l = refl

@@ -3,6 +3,8 @@ pub mod Causes
 pub mod Machine
 pub mod Meeting
 pub mod MeetingExamples
+pub mod OpenCalls
+pub mod OpenCallExamples
 pub mod Quiet
 pub mod Resume
 pub mod Running

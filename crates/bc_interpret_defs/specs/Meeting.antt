@@ -1,5 +1,5 @@
 -- What makes a step of the machine wild: which causes it meets.
-use Rattle.std.specs.Prelude.{ℕ, zero, suc, ◌≡◌, ◌+◌, ◌<◌, ◌≤◌, List, ◌∷◌, Option, Some, None, slice_set}
+use Rattle.std.specs.Prelude.{ℕ, zero, suc, ◌≡◌, ◌+◌, ◌<◌, ◌≤◌, List, Option, Some, None, slice_set}
 use Rattle.bc_core.specs.Layout.{frame_size}
 use Rattle.bc_core.specs.Map.{Placed}
 use Rattle.bc_core.specs.Meaning.{Callee, OfSection, OfLibrary, callee, passed}
@@ -8,7 +8,8 @@ use Rattle.bc_core.specs.Primitive.{Primitive, primitive_frame, primitive_work}
 use Rattle.bc_core.specs.Store.{Cell, Set, cell_at}
 use Rattle.bc_core.specs.Store as cells
 use Rattle.bc_interpret_defs.specs.Causes.{Cause, Unset, Dead, NoCell, NotRoutine, FrameTooLarge, Malformed, StandsIn}
-use Rattle.bc_interpret_defs.specs.Machine.{Number, Work, Give, Rest, Calls, At, step}
+use Rattle.bc_interpret_defs.specs.Machine.{Work, Rest, OpenCall, At, step}
+use Rattle.bc_interpret_defs.specs.OpenCalls.{IsCall, AreOpen}
 
 -- a state has every word that these cells hold; it may have any others besides
 abbrev pub KeepsWords : List Cell → State → Type 0
@@ -42,12 +43,6 @@ IsWildBy r store (Unset a) = StandsIn (Unset a) store × NeedsWord r store a
 IsWildBy r store (Dead a) = StandsIn (Dead a) store × NeedsWord r store a
 IsWildBy r store (NoCell a) = StandsIn (NoCell a) store × NeedsLive r store a
 IsWildBy r store cause = ⊥
-
--- the step calls this value with these arguments, in the frame at f
-pub record IsCall (w : Work) (rs : List Rest) (value : ℕ) (arguments : List ℕ) (f : ℕ) : Type 0 where
-  pub following : List Rest
-  pub work : w ≡ Give (Number value)
-  pub rests : rs ≡ Calls arguments f ∷ following
 
 -- the size, in cells, of the frame that a routine or primitive takes
 abbrev pub frame_of : Callee → ℕ
@@ -91,11 +86,12 @@ abbrev pub after_steps : List Placed → ℕ → At → State → Outcome At
 after_steps program zero at st = Done at st
 after_steps program (suc k) at st = followed (step program at.work at.rests st) (after_steps program k)
 
--- after some number of steps from here, the next step is wild with this cause
-pub record ComesTo (program : List Placed) (from : At) (start : State) (cause : Cause) : Type 0 where
+-- after some number of steps from here, the next step is wild with this cause, and these calls are open during it
+pub record ComesTo (program : List Placed) (from : At) (start : State) (cause : Cause) (calls : List OpenCall) : Type 0 where
   pub steps : ℕ
   pub at : At
   pub state : State
   pub comes : after_steps program steps from start ≡ Done at state
   pub wild : step program at.work at.rests state ≡ Wild
   pub meets : Meets program at.work at.rests state.cells cause
+  pub during : AreOpen at.work at.rests calls

@@ -1,5 +1,5 @@
 -- Worked examples: which causes a wild step meets, and which it doesn't.
-use Rattle.std.specs.Prelude.{ℕ, zero, suc, ◌≡◌, ◌+◌, List, [], ◌∷◌, Some, refl, slice_set}
+use Rattle.std.specs.Prelude.{ℕ, zero, suc, ◌≡◌, ◌+◌, List, [], ◌∷◌, Some, None, refl, slice_set}
 use Rattle.std.proofs.Common.{arith, ap, sym, subst}
 use Rattle.bc_machine_defs.specs.StreamStart.{start_streams}
 use Rattle.bc_core.specs.Tree.{Frame, Load}
@@ -10,7 +10,8 @@ use Rattle.bc_core.specs.Primitive.{Primitive, WriteByte, primitive_work}
 use Rattle.bc_core.specs.Meaning.{OfLibrary, callee, passed}
 use Rattle.bc_interpret_defs.specs.Causes.{Cause, Unset, Dead, NoCell, NotRoutine, FrameTooLarge, Malformed}
 use Rattle.bc_interpret_defs.specs.Machine.{Spot, Number, Work, Evaluate, Give, Loads, StoresAt, Calls, Closes, Nothing, At, give, step}
-use Rattle.bc_interpret_defs.specs.Meeting.{KeepsWords, HasNoWord, IsWildBy, IsCall, Meets, ByCell, ByArgument, ByCall, ByForm, ComesTo}
+use Rattle.bc_interpret_defs.specs.OpenCalls.{IsCall, AreOpen, Within}
+use Rattle.bc_interpret_defs.specs.Meeting.{KeepsWords, HasNoWord, IsWildBy, Meets, ByCell, ByArgument, ByCall, ByForm, ComesTo}
 
 -- cell 0 is dead, cell 1 is unset, and cell 2 has a 7
 abbrev store : List Cell
@@ -162,7 +163,7 @@ no_room : Meets [] (Give (Number 530)) (Calls [] 65534 ∷ []) store (FrameTooLa
 no_room = ByCall 530 [] 65534 (record { following = []; work = refl; rests = refl }) (refl, omega arith)
 
 -- cell 2 is freed and then read: it is dead at the wild step, though it wasn't at the start
-read_after_closing : ComesTo [] (record { work = Give (Number 2); rests = Closes 1 2 ∷ Loads ∷ [] }) (over store) (Dead 2)
+read_after_closing : ComesTo [] (record { work = Give (Number 2); rests = Closes None 1 2 ∷ Loads ∷ [] }) (over store) (Dead 2) []
 read_after_closing = record {
   steps = 1;
   at = record { work = Give (Number 2); rests = Loads ∷ [] };
@@ -170,4 +171,5 @@ read_after_closing = record {
   comes = refl;
   wild = refl;
   meets = ByCell (λ v vs f c. let h = c.rests in cc) (refl, λ st keeps h. no_read (cell_at st.cells 2) st _ h);
+  during = Within (λ v vs f c. let h = c.rests in cc) refl;
 }

@@ -98,7 +98,7 @@ rest call (machine.Stores E address s) a =
     on_number (λ w. then_do (value (context_at call E) address E.frame (side_level address s)) (λ v. then_do (write v w) nothing)) a
 rest call (machine.Stored w) a = on_number (λ v. then_do (write v w) nothing) a
 rest call (machine.StoresAt address) a = on_number (λ w. then_do (write address w) nothing) a
-rest call (machine.Closes n address) a = shut n address (Done a)
+rest call (machine.Closes over n address) a = shut n address (Done a)
 rest call machine.Returns a = on_exit (λ x. then_do (routine_value x) number) a
 rest call machine.Results a = on_exit (λ x. then_do (valof_value x) number) a
 rest call machine.Drops a = on_number (λ v. out Past) a

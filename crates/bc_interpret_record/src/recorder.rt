@@ -482,7 +482,7 @@ impl Observer for Recorder {
                     self.enter(stacks, store)
                 }
             }
-            Progress::Serve(primitive, frame) => self.serve(primitive, frame, store),
+            Progress::Serve(primitive, call) => self.serve(primitive, call.frame, store),
             Progress::Answered | Progress::Ended(_) | Progress::Going | Progress::Wild(_) => {
                 self.end(store)
             }

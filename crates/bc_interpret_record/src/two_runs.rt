@@ -168,7 +168,7 @@ pub fn record_run(
     limits: RecordLimits,
 ) -> Result<Recorded, RecordError>
     ensures interpreted { IfOk result (λ r. InterpretedOn IsKnown memory_content memory_failures (map section_view program.entry.cores.now)
-        program.entry.image.now limits.turns streams.old streams.new r.interpreted.outcome) }
+        program.entry.image.now limits.turns streams.old streams.new r.interpreted) }
     ensures replayable { IfOk result (λ r. IsReplayable r.recording) }
 {
     let interpreted = interpret(alloc, program.cores, program.image, streams, limits.turns)?;

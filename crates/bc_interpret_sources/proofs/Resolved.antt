@@ -20,6 +20,7 @@ use Rattle.bc_build.specs.Parsed.{IsParsed, AreParsed}
 use Rattle.bc_build.specs.Built.{IsBuilt}
 use Rattle.bc_build.specs.declared.building.Built.{Built}
 use Rattle.bc_build.specs.Runs.{addresses, meant, started, RunsAsMeant}
+use Rattle.bc_interpret.specs.declared.run.Interpreted.{Interpreted}
 use Rattle.bc_interpret.specs.declared.run.Outcome.{Outcome}
 use Rattle.bc_interpret.specs.declared.run.Outcome.TheVariants as outs
 use Rattle.bc_interpret.specs.Results.{IsResult}
@@ -73,9 +74,9 @@ means law sections cores image before after turns o e h =
     (law sections (addresses image) before turns ∙ ap (λ cs. meaning cs (addresses image) before turns) e) h
 
 -- a wild access in the run of the translations is one in the run of what the sections are translated to
-pub names : (cores translated : List Core) (image : Image) (before : Content) (turns : ℕ) (o : Outcome) → translated ≡ cores
-    → NamesFrom cores (addresses image) before turns o → NamesFrom translated (addresses image) before turns o
-names cores translated image before turns o e h = subst (λ cs. NamesFrom cs (addresses image) before turns o) (sym e) h
+pub names : (cores translated : List Core) (image : Image) (before : Content) (turns : ℕ) (i : Interpreted) → translated ≡ cores
+    → NamesFrom cores (addresses image) before turns i → NamesFrom translated (addresses image) before turns i
+names cores translated image before turns i e h = subst (λ cs. NamesFrom cs (addresses image) before turns i) (sym e) h
 
 -- the image's run agrees
 pub runs_to : (sections : List Declarations) (image : Image) (before after : Content) (turns : ℕ) (o : Outcome) → RunsAsMeant sections image → HoldBytes before.inputs

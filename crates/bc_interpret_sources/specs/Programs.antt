@@ -11,6 +11,7 @@ use Rattle.bc_build.specs.Parsed.{AreParsed}
 use Rattle.bc_scope_defs.specs.Translation.{core_of}
 use Rattle.bc_build.specs.Runs.{addresses, meant, started, RunsAsMeant}
 use Rattle.bc_interpret_steps.specs.Endings.{ending}
+use Rattle.bc_interpret.specs.declared.run.Interpreted.{Interpreted}
 use Rattle.bc_interpret.specs.declared.run.Outcome.{Outcome}
 use Rattle.bc_interpret.specs.declared.run.Outcome.TheVariants as outcomes
 use Rattle.bc_interpret.specs.Results.{IsResult}
@@ -38,11 +39,11 @@ MeansOn known content program turns streams streams_new outcome =
     → IsResult (meant sections program.image.now (content streams) turns) outcome (content streams_new)
 
 -- If a wild access is reported: from the start of the run of the resolved sections, the machine of bc_interpret_defs reaches a step that
--- is wild with that cause.
-abbrev pub NamesOn : {T : Type 0} → (T → Type 0) → (T → Content) → BuiltProgram → (turns : ℕ) → T → Outcome → Type 0
-NamesOn known content program turns streams outcome =
+-- is wild with that cause, and the trail shows the calls that are open during that step.
+abbrev pub NamesOn : {T : Type 0} → (T → Type 0) → (T → Content) → BuiltProgram → (turns : ℕ) → T → Interpreted → Type 0
+NamesOn known content program turns streams i =
     (sections : List Declarations) → AreParsed (files_of program.sources.now) program.mains.now sections → known streams
-    → NamesFrom (map core_of sections) (addresses program.image.now) (content streams) turns outcome
+    → NamesFrom (map core_of sections) (addresses program.image.now) (content streams) turns i
 
 -- over streams whose content is known, the machine, started from the image, agrees
 abbrev pub RunsOn : {T : Type 0} → (T → Type 0) → (T → Content) → BuiltProgram → (turns : ℕ) → T → T → Outcome → Type 0

@@ -108,8 +108,9 @@ pub fn interpret<S: Streams>(
     // If the content of the streams is known, the outcome and the output are what the sections mean, or a device failed.
     ensures means { IfOk result (λ i. MeansOn S.known S.content program.now turns streams.old streams.new i.outcome) }
 
-    // If the content is known and the run is wild, the machine reaches a step that is wild with the reported cause.
-    ensures names { IfOk result (λ i. NamesOn S.known S.content program.now turns streams.old i.outcome) }
+    // If the content is known and the run is wild, the machine reaches a step that is wild with the reported cause, and the trail has the
+    // calls that are open during that step.
+    ensures names { IfOk result (λ i. NamesOn S.known S.content program.now turns streams.old i) }
 
     // If the content is known, the image's run has the same ending and output, or goes on as well; nothing is said of a wild run.
     ensures runs { IfOk result (λ i. RunsOn S.known S.content program.now turns streams.old streams.new i.outcome) }
@@ -139,8 +140,9 @@ pub fn interpret_observed<S: Streams, O: Observer>(
     // If the content of the streams is known, the outcome and the output are what the sections mean, or a device failed.
     ensures means { IfOk result (λ i. MeansOn S.known S.content program.now turns streams.old streams.new i.outcome) }
 
-    // If the content is known and the run is wild, the machine reaches a step that is wild with the reported cause.
-    ensures names { IfOk result (λ i. NamesOn S.known S.content program.now turns streams.old i.outcome) }
+    // If the content is known and the run is wild, the machine reaches a step that is wild with the reported cause, and the trail has the
+    // calls that are open during that step.
+    ensures names { IfOk result (λ i. NamesOn S.known S.content program.now turns streams.old i) }
 
     // If the content is known, the image's run has the same ending and output, or goes on as well; nothing is said of a wild run.
     ensures runs { IfOk result (λ i. RunsOn S.known S.content program.now turns streams.old streams.new i.outcome) }

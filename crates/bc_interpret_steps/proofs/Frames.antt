@@ -29,8 +29,8 @@ pub fits : (f size : ℕ) (old new : State) → f + size ≤ 65536 → Turned tr
 fits f size old new h t e = (λ r streams. ap (λ t. choose t (in_turn r) wild (state_of old streams)) (below_true (f + size) 65536 h) ∙ t r streams, e, h)
 
 -- a primitive that is called
-pub served : (q : Primitive) (f from : ℕ) (us : List ℕ) (rs : List machine.Rest) (old mid new : State) → Framed forms.Fits f 3 old mid → from ≡ f + 2 → new.store ≡ passed 1 from us mid.store → new.turns ≡ mid.turns → IsServed (machine.arrive (Some (OfLibrary q)) us f rs) (Some (OfLibrary q)) us f q f old rs new
-served q f from us rs old mid new framed at e t =
+pub served : (q : Primitive) (value f from : ℕ) (us : List ℕ) (rs : List machine.Rest) (old mid new : State) → Framed forms.Fits f 3 old mid → from ≡ f + 2 → new.store ≡ passed 1 from us mid.store → new.turns ≡ mid.turns → IsServed (machine.arrive (Some (OfLibrary q)) value us f rs) (Some (OfLibrary q)) us f q f old rs new
+served q value f from us rs old mid new framed at e t =
     let put : new.store ≡ passed 1 (f + 2) us mid.store = e ∙ ap (λ a. passed 1 a us mid.store) at in
     record {
       comes = λ streams. framed.0 (then_do (with_arguments 1 (f + 2) us (primitive_work q f)) (λ v. machine.give (machine.Number v) rs)) streams

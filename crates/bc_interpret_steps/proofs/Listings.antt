@@ -13,6 +13,7 @@ use Rattle.bc_core.specs.View.{items, items_before, command as command_view}
 use Rattle.bc_interpret_defs.specs.Machine as machine
 use Rattle.bc_interpret_defs.specs.Machine.{list_step}
 use Rattle.bc_interpret_defs.specs.Meeting.{IsWildBy}
+use Rattle.bc_interpret_defs.specs.OpenCalls.{calls_in}
 use Rattle.bc_interpret_pure.specs.Causes.{cause_of}
 use Rattle.bc_interpret_pure.specs.declared.context.Cause.{Cause}
 use Rattle.bc_interpret_steps.specs.declared.state.State.{State}
@@ -90,10 +91,10 @@ pub listed_over : (E : machine.Spot) (s : ℕ) (all left following : List ListIt
     → ((rs : List machine.Rest) (streams : Content) → list_step E (items all) s (entry_of entry) rs (state_of st streams) ≡ list_step E (items left) s (entry_of at) rs (state_of old streams)) → Goes (list_step E (items all) s (entry_of entry)) before st p after new
 listed_over E s all left following first entry at before cur after st old new along p h is split same stood kept =
     let P : Along → Type 0 = λ x. IsAlong E first following s at cur old x p after new in
-    moved_came (list_step E (items all) s (entry_of entry) (stack before)) (list_step E (items_before first (items following)) s (entry_of at) (stack cur)) st old p (stack after) (given after) new (carried stood)
+    moved_came _ (list_step E (items all) s (entry_of entry) (stack before)) (list_step E (items_before first (items following)) s (entry_of at) (stack cur)) st old p (stack after) (given after) new (carried stood)
     (λ streams. kept (stack before) streams
     ∙ (ap (λ xs. list_step E (items xs) s (entry_of at) (stack before) (state_of old streams)) split
-    ∙ ap (λ q. list_step E (items_before first (items following)) s (entry_of at) (stack q) (state_of old streams)) (sym same))) (subst P is h) where
+    ∙ ap (λ q. list_step E (items_before first (items following)) s (entry_of at) (stack q) (state_of old streams)) (sym same))) (subst (λ q. Came (calls_in (stack q)) (list_step E (items_before first (items following)) s (entry_of at) (stack cur)) old p (stack after) (given after) new) same (subst P is h)) where
       carried : ((rs : List machine.Rest) → Carries (list_step E (items all) s (entry_of entry) rs) (list_step E (items left) s (entry_of at) rs) st old) → Carries (list_step E (items all) s (entry_of entry) (stack before)) (list_step E (items_before first (items following)) s (entry_of at) (stack cur)) st old
       carried k =
           subst (λ q. Carries (list_step E (items all) s (entry_of entry) (stack before)) (list_step E (items_before first (items following)) s (entry_of at) (stack q)) st old) (sym same)
@@ -101,9 +102,9 @@ listed_over E s all left following first entry at before cur after st old new al
 
 -- a list that a jump enters again
 pub listed_again : (program : List Placed) (E : machine.Spot) (is : List ListItem) (s l : ℕ) (rs rs1 rs2 : List machine.Rest) (old : State) (p : Progress) (vs : List ℕ) (new : State) → has_label (items is) l ≡ true → rs1 ≡ machine.Listed E (items is) s ∷ rs
-    → Came (list_step E (items is) s (AtLabel l) rs1) old p rs2 vs new → CameOrMalformed (machine.next program (machine.Listed E (items is) s) (machine.Left (Jumped l)) rs) old p rs2 vs new
+    → Came (calls_in rs1) (list_step E (items is) s (AtLabel l) rs1) old p rs2 vs new → CameOrMalformed (calls_in rs) (machine.next program (machine.Listed E (items is) s) (machine.Left (Jumped l)) rs) old p rs2 vs new
 listed_again program E is s l rs rs1 rs2 old p vs new here e h =
     let r = machine.next program (machine.Listed E (items is) s) (machine.Left (Jumped l)) rs in
-    loosen r old p rs2 vs new
-    (same_came r (list_step E (items is) s (AtLabel l) rs1) old p rs2 vs new
-    (λ st keeps. ap (λ t. machine.jump E (items is) s l t rs st) here ∙ ap (λ q. list_step E (items is) s (AtLabel l) q st) (sym e)) h)
+    loosen _ r old p rs2 vs new
+    (same_came _ r (list_step E (items is) s (AtLabel l) rs1) old p rs2 vs new
+    (λ st keeps. ap (λ t. machine.jump E (items is) s l t rs st) here ∙ ap (λ q. list_step E (items is) s (AtLabel l) q st) (sym e)) (subst (λ q. Came (calls_in q) (list_step E (items is) s (AtLabel l) rs1) old p rs2 vs new) e h))

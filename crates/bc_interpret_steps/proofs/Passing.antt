@@ -15,10 +15,12 @@ use Rattle.bc_core.specs.declared.command.ListItem.{ListItem}
 use Rattle.bc_interpret_defs.specs.Machine as machine
 use Rattle.bc_interpret_defs.specs.Machine.{step, give}
 use Rattle.bc_interpret_defs.specs.Running.{Moves}
+use Rattle.bc_interpret_defs.specs.OpenCalls.{calls_in}
 use Rattle.bc_interpret_steps.specs.declared.state.State.{State}
 use Rattle.bc_interpret_steps.specs.declared.forms.Exit.{Exit}
 use Rattle.bc_interpret_steps.specs.declared.forms.Exit.TheVariants as exit_forms
 use Rattle.bc_interpret_steps.specs.declared.forms.Ending.{Ending}
+use Rattle.bc_interpret_steps.specs.declared.forms.OpenCall.{OpenCall}
 use Rattle.bc_interpret_steps.specs.declared.forms.Primitive.{Primitive}
 use Rattle.bc_interpret_pure.specs.declared.context.Cause.{Cause}
 use Rattle.bc_interpret_steps.specs.declared.forms.Work.TheVariants as works
@@ -140,7 +142,7 @@ passed_by x all below (rests.Value r) y e k = absurd k
 passed_by x all below (rests.Calls fresh f) y e k = absurd k
 passed_by x all below (rests.Truth r) y e k = absurd k
 passed_by x all below (rests.Nothing r) y e k = absurd k
-passed_by x all below (rests.Closes n a) y e k = absurd k
+passed_by x all below (rests.Closes call n a) y e k = absurd k
 passed_by x all below (rests.Given v first) y e k = absurd k
 
 pub popped_by : (x : exits.Exit) (all below : List Rest) (gone : Option Rest) (y : Exit) (n m : ℕ) → all ≡ below ++ option_to_list gone → MatchOption gone ((n ≡ 0) × (m ≡ 0)) (λ r. m + 1 ≡ n) → length all ≡ n → IsPassed x all (Some y) → PassesOn x (stack all) (exit_of y) (stack below)
@@ -193,20 +195,20 @@ pub ran_next : {A E : Type 0} (table : List Callable) (q : Progress) (w : Work) 
 ran_next table q w before old result p after new is h = subst (λ x. RunsOver table (work_of (given before.items) (work_next x)) before old result p after new) (sym is) h
 
 pub proceeds_next : {A E : Type 0} (table : List Callable) (q : Progress) (w : Work) (before : Vec Rest Global) (old : State) (result : Result A E) (p : Progress) (after : Vec Rest Global) (new : State) → q ≡ progress.On w → NoCall (work_of (given before.items) w) (stack before.items) → Moves (work_of (given before.items) w) (stack before.items)
-    → ((program : List Placed) → OnOk result (Came (step program (work_of (given before.items) w) (stack before.items)) old p (stack after.items) (given after.items) new)) → RunsOver table (work_of (given before.items) (work_next q)) before old result p after new
+    → ((program : List Placed) → OnOk result (Came (calls_in (stack before.items)) (step program (work_of (given before.items) w) (stack before.items)) old p (stack after.items) (given after.items) new)) → RunsOver table (work_of (given before.items) (work_next q)) before old result p after new
 proceeds_next table q w before old result p after new is n m h =
     ran_next table q w before old result p after new is (ran_once table (work_of (given before.items) w) before old result p after new
     (λ program t. on_ok_weaker result (λ k. stepped program (work_of (given before.items) w) (stack before.items) old p (stack after.items) (given after.items) new n m k) (h program)))
 
 pub proceeds_loosely : {A E : Type 0} (table : List Callable) (q : Progress) (w : Work) (before : Vec Rest Global) (old : State) (result : Result A E) (p : Progress) (after : Vec Rest Global) (new : State) → q ≡ progress.On w → NoCall (work_of (given before.items) w) (stack before.items) → Moves (work_of (given before.items) w) (stack before.items)
-    → ((program : List Placed) → OnOk result (CameOrMalformed (step program (work_of (given before.items) w) (stack before.items)) old p (stack after.items) (given after.items) new)) → RunsOver table (work_of (given before.items) (work_next q)) before old result p after new
+    → ((program : List Placed) → OnOk result (CameOrMalformed (calls_in (stack before.items)) (step program (work_of (given before.items) w) (stack before.items)) old p (stack after.items) (given after.items) new)) → RunsOver table (work_of (given before.items) (work_next q)) before old result p after new
 proceeds_loosely table q w before old result p after new is n m h =
     ran_next table q w before old result p after new is (ran_once table (work_of (given before.items) w) before old result p after new
     (λ program t. on_ok_weaker result (λ k. stepped_loosely program (work_of (given before.items) w) (stack before.items) old p (stack after.items) (given after.items) new n m k) (h program)))
 
 -- there is no work
 pub nothing_next : (p : Progress)
-    → ((q : Primitive) × (f : ℕ) × (p ≡ progress.Serve q f)) ⊎ ((p ≡ progress.Answered) ⊎ (((e : Ending) × (p ≡ progress.Ended e)) ⊎ ((p ≡ progress.Going) ⊎ ((c : Cause) × (p ≡ progress.Wild c)))))
+    → ((q : Primitive) × (f : OpenCall) × (p ≡ progress.Serve q f)) ⊎ ((p ≡ progress.Answered) ⊎ (((e : Ending) × (p ≡ progress.Ended e)) ⊎ ((p ≡ progress.Going) ⊎ ((c : Cause) × (p ≡ progress.Wild c)))))
     → work_next p ≡ works.Nothing
 nothing_next p (inl e) = ap work_next e.2
 nothing_next p (inr (inl e)) = ap work_next e

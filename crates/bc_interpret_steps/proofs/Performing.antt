@@ -9,6 +9,7 @@ use Rattle.bc_interpret_defs.specs.Causes.{Cause}
 use Rattle.bc_interpret_defs.specs.Machine as machine
 use Rattle.bc_interpret_defs.specs.Machine.{step}
 use Rattle.bc_interpret_defs.specs.Meeting.{Meets, ByCell, ByArgument, ByCall, ByForm}
+use Rattle.bc_interpret_defs.specs.OpenCalls.{AreOpen, Within, Calling}
 use Rattle.bc_interpret_steps.specs.declared.state.State.{State}
 use Rattle.bc_interpret_steps.specs.declared.forms.Progress.{Progress}
 use Rattle.bc_interpret_steps.specs.declared.forms.Progress.TheVariants as progress
@@ -26,6 +27,11 @@ meets_performing program E e s rs cells cause (ByArgument v xs f q call k fits h
 meets_performing program E e s rs cells cause (ByCall v xs f call h) = let w = call.work in absurd cc
 meets_performing program E e s rs cells cause (ByForm n k h) = ByForm (λ v vs f c. let w = c.work in cc) k h
 
+open_performing : (E : machine.Spot) (e : Exp) (s : ℕ) (rs : List machine.Rest) (calls : List machine.OpenCall)
+    → AreOpen (machine.Evaluate E e s) (machine.Drops ∷ rs) calls → AreOpen (machine.Perform E (commands.Call e) s) rs calls
+open_performing E e s rs calls (Within n h) = Within (λ v vs f c. let w = c.work in cc) h
+open_performing E e s rs calls (Calling v xs f call h) = let w = call.work in absurd cc
+
 stepped_performing : (program : List Placed) (E : machine.Spot) (e : Exp) (s : ℕ) (rs : List machine.Rest) (old : State) (p : Progress) (rs1 : List machine.Rest) (vs : List ℕ) (new : State)
     → Stepped program (machine.Evaluate E e s) (machine.Drops ∷ rs) old p rs1 vs new → Stepped program (machine.Perform E (commands.Call e) s) rs old p rs1 vs new
 stepped_performing program E e s rs old (progress.On x) rs1 vs new h = (tt, h.1)
@@ -33,7 +39,7 @@ stepped_performing program E e s rs old (progress.Serve q f) rs1 vs new h = let 
 stepped_performing program E e s rs old progress.Answered rs1 vs new h = let w = h.0.1 in absurd cc
 stepped_performing program E e s rs old (progress.Ended x) rs1 vs new h = (tt, h.1)
 stepped_performing program E e s rs old progress.Going rs1 vs new h = (tt, h.1)
-stepped_performing program E e s rs old (progress.Wild c) rs1 vs new h = (tt, h.1, meets_performing program E e s rs _ _ h.2)
+stepped_performing program E e s rs old (progress.Wild c) rs1 vs new h = (tt, h.1, meets_performing program E e s rs _ _ h.2, open_performing E e s rs _ h.3)
 
 passes_performing : (program : List Placed) (old : State) (E : machine.Spot) (e : Exp) (s : ℕ) (rs : List machine.Rest) (to m : machine.At) (along : List machine.At)
     → Passes program old (evaluating E e s (machine.Drops ∷ rs)) (m ∷ along) to → (ms : List machine.At) × Passes program old (performing E e s rs) ms to

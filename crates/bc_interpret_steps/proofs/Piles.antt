@@ -27,7 +27,7 @@ taken before old new (rests.Calls fresh f) h e n = sym h ∙ (ap stack e ∙ sta
 taken before old new (rests.Truth r) h e n = sym h ∙ (ap stack e ∙ stack_more new (rests.Truth r))
 taken before old new (rests.Nothing r) h e n = sym h ∙ (ap stack e ∙ stack_more new (rests.Nothing r))
 taken before old new (rests.Exit r) h e n = sym h ∙ (ap stack e ∙ stack_more new (rests.Exit r))
-taken before old new (rests.Closes k a) h e n = sym h ∙ (ap stack e ∙ stack_more new (rests.Closes k a))
+taken before old new (rests.Closes call k a) h e n = sym h ∙ (ap stack e ∙ stack_more new (rests.Closes call k a))
 taken before old new (rests.Given v first) h e n = absurd (n v first refl)
 
 -- an argument is dropped

@@ -1,5 +1,5 @@
 -- Pure tests of IF and WHILE, which are decided within one step.
-use Rattle.std.proofs.Common.{◌≡◌, ℕ, Bool, true, List, ◌∷◌, Option, Some, sym, ap}
+use Rattle.std.proofs.Common.{◌≡◌, ℕ, Bool, true, List, [], ◌∷◌, Option, Some, sym, ap}
 use Rattle.bc_core.specs.Tree.{Exp}
 use Rattle.bc_core.specs.Commands.{Block}
 use Rattle.bc_core.specs.Commands as commands
@@ -9,6 +9,7 @@ use Rattle.bc_core.specs.Outcome.{choose}
 use Rattle.bc_core.specs.Value.{has_call}
 use Rattle.bc_interpret_defs.specs.Machine as machine
 use Rattle.bc_interpret_defs.specs.Machine.{give, enter, perform_step}
+use Rattle.bc_interpret_defs.specs.OpenCalls.{calls_in}
 use Rattle.bc_interpret_pure.specs.declared.context.Cause.{Cause}
 use Rattle.bc_interpret_pure.specs.declared.value.Truth.{Truth}
 use Rattle.bc_interpret_pure.specs.declared.value.Truth.TheVariants as truths
@@ -28,23 +29,23 @@ while_next E sense e b s rs t = choose (agrees sense t) (enter E b s (machine.Wh
 
 -- the outcome of an IF
 pub if_told : (E : machine.Spot) (sense : Bool) (e : Exp) (b : Block) (s : ℕ) (rs : List machine.Rest) (old : State) (found : Option Truth) (t holds : Bool) (p : Progress) (rs1 : List machine.Rest) (vs : List ℕ) (new : State) → IsTruth (sight old E) e found → found ≡ Some (truths.Is t) → holds ≡ agrees sense t
-    → Came (choose holds (enter E b s rs) (give (machine.Left Past) rs)) old p rs1 vs new → Came (perform_step E (commands.If sense e b) s rs) old p rs1 vs new
+    → Came (calls_in rs) (choose holds (enter E b s rs) (give (machine.Left Past) rs)) old p rs1 vs new → Came (calls_in rs) (perform_step E (commands.If sense e b) s rs) old p rs1 vs new
 if_told E sense e b s rs old found t holds p rs1 vs new h is a g =
     let told = told_truth (sight old E) e found (truths.Is t) h is in
     tested_on E e s (if_next E sense b s rs) (machine.Ifs E sense b s) rs old t p rs1 vs new told.0 told.1
-    (same_came (if_next E sense b s rs t) (choose holds (enter E b s rs) (give (machine.Left Past) rs)) old p rs1 vs new (λ st keeps. ap (λ z. choose z (enter E b s rs) (give (machine.Left Past) rs) st) (sym a)) g)
+    (same_came _ (if_next E sense b s rs t) (choose holds (enter E b s rs) (give (machine.Left Past) rs)) old p rs1 vs new (λ st keeps. ap (λ z. choose z (enter E b s rs) (give (machine.Left Past) rs) st) (sym a)) g)
 
-pub if_divides : (E : machine.Spot) (sense : Bool) (e : Exp) (b : Block) (s : ℕ) (rs : List machine.Rest) (st : State) (found : Option Truth) (rs1 : List machine.Rest) (vs : List ℕ) → IsTruth (sight st E) e found → found ≡ Some truths.Divides → Came (perform_step E (commands.If sense e b) s rs) st (progress.Ended endings.ZeroDivide) rs1 vs st
+pub if_divides : (E : machine.Spot) (sense : Bool) (e : Exp) (b : Block) (s : ℕ) (rs : List machine.Rest) (st : State) (found : Option Truth) (rs1 : List machine.Rest) (vs : List ℕ) → IsTruth (sight st E) e found → found ≡ Some truths.Divides → Came [] (perform_step E (commands.If sense e b) s rs) st (progress.Ended endings.ZeroDivide) rs1 vs st
 if_divides E sense e b s rs st found rs1 vs h is =
     let told = told_truth (sight st E) e found truths.Divides h is in
     tested_divides E e s (if_next E sense b s rs) (machine.Ifs E sense b s) rs st rs1 vs st told.0 told.1
 
-pub if_fails : (E : machine.Spot) (sense : Bool) (e : Exp) (b : Block) (s : ℕ) (rs : List machine.Rest) (st : State) (found : Option Truth) (c : Cause) (rs1 : List machine.Rest) (vs : List ℕ) → IsTruth (sight st E) e found → found ≡ Some (truths.Fails c) → Came (perform_step E (commands.If sense e b) s rs) st (progress.Wild c) rs1 vs st
-if_fails E sense e b s rs st found c rs1 vs h is =
+pub if_fails : {calls : List machine.OpenCall} → (E : machine.Spot) (sense : Bool) (e : Exp) (b : Block) (s : ℕ) (rs : List machine.Rest) (st : State) (found : Option Truth) (c : Cause) (rs1 : List machine.Rest) (vs : List ℕ) → IsTruth (sight st E) e found → found ≡ Some (truths.Fails c) → calls_in rs1 ≡ calls → Came calls (perform_step E (commands.If sense e b) s rs) st (progress.Wild c) rs1 vs st
+if_fails E sense e b s rs st found c rs1 vs h is k =
     let told = told_truth (sight st E) e found (truths.Fails c) h is in
-    tested_fails E e s c (if_next E sense b s rs) (machine.Ifs E sense b s) rs st rs1 vs st told.0 told.1
+    tested_fails E e s c (if_next E sense b s rs) (machine.Ifs E sense b s) rs st rs1 vs st told.0 told.1 k
 
-pub if_calls : (E : machine.Spot) (sense : Bool) (e : Exp) (b : Block) (s : ℕ) (rs : List machine.Rest) (st : State) (p : Progress) (rs1 : List machine.Rest) (vs : List ℕ) → has_call e ≡ true → Came (machine.go (machine.Decide E e s) (machine.Ifs E sense b s ∷ rs)) st p rs1 vs st → Came (perform_step E (commands.If sense e b) s rs) st p rs1 vs st
+pub if_calls : (E : machine.Spot) (sense : Bool) (e : Exp) (b : Block) (s : ℕ) (rs : List machine.Rest) (st : State) (p : Progress) (rs1 : List machine.Rest) (vs : List ℕ) → has_call e ≡ true → Came (calls_in rs) (machine.go (machine.Decide E e s) (machine.Ifs E sense b s ∷ rs)) st p rs1 vs st → Came (calls_in rs) (perform_step E (commands.If sense e b) s rs) st p rs1 vs st
 if_calls E sense e b s rs st p rs1 vs calls h = tested_calls E e s (if_next E sense b s rs) (machine.Ifs E sense b s) rs st p rs1 vs st calls h
 
 -- the outcome of a WHILE
@@ -52,21 +53,21 @@ abbrev pub loops : machine.Spot → Bool → Exp → Block → ℕ → List mach
 loops E sense e b s rs = enter E b s (machine.WhileBody E sense e b s ∷ rs)
 
 pub while_told : (E : machine.Spot) (sense : Bool) (e : Exp) (b : Block) (s : ℕ) (rs : List machine.Rest) (old : State) (found : Option Truth) (t holds : Bool) (p : Progress) (rs1 : List machine.Rest) (vs : List ℕ) (new : State) → IsTruth (sight old E) e found → found ≡ Some (truths.Is t) → holds ≡ agrees sense t
-    → Came (choose holds (loops E sense e b s rs) (give (machine.Left Past) rs)) old p rs1 vs new → Came (perform_step E (commands.While sense e b) s rs) old p rs1 vs new
+    → Came (calls_in rs) (choose holds (loops E sense e b s rs) (give (machine.Left Past) rs)) old p rs1 vs new → Came (calls_in rs) (perform_step E (commands.While sense e b) s rs) old p rs1 vs new
 while_told E sense e b s rs old found t holds p rs1 vs new h is a g =
     let told = told_truth (sight old E) e found (truths.Is t) h is in
     tested_on E e s (while_next E sense e b s rs) (machine.Whiles E sense e b s) rs old t p rs1 vs new told.0 told.1
-    (same_came (while_next E sense e b s rs t) (choose holds (loops E sense e b s rs) (give (machine.Left Past) rs)) old p rs1 vs new (λ st keeps. ap (λ z. choose z (loops E sense e b s rs) (give (machine.Left Past) rs) st) (sym a)) g)
+    (same_came _ (while_next E sense e b s rs t) (choose holds (loops E sense e b s rs) (give (machine.Left Past) rs)) old p rs1 vs new (λ st keeps. ap (λ z. choose z (loops E sense e b s rs) (give (machine.Left Past) rs) st) (sym a)) g)
 
-pub while_divides : (E : machine.Spot) (sense : Bool) (e : Exp) (b : Block) (s : ℕ) (rs : List machine.Rest) (st : State) (found : Option Truth) (rs1 : List machine.Rest) (vs : List ℕ) → IsTruth (sight st E) e found → found ≡ Some truths.Divides → Came (perform_step E (commands.While sense e b) s rs) st (progress.Ended endings.ZeroDivide) rs1 vs st
+pub while_divides : (E : machine.Spot) (sense : Bool) (e : Exp) (b : Block) (s : ℕ) (rs : List machine.Rest) (st : State) (found : Option Truth) (rs1 : List machine.Rest) (vs : List ℕ) → IsTruth (sight st E) e found → found ≡ Some truths.Divides → Came [] (perform_step E (commands.While sense e b) s rs) st (progress.Ended endings.ZeroDivide) rs1 vs st
 while_divides E sense e b s rs st found rs1 vs h is =
     let told = told_truth (sight st E) e found truths.Divides h is in
     tested_divides E e s (while_next E sense e b s rs) (machine.Whiles E sense e b s) rs st rs1 vs st told.0 told.1
 
-pub while_fails : (E : machine.Spot) (sense : Bool) (e : Exp) (b : Block) (s : ℕ) (rs : List machine.Rest) (st : State) (found : Option Truth) (c : Cause) (rs1 : List machine.Rest) (vs : List ℕ) → IsTruth (sight st E) e found → found ≡ Some (truths.Fails c) → Came (perform_step E (commands.While sense e b) s rs) st (progress.Wild c) rs1 vs st
-while_fails E sense e b s rs st found c rs1 vs h is =
+pub while_fails : {calls : List machine.OpenCall} → (E : machine.Spot) (sense : Bool) (e : Exp) (b : Block) (s : ℕ) (rs : List machine.Rest) (st : State) (found : Option Truth) (c : Cause) (rs1 : List machine.Rest) (vs : List ℕ) → IsTruth (sight st E) e found → found ≡ Some (truths.Fails c) → calls_in rs1 ≡ calls → Came calls (perform_step E (commands.While sense e b) s rs) st (progress.Wild c) rs1 vs st
+while_fails E sense e b s rs st found c rs1 vs h is k =
     let told = told_truth (sight st E) e found (truths.Fails c) h is in
-    tested_fails E e s c (while_next E sense e b s rs) (machine.Whiles E sense e b s) rs st rs1 vs st told.0 told.1
+    tested_fails E e s c (while_next E sense e b s rs) (machine.Whiles E sense e b s) rs st rs1 vs st told.0 told.1 k
 
-pub while_calls : (E : machine.Spot) (sense : Bool) (e : Exp) (b : Block) (s : ℕ) (rs : List machine.Rest) (st : State) (p : Progress) (rs1 : List machine.Rest) (vs : List ℕ) → has_call e ≡ true → Came (machine.go (machine.Decide E e s) (machine.Whiles E sense e b s ∷ rs)) st p rs1 vs st → Came (perform_step E (commands.While sense e b) s rs) st p rs1 vs st
+pub while_calls : (E : machine.Spot) (sense : Bool) (e : Exp) (b : Block) (s : ℕ) (rs : List machine.Rest) (st : State) (p : Progress) (rs1 : List machine.Rest) (vs : List ℕ) → has_call e ≡ true → Came (calls_in rs) (machine.go (machine.Decide E e s) (machine.Whiles E sense e b s ∷ rs)) st p rs1 vs st → Came (calls_in rs) (perform_step E (commands.While sense e b) s rs) st p rs1 vs st
 while_calls E sense e b s rs st p rs1 vs calls h = tested_calls E e s (while_next E sense e b s rs) (machine.Whiles E sense e b s) rs st p rs1 vs st calls h

@@ -4,6 +4,7 @@ use Rattle.bc_machine_defs.specs.Streams.{Content}
 use Rattle.bc_interpret_defs.specs.Causes as defined
 use Rattle.bc_core.specs.Store.{Dead, Set, cell_at}
 use Rattle.bc_interpret_defs.specs.Meeting.{IsWildBy}
+use Rattle.bc_interpret_defs.specs.OpenCalls.{calls_in}
 use Rattle.bc_core.specs.Outcome as outcomes
 use Rattle.bc_core.specs.Outcome.{in_turn, write}
 use Rattle.bc_interpret_defs.specs.Quiet as quiet
@@ -50,30 +51,32 @@ abbrev pub at : List ℕ → Work → List machine.Rest → machine.At
 at vs w rs = record { work = work_of vs w; rests = rs }
 
 -- Whatever the streams hold: the code reports the outcome of a step that calls nothing, with the continuations, the given arguments and
--- the state after it. If the step is wild, it is wild because of the cell that the cause names.
-abbrev pub Came : machine.Step → (old : State) → Progress → List machine.Rest → List ℕ → (new : State) → Type 0
-Came r old (progress.On w) rs vs new = (streams : Content) → r (state_of old streams) ≡ outcomes.Done (at vs w rs) (state_of new streams)
-Came r old (progress.Serve q f) rs vs new = ⊥
-Came r old progress.Answered rs vs new = ⊥
-Came r old (progress.Ended e) rs vs new = (streams : Content) → r (state_of old streams) ≡ outcomes.Ended (ending e) streams
-Came r old progress.Going rs vs new = (streams : Content) → r (state_of old streams) ≡ outcomes.Going streams
-Came r old (progress.Wild c) rs vs new = ((streams : Content) → r (state_of old streams) ≡ outcomes.Wild) × IsWildBy r old.store (cause_of c)
+-- the state after it. If the step is wild, it is wild because of the cell that the cause names, and the calls that were open still are, by the
+-- continuations that it leaves.
+abbrev pub Came : List machine.OpenCall → machine.Step → (old : State) → Progress → List machine.Rest → List ℕ → (new : State) → Type 0
+Came calls r old (progress.On w) rs vs new = (streams : Content) → r (state_of old streams) ≡ outcomes.Done (at vs w rs) (state_of new streams)
+Came calls r old (progress.Serve q call) rs vs new = ⊥
+Came calls r old progress.Answered rs vs new = ⊥
+Came calls r old (progress.Ended e) rs vs new = (streams : Content) → r (state_of old streams) ≡ outcomes.Ended (ending e) streams
+Came calls r old progress.Going rs vs new = (streams : Content) → r (state_of old streams) ≡ outcomes.Going streams
+Came calls r old (progress.Wild c) rs vs new =
+    ((streams : Content) → r (state_of old streams) ≡ outcomes.Wild) × IsWildBy r old.store (cause_of c) × (calls_in rs ≡ calls)
 
 -- whatever makes one run wild over the new store makes the other wild over the old one
 abbrev pub Carries : (r q : machine.Step) → (old new : State) → Type 0
 Carries r q old new = (cause : defined.Cause) → IsWildBy q new.store cause → IsWildBy r old.store cause
 
 -- the same; a step that is reported as malformed is wild whatever the cells hold
-abbrev pub CameOrMalformed : machine.Step → (old : State) → Progress → List machine.Rest → List ℕ → (new : State) → Type 0
-CameOrMalformed r old (progress.Wild causes.Malformed) rs vs new = (st : outcomes.State) → r st ≡ outcomes.Wild
-CameOrMalformed r old p rs vs new = Came r old p rs vs new
+abbrev pub CameOrMalformed : List machine.OpenCall → machine.Step → (old : State) → Progress → List machine.Rest → List ℕ → (new : State) → Type 0
+CameOrMalformed calls r old (progress.Wild causes.Malformed) rs vs new = ((st : outcomes.State) → r st ≡ outcomes.Wild) × (calls_in rs ≡ calls)
+CameOrMalformed calls r old p rs vs new = Came calls r old p rs vs new
 
 -- the same with the continuations as the interpreter keeps them
 abbrev pub Goes : (List machine.Rest → machine.Step) → (before : List Rest) → (old : State) → Progress → (after : List Rest) → (new : State) → Type 0
-Goes f before old p after new = Came (f (stack before)) old p (stack after) (given after) new
+Goes f before old p after new = Came (calls_in (stack before)) (f (stack before)) old p (stack after) (given after) new
 
 abbrev pub GoesOrMalformed : (List machine.Rest → machine.Step) → (before : List Rest) → (old : State) → Progress → (after : List Rest) → (new : State) → Type 0
-GoesOrMalformed f before old p after new = CameOrMalformed (f (stack before)) old p (stack after) (given after) new
+GoesOrMalformed f before old p after new = CameOrMalformed (calls_in (stack before)) (f (stack before)) old p (stack after) (given after) new
 
 -- what comes next is `next`, and the continuation r takes its answer
 abbrev pub StandsAfter : Rest → Progress → (before : List Rest) → Progress → (after : List Rest) → Type 0

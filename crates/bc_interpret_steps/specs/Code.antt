@@ -23,6 +23,7 @@ use Rattle.bc_interpret_steps.specs.declared.continuations.NothingRest.{NothingR
 use Rattle.bc_interpret_steps.specs.declared.continuations.NothingRest.TheVariants as nothing_rests
 use Rattle.bc_interpret_steps.specs.declared.continuations.ExitRest.{ExitRest}
 use Rattle.bc_interpret_steps.specs.declared.continuations.ExitRest.TheVariants as exit_rests
+use Rattle.bc_interpret_steps.specs.declared.forms.OpenCall.{OpenCall}
 use Rattle.bc_interpret_steps.specs.declared.continuations.Rest.{Rest}
 use Rattle.bc_interpret_steps.specs.declared.continuations.Rest.TheVariants as rests
 
@@ -126,6 +127,14 @@ exit_rest exit_rests.Cases = machine.Cases
 exit_rest (exit_rests.Follows E is) = machine.Follows (spot_of E) (items is.now) E.level
 exit_rest (exit_rests.Listed E is) = machine.Listed (spot_of E) (items is.now) E.level
 
+-- a call, as the definitions have it
+abbrev pub open_call : OpenCall → machine.OpenCall
+open_call call = record { routine = call.routine; frame = call.frame }
+
+abbrev pub call_if : Option OpenCall → Option machine.OpenCall
+call_if None = None
+call_if (Some call) = Some (open_call call)
+
 -- the continuations with one more pushed, after these given arguments
 abbrev pub stacked : List machine.Rest → List ℕ → Rest → List machine.Rest
 stacked rs vs (rests.Number r) = number_rest vs r ∷ rs
@@ -134,7 +143,7 @@ stacked rs vs (rests.Calls fresh f) = machine.Calls (given_for fresh vs) f ∷ r
 stacked rs vs (rests.Truth r) = truth_rest r ∷ rs
 stacked rs vs (rests.Nothing r) = nothing_rest r ∷ rs
 stacked rs vs (rests.Exit r) = exit_rest r ∷ rs
-stacked rs vs (rests.Closes n a) = machine.Closes n a ∷ rs
+stacked rs vs (rests.Closes call n a) = machine.Closes (call_if call) n a ∷ rs
 stacked rs vs (rests.Given v first) = rs
 
 -- the given arguments after that
@@ -145,7 +154,7 @@ then_given vs (rests.Calls fresh f) = []
 then_given vs (rests.Truth r) = []
 then_given vs (rests.Nothing r) = []
 then_given vs (rests.Exit r) = []
-then_given vs (rests.Closes n a) = []
+then_given vs (rests.Closes call n a) = []
 then_given vs (rests.Given v first) = given_for first vs ++ v ∷ []
 
 -- the continuations as a list, put on rs: the last one pushed comes first

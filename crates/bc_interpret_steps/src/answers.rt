@@ -34,7 +34,7 @@ pub(crate) fn give_number<'c>(
         Some(Rest::Number(rest)) => number_taken(&rest, v, stacks, state),
         Some(Rest::Value(rest)) => value_taken(&rest, v, stacks, state),
         Some(Rest::Calls(fresh, frame)) => call_given(table, v, fresh, frame, stacks, state),
-        Some(Rest::Closes(count, from)) => {
+        Some(Rest::Closes(_, count, from)) => {
             state.store.close(count as usize, from as usize);
             stacks.next = Progress::On(Work::Number(v));
             Ok(())
@@ -61,7 +61,7 @@ pub(crate) fn give_verdict<'c>(
             Ok(())
         }
         Some(Rest::Truth(rest)) => truth_taken(&rest, t, stacks, state),
-        Some(Rest::Closes(count, from)) => {
+        Some(Rest::Closes(_, count, from)) => {
             state.store.close(count as usize, from as usize);
             stacks.next = Progress::On(Work::Verdict(t));
             Ok(())
@@ -94,7 +94,7 @@ pub(crate) fn give_nothing<'c>(
             Ok(())
         }
         Some(Rest::Nothing(rest)) => nothing_taken(&rest, stacks),
-        Some(Rest::Closes(count, from)) => {
+        Some(Rest::Closes(_, count, from)) => {
             state.store.close(count as usize, from as usize);
             stacks.next = Progress::On(Work::Nothing);
             Ok(())
@@ -143,7 +143,7 @@ fn resume_with_exit<'c>(
             Ok(())
         }
         Some(Rest::Exit(rest)) => exit_taken(&rest, exit, stacks, state),
-        Some(Rest::Closes(count, from)) => {
+        Some(Rest::Closes(_, count, from)) => {
             state.store.close(count as usize, from as usize);
             stacks.next = Progress::On(Work::Left(exit));
             Ok(())

@@ -153,7 +153,7 @@ fn given_by(rest: &Rest<'_>) -> Option<(u16, bool)>
         | Rest::Truth(_)
         | Rest::Nothing(_)
         | Rest::Exit(_)
-        | Rest::Closes(_, _) => None,
+        | Rest::Closes(_, _, _) => None,
     }
 }
 

@@ -1,19 +1,20 @@
 //! Calls: entering a routine or a primitive.
 
-ghost use Rattle.std.specs.Prelude.{ℕ, Some, IfOk};
+ghost use Rattle.std.specs.Prelude.{◌≡◌, ◌∷◌, Some, IfOk, OnOk};
 ghost use Rattle.bc_core.specs.Meaning.{OfLibrary};
 ghost use Rattle.bc_core.specs.Tree as tree;
 ghost use Rattle.bc_core.specs.View.{exp, args};
 ghost use Rattle.bc_interpret_steps.specs.Arrived.{Enters, Arrives, LandsAt};
 ghost use Rattle.bc_interpret_steps.specs.Came.{Framed, IsPrimitive, primitive_of};
-ghost use Rattle.bc_interpret_steps.specs.Code.{spot_of};
+ghost use Rattle.bc_interpret_defs.specs.Machine as machine;
+ghost use Rattle.bc_interpret_steps.specs.Code.{spot_of, stack, open_call};
 ghost use Rattle.bc_interpret_steps.specs.Passing.{RunsInto};
 ghost use Rattle.bc_interpret_steps.specs.Sections.{IsSized, callee_of};
 
 use crate::addresses;
 use crate::continuations::{ExitRest, Rest, level_above, push};
 use crate::evaluate::call;
-use crate::forms::{Primitive, Progress, Site, Work};
+use crate::forms::{OpenCall, Primitive, Progress, Site, Work};
 use crate::sections::{Callable, routine_at};
 use crate::state::{Called, Stacks, State, turn};
 use bc_core::{Body, CoreExp};
@@ -63,22 +64,33 @@ fn primitive_at(address: u16) -> Option<Primitive>
     }
 }
 
-/// Calls a primitive, in the frame at this address: passes its argument and leaves the rest to the caller of `step`.
+/// Pushes a continuation by which a call that fails is open: the run ends there, and what is reported of it names the call.
+pub fn keep_open<'c>(call: OpenCall, rests: &mut Vec<Rest<'c>>) -> Result<(), Memory>
+    ensures { OnOk result (stack rests.new.items ≡ machine.Closes (Some (open_call call)) 0 0 ∷ stack rests.old.items) }
+{
+    push(Rest::Closes(Some(call), 0, 0), rests)?;
+    Ok(())
+}
+
+/// Calls a primitive: passes its argument and leaves the rest to the caller of `step`.
 #[tactic(auto, using(crate::proofs::Frames::served))]
 fn enter_primitive<'c>(
     primitive: Primitive,
-    frame: u32,
+    call: OpenCall,
     stacks: &mut Stacks<'c>,
     state: &mut State,
 ) -> Result<(), Memory>
-    ensures { (value : ℕ) → Enters (Some (OfLibrary (primitive_of primitive))) value frame stacks.old state.old result stacks.new state.new }
+    ensures { Enters (Some (OfLibrary (primitive_of primitive))) call.routine call.frame stacks.old state.old result stacks.new state.new }
 {
+    let frame = call.frame;
     match reserve_frame(frame, 3, state)? {
         Fit::TooLarge => {
+            keep_open(call, &mut stacks.rests)?;
             stacks.next = Progress::Wild(Cause::FrameTooLarge(frame as usize));
             Ok(())
         }
         Fit::NoTurn => {
+            keep_open(call, &mut stacks.rests)?;
             stacks.next = Progress::Going;
             Ok(())
         }
@@ -86,27 +98,31 @@ fn enter_primitive<'c>(
             state
                 .store
                 .pass(1, level_above(frame, 2)? as usize, &mut stacks.arguments);
-            stacks.next = Progress::Serve(primitive, frame);
+            stacks.next = Progress::Serve(primitive, call);
             Ok(())
         }
     }
 }
 
-/// Calls a routine, in the frame at this address: passes its arguments and begins its body.
+/// Calls a routine: passes its arguments and begins its body.
 fn enter_routine<'c>(
     entry: Callable<'c>,
-    frame: u32,
+    call: OpenCall,
     stacks: &mut Stacks<'c>,
     state: &mut State,
 ) -> Result<(), Memory>
-    ensures { IsSized entry.entry → (value : ℕ) → Enters (Some (callee_of entry.entry)) value frame stacks.old state.old result stacks.new state.new }
+    ensures { IsSized entry.entry → Enters (Some (callee_of entry.entry)) call.routine call.frame stacks.old state.old result stacks.new
+        state.new }
 {
+    let frame = call.frame;
     match reserve_frame(frame, entry.frame, state)? {
         Fit::TooLarge => {
+            keep_open(call, &mut stacks.rests)?;
             stacks.next = Progress::Wild(Cause::FrameTooLarge(frame as usize));
             Ok(())
         }
         Fit::NoTurn => {
+            keep_open(call, &mut stacks.rests)?;
             stacks.next = Progress::Going;
             Ok(())
         }
@@ -117,7 +133,10 @@ fn enter_routine<'c>(
             state
                 .store
                 .pass(parameters as usize, from as usize, &mut stacks.arguments);
-            push(Rest::Closes(parameters, from), &mut stacks.rests)?;
+            push(
+                Rest::Closes(Some(call), parameters, from),
+                &mut stacks.rests,
+            )?;
             let site = Site {
                 section: entry.section,
                 first: 0,
@@ -153,31 +172,31 @@ pub(crate) fn call_given<'c>(
     ensures { Arrives table.now routine fresh frame stacks.old state.old result stacks.new state.new }
 {
     stacks.gather(fresh)?;
-    call_value(table, routine, frame, stacks, state)
+    call_value(table, OpenCall { routine, frame }, stacks, state)
 }
 
-/// Calls a value, in the frame at this address, with the arguments in `stacks.arguments`, which are in reverse order.
+/// Calls a value with the arguments in `stacks.arguments`, which are in reverse order.
 #[inline(always)]
 fn call_value<'c>(
     table: &[Callable<'c>],
-    routine: u16,
-    frame: u32,
+    call: OpenCall,
     stacks: &mut Stacks<'c>,
     state: &mut State,
 ) -> Result<(), Memory>
-    ensures { LandsAt table.now routine frame stacks.old state.old result stacks.new state.new }
+    ensures { LandsAt table.now call.routine call.frame stacks.old state.old result stacks.new state.new }
 {
     stacks.called = Called {
         least: stacks.rests.len().saturating_add(1),
-        frame,
-        routine,
+        frame: call.frame,
+        routine: call.routine,
     };
-    match routine_at(table, routine) {
-        Some(entry) => enter_routine(entry, frame, stacks, state),
-        None => match primitive_at(routine) {
-            Some(primitive) => enter_primitive(primitive, frame, stacks, state),
+    match routine_at(table, call.routine) {
+        Some(entry) => enter_routine(entry, call, stacks, state),
+        None => match primitive_at(call.routine) {
+            Some(primitive) => enter_primitive(primitive, call, stacks, state),
             None => {
-                stacks.next = Progress::Wild(Cause::NotRoutine(routine));
+                keep_open(call, &mut stacks.rests)?;
+                stacks.next = Progress::Wild(Cause::NotRoutine(call.routine));
                 Ok(())
             }
         },
@@ -202,7 +221,11 @@ pub(crate) fn begin_call<'c>(
     match found {
         Some(value) => {
             let frame = level_above(site.frame, site.level)?;
-            call_value(table, value, frame, stacks, state)
+            let now = OpenCall {
+                routine: value,
+                frame,
+            };
+            call_value(table, now, stacks, state)
         }
         None => call(site, arguments, routine, stacks, state),
     }

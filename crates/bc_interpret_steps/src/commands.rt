@@ -9,6 +9,7 @@ ghost use Rattle.bc_interpret_defs.specs.Machine as machine;
 ghost use Rattle.bc_core.specs.Level.{level_in_for, cells_of as cells_of_variable, cells_of_all as cells_of_variables, cells_declared as cells_of_declarations};
 ghost use Rattle.bc_core.specs.View.{exp, variable, declarations as declarations_view, command as command_view, items as items_view, block_of};
 ghost use Rattle.bc_core.specs.Commands as commands;
+ghost use Rattle.bc_interpret_defs.specs.OpenCalls.{calls_in};
 ghost use Rattle.bc_interpret_steps.specs.declared.continuations.TruthRest.TheVariants as truth_rests;
 ghost use Rattle.bc_interpret_steps.specs.declared.state.State.{State as StateValue};
 ghost use Rattle.bc_interpret_steps.specs.Code.{spot_of, value_rest, truth_rest};
@@ -47,8 +48,8 @@ fn assign<'c>(
 /// A GOTO to this label, which takes a turn.
 #[inline(always)]
 fn jump<'c>(label: u16, state: &mut State) -> Progress<'c>
-    ensures { (E : machine.Spot) (s : ℕ) (rs : List machine.Rest) (vs : List ℕ) → Came (machine.perform_step E (commands.Goto label) s rs) state.old result rs
-        vs state.new }
+    ensures { (E : machine.Spot) (s : ℕ) (rs : List machine.Rest) (vs : List ℕ) → Came (calls_in rs) (machine.perform_step E (commands.Goto label) s rs)
+        state.old result rs vs state.new }
 {
     if !turn(state) {
         return Progress::Going;
@@ -133,7 +134,7 @@ fn for_loop<'c>(
     let (by, body) = turns;
     let cell = level_above(site.frame, site.level)?;
     state.store.open(1, cell as usize);
-    push(Rest::Closes(1, cell), &mut stacks.rests)?;
+    push(Rest::Closes(None, 1, cell), &mut stacks.rests)?;
     push(
         Rest::Nothing(NothingRest::Limits(site, limit, by, body)),
         &mut stacks.rests,
@@ -495,7 +496,7 @@ pub(crate) fn declare<'c>(
                 ..site
             };
             state.store.open(cells as usize, from as usize);
-            push(Rest::Closes(cells, from), &mut stacks.rests)?;
+            push(Rest::Closes(None, cells, from), &mut stacks.rests)?;
             push(
                 Rest::Nothing(NothingRest::Declares(within, left, items, level)),
                 &mut stacks.rests,

@@ -6,7 +6,7 @@
 ghost use Rattle.std.specs.Prelude.{◌≡◌, ◌+◌, OnOk, IfOk};
 ghost use Rattle.bc_interpret_steps.specs.Code.{stack, given, stacked, then_given, Taken};
 
-use crate::forms::{Arguments, Rounds, Site};
+use crate::forms::{Arguments, OpenCall, Rounds, Site};
 use bc_core::{Block, Condition, CoreExp, Declaration, ListItem, Variable};
 use bc_word::{Memory, Op};
 
@@ -120,8 +120,8 @@ pub enum Rest<'c> {
     Nothing(NothingRest<'c>),
     /// Takes an exit.
     Exit(ExitRest<'c>),
-    /// Frees this many cells from this address on, and passes the answer on.
-    Closes(u32, u32),
+    /// Frees this many cells from this address on, and passes the answer on. If they are the parameters of a routine, its call is over.
+    Closes(Option<OpenCall>, u32, u32),
     /// Not a continuation, but an evaluated argument of the call whose continuation is pushed after it, and whether it is the first one.
     Given(u16, bool),
 }
@@ -153,7 +153,7 @@ pub(crate) fn pop<'c>(rests: &mut Vec<Rest<'c>>) -> Option<Rest<'c>>
             | Rest::Truth(_)
             | Rest::Nothing(_)
             | Rest::Exit(_)
-            | Rest::Closes(_, _) => return Some(rest),
+            | Rest::Closes(_, _, _) => return Some(rest),
         }
     }
     None

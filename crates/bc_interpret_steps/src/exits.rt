@@ -6,6 +6,7 @@ ghost use Rattle.bc_core.specs.Exit.{Past};
 ghost use Rattle.bc_core.specs.Outcome.{in_turn};
 ghost use Rattle.bc_core.specs.View.{exp, items as items_view, block_of};
 ghost use Rattle.bc_interpret_defs.specs.Machine as machine;
+ghost use Rattle.bc_interpret_defs.specs.OpenCalls.{calls_in};
 ghost use Rattle.bc_interpret_steps.specs.declared.state.State.{State as StateValue};
 ghost use Rattle.bc_interpret_steps.specs.Code.{spot_of, exit_of, exit_rest, nothing_rest, work_of, stack};
 ghost use Rattle.bc_interpret_steps.specs.Passing.{IsHandedOn, IsLeft, IsPassed, PassesOn};
@@ -197,7 +198,7 @@ pub(crate) fn exit_taken<'c>(
 /// Continues a WHILE or REPEAT after its body with the work `again`, which takes a turn, or leaves the loop.
 #[inline(always)]
 fn loop_on<'c>(exit: Exit, again: Work<'c>, state: &mut State) -> Progress<'c>
-    ensures { (rs : List machine.Rest) (vs : List ℕ) → CameOrMalformed (machine.following (in_turn (machine.go (work_of vs again.entry) rs))
+    ensures { (rs : List machine.Rest) (vs : List ℕ) → CameOrMalformed (calls_in rs) (machine.following (in_turn (machine.go (work_of vs again.entry) rs))
         (exit_of exit) rs) state.old result rs vs state.new }
 {
     match following(exit) {

@@ -132,6 +132,15 @@ pub enum Primitive {
     EndStream(Side),
 }
 
+/// A call that is open: it was begun and isn't over.
+#[derive(Clone, Copy)]
+pub struct OpenCall {
+    /// The address that was called.
+    pub routine: u16,
+    /// The address of the call's frame.
+    pub frame: u32,
+}
+
 /// How a run ended by itself.
 #[derive(Clone, Copy, Debug, PartialEq, Eq)]
 pub enum Ending {
@@ -146,9 +155,9 @@ pub enum Ending {
 pub enum Progress<'c> {
     /// The run goes on with this work.
     On(Work<'c>),
-    /// A primitive is called, in the frame at this address. The caller of `step` must carry it out: its turn has been taken, and its
-    /// argument has been passed.
-    Serve(Primitive, u32),
+    /// A primitive is called by this call. The caller of `step` must carry it out: its turn has been taken, and its argument has been
+    /// passed.
+    Serve(Primitive, OpenCall),
     /// The run is over because START returned.
     Answered,
     /// The run has ended.

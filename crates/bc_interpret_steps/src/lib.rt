@@ -29,8 +29,9 @@ mod sections;
 mod state;
 mod steps;
 
+pub use calls::keep_open;
 pub use continuations::{ExitRest, NothingRest, NumberRest, Rest, TruthRest, ValueRest, push};
-pub use forms::{Arguments, Ending, Exit, Primitive, Progress, Rounds, Site, Work};
+pub use forms::{Arguments, Ending, Exit, OpenCall, Primitive, Progress, Rounds, Site, Work};
 pub use sections::{Callable, Section};
 pub use state::{Called, Stacks, State};
 pub use steps::step;

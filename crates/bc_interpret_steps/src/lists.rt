@@ -1,11 +1,11 @@
 //! Lists of items: commands, and the cases and labels at which control enters the list.
 
-ghost use Rattle.std.specs.Prelude.{◌≡◌, ◌||◌, IfOk};
+ghost use Rattle.std.specs.Prelude.{◌≡◌, ◌∷◌, ◌||◌, IfOk, OnOk};
 ghost use Rattle.bc_core.specs.Commands.{Items};
 ghost use Rattle.bc_core.specs.View.{items as items_view, items_before};
 ghost use Rattle.bc_core.specs.Lists.{has_case as has_case_of, has_label as has_label_of};
 ghost use Rattle.bc_interpret_defs.specs.Machine as machine;
-ghost use Rattle.bc_interpret_steps.specs.Code.{spot_of, entry_of};
+ghost use Rattle.bc_interpret_steps.specs.Code.{spot_of, stack, entry_of};
 ghost use Rattle.bc_interpret_steps.specs.Assigns.{IsNext};
 ghost use Rattle.bc_interpret_steps.specs.ListItems.{IsAlong, IsEntry, IsAfterEntry, IsEntered};
 ghost use Rattle.bc_interpret_steps.specs.Stepped.{Proceeds};
@@ -145,7 +145,10 @@ fn stop<'c>(
     site: Site<'c>,
     following: &'c [ListItem],
     rests: &mut Vec<Rest<'c>>,
-) -> Result<(), Memory> {
+) -> Result<(), Memory>
+    ensures { OnOk result (stack rests.new.items ≡ machine.Passes ∷ machine.Follows (spot_of site.entry) (items_view following.now) site.entry.level ∷ stack
+        rests.old.items) }
+{
     push(Rest::Exit(ExitRest::Follows(site, following)), rests)?;
     push(Rest::Nothing(NothingRest::Passes), rests)?;
     Ok(())

@@ -1,15 +1,10 @@
-//! Where a watched run is. An observer can't keep the trace of `bc_interpret_trace`, which refers to the sections, so it keeps marks that don't,
-//! and the trace is made from them when it is wanted.
+//! Where a watched run is. An observer can't keep the trace of `bc_interpret_trace`, which refers to the sections, so it keeps marks that don't.
 
 use bc_interpret::{Stacks, Standing, Trail};
-use bc_interpret_pure::Room;
 use bc_interpret_steps::{Called, ExitRest, Progress, Rest, TruthRest, Work};
 use bc_interpret_trace::{Trace, roots_of_block};
 use bc_word::Memory;
 use std::alloc::Global;
-
-/// The greatest number of calls in a trail.
-const MOST: usize = 10;
 
 /// Something that a run has entered.
 #[derive(Clone, Copy)]
@@ -33,24 +28,6 @@ pub(crate) struct Marks {
     alloc: Global,
     /// The innermost mark is the last.
     marks: Vec<Mark>,
-}
-
-/// Continuations without anything in them.
-fn no_stacks<'c>(alloc: Global) -> Stacks<'c> {
-    Stacks {
-        next: Progress::Answered,
-        called: Called {
-            least: 0,
-            frame: 0,
-            routine: 0,
-        },
-        rests: Vec::new(alloc),
-        room: Room {
-            rests: Vec::new(alloc),
-            waiting: Vec::new(alloc),
-        },
-        arguments: Vec::new(alloc),
-    }
 }
 
 /// Whether the outermost continuation of a body is among these.
@@ -114,19 +91,6 @@ impl Marks {
         Ok(())
     }
 
-    /// The trace of the calls alone.
-    fn calls<'c>(&self) -> Result<Trace<'c>, Memory> {
-        let mut trace = Trace::new(self.alloc);
-        let mut stacks = no_stacks(self.alloc);
-        for mark in &self.marks {
-            if let Within::Call(called) = mark.within {
-                stacks.called = called;
-                trace.enter(&stacks)?;
-            }
-        }
-        Ok(trace)
-    }
-
     /// Adds the roots of the branches that weren't taken to those that follow the places.
     fn add_branches(&self, rests: &[Rest<'_>], standings: &mut Vec<Standing>) {
         let mut index = 0usize;
@@ -154,12 +118,8 @@ impl Marks {
     /// `Memory` if an allocation fails.
     pub fn trail(&mut self, rests: &[Rest<'_>]) -> Result<Trail, Memory> {
         self.forget(rests.len());
-        let trace = self.calls()?;
-        let mut standings = trace.standings(self.alloc, rests, MOST)?;
-        self.add_branches(rests, &mut standings);
-        Ok(Trail {
-            standings,
-            calls: trace.calls(),
-        })
+        let mut trail = Trace::new(self.alloc).trail(self.alloc, rests)?;
+        self.add_branches(rests, &mut trail.standings);
+        Ok(trail)
     }
 }

@@ -33,7 +33,7 @@ pub(crate) struct Watcher {
 fn count_without_closes(rests: &[Rest<'_>]) -> usize {
     let mut count = rests.len();
     for rest in rests.iter().rev() {
-        if !matches!(rest, Rest::Closes(_, _)) {
+        if !matches!(rest, Rest::Closes(_, _, _)) {
             return count;
         }
         count = count.saturating_sub(1);

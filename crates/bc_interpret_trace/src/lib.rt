@@ -5,7 +5,7 @@ mod remaining;
 mod roots;
 mod trace;
 
-pub use bc_interpret_steps::{Rest, Stacks};
+pub use bc_interpret_steps::{OpenCall, Rest, Stacks};
 pub use bc_word::Memory;
 pub use roots::{roots_of_block, roots_of_body};
-pub use trace::{Standing, Trace};
+pub use trace::{Standing, Trace, Trail};

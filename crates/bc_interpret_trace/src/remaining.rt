@@ -50,7 +50,7 @@ pub(crate) fn clue_of(rest: &Rest<'_>) -> Clue {
         Rest::Truth(rest) => of_truth(rest),
         Rest::Nothing(rest) => of_nothing(rest),
         Rest::Exit(rest) => of_exit(rest),
-        Rest::Calls(_, _) | Rest::Closes(_, _) | Rest::Given(_, _) => only(0),
+        Rest::Calls(_, _) | Rest::Closes(_, _, _) | Rest::Given(_, _) => only(0),
     }
 }
 

@@ -1,27 +1,24 @@
-//! Follows a run through its calls and through the first branches of TESTs. The continuations don't show the latter: once a TEST
-//! has taken a branch, its continuation is gone, but the other branch still follows in the text.
+//! Follows a run through the first branches of TESTs, and makes the trail of a run. The continuations don't show a TEST: once it has taken a
+//! branch, its continuation is gone, but the other branch still follows in the text.
+
+ghost use Rattle.std.specs.Prelude.{◌≡◌, map, take, IfOk};
+ghost use Rattle.bc_interpret_defs.specs.OpenCalls.{calls_in};
+ghost use Rattle.bc_interpret_steps.specs.Code.{stack, open_call};
+ghost use Rattle.bc_interpret_trace.specs.Shown.{call_of, opened, Shows};
 
 use crate::remaining::clue_of;
 use crate::roots::roots_of_block;
 use bc_core::Block;
-use bc_interpret_steps::{Progress, Rest, Stacks, TruthRest, Work};
+use bc_interpret_steps::{OpenCall, Progress, Rest, Stacks, TruthRest, Work};
 use bc_word::Memory;
 use std::alloc::Global;
 
-/// Something that a run has entered.
+/// The first branch of a TEST, which a run has entered. The run is inside it while it has at least `least` continuations.
 #[derive(Clone, Copy)]
-enum Within<'c> {
-    /// A call: the address of the routine, and that of the frame.
-    Call { routine: u16, frame: usize },
-    /// The first branch of a TEST; the block is the other branch.
-    Branch(&'c Block),
-}
-
-/// Something that a run has entered. The run is inside it while the stack of continuations has at least `least` entries.
-#[derive(Clone, Copy)]
-struct TraceMark<'c> {
+struct BranchMark<'c> {
     least: usize,
-    within: Within<'c>,
+    /// The other branch.
+    other: &'c Block,
 }
 
 /// Where a run is in one of its calls.
@@ -37,11 +34,23 @@ pub struct Standing {
     pub following: u64,
 }
 
-/// What a run has entered and not left: its calls, and the first branches of TESTs.
+/// Where a run is.
+#[derive(Debug, Drop)]
+pub struct Trail {
+    /// Its newest calls, the newest first, at most ten.
+    pub standings: Vec<Standing>,
+    /// The number of calls that it is in.
+    pub calls: usize,
+}
+
+/// The greatest number of calls in a trail.
+const MOST: usize = 10;
+
+/// The first branches of TESTs that a run has entered and not left.
 #[derive(Drop)]
 pub struct Trace<'c> {
     /// The innermost mark is the last.
-    marks: Vec<TraceMark<'c>>,
+    marks: Vec<BranchMark<'c>>,
     /// The `least` of the last mark, or 0 if there is none.
     least: usize,
 }
@@ -70,24 +79,6 @@ impl<'c> Trace<'c> {
         }
     }
 
-    /// Call this after each step: notes the call that the step made, if it made one.
-    ///
-    /// `Memory` if an allocation fails.
-    #[inline(always)]
-    pub fn enter(&mut self, stacks: &Stacks<'c>) -> Result<(), Memory> {
-        let called = stacks.called;
-        if called.least == 0 {
-            return Ok(());
-        }
-        self.mark(
-            called.least,
-            Within::Call {
-                routine: called.routine,
-                frame: called.frame as usize,
-            },
-        )
-    }
-
     /// Drops the marks that the run has left, given the number of continuations.
     fn forget(&mut self, left: usize) {
         for _each in 0..self.marks.len() {
@@ -104,87 +95,134 @@ impl<'c> Trace<'c> {
         self.least = 0;
     }
 
-    /// Notes that the run enters something.
-    fn mark(&mut self, least: usize, within: Within<'c>) -> Result<(), Memory> {
-        self.marks.push(TraceMark { least, within })?;
+    /// Notes that a TEST takes its first branch, if the innermost continuation is a TEST. The truth given to it is true.
+    fn branch(&mut self, rests: &[Rest<'c>]) -> Result<(), Memory> {
+        let Some(Rest::Truth(TruthRest::Chooses(_, _, other))) = rests.last() else {
+            return Ok(());
+        };
+        let least = rests.len().saturating_sub(1);
+        self.marks.push(BranchMark { least, other })?;
         self.least = least;
         Ok(())
     }
 
-    /// Notes that a TEST takes its first branch, if the innermost continuation is a TEST. The truth given to it is true.
-    fn branch(&mut self, rests: &[Rest<'c>]) -> Result<(), Memory> {
-        let Some(Rest::Truth(TruthRest::Chooses(_, _, that))) = rests.last() else {
-            return Ok(());
-        };
-        self.mark(rests.len().saturating_sub(1), Within::Branch(that))
-    }
-
-    /// The number of calls that the run is in.
-    pub fn calls(&self) -> usize {
-        let mut calls = 0usize;
-        for mark in &self.marks {
-            if let Within::Call { .. } = mark.within {
-                calls = calls.saturating_add(1);
-            }
-        }
-        calls
-    }
-
-    /// Where the run is in its newest calls: at most `most` of them, the newest first. `rests` must be the run's continuations.
+    /// Where the run is, by its continuations: the calls that are open, the newest first, and the place in each of the newest ten.
     ///
     /// `Memory` if an allocation fails.
-    pub fn standings(
-        &self,
-        alloc: Global,
-        rests: &[Rest<'c>],
-        most: usize,
-    ) -> Result<Vec<Standing>, Memory> {
-        let mut standings = Vec::new(alloc);
-        let mut above = Above::new(rests.len());
-        for mark in self.marks.iter().rev() {
-            match mark.within {
-                Within::Branch(that) => above.branch(mark.least, that, rests),
-                Within::Call { routine, frame } => {
-                    above.down_to(mark.least.saturating_sub(1), rests);
-                    if standings.len() < most {
-                        standings.push(above.standing(routine, frame))?;
-                    }
-                    above = Above::new(mark.least.saturating_sub(1));
-                }
+    pub fn trail(&self, alloc: Global, rests: &[Rest<'_>]) -> Result<Trail, Memory>
+        ensures { IfOk result (λ trail. Shows trail (calls_in (stack rests.now))) }
+    {
+        let calls = open_calls(alloc, rests)?;
+        let places = self.places(alloc, rests)?;
+        let standings = standings_of(alloc, calls.as_slice(), places.as_slice())?;
+        Ok(Trail {
+            standings,
+            calls: calls.len(),
+        })
+    }
+
+    /// The places in the newest calls, the newest first, at most ten.
+    fn places(&self, alloc: Global, rests: &[Rest<'_>]) -> Result<Vec<Place>, Memory> {
+        let mut places = Vec::new(alloc);
+        let mut place = Place::new();
+        let mut marks = self.marks.len();
+        let mut count = rests.len();
+        for rest in rests.iter().rev() {
+            marks = place.leave_branches(self.marks.as_slice(), marks, count);
+            place.look(rest);
+            if opened_by(rest).is_some() {
+                places.push(place)?;
+                place = Place::new();
             }
+            if places.len() >= MOST {
+                return Ok(places);
+            }
+            count = count.saturating_sub(1);
         }
-        Ok(standings)
+        Ok(places)
     }
 }
 
-/// What the continuations of one call have shown, from the innermost one down to index `next`.
+/// The call that is over once this continuation is done.
+fn opened_by(rest: &Rest<'_>) -> Option<OpenCall>
+    ensures { result ≡ opened rest.now }
+{
+    match rest {
+        Rest::Closes(call, _, _) => *call,
+        Rest::Number(_)
+        | Rest::Value(_)
+        | Rest::Calls(_, _)
+        | Rest::Truth(_)
+        | Rest::Nothing(_)
+        | Rest::Exit(_)
+        | Rest::Given(_, _) => None,
+    }
+}
+
+/// The calls that are open, the newest first.
+///
+/// `Memory` if an allocation fails.
+#[tactic(auto, using(crate::proofs::Shown::call_open, crate::proofs::Shown::none_open, crate::proofs::Shown::all_open))]
+fn open_calls(alloc: Global, rests: &[Rest<'_>]) -> Result<Vec<OpenCall>, Memory>
+    ensures { IfOk result (λ calls. map open_call calls.items ≡ calls_in (stack rests.now)) }
+{
+    let mut calls = Vec::new(alloc);
+    let mut left = rests;
+    while let Some((rest, before)) = left.split_last() {
+        let found = opened_by(rest);
+        match found {
+            Some(call) => calls.push(call)?,
+            None => {}
+        }
+        left = before;
+    }
+    Ok(calls)
+}
+
+/// The newest of these calls, at most ten, each with its place.
+///
+/// `Memory` if an allocation fails.
+#[tactic(auto, using(crate::proofs::Shown::one_shown, crate::proofs::Shown::no_room, crate::proofs::Shown::none_left))]
+fn standings_of(
+    alloc: Global,
+    calls: &[OpenCall],
+    places: &[Place],
+) -> Result<Vec<Standing>, Memory>
+    ensures { IfOk result (λ standings. map call_of standings.items ≡ take 10 (map open_call calls.now)) }
+{
+    let mut standings = Vec::new(alloc);
+    let mut left = calls;
+    let mut room = MOST;
+    while room > 0 {
+        let Some((call, following)) = left.split_first() else {
+            return Ok(standings);
+        };
+        let place = places.get(standings.len()).copied().unwrap_or(Place::new());
+        standings.push(place.standing(*call))?;
+        left = following;
+        room -= 1;
+    }
+    Ok(standings)
+}
+
+/// A place in a body, as far as the continuations of its call have been read, from the innermost one on.
 #[derive(Clone, Copy)]
-struct Above {
-    next: usize,
+struct Place {
     following: u64,
+    /// One more than the number of the VALOF that contains the place, 0 if it is in none; `None` if no continuation has said yet.
     first: Option<usize>,
+    /// Whether the body's outermost continuation has been read.
     is_done: bool,
 }
 
-impl Above {
-    /// Nothing has been read yet: the next continuation to read is the one below index `next`.
-    fn new(next: usize) -> Above {
-        Above {
-            next,
+impl Place {
+    /// Nothing has been read yet.
+    fn new() -> Place {
+        Place {
             following: 0,
             first: None,
             is_done: false,
         }
-    }
-
-    /// Reads the continuations down to this index.
-    fn down_to(&mut self, place: usize, rests: &[Rest<'_>]) {
-        let from = self.next.min(rests.len());
-        let to = place.min(from);
-        for rest in rests[to..from].iter().rev() {
-            self.look(rest);
-        }
-        self.next = to;
     }
 
     /// Reads one continuation, unless the body's outermost continuation has been read.
@@ -200,19 +238,29 @@ impl Above {
         self.is_done = clue.is_bottom;
     }
 
-    /// Reads the continuations down to this index, at which the run entered the first branch of a TEST. The block is the other branch.
-    fn branch(&mut self, place: usize, that: &Block, rests: &[Rest<'_>]) {
-        self.down_to(place, rests);
-        if !self.is_done {
-            self.following = self.following.saturating_add(roots_of_block(that));
+    /// Leaves the branches of TESTs that the run entered when it had at least this number of continuations; they are the last of the first
+    /// `left` marks. Returns how many of these are left.
+    fn leave_branches(&mut self, marks: &[BranchMark<'_>], left: usize, count: usize) -> usize {
+        let mut now = left;
+        for mark in marks[..left.min(marks.len())].iter().rev() {
+            if mark.least < count {
+                return now;
+            }
+            if !self.is_done {
+                self.following = self.following.saturating_add(roots_of_block(mark.other));
+            }
+            now = now.saturating_sub(1);
         }
+        now
     }
 
-    /// Where the run is in the call whose frames have been read.
-    fn standing(&self, routine: u16, frame: usize) -> Standing {
+    /// Where the run is in this call.
+    fn standing(&self, call: OpenCall) -> Standing
+        ensures { call_of result ≡ open_call call }
+    {
         Standing {
-            routine,
-            frame,
+            routine: call.routine,
+            frame: call.frame as usize,
             valof: match self.first {
                 Some(first) => first.checked_sub(1),
                 None => None,

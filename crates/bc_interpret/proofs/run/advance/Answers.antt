@@ -36,12 +36,12 @@ returns-in-Wild g c =
     over_advances _ _ _ _ _ _ _ _ (λ e. cc) (λ program t n l. ran_wild program n (next_of c.args.run.now) old.stacks.rests.items old.state c.in-Wild.cause c.seen_step.new.run.stacks.rests.items c.seen_step.new.run.state (g.S.Streams.content c.args.streams.now) (s program t) l)
     (λ program t. ran_met program (next_of c.args.run.now) old.stacks.rests.items old.state c.in-Wild.cause c.seen_step.new.run.stacks.rests.items c.seen_step.new.run.state (g.S.Streams.content c.args.streams.now) (s program t))
 
-pub returns-in_ok-served-in-Serve : goal.returns-in_ok-served-in-Serve
-returns-in_ok-served-in-Serve g c =
+pub returns-in_ok-moved_by-in-Serve : goal.returns-in_ok-moved_by-in-Serve
+returns-in_ok-moved_by-in-Serve g c =
     let old = c.args.run.now in
     let s = step_is c.args.table.now (next_of c.args.run.now) old.stacks.rests.items old.state c.seen_step.new.run.stacks.rests.items c.seen_step.new.run.state c.seen_step.new.run.stacks.next _ c.in_ok-seen_step.ensures c.in-Serve.is in
     let new : Run = record c.seen_step.new.run { state = c.serve.new.state; stacks = c.moved_by.new.stacks; name = c.serve.new.name } in
     let before = c.args.streams.now in
     let after = c.serve.new.streams in
-    served_advances c.args.table.now (next_of c.args.run.now) old new c.in-Serve.primitive c.in-Serve.frame c.seen_step.new.run.stacks c.seen_step.new.run.state (g.S.Streams.known before) (g.S.Streams.known after) (g.S.Streams.content before) (g.S.Streams.content after) (g.S.Streams.failures before) (g.S.Streams.failures after)
-    c.in_ok-served-in-Serve.served c.moved_by.result c.requires s c.in_ok-served-in-Serve.ensures c.moved_by.ensures
+    served_advances c.args.table.now (next_of c.args.run.now) old new c.in-Serve.primitive c.in-Serve.call c.seen_step.new.run.stacks c.seen_step.new.run.state (g.S.Streams.known before) (g.S.Streams.known after) (g.S.Streams.content before) (g.S.Streams.content after) (g.S.Streams.failures before) (g.S.Streams.failures after)
+    c.in_ok-served-in-Serve.served c.in_ok-moved_by-in-Serve.field-0 c.requires s c.in_ok-served-in-Serve.ensures c.in_ok-moved_by-in-Serve.ensures

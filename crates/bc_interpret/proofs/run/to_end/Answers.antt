@@ -8,7 +8,7 @@ use Rattle.bc_interpret.proofs.run.to_end.Goals as goal
 pub loop-moved-init : goal.loop-moved-init
 loop-moved-init g c = record {
   keeps = λ known program t n l. refl;
-  tracks = λ known program t cause h. h;
+  tracks = λ known program t cause calls h. h;
   fewer = omega arith;
   kept = λ known. known;
   counted = omega arith;

@@ -22,7 +22,7 @@ returns g c =
       means = λ known. meaning_is (program_of c.as_slice-3.result.now) cores (map_of image) c.get-stack_base.result c.args.turns (g.S.Streams.content c.args.streams.now)
           (g.S.Streams.content c.observe.new.streams) c.in_ok-interpreted.interpreted.outcome e c.get-stack_base.ensures.same (h.means known);
       names = λ known. names_is (program_of c.as_slice-3.result.now) cores (map_of image) c.get-stack_base.result c.args.turns (g.S.Streams.content c.args.streams.now)
-          c.in_ok-interpreted.interpreted.outcome e c.get-stack_base.ensures.same (h.names known);
+          c.in_ok-interpreted.interpreted e c.get-stack_base.ensures.same (h.names known);
       kept = h.kept;
       failed = h.failed;
       counted = h.counted;

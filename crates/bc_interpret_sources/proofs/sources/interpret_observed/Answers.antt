@@ -11,7 +11,7 @@ returns-clause-means g c = λ sections are_parsed known.
 
 pub returns-clause-names : goal.returns-clause-names
 returns-clause-names g c = λ sections are_parsed known.
-    names (map section c.as_slice.result.now) (map core_of sections) c.args.program.now.image.now (g.S.Streams.content c.args.streams.now) c.args.turns c.in_ok-interpreted.interpreted.outcome
+    names (map section c.as_slice.result.now) (map core_of sections) c.args.program.now.image.now (g.S.Streams.content c.args.streams.now) c.args.turns c.in_ok-interpreted.interpreted
     (c.in_ok-cores.ensures sections are_parsed ∙ ap (map section) (sym c.as_slice.ensures.value)) (c.in_ok-interpreted.ensures.names known)
 
 pub returns-clause-runs : goal.returns-clause-runs

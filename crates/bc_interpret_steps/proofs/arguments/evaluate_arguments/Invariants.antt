@@ -6,7 +6,10 @@ use Rattle.bc_interpret_steps.specs.Code.{stack}
 use Rattle.bc_interpret_steps.proofs.arguments.evaluate_arguments.Given as goal
 
 abbrev pub invariant-loop-now : goal.invariant-loop-now
-invariant-loop-now l = (st : State) → KeepsWords l.state.store st → Argued l.fn.arguments l.fn.stacks.rests.items (stack l.fn.stacks.rests.items) st ≡ Argued l.now l.stacks.rests.items (stack l.stacks.rests.items) st
+invariant-loop-now l = record {
+  kept : (st : State) → KeepsWords l.state.store st → Argued l.fn.arguments l.fn.stacks.rests.items (stack l.fn.stacks.rests.items) st ≡ Argued l.now l.stacks.rests.items (stack l.stacks.rests.items) st;
+  rests : stack l.stacks.rests.items ≡ stack l.fn.stacks.rests.items;
+}
 
 abbrev pub decreases-loop-now : goal.decreases-loop-now
 decreases-loop-now l = length l.now.left.now

@@ -1,4 +1,4 @@
-use Rattle.std.proofs.Common.{◌≡◌, [], Option, None, subst}
+use Rattle.std.proofs.Common.{◌≡◌, [], Option, None, refl, subst}
 use Rattle.std.proofs.lemmas.Result.{on_ok_weaker}
 use Rattle.bc_core.specs.Commands as commands
 use Rattle.bc_core.specs.View.{exp, block_of}
@@ -10,7 +10,7 @@ use Rattle.bc_interpret_steps.specs.declared.forms.Progress.TheVariants as progr
 use Rattle.bc_interpret_steps.specs.declared.continuations.Rest.TheVariants as rests
 use Rattle.bc_interpret_steps.specs.declared.continuations.TruthRest.TheVariants as truth_rests
 use Rattle.bc_interpret_steps.specs.Came.{sight}
-use Rattle.bc_interpret_steps.specs.Code.{spot_of, stack, given}
+use Rattle.bc_interpret_steps.specs.Code.{spot_of, stacked, stack, given}
 use Rattle.bc_interpret_steps.proofs.After.{following}
 use Rattle.bc_interpret_steps.proofs.Tests.{if_told, if_divides, if_fails, if_calls}
 use Rattle.bc_interpret_steps.proofs.commands.begin_if.Goals as goal
@@ -42,7 +42,7 @@ returns-in-Some-Fails c =
     let st = c.args.state.now in
     let f = c.put_after-in-Some-Fails in
     on_ok_weaker f.result (following (perform_step E (commands.If c.args.condition.now.sense e b) c.args.site.level) (rests.Truth (truth_rests.Ifs c.args.site c.args.condition.now.sense c.args.body)) (progress.Wild c.in-Some-Fails.cause) before f.new.stacks.next f.new.stacks.rests.items st st
-    (if_fails E c.args.condition.now.sense e b c.args.site.level (stack before) st c.in_ok-t.field-0 c.in-Some-Fails.cause [] [] c.in_ok-t.ensures cc)) f.ensures
+    (if_fails E c.args.condition.now.sense e b c.args.site.level (stack before) st c.in_ok-t.field-0 c.in-Some-Fails.cause (stacked (stack before) (given before) (rests.Truth (truth_rests.Ifs c.args.site c.args.condition.now.sense c.args.body))) [] c.in_ok-t.ensures (cc) refl)) f.ensures
 
 pub returns-in-None : goal.returns-in-None
 returns-in-None c =

@@ -1,4 +1,4 @@
-use Rattle.std.proofs.Common.{ℕ, ap, slice_index_or, arith}
+use Rattle.std.proofs.Common.{ℕ, ap, refl, slice_index_or, arith}
 use Rattle.bc_interpret_steps.specs.Code.{stack}
 use Rattle.bc_interpret_steps.specs.Came.{state_of}
 use Rattle.bc_interpret_steps.proofs.Valofs.{none_before, none_after, valof_entered}
@@ -8,13 +8,13 @@ pub returns-then-number-site : goal.returns-then-number-site
 returns-then-number-site c st =
     let E = c.args.site in
     let address : ℕ → ℕ = λ l. slice_index_or E.section.now.addresses.now l 0 in
-    (λ any. ap (λ r. r any) (none_before address E.frame E.first E.section.now.valofs.now c.args.number c.args.site.level (stack c.args.stacks.now.rests.items) c.if-number-site.true))
+    (λ any. ap (λ r. r any) (none_before address E.frame E.first E.section.now.valofs.now c.args.number c.args.site.level (stack c.args.stacks.now.rests.items) c.if-number-site.true), refl)
 
 pub returns-then-index-site : goal.returns-then-index-site
 returns-then-index-site c st =
     let E = c.args.site in
     let address : ℕ → ℕ = λ l. slice_index_or E.section.now.addresses.now l 0 in
-    (λ any. ap (λ r. r any) (none_after address E.frame E.first E.section.now.valofs.now c.args.number c.args.site.level (stack c.args.stacks.now.rests.items) c.if-number-site.false c.if-index-site.true))
+    (λ any. ap (λ r. r any) (none_after address E.frame E.first E.section.now.valofs.now c.args.number c.args.site.level (stack c.args.stacks.now.rests.items) c.if-number-site.false c.if-index-site.true), refl)
 
 pub returns : goal.returns
 returns c st =

@@ -1,6 +1,7 @@
-use Rattle.std.proofs.Common.{refl}
+use Rattle.std.proofs.Common.{refl, ap}
 use Rattle.bc_core.specs.View.{command}
 use Rattle.bc_interpret_steps.specs.declared.assign.Assigned.TheVariants as forms
+use Rattle.bc_interpret_defs.specs.OpenCalls.{calls_in}
 use Rattle.bc_interpret_steps.specs.Code.{spot_of, stack}
 use Rattle.bc_interpret_steps.proofs.Listings.{told_done, assigned, divided, failed, assigned_carries, failed_by}
 use Rattle.bc_interpret_steps.proofs.lists.list_item.Goals as goal
@@ -28,4 +29,4 @@ returns-in_ok-stop-in-Some-Fails c =
     let new = c.command_at_once.new.state in
     let cause = c.in-Some-Fails.cause in
     let done = told_done E (command c.in-Does.command.now) old c.in_ok-command_at_once-in-Does.field-0 (forms.Fails cause) new c.in_ok-command_at_once-in-Does.ensures cc in
-    (failed E c.args.site.level c.args.list.1.now c.args.list.0.now c.args.at c.in-Does.command cause old new c.in-Does.ensures done (stack c.args.stacks.now.rests.items), rw c.in-Some-Fails.field-0-is (failed_by E c.args.site.level c.args.list.1.now c.args.list.0.now c.args.at c.in-Does.command cause old new c.in-Does.ensures done (stack c.args.stacks.now.rests.items)))
+    (failed E c.args.site.level c.args.list.1.now c.args.list.0.now c.args.at c.in-Does.command cause old new c.in-Does.ensures done (stack c.args.stacks.now.rests.items), rw c.in-Some-Fails.field-0-is (failed_by E c.args.site.level c.args.list.1.now c.args.list.0.now c.args.at c.in-Does.command cause old new c.in-Does.ensures done (stack c.args.stacks.now.rests.items)), ap calls_in c.in_ok-stop-in-Some-Fails.ensures)
