@@ -156,7 +156,7 @@ fn is_library_main(sources: &[Source<'_>], main: usize) -> bool {
 fn help_for_twice(is_of_library: bool, is_of_name: bool) -> &'static str {
     match (is_of_library, is_of_name) {
         (true, true) => {
-            "the library has a routine of this name; rename yours where it is declared and where it is called"
+            "the library has a routine of this name; rename yours where it is declared and called, or let it take the place of the library's with --lean"
         }
         (true, false) =>
             "a routine of the library has this number; the numbers from 100 on are free",

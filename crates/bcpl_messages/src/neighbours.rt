@@ -369,6 +369,55 @@ fn is_enclosed_table(tokens: &[Token<'_>], index: usize) -> bool {
     is_at(tokens, index, Symbol::Comma) && is_at(tokens, open.wrapping_sub(1), Symbol::Table)
 }
 
+/// The help for an ELSE or OR after the command of an IF or UNLESS.
+const NO_SECOND: &str =
+    "an IF has no second command; write TEST E THEN C ELSE D, where ELSE may be written OR";
+
+/// The help for OR in a condition.
+const NO_OR: &str = "write | for the operator or; OR is another word for the ELSE of a TEST";
+
+/// Whether there is IF or UNLESS at an index.
+fn is_choice(tokens: &[Token<'_>], place: usize) -> bool {
+    is_at(tokens, place, Symbol::If) || is_at(tokens, place, Symbol::Unless)
+}
+
+/// Whether there is TEST, WHILE or UNTIL at an index.
+fn is_other_condition(tokens: &[Token<'_>], place: usize) -> bool {
+    is_at(tokens, place, Symbol::Test)
+        || is_at(tokens, place, Symbol::While)
+        || is_at(tokens, place, Symbol::Until)
+}
+
+/// How many tokens before an ELSE or OR are searched for the command that it may continue.
+const FAR_BACK: usize = 200;
+
+/// The help for an ELSE or OR after the command of an IF or UNLESS, or in a condition. It is found from the words of commands
+/// before it that are in the same block.
+fn help_for_else(tokens: &[Token<'_>], index: usize) -> Option<&'static str> {
+    if !is_at(tokens, index, Symbol::Else) {
+        return None;
+    }
+    let mut inside: usize = 0;
+    let mut has_command = false;
+    for count in 1..FAR_BACK {
+        let place = index.checked_sub(count)?;
+        if is_at(tokens, place, Symbol::CloseSection) {
+            inside = inside.saturating_add(1);
+        } else if is_at(tokens, place, Symbol::OpenSection) {
+            inside = inside.checked_sub(1)?;
+        } else if inside == 0 {
+            if is_at(tokens, place, Symbol::Do) {
+                has_command = true;
+            } else if is_choice(tokens, place) {
+                return Some(if has_command { NO_SECOND } else { NO_OR });
+            } else if is_other_condition(tokens, place) {
+                return if has_command { None } else { Some(NO_OR) };
+            }
+        }
+    }
+    None
+}
+
 /// The help for known mistakes of three tokens, or of a refused token and the one after it.
 fn help_for_further(tokens: &[Token<'_>], index: usize) -> Option<&'static str> {
     if is_typed(tokens, index) {
@@ -380,7 +429,7 @@ fn help_for_further(tokens: &[Token<'_>], index: usize) -> Option<&'static str> 
     } else if is_enclosed_table(tokens, index) {
         Some("write the values of a TABLE without parentheses, as in TABLE 1, 2, 3")
     } else {
-        None
+        help_for_else(tokens, index)
     }
 }
 

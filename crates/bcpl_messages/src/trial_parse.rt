@@ -1,6 +1,8 @@
 //! How far the parser gets with tokens that were changed at one index. Guesses of what was meant are tested this way.
 
+use crate::brackets::{close, tag_at};
 use crate::draft::Draft;
+use crate::words::is_at;
 use bc_lex_tokens::{Symbol, Token, TokenKind};
 use bc_parse::{ParseError, parse};
 use bc_word::Memory;
@@ -222,8 +224,44 @@ fn read_up_to(
     }
 }
 
-/// How far the parser gets with a change at an index; `Before` if memory ran out, which the draft records.
+/// The index of the last LET before an index that no section has. If the parser accepts the tokens before the index, it goes
+/// on from there as from the beginning. 0 if there is no such LET. Returns `Memory` if an allocation fails.
+fn fresh_start(alloc: Global, tokens: &[Token<'_>], index: usize) -> Result<usize, Memory> {
+    let mut open = Vec::new(alloc);
+    let mut start = 0;
+    for place in 0..index.min(tokens.len()) {
+        if is_at(tokens, place, Symbol::OpenSection) {
+            open.push(place)?;
+        } else if is_at(tokens, place, Symbol::CloseSection) {
+            close(&mut open, tokens, tag_at(tokens, place));
+        } else if open.is_empty() && is_at(tokens, place, Symbol::Let) {
+            start = place;
+        }
+    }
+    Ok(start)
+}
+
+/// How far the parser gets with a change at an index, of which it accepts the tokens before. Only the declaration around it is
+/// parsed again, and what follows.
+fn read_again(
+    alloc: Global,
+    tokens: &[Token<'_>],
+    index: usize,
+    change: Change,
+) -> Result<Reach, Memory> {
+    let start = fresh_start(alloc, tokens, index)?;
+    let rest = tokens.get(start..).unwrap_or(&[]);
+    Ok(
+        match read_with(alloc, rest, index.saturating_sub(start), change)? {
+            Reach::After(next) => Reach::After(next.saturating_add(start)),
+            reach => reach,
+        },
+    )
+}
+
+/// How far the parser gets with a change at an index that isn't after the token that it refused; `Before` if memory ran out,
+/// which the draft records.
 pub fn reached(draft: &mut Draft, tokens: &[Token<'_>], index: usize, change: Change) -> Reach {
-    let read = read_with(draft.alloc(), tokens, index, change);
+    let read = read_again(draft.alloc(), tokens, index, change);
     draft.found(read, Reach::Before)
 }

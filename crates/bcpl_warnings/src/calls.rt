@@ -44,6 +44,15 @@ pub fn name_of(wanted: Wanted) -> &'static str {
     }
 }
 
+/// What a routine of the library wants, in words.
+fn wanted_by(name: &[u8], wanted: Wanted) -> &'static str {
+    if name == b"SELECTINPUT".as_slice() || name == b"SELECTOUTPUT".as_slice() {
+        "a stream"
+    } else {
+        name_of(wanted)
+    }
+}
+
 /// The one character between the quotes of a string, as it is spelled.
 pub fn only_character(text: &[u8]) -> Option<&[u8]> {
     let inside = text.get(1..text.len().checked_sub(1)?)?;
@@ -140,7 +149,7 @@ fn warns_of_argument(
             "{} takes {} here, but {} is {}",
             &[
                 Fill::Shown(name),
-                Fill::Text(name_of(wanted)),
+                Fill::Text(wanted_by(name, wanted)),
                 known.shown(at),
                 Fill::Text(fact.kind.name()),
             ],
