@@ -14,7 +14,7 @@ const truth = (holds) => (holds ? 65535 : 0);
 
 // ---- 2. Refusals
 
-/** A text, segments or the names of streams were refused. The message is what `bcpl` prints behind its name. */
+/** A text, segments or the names of streams were refused. The message is what `bcpl` prints after its name. */
 export class Refusal extends Error {}
 
 /** What a stream's device throws where it fails. The run ends as `Device`. */

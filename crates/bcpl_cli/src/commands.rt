@@ -389,10 +389,11 @@ const GO: CommandSpec = CommandSpec {
 const INTERPRET: CommandSpec = CommandSpec {
     name: "interpret",
     about: "Runs BCPL sources by their meaning and reports the first wild cell",
-    more: "Compiles the sources as `build` does, then runs their meaning instead of their code. If this run ends, `run` does\n\
-           the same with the built text: that is a theorem. The run stops at the first wild cell: reading a\n\
-           cell that was never set, reading or writing a cell that does not exist, or calling something that is not a\n\
-           routine. What happened and where is printed unless --places never is given, on a terminal or not.\n\n\
+    more: "Compiles the sources as `build` does, then runs their meaning instead of their code. If this run meets\n\
+           no wild cell, `run` does the same with the built text on the same input: that is a theorem. The run stops at\n\
+           the first wild cell: reading a cell that was never set, reading or writing a cell that does not exist, or\n\
+           calling something that is not a routine. What happened and where is printed unless --places never is given,\n\
+           on a terminal or not.\n\n\
            With --strict the run also stops at what is lawful and nearly always a mistake: an index that leaves a vector,\n\
            a table or a string, counted from its start, even if it hits a cell; a global that no source names, or that\n\
            nothing set; a write into a string. This is no theorem, and it doesn't find all such mistakes.\n\n\
@@ -491,7 +492,7 @@ const TAME: CommandSpec = CommandSpec {
     about: "Decides whether no run of a BCPL source can meet a wild cell",
     more: "Compiles the source as `build` does, and checks its text. If the answer is `ok tame ROOM`, every run of the\n\
            image has the output and the ending that the source means, on all inputs: that is a theorem. ROOM is a\n\
-           number of cells above the base of the stack that suffices for every run.\n\n\
+           number of cells, from two above the base of the stack, that suffices for every run.\n\n\
            Otherwise prints the first place that the check can't accept and what it would need. Such a program is not\n\
            known to be tame; it may be harmless. `interpret` says whether one run is wild.\n\n\
            The program is BLIB and one FILE.\n\n\
@@ -613,9 +614,10 @@ const CONVERT: CommandSpec = CommandSpec {
 const FORMAT: CommandSpec = CommandSpec {
     name: "format",
     about: "Lays out sources: indents lines and sets blanks, and changes nothing else",
-    more: "Keeps every token, comment and line break, so that a build is the same byte for byte. Only lines that are too\n\
-           long are broken, after an operator, a comma or a semicolon. Files that a source gets are looked for beside it;\n\
-           they don't matter for its layout.\n\n\
+    more: "Keeps every token and comment, and each line break between them, so that a build is the same byte for byte.\n\
+           Of blank lines one stays, and two outside of sections. Only lines that are too long are broken, after an\n\
+           operator, a comma or a semicolon. Files that a source gets are looked for beside it; they don't matter for its\n\
+           layout.\n\n\
            Exit status: 0 done, 1 refused or, with --check, a source that isn't laid out, 3 invalid arguments.\n\n\
            Examples:\n  bcpl format queens.bcpl\n\
            \x20 bcpl format --in-place main.bcpl tables.bcpl",

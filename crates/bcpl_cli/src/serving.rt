@@ -16,7 +16,8 @@ pub(crate) const LSP: CommandSpec = CommandSpec {
     about: "Serves an editor: errors as one types, what names mean, completion, renaming",
     more: "Speaks the Language Server Protocol on standard input and output. An editor starts it; docs/editors.md says what\n\
            to write in the settings of Neovim, Emacs and VS Code.\n\n\
-           A GET finds the headers of the library, and files in the folder of the source.\n\n\
+           A GET finds the headers of the library, files in the folder of the source, and then those in the folders of\n\
+           --include.\n\n\
            Exit status: 0 the editor ended the session, 1 it was cut off, 3 invalid arguments.",
     arguments: &[
         Argument {

@@ -315,7 +315,7 @@ static ROUTINES: [LibraryRoutine; 51] = [
         number: 58,
         name: "STOP",
         parameters: "CODE",
-        does: "ends the run, as FINISH does. A run has no status of its own, so CODE is dropped",
+        does: "ends the run, as FINISH does. A program can't set an exit status, so CODE is dropped",
         gives: "doesn't return",
     },
     LibraryRoutine {
