@@ -1,6 +1,6 @@
 -- Which calls are open, by the continuations as the interpreter keeps them.
-use Rattle.std.proofs.Common.{◌≡◌, ℕ, zero, suc, ◌+◌, List, [], ◌∷◌, ◌++◌, map, take, Option, Some, None, option_to_list, refl, sym, ap, ◌∙◌}
-use Rattle.std.proofs.lemmas.List.{map-append, append_assoc, append-nil}
+use Rattle.std.proofs.Common.{◌≡◌, ℕ, zero, suc, ◌+◌, List, [], ◌∷◌, ◌++◌, map, take, length, get_or, ◌<◌, arith, Option, Some, None, option_to_list, refl, sym, ap, ◌∙◌}
+use Rattle.std.proofs.lemmas.List.{map-append, append_assoc, append-nil, take_more, take_all}
 use Rattle.bc_interpret_defs.specs.Machine as machine
 use Rattle.bc_interpret_defs.specs.OpenCalls.{calls_in}
 use Rattle.bc_interpret_steps.specs.declared.forms.OpenCall.{OpenCall}
@@ -33,16 +33,23 @@ more all left before r calls split h =
     ∙ (sym (append_assoc (map open_call calls) (map open_call (option_to_list (opened r))) (calls_in (stack before)))
     ∙ ap (λ xs. xs ++ calls_in (stack before)) (sym (map-append open_call calls (option_to_list (opened r))))))
 
-pub call_open : (all left before : List Rest) (r : Rest) (calls after : List OpenCall) (found : Option OpenCall) (call : OpenCall) → left ≡ before ++ r ∷ [] → found ≡ opened r → found ≡ Some call → after ≡ calls ++ call ∷ [] → Opens all left calls → Opens all before after
-call_open all left before r calls after found call split is some pushed h =
-    more all left before r calls split h ∙ ap (λ xs. map open_call xs ++ calls_in (stack before)) (ap (λ o. calls ++ option_to_list o) (sym is ∙ some) ∙ sym pushed)
+opens_less : (all : List Rest) (n left : ℕ) (r : Rest) (calls : List OpenCall) → left + 1 ≡ n → left < length all → r ≡ get_or all left r → Opens all (take n all) calls → Opens all (take left all) (calls ++ option_to_list (opened r))
+opens_less all n left r calls next inside read =
+    more all (take n all) (take left all) r calls (sym (ap (λ m. take m all) next) ∙ (take_more all left r inside ∙ ap (λ x. take left all ++ x ∷ []) (sym read)))
 
-pub none_open : (all left before : List Rest) (r : Rest) (calls : List OpenCall) (found : Option OpenCall) → left ≡ before ++ r ∷ [] → found ≡ opened r → found ≡ None → Opens all left calls → Opens all before calls
-none_open all left before r calls found split is none h =
-    more all left before r calls split h ∙ ap (λ xs. map open_call xs ++ calls_in (stack before)) (ap (λ o. calls ++ option_to_list o) (sym is ∙ none) ∙ append-nil calls)
+pub call_open : (all : List Rest) (n left : ℕ) (r : Rest) (calls after : List OpenCall) (found : Option OpenCall) (call : OpenCall) → left + 1 ≡ n → left < length all → r ≡ get_or all left r → found ≡ opened r → found ≡ Some call → after ≡ calls ++ call ∷ [] → Opens all (take n all) calls → Opens all (take left all) after
+call_open all n left r calls after found call next inside read is some pushed h =
+    opens_less all n left r calls next inside read h ∙ ap (λ xs. map open_call xs ++ calls_in (stack (take left all))) (ap (λ o. calls ++ option_to_list o) (sym is ∙ some) ∙ sym pushed)
 
-pub all_open : (all left : List Rest) (calls : List OpenCall) → left ≡ [] → Opens all left calls → map open_call calls ≡ calls_in (stack all)
-all_open all left calls none h = sym (h ∙ (ap (λ xs. map open_call calls ++ calls_in (stack xs)) none ∙ append-nil (map open_call calls)))
+pub none_open : (all : List Rest) (n left : ℕ) (r : Rest) (calls : List OpenCall) (found : Option OpenCall) → left + 1 ≡ n → left < length all → r ≡ get_or all left r → found ≡ opened r → found ≡ None → Opens all (take n all) calls → Opens all (take left all) calls
+none_open all n left r calls found next inside read is none h =
+    opens_less all n left r calls next inside read h ∙ ap (λ xs. map open_call xs ++ calls_in (stack (take left all))) (ap (λ o. calls ++ option_to_list o) (sym is ∙ none) ∙ append-nil calls)
+
+pub open_at_first : (all : List Rest) (n : ℕ) → n ≡ length all → Opens all (take n all) []
+open_at_first all n whole = ap (λ xs. calls_in (stack xs)) (sym (take_all n all (omega (arith, whole))))
+
+pub all_open : (all : List Rest) (left : ℕ) (calls : List OpenCall) → left ≡ 0 → Opens all (take left all) calls → map open_call calls ≡ calls_in (stack all)
+all_open all left calls none h = sym (h ∙ (ap (λ m. map open_call calls ++ calls_in (stack (take m all))) none ∙ append-nil (map open_call calls)))
 
 -- the newest ones
 abbrev pub Listed : (calls left : List OpenCall) → (room : ℕ) → List Standing → Type 0
@@ -53,7 +60,7 @@ one_shown calls left following room call one shown after split is pushed h =
     h ∙ (ap (λ xs. map call_of shown ++ take (suc room) (map open_call xs)) split
     ∙ (ap (λ x. map call_of shown ++ x ∷ take room (map open_call following)) (sym is)
     ∙ (sym (append_assoc (map call_of shown) (call_of one ∷ []) (take room (map open_call following)))
-    ∙ ap (λ xs. xs ++ take room (map open_call following)) (sym (map-append call_of shown (one ∷ []))  ∙ ap (map call_of) (sym pushed)))))
+    ∙ ap (λ xs. xs ++ take room (map open_call following)) (sym (map-append call_of shown (one ∷ [])) ∙ ap (map call_of) (sym pushed)))))
 
 pub no_room : (calls left : List OpenCall) (room : ℕ) (shown : List Standing) → room ≡ 0 → Listed calls left room shown → map call_of shown ≡ take 10 (map open_call calls)
 no_room calls left room shown none h = sym (h ∙ (ap (λ n. map call_of shown ++ take n (map open_call left)) none ∙ append-nil (map call_of shown)))

@@ -1,5 +1,5 @@
 -- Which calls a trail shows.
-use Rattle.std.specs.Prelude.{ℕ, ◌≡◌, List, map, take, length, Option, None}
+use Rattle.std.specs.Prelude.{◌≡◌, List, map, take, length, Option, None}
 use Rattle.bc_interpret_defs.specs.Machine as machine
 use Rattle.bc_interpret_steps.specs.declared.forms.OpenCall.{OpenCall}
 use Rattle.bc_interpret_steps.specs.declared.continuations.Rest.{Rest}

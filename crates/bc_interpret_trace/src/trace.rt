@@ -162,19 +162,19 @@ fn opened_by(rest: &Rest<'_>) -> Option<OpenCall>
 /// The calls that are open, the newest first.
 ///
 /// `Memory` if an allocation fails.
-#[tactic(auto, using(crate::proofs::Shown::call_open, crate::proofs::Shown::none_open, crate::proofs::Shown::all_open))]
+#[tactic(auto, using(crate::proofs::Shown::open_at_first, crate::proofs::Shown::call_open, crate::proofs::Shown::none_open, crate::proofs::Shown::all_open))]
 fn open_calls(alloc: Global, rests: &[Rest<'_>]) -> Result<Vec<OpenCall>, Memory>
     ensures { IfOk result (λ calls. map open_call calls.items ≡ calls_in (stack rests.now)) }
 {
     let mut calls = Vec::new(alloc);
-    let mut left = rests;
-    while let Some((rest, before)) = left.split_last() {
-        let found = opened_by(rest);
+    let mut left = rests.len();
+    while left > 0 {
+        left -= 1;
+        let found = opened_by(&rests[left]);
         match found {
             Some(call) => calls.push(call)?,
             None => {}
         }
-        left = before;
     }
     Ok(calls)
 }

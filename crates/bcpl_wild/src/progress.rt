@@ -97,8 +97,8 @@ impl<E: Write> Observer for ProgressLine<'_, E> {
     }
 
     fn after(&mut self, stacks: &Stacks<'_>, store: &mut Store) -> Result<(), Memory> {
-        if let Progress::Serve(primitive, frame) = stacks.next {
-            self.make_way(primitive, frame, store);
+        if let Progress::Serve(primitive, call) = stacks.next {
+            self.make_way(primitive, call.frame, store);
         }
         self.left = self.left.saturating_sub(1);
         if self.left == 0 {
