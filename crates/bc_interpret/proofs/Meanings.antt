@@ -50,9 +50,12 @@ meaning_is program cores map base turns before after o e b h =
 pub run_names : (program : List Placed) (base turns : ℕ) (rests : List Rest) (st : State) (before : Content) (i : Interpreted) (calls : List machine.OpenCall) → st.store ≡ start_cells (standing program) → st.turns ≡ turns
     → stack rests ≡ machine.Loads ∷ machine.Calls [] (base + 2) ∷ [] → Names program (at_of (works.Number 9) rests) (state_of st before) i.outcome calls → Shows i.trail calls → NamesBy program (start_at base) (start_state program before turns) i
 run_names program base turns rests st before i calls e t r h shown =
-    let begun : state_of st before ≡ start_state program before turns = λ j. record { cells = e j; streams = before; turns = t j } in
-    (calls, subst (λ rs. Names program (record { work = machine.Give (machine.Number 9); rests = rs }) (start_state program before turns) i.outcome calls) r
-    (subst (λ s. Names program (at_of (works.Number 9) rests) s i.outcome calls) begun h), shown)
+    let begun : state_of st before ≡ start_state program before turns = λ j. record { cells = e j; streams = before; turns = t j } in (
+      calls,
+      subst (λ rs. Names program (record { work = machine.Give (machine.Number 9); rests = rs }) (start_state program before turns) i.outcome calls) r
+          (subst (λ s. Names program (at_of (works.Number 9) rests) s i.outcome calls) begun h),
+      shown,
+    )
 
 pub names_is : (program : List Placed) (cores : List Core) (map : Map) (base turns : ℕ) (before : Content) (i : Interpreted) → program ≡ placed cores map.places → base ≡ map.stack_base
     → NamesBy program (start_at base) (start_state program before turns) i → NamesFrom cores map before turns i

@@ -10,7 +10,9 @@ ghost use Rattle.bc_interpret.specs.Moving.{HasProgram, StepsTo, MovesBy, next_o
 use crate::observer::Observer;
 use crate::serve::{Served, serve};
 use bc_interpret_pure::Cause;
-use bc_interpret_steps::{Callable, Ending, OpenCall, Progress, Stacks, State, Work, keep_open, step};
+use bc_interpret_steps::{
+    Callable, Ending, OpenCall, Progress, Stacks, State, Work, keep_open, step,
+};
 use bc_interpret_trace::{Trace, Trail};
 use bc_machine::Streams;
 use bc_word::Memory;
@@ -145,13 +147,7 @@ fn advance<'c, S: Streams, O: Observer>(
     match run.stacks.next {
         Progress::On(_) => Ok(Moved::On),
         Progress::Serve(primitive, call) => {
-            let served = serve(
-                primitive,
-                call.frame as usize,
-                &mut run.state,
-                streams,
-                &mut run.name,
-            )?;
+            let served = serve(primitive, call, &mut run.state, streams, &mut run.name)?;
             Ok(moved_by(served, call, &mut run.stacks)?)
         }
         Progress::Answered => Ok(Moved::Over(Outcome::Ended(Ending::Finished))),

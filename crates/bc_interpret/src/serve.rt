@@ -9,7 +9,7 @@ ghost use Rattle.bc_interpret_steps.specs.Came.{primitive_of};
 ghost use Rattle.bc_interpret.specs.Serving.{Gets, GetsName, ServesOn, ServesAt, ServesIn};
 
 use bc_interpret_pure::Cause;
-use bc_interpret_steps::{Primitive, State};
+use bc_interpret_steps::{OpenCall, Primitive, State};
 use bc_interpret_store::Cell;
 use bc_machine::{Side, Streams};
 use bc_word::{Memory, Word};
@@ -191,14 +191,14 @@ fn argument_in(frame: usize) -> Result<u16, Memory>
 /// `Memory` if an allocation fails.
 pub(crate) fn serve<S: Streams>(
     primitive: Primitive,
-    frame: usize,
+    call: OpenCall,
     state: &mut State,
     streams: &mut S,
     name: &mut Vec<u8>,
 ) -> Result<Served, Memory>
-    ensures { IfOk result (λ served. ServesIn S.known S.content S.failures (primitive_of primitive) frame state.old state.new streams.old streams.new served) }
+    ensures { IfOk result (λ served. ServesIn S.known S.content S.failures (primitive_of primitive) call.frame state.old state.new streams.old streams.new served) }
 {
-    let argument = argument_in(frame)?;
+    let argument = argument_in(call.frame as usize)?;
     let served = work(primitive, argument, state, streams, name)?;
     state.store.close(1, usize::from(argument));
     Ok(served)

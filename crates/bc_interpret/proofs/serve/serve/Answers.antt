@@ -9,7 +9,7 @@ use Rattle.bc_interpret.proofs.serve.serve.Goals as goal
 pub returns : goal.returns
 returns g c =
     let old = c.args.state.now in
-    let f = c.args.frame in
+    let f = c.args.call.frame in
     let q = primitive_of c.args.primitive in
     let new : State = record old { store = c.close.new.self } in
     let h = c.in_ok-served.ensures f c.in_ok-argument.ensures in
