@@ -120,7 +120,7 @@ fn watched_run<S: Streams>(
     watcher: &mut Watcher,
 ) -> Result<StrictRun, Memory>
     ensures { IfOk result (λ run. run.mistake ≡ None → RunOn S.known S.content S.failures (program_of watchable.entry.sections.now)
-        watchable.entry.stack_base watchable.entry.turns streams.old streams.new run.outcome) }
+        watchable.entry.stack_base watchable.entry.turns streams.old streams.new (record { outcome = run.outcome; trail = run.trail })) }
 {
     let Watchable {
         sections,
