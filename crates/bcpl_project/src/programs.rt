@@ -215,13 +215,28 @@ fn lean_texts(
     }
 }
 
-/// These sources with other texts for the libraries.
-fn with_libraries<'s>(
+/// A source that owns its name and its text.
+#[derive(Drop)]
+struct OwnSource {
+    name: Vec<u8>,
+    text: Vec<u8>,
+}
+
+/// A copy of these bytes.
+fn copy_of(alloc: Global, bytes: &[u8]) -> Result<Vec<u8>, Memory> {
+    let mut copy = Vec::new(alloc);
+    copy.extend_from_slice(bytes)?;
+    Ok(copy)
+}
+
+/// Copies of these sources, with other texts for the libraries. They are copied since the borrow checker doesn't cover a list
+/// of sources that borrow at several lifetimes.
+fn with_libraries(
     alloc: Global,
-    sources: &[Source<'s>],
-    libraries: &'s [String],
-) -> Result<Vec<Source<'s>>, Memory> {
-    let mut new = Vec::new(alloc);
+    sources: &[Source<'_>],
+    libraries: &[String],
+) -> Result<Vec<OwnSource>, Memory> {
+    let mut copies = Vec::new(alloc);
     for (index, source) in sources.iter().enumerate() {
         let library = match index {
             1 => libraries.first(),
@@ -229,15 +244,25 @@ fn with_libraries<'s>(
             _ => None,
         };
         let text = match library {
-            Some(library) => library.as_str().as_bytes(),
-            None => source.text,
+            Some(library) => copy_of(alloc, library.as_str().as_bytes())?,
+            None => copy_of(alloc, source.text)?,
         };
-        new.push(Source {
-            name: source.name,
-            text,
+        let name = copy_of(alloc, source.name)?;
+        copies.push(OwnSource { name, text })?;
+    }
+    Ok(copies)
+}
+
+/// These sources, as the compiler gets them.
+fn borrowed(alloc: Global, copies: &[OwnSource]) -> Result<Vec<Source<'_>>, Memory> {
+    let mut sources = Vec::new(alloc);
+    for copy in copies {
+        sources.push(Source {
+            name: copy.name.as_slice(),
+            text: copy.text.as_slice(),
         })?;
     }
-    Ok(new)
+    Ok(sources)
 }
 
 /// Whether a program builds if the library is cut to what it reaches. These are its parts.
@@ -250,7 +275,8 @@ fn builds_lean(
 ) -> Result<bool, Memory> {
     let further = parts.get(LIBRARY - 1).copied().unwrap_or(false);
     let libraries = lean_texts(alloc, program, files, further)?;
-    let cut = with_libraries(alloc, sources, libraries.as_slice())?;
+    let copies = with_libraries(alloc, sources, libraries.as_slice())?;
+    let cut = borrowed(alloc, copies.as_slice())?;
     let mains = mains_of(alloc, cut.len(), parts)?;
     match build(alloc, cut.as_slice(), mains.as_slice()) {
         Ok(_) => Ok(true),
