@@ -131,29 +131,29 @@ outside a x (inl lt) e = omega arith
 outside a x (inr up) e = omega arith
 
 mutual
-  pub runs_perform : (E : Env) (global : ℕ → ℕ) (C : Context) (R : Reads) (p s : ℕ) (σ : Shape) (J : Exits) → Sound E global C → Around E C.place global R p s σ → (c : Command) → tame_command E R J c s ≡ true → Runs σ (Allowed J) σ (perform C c p s)
-  runs_perform E global C R p s σ J sound h (commands.Call e) ok =
-      runs_then σ σ σ IsWord (Allowed J) _ _ (runs_sense E global C R p s σ sound h e ok).0 (λ v lv. runs_done σ (Allowed J) Past tt)
-  runs_perform E global C R p s σ J sound h (commands.Assign v a) ok =
+  pub runs_perform : (E : Env) (γ : Shape) (C : Context) (R : Reads) (p s : ℕ) (σ : Shape) (J : Exits) → Sound E γ C → Around E C.place γ R p s σ → (c : Command) → tame_command E R J c s ≡ true → Runs σ (Allowed J) σ (perform C c p s)
+  runs_perform E γ C R p s σ J sound h (commands.Call e) ok =
+      runs_then σ σ σ IsWord (Allowed J) _ _ (runs_sense E γ C R p s σ sound h e ok).0 (λ v lv. runs_done σ (Allowed J) Past tt)
+  runs_perform E γ C R p s σ J sound h (commands.Assign v a) ok =
       let oks = both_true (can_write E R a) (tame_exp E R v s) ok in
-      runs_then σ σ σ (anything {A = Unit {0}}) (Allowed J) (assign C v a p s) _ (runs_assign E global C R p s σ sound h v a oks.0 oks.1) (λ u x. runs_done σ (Allowed J) Past tt)
-  runs_perform E global C R p s σ J sound h (commands.If sense e b) ok =
+      runs_then σ σ σ (anything {A = Unit {0}}) (Allowed J) (assign C v a p s) _ (runs_assign E γ C R p s σ sound h v a oks.0 oks.1) (λ u x. runs_done σ (Allowed J) Past tt)
+  runs_perform E γ C R p s σ J sound h (commands.If sense e b) ok =
       let oks = both_true (tame_exp E R e s) (tame_block E R J b s) ok in
-      runs_then σ σ σ (anything {A = Bool}) (Allowed J) _ _ (runs_sense E global C R p s σ sound h e oks.0).1
-      (λ t x. runs_choose σ σ (Allowed J) _ _ _ (runs_block E global C R p s σ J sound h b oks.1) (runs_done σ (Allowed J) Past tt))
-  runs_perform E global C R p s σ J sound h (commands.Test e b c) ok =
+      runs_then σ σ σ (anything {A = Bool}) (Allowed J) _ _ (runs_sense E γ C R p s σ sound h e oks.0).1
+      (λ t x. runs_choose σ σ (Allowed J) _ _ _ (runs_block E γ C R p s σ J sound h b oks.1) (runs_done σ (Allowed J) Past tt))
+  runs_perform E γ C R p s σ J sound h (commands.Test e b c) ok =
       let oks = both_true (tame_exp E R e s) (tame_block E R J b s && tame_block E R J c s) ok in
       let more = both_true (tame_block E R J b s) (tame_block E R J c s) oks.1 in
-      runs_then σ σ σ (anything {A = Bool}) (Allowed J) _ _ (runs_sense E global C R p s σ sound h e oks.0).1
-      (λ t x. runs_choose σ σ (Allowed J) _ _ _ (runs_block E global C R p s σ J sound h b more.0) (runs_block E global C R p s σ J sound h c more.1))
-  runs_perform E global C R p s σ J sound h (commands.While sense e b) ok =
+      runs_then σ σ σ (anything {A = Bool}) (Allowed J) _ _ (runs_sense E γ C R p s σ sound h e oks.0).1
+      (λ t x. runs_choose σ σ (Allowed J) _ _ _ (runs_block E γ C R p s σ J sound h b more.0) (runs_block E γ C R p s σ J sound h c more.1))
+  runs_perform E γ C R p s σ J sound h (commands.While sense e b) ok =
       let oks = both_true (tame_exp E R e s) (tame_block E R (in_a_loop J) b s) ok in
-      runs_while J σ sense _ _ (runs_sense E global C R p s σ sound h e oks.0).1 (runs_block E global C R p s σ (in_a_loop J) sound h b oks.1)
-  runs_perform E global C R p s σ J sound h (commands.Repeat b) ok = runs_repeat J σ _ (runs_block E global C R p s σ (in_a_loop J) sound h b ok)
-  runs_perform E global C R p s σ J sound h (commands.RepeatWhile b sense e) ok =
+      runs_while J σ sense _ _ (runs_sense E γ C R p s σ sound h e oks.0).1 (runs_block E γ C R p s σ (in_a_loop J) sound h b oks.1)
+  runs_perform E γ C R p s σ J sound h (commands.Repeat b) ok = runs_repeat J σ _ (runs_block E γ C R p s σ (in_a_loop J) sound h b ok)
+  runs_perform E γ C R p s σ J sound h (commands.RepeatWhile b sense e) ok =
       let oks = both_true (tame_exp E R e s) (tame_block E R (in_a_loop J) b s) ok in
-      runs_repeat_while J σ _ sense _ (runs_block E global C R p s σ (in_a_loop J) sound h b oks.1) (runs_sense E global C R p s σ sound h e oks.0).1
-  runs_perform E global C R p s σ J sound h (commands.For start limit by b) ok =
+      runs_repeat_while J σ _ sense _ (runs_block E γ C R p s σ (in_a_loop J) sound h b oks.1) (runs_sense E γ C R p s σ sound h e oks.0).1
+  runs_perform E γ C R p s σ J sound h (commands.For start limit by b) ok =
       let ok0 = both_true (nat_le (s + 2) E.size) (nat_lt by 65536 && (tame_exp E R start (s + 2) && (tame_exp E (and_also s R) limit (s + 2) && tame_block E (and_also s R) (in_a_loop J) b (s + 2)))) ok in
       let ok1 = both_true (nat_lt by 65536) (tame_exp E R start (s + 2) && (tame_exp E (and_also s R) limit (s + 2) && tame_block E (and_also s R) (in_a_loop J) b (s + 2))) ok0.1 in
       let ok2 = both_true (tame_exp E R start (s + 2)) (tame_exp E (and_also s R) limit (s + 2) && tame_block E (and_also s R) (in_a_loop J) b (s + 2)) ok1.1 in
@@ -166,48 +166,48 @@ mutual
       let up : s ≤ s + 2 = omega arith in
       let live = live_here 1 (p + s) σ in
       let live0 : live_at 1 (p + s) σ (p + s) ≡ Live = live (p + s) (omega arith) (omega arith) in
-      let h1 = around_kept E C.place global R p s (s + 2) σ (live_at 1 (p + s) σ) (keeps_live 1 (p + s) σ gone)
+      let h1 = around_kept E C.place γ R p s (s + 2) σ (live_at 1 (p + s) σ) (keeps_live 1 (p + s) σ gone)
       (λ a le. live_there 1 (p + s) σ a (inr (omega (arith, le))) ∙ h.gone a (omega (arith, le))) h in
-      let h2 = around_kept E C.place global R p (s + 2) (s + 2) (live_at 1 (p + s) σ) (set_at (p + s) (live_at 1 (p + s) σ)) (keeps_set (p + s) (live_at 1 (p + s) σ) live0)
+      let h2 = around_kept E C.place γ R p (s + 2) (s + 2) (live_at 1 (p + s) σ) (set_at (p + s) (live_at 1 (p + s) σ)) (keeps_set (p + s) (live_at 1 (p + s) σ) live0)
       (λ a le. set_there (p + s) (live_at 1 (p + s) σ) a (λ e. omega (arith, e, le)) ∙ h1.gone a le) h1 in
-      let h3 = around_also E C.place global R p (s + 2) s (set_at (p + s) (live_at 1 (p + s) σ)) (set_here (p + s) (live_at 1 (p + s) σ)) low h2 in
+      let h3 = around_also E C.place γ R p (s + 2) s (set_at (p + s) (live_at 1 (p + s) σ)) (set_here (p + s) (live_at 1 (p + s) σ)) low h2 in
       let here : (s == s) ≡ true = grind (arith, nat_tests) in
       let read : ((s == s) || R s) ≡ true = rw here refl in
       let sum : (((s == s) || R s) && nat_lt by 65536) ≡ true = rw (here, ok1.0) refl in
       runs_with_cells σ (live_at 1 (p + s) σ) (set_at (p + s) (live_at 1 (p + s) σ)) (Allowed J) 1 (p + s) _ room (live_there 1 (p + s) σ) live
       (λ x out. set_there (p + s) (live_at 1 (p + s) σ) x (outside (p + s) x out) ∙ live_there 1 (p + s) σ x out) gone
       (runs_for J (live_at 1 (p + s) σ) (set_at (p + s) (live_at 1 (p + s) σ)) by _ _ _ _ _
-      (runs_to_frame E global C R p (s + 2) (live_at 1 (p + s) σ) (set_at (p + s) (live_at 1 (p + s) σ)) sound h1 start s ok2.0 (rw live0 tt) low (set_here (p + s) (live_at 1 (p + s) σ)) (λ x ne. set_there (p + s) (live_at 1 (p + s) σ) x ne))
-      (runs_sense E global C (and_also s R) p (s + 2) _ sound h3 limit ok3.0).0
-      (runs_sense E global C (and_also s R) p (s + 2) _ sound h3 (Load (Frame s)) read).0
-      (runs_assign E global C (and_also s R) p (s + 2) _ sound h3 (step_of_for by s) (Frame s) read sum)
-      (runs_block E global C (and_also s R) p (s + 2) _ (in_a_loop J) sound h3 b ok3.1))
-  runs_perform E global C R p s σ J sound h (commands.SwitchOn e is) ok =
+      (runs_to_frame E γ C R p (s + 2) (live_at 1 (p + s) σ) (set_at (p + s) (live_at 1 (p + s) σ)) sound h1 start s ok2.0 (rw live0 tt) low (set_here (p + s) (live_at 1 (p + s) σ)) (λ x ne. set_there (p + s) (live_at 1 (p + s) σ) x ne))
+      (runs_sense E γ C (and_also s R) p (s + 2) _ sound h3 limit ok3.0).0
+      (runs_sense E γ C (and_also s R) p (s + 2) _ sound h3 (Load (Frame s)) read).0
+      (runs_assign E γ C (and_also s R) p (s + 2) _ sound h3 (step_of_for by s) (Frame s) read sum)
+      (runs_block E γ C (and_also s R) p (s + 2) _ (in_a_loop J) sound h3 b ok3.1))
+  runs_perform E γ C R p s σ J sound h (commands.SwitchOn e is) ok =
       let oks = both_true (tame_exp E R e s) (tame_items E R (in_switch is J) is s) ok in
-      runs_switched J is σ _ _ _ (runs_sense E global C R p s σ sound h e oks.0).0 (λ at. runs_items E global C R p s σ (in_switch is J) sound h is oks.1 at)
-  runs_perform E global C R p s σ J sound h commands.Break ok = runs_done σ (Allowed J) Broke ok
-  runs_perform E global C R p s σ J sound h commands.Loop ok = runs_done σ (Allowed J) Looped ok
-  runs_perform E global C R p s σ J sound h commands.EndCase ok = runs_done σ (Allowed J) LeftCases ok
-  runs_perform E global C R p s σ J sound h commands.Return ok = runs_done σ (Allowed J) Returned ok
-  runs_perform E global C R p s σ J sound h (commands.ResultIs e) ok =
+      runs_switched J is σ _ _ _ (runs_sense E γ C R p s σ sound h e oks.0).0 (λ at. runs_items E γ C R p s σ (in_switch is J) sound h is oks.1 at)
+  runs_perform E γ C R p s σ J sound h commands.Break ok = runs_done σ (Allowed J) Broke ok
+  runs_perform E γ C R p s σ J sound h commands.Loop ok = runs_done σ (Allowed J) Looped ok
+  runs_perform E γ C R p s σ J sound h commands.EndCase ok = runs_done σ (Allowed J) LeftCases ok
+  runs_perform E γ C R p s σ J sound h commands.Return ok = runs_done σ (Allowed J) Returned ok
+  runs_perform E γ C R p s σ J sound h (commands.ResultIs e) ok =
       let oks = both_true J.in_valof (tame_exp E R e s) ok in
-      runs_then σ σ σ IsWord (Allowed J) _ _ (runs_sense E global C R p s σ sound h e oks.1).0 (λ v lv. runs_done σ (Allowed J) (Resulted v) (oks.0, lv))
-  runs_perform E global C R p s σ J sound h commands.Finish ok = runs_ends Exit σ σ (Allowed J) Finished
-  runs_perform E global C R p s σ J sound h (commands.Goto l) ok = runs_turn σ σ (Allowed J) _ (runs_done σ (Allowed J) (Jumped l) ok)
-  runs_perform E global C R p s σ J sound h (commands.Nested b) ok = runs_block E global C R p s σ J sound h b ok
+      runs_then σ σ σ IsWord (Allowed J) _ _ (runs_sense E γ C R p s σ sound h e oks.1).0 (λ v lv. runs_done σ (Allowed J) (Resulted v) (oks.0, lv))
+  runs_perform E γ C R p s σ J sound h commands.Finish ok = runs_ends Exit σ σ (Allowed J) Finished
+  runs_perform E γ C R p s σ J sound h (commands.Goto l) ok = runs_turn σ σ (Allowed J) _ (runs_done σ (Allowed J) (Jumped l) ok)
+  runs_perform E γ C R p s σ J sound h (commands.Nested b) ok = runs_block E γ C R p s σ J sound h b ok
 
-  pub runs_block : (E : Env) (global : ℕ → ℕ) (C : Context) (R : Reads) (p s : ℕ) (σ : Shape) (J : Exits) → Sound E global C → Around E C.place global R p s σ → (b : Block) → tame_block E R J b s ≡ true → Runs σ (Allowed J) σ (perform_block C b p s)
-  runs_block E global C R p s σ J sound h (block ds is) ok =
+  pub runs_block : (E : Env) (γ : Shape) (C : Context) (R : Reads) (p s : ℕ) (σ : Shape) (J : Exits) → Sound E γ C → Around E C.place γ R p s σ → (b : Block) → tame_block E R J b s ≡ true → Runs σ (Allowed J) σ (perform_block C b p s)
+  runs_block E γ C R p s σ J sound h (block ds is) ok =
       let oks = both_true (tame_declarations E R ds s) (tame_items E (and_declared ds s R) (in_list is J) is (s + cells_declared ds)) ok in
-      runs_declare E global C R p s σ ds (Allowed J) _ sound h oks.0
-      (λ τ t. runs_listed J is τ _ Beginning (λ at. runs_items E global C (and_declared ds s R) p (s + cells_declared ds) τ (in_list is J) sound t is oks.1 at))
+      runs_declare E γ C R p s σ ds (Allowed J) _ sound h oks.0
+      (λ τ t. runs_listed J is τ _ Beginning (λ at. runs_items E γ C (and_declared ds s R) p (s + cells_declared ds) τ (in_list is J) sound t is oks.1 at))
 
-  pub runs_items : (E : Env) (global : ℕ → ℕ) (C : Context) (R : Reads) (p s : ℕ) (σ : Shape) (J : Exits) → Sound E global C → Around E C.place global R p s σ → (is : Items) → tame_items E R J is s ≡ true → (at : Entry) → Runs σ (Allowed J) σ (perform_items C is p s at)
-  runs_items E global C R p s σ J sound h no_item ok at = runs_done σ (Allowed J) Past tt
-  runs_items E global C R p s σ J sound h (command c is) ok at =
+  pub runs_items : (E : Env) (γ : Shape) (C : Context) (R : Reads) (p s : ℕ) (σ : Shape) (J : Exits) → Sound E γ C → Around E C.place γ R p s σ → (is : Items) → tame_items E R J is s ≡ true → (at : Entry) → Runs σ (Allowed J) σ (perform_items C is p s at)
+  runs_items E γ C R p s σ J sound h no_item ok at = runs_done σ (Allowed J) Past tt
+  runs_items E γ C R p s σ J sound h (command c is) ok at =
       let oks = both_true (tame_command E R J c s) (tame_items E R J is s) ok in
-      runs_then σ σ σ (Allowed J) (Allowed J) _ _ (runs_from_entry J σ at _ (runs_perform E global C R p s σ J sound h c oks.0))
-      (λ x a. runs_onward J σ _ x (runs_items E global C R p s σ J sound h is oks.1 at) a)
-  runs_items E global C R p s σ J sound h (case k is) ok at = runs_items E global C R p s σ J sound h is ok (met (meets_case k at) at)
-  runs_items E global C R p s σ J sound h (default is) ok at = runs_items E global C R p s σ J sound h is ok (met (meets_default at) at)
-  runs_items E global C R p s σ J sound h (label l is) ok at = runs_items E global C R p s σ J sound h is ok (met (meets_label l at) at)
+      runs_then σ σ σ (Allowed J) (Allowed J) _ _ (runs_from_entry J σ at _ (runs_perform E γ C R p s σ J sound h c oks.0))
+      (λ x a. runs_onward J σ _ x (runs_items E γ C R p s σ J sound h is oks.1 at) a)
+  runs_items E γ C R p s σ J sound h (case k is) ok at = runs_items E γ C R p s σ J sound h is ok (met (meets_case k at) at)
+  runs_items E γ C R p s σ J sound h (default is) ok at = runs_items E γ C R p s σ J sound h is ok (met (meets_default at) at)
+  runs_items E γ C R p s σ J sound h (label l is) ok at = runs_items E γ C R p s σ J sound h is ok (met (meets_label l at) at)

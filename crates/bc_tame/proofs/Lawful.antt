@@ -1,5 +1,5 @@
 -- The laws of the library say what a call does with enough turns; so it isn't wild with fewer turns either.
-use Rattle.std.proofs.Common.{◌≡◌, ℕ, zero, suc, ◌+◌, ◌<◌, ◌≤◌, ◌%◌, ◌==◌, ◌&&◌, ◌||◌, List, [], ◌∷◌, length, Bool, true, false, Option, Some, None, refl, sym, ap, ◌∙◌, subst, arith, ◌≢◌, ◌*◌, ◌/◌, ◌++◌}
+use Rattle.std.proofs.Common.{◌≡◌, ℕ, suc, ◌+◌, ◌<◌, ◌≤◌, ◌%◌, ◌==◌, ◌&&◌, ◌||◌, List, [], ◌∷◌, length, Bool, true, false, Option, Some, None, refl, sym, ap, ◌∙◌, subst, arith, ◌≢◌, ◌*◌, ◌/◌, ◌++◌}
 use Rattle.bc_word.specs.Words.{signed}
 use Rattle.bc_machine_defs.specs.Streams.{Input, Content, HoldBytes}
 use Rattle.bc_machine_defs.specs.StreamCalls.{after_write}
@@ -28,8 +28,9 @@ use Rattle.bc_library_laws.proofs.Joined.{writes_law, writef_law}
 use Rattle.bc_tame.specs.Tame.{Note, AWord, AText, Says, is_text}
 use Rattle.bc_tame.specs.Programs.{library_global, library_fixed, library_speaks, with_text, with_format, are_bytes, fits_format}
 use Rattle.bc_tame.proofs.Primitives.{runs_find}
-use Rattle.bc_tame.proofs.Fine.{within, both_true, less_true, at_most_true, same_true, Gone, Fits, Shape, Inv, Fine, Runs, IsWord}
-use Rattle.bc_tame.proofs.Expressions.{HoldsWords, Ground, AreWords, IsText, AreNoted, text_told, CanSay, IsCallable}
+use Rattle.bc_tame.proofs.Fine.{Keeps, within, both_true, less_true, at_most_true, same_true, Gone, Fixed, Fits, Shape, Inv, Fine, Runs, IsWord}
+use Rattle.bc_tame.proofs.Expressions.{HoldsWords, IsText, AreNoted, text_told, Holds, CanSay, IsCallable}
+use Rattle.bc_tame.proofs.Shapes.{words_kept}
 use Rattle.bc_core.proofs.Turns.{Goes, later, more_calls}
 
 abbrev cells_in : Outcome ℕ → List Cell
@@ -78,51 +79,58 @@ by_law σ program a f n d v vs lt change keeps law = record {
       fine_before σ d v st.cells (state st.cells (change st.streams) st.turns) (calls program n a vs f st) (calls program (d + n) a vs f (later d st)) goes e refl lt i.0 (keeps st.streams i.1);
 }
 
--- a store of this shape is ready for the library
-held_cell : (static : ℕ → Bool) (text : ℕ → Option (List ℕ)) (place : ℕ → ℕ) (address : ℕ → ℕ) (σ : Shape) (cells : List Cell) → Ground library_fixed static text place (library_global address) σ → Inv σ cells
-    → (g : ℕ) → g < 512 → library_fixed g ≡ true → cell_at cells (8 + g) ≡ Set (library_global address g)
-held_cell static text place address σ cells ground i g lt e = (subst (λ k. Fits k (cell_at cells (8 + g))) (ground.held g lt e) (i.fits (8 + g))).0
+-- the globals that the library needs hold its routines as the run begins
+abbrev pub HoldsLibrary : Shape → (ℕ → ℕ) → Type 0
+HoldsLibrary γ address = (g : ℕ) → g < 512 → library_fixed g ≡ true → γ (8 + g) ≡ Fixed (library_global address g)
 
-ready : (static : ℕ → Bool) (text : ℕ → Option (List ℕ)) (place : ℕ → ℕ) (address : ℕ → ℕ) (σ : Shape) (f most : ℕ) → Ground library_fixed static text place (library_global address) σ → ((a : ℕ) → f ≤ a → σ a ≡ Gone) → f + most ≤ 65536
+-- a store of this shape is ready for the library
+held_cell : (γ : Shape) (address : ℕ → ℕ) (σ : Shape) (cells : List Cell) → HoldsLibrary γ address → Keeps γ σ → Inv σ cells
+    → (g : ℕ) → g < 512 → library_fixed g ≡ true → cell_at cells (8 + g) ≡ Set (library_global address g)
+held_cell γ address σ cells first keeps i g lt e =
+    let here = first g lt e in
+    let still : σ (8 + g) ≡ Fixed (library_global address g) = keeps.keeps (8 + g) (rw here tt) ∙ here in
+    (subst (λ k. Fits k (cell_at cells (8 + g))) still (i.fits (8 + g))).0
+
+ready : (γ : Shape) (address : ℕ → ℕ) (σ : Shape) (f most : ℕ) → HoldsLibrary γ address → Keeps γ σ → ((a : ℕ) → f ≤ a → σ a ≡ Gone) → f + most ≤ 65536
     → (cells : List Cell) → Inv σ cells → Ready address cells f most
-ready static text place address σ f most ground gone room cells i = record {
+ready γ address σ f most first keeps gone room cells i = record {
   whole = i.whole;
   free = λ a up. ap is_live (subst (λ k. Fits k (cell_at cells a)) (gone a up) (i.fits a));
   room = room;
-  write_char = held_cell static text place address σ cells ground i 14 (omega arith) refl;
-  get_byte = held_cell static text place address σ cells ground i 20 (omega arith) refl;
-  write_s = held_cell static text place address σ cells ground i 22 (omega arith) refl;
-  write_n = held_cell static text place address σ cells ground i 23 (omega arith) refl;
+  write_char = held_cell γ address σ cells first keeps i 14 (omega arith) refl;
+  get_byte = held_cell γ address σ cells first keeps i 20 (omega arith) refl;
+  write_s = held_cell γ address σ cells first keeps i 22 (omega arith) refl;
+  write_n = held_cell γ address σ cells first keeps i 23 (omega arith) refl;
 }
 
-pub wrch_callable : (program : List Placed) (address : ℕ → ℕ) (static : ℕ → Bool) (text : ℕ → Option (List ℕ)) (place : ℕ → ℕ) (n : ℕ) → Has program address
-    → IsCallable library_fixed static text place (library_global address) (record { arguments = 1; room = 3 }) (calls program n 530)
-wrch_callable program address static text place n h [] f σ args ground gone room = absurd (omega (arith, args.0))
-wrch_callable program address static text place n h (v ∷ w ∷ vs) f σ args ground gone room = absurd (omega (arith, args.0))
-wrch_callable program address static text place n h (v ∷ []) f σ args ground gone room =
+pub wrch_callable : (γ : Shape) (program : List Placed) (address : ℕ → ℕ) (n : ℕ) → Has program address → HoldsLibrary γ address
+    → IsCallable γ (record { arguments = 1; room = 3 }) (calls program n 530)
+wrch_callable γ program address n h first [] f σ args keeps gone room = absurd (omega (arith, args.0))
+wrch_callable γ program address n h first (v ∷ w ∷ vs) f σ args keeps gone room = absurd (omega (arith, args.0))
+wrch_callable γ program address n h first (v ∷ []) f σ args keeps gone room =
     by_law σ program 530 f n 1 0 (v ∷ []) (omega arith) (after_write (v % 256)) (write_keeps (v % 256)) (λ cells i streams t.
-    let r = ready static text place address σ f 3 ground gone room cells i in
+    let r = ready γ address σ f 3 first keeps gone room cells i in
     let one : 1 + n ≡ suc n = omega arith in
     let turns : 1 + t ≡ suc t = omega arith in
     rw (one, turns) (wrch program h.wrch cells streams f n t v r.whole r.free room))
 
-pub newline_callable : (program : List Placed) (address : ℕ → ℕ) (static : ℕ → Bool) (text : ℕ → Option (List ℕ)) (place : ℕ → ℕ) (n : ℕ) → Has program address
-    → IsCallable library_fixed static text place (library_global address) (record { arguments = 0; room = 8 }) (calls program n (address 4))
-newline_callable program address static text place n h (v ∷ vs) f σ args ground gone room = absurd (omega (arith, args.0))
-newline_callable program address static text place n h [] f σ args ground gone room =
+pub newline_callable : (γ : Shape) (program : List Placed) (address : ℕ → ℕ) (n : ℕ) → Has program address → HoldsLibrary γ address
+    → IsCallable γ (record { arguments = 0; room = 8 }) (calls program n (address 4))
+newline_callable γ program address n h first (v ∷ vs) f σ args keeps gone room = absurd (omega (arith, args.0))
+newline_callable γ program address n h first [] f σ args keeps gone room =
     by_law σ program (address 4) f n 2 0 [] (omega arith) (after_write 10) (write_keeps 10) (λ cells i streams t.
-    let r = ready static text place address σ f 8 ground gone room cells i in
+    let r = ready γ address σ f 8 first keeps gone room cells i in
     let two : 2 + n ≡ suc (suc n) = omega arith in
     let turns : 2 + t ≡ suc (suc t) = omega arith in
     rw (two, turns) (newline_does program address h cells streams f n t r))
 
-pub writen_callable : (program : List Placed) (address : ℕ → ℕ) (static : ℕ → Bool) (text : ℕ → Option (List ℕ)) (place : ℕ → ℕ) (n : ℕ) → Has program address
-    → IsCallable library_fixed static text place (library_global address) (record { arguments = 1; room = 20 }) (calls program n (address 5))
-writen_callable program address static text place n h [] f σ args ground gone room = absurd (omega (arith, args.0))
-writen_callable program address static text place n h (v ∷ w ∷ vs) f σ args ground gone room = absurd (omega (arith, args.0))
-writen_callable program address static text place n h (v ∷ []) f σ args ground gone room =
+pub writen_callable : (γ : Shape) (program : List Placed) (address : ℕ → ℕ) (n : ℕ) → Has program address → HoldsLibrary γ address
+    → IsCallable γ (record { arguments = 1; room = 20 }) (calls program n (address 5))
+writen_callable γ program address n h first [] f σ args keeps gone room = absurd (omega (arith, args.0))
+writen_callable γ program address n h first (v ∷ w ∷ vs) f σ args keeps gone room = absurd (omega (arith, args.0))
+writen_callable γ program address n h first (v ∷ []) f σ args keeps gone room =
     by_law σ program (address 5) f n (turns_of (signed v)) 0 (v ∷ []) (omega arith) (after_writes (signed_decimal (signed v))) (writes_keep (signed_decimal (signed v))) (λ cells i streams t.
-    let r = ready static text place address σ f 20 ground gone room cells i in
+    let r = ready γ address σ f 20 first keeps gone room cells i in
     writen_does program address h v args.1.0 cells streams f n t r)
 
 -- the bytes of a string, from the words in the store
@@ -227,10 +235,7 @@ reads text place true (b ∷ bs) (note ∷ notes) (v ∷ vs) ok told =
 taken_few : (xs ys : List ℕ) (n : ℕ) → length (xs ++ ys) ≤ n → length xs ≤ n
 taken_few xs ys n h = omega (arith, h, length-append xs ys)
 
--- WRITES and WRITEF, in a program of the library and a section
-abbrev program_of : Core → (ℕ → ℕ) → (ℕ → ℕ) → List Placed
-program_of core address other = placed (library ∷ core ∷ []) (address ∷ other ∷ [])
-
+-- WRITES and WRITEF, in a program of the library and sections
 abbrev number_of : Option ℕ → ℕ
 number_of o = elim o as (λ z. ℕ) [ Some k ↦ k | None ↦ 0 ]
 
@@ -265,64 +270,71 @@ one_text text place (AWord ∷ notes) vs n room e told = let z : ⊥ = cc in abs
 one_text text place (AText ∷ note ∷ notes) vs n room e told = let z : ⊥ = cc in absurd z
 one_text text place (Says bytes ∷ note ∷ notes) vs n room e told = let z : ⊥ = cc in absurd z
 
-pub spoken : (core : Core) (address other : ℕ → ℕ) (base : ℕ) → IsMap (library ∷ core ∷ []) (record { places = address ∷ other ∷ []; stack_base = base })
-    → (static : ℕ → Bool) (text : ℕ → Option (List ℕ)) (place : ℕ → ℕ) → ((m : ℕ) (bytes : List ℕ) → text m ≡ Some bytes → are_bytes (length bytes ∷ bytes) ≡ true)
-    → ((side : Side) (a : ℕ) → a ≡ find_address side → entered_at (program_of core address other) a ≡ entered_of (Some (OfLibrary (Find side))))
+pub spoken : (cores : List Core) (address : ℕ → ℕ) (places : List (ℕ → ℕ)) (base : ℕ) → IsMap (library ∷ cores) (record { places = address ∷ places; stack_base = base })
+    → (γ : Shape) → HoldsLibrary γ address
+    → (text : ℕ → Option (List ℕ)) (place : ℕ → ℕ) → ((m : ℕ) (bytes : List ℕ) → text m ≡ Some bytes → are_bytes (length bytes ∷ bytes) ≡ true)
+    → ((m : ℕ) (bytes : List ℕ) → text m ≡ Some bytes → HoldsWords γ (place m) (string_words bytes))
+    → ((side : Side) (a : ℕ) → a ≡ find_address side → entered_at (placed (library ∷ cores) (address ∷ places)) a ≡ entered_of (Some (OfLibrary (Find side))))
     → (d g room : ℕ) (notes : List Note) → library_speaks g notes ≡ Some room
-    → (g < 512) × (library_fixed g ≡ true) × CanSay library_fixed static text place (library_global address) room notes (calls (program_of core address other) d (library_global address g))
-spoken core address other base map_is static text place fine finds d g room notes e = by (g == 22) (g == 25) (g == 15) (g == 16) refl refl refl refl e where
-  at : (h : ℕ) → (g == h) ≡ true → (h < 512) × (library_fixed h ≡ true) × CanSay library_fixed static text place (library_global address) room notes (calls (program_of core address other) d (library_global address h))
-      → (g < 512) × (library_fixed g ≡ true) × CanSay library_fixed static text place (library_global address) room notes (calls (program_of core address other) d (library_global address g))
-  at h eg k = subst (λ (z : ℕ). (z < 512) × (library_fixed z ≡ true) × CanSay library_fixed static text place (library_global address) room notes (calls (program_of core address other) d (library_global address z))) (sym (same_true g h eg)) k
+    → Holds γ (calls (placed (library ∷ cores) (address ∷ places)) d) g (CanSay text place γ room notes)
+spoken cores address places base map_is γ first text place fine words finds d g room notes e = by (g == 22) (g == 25) (g == 15) (g == 16) refl refl refl refl e where
+  at : (h : ℕ) → (g == h) ≡ true → h < 512 → library_fixed h ≡ true → CanSay text place γ room notes (calls (placed (library ∷ cores) (address ∷ places)) d (library_global address h))
+      → Holds γ (calls (placed (library ∷ cores) (address ∷ places)) d) g (CanSay text place γ room notes)
+  at h eg low fixed says =
+      subst (λ (z : ℕ). Holds γ (calls (placed (library ∷ cores) (address ∷ places)) d) z (CanSay text place γ room notes)) (sym (same_true g h eg))
+      (record { low = low; address = library_global address h; there = first h low fixed; calls = says })
 
-  held : (σ : Shape) (cells : List Cell) → Inv σ cells → Ground library_fixed static text place (library_global address) σ → HoldTexts text place cells
-  held σ cells i ground m bytes et = string_held σ cells i (place m) bytes (fine m bytes et) (ground.texts m bytes et)
+  still : (σ : Shape) → Keeps γ σ → (m : ℕ) (bytes : List ℕ) → text m ≡ Some bytes → HoldsWords σ (place m) (string_words bytes)
+  still σ keeps m bytes et = words_kept γ σ keeps (place m) (string_words bytes) (words m bytes et)
 
-  writes : with_text notes 15 ≡ Some room → CanSay library_fixed static text place (library_global address) room notes (calls (program_of core address other) d (address 3))
-  writes ok vs f σ told ground gone top =
+  held : (σ : Shape) (cells : List Cell) → Inv σ cells → Keeps γ σ → HoldTexts text place cells
+  held σ cells i keeps m bytes et = string_held σ cells i (place m) bytes (fine m bytes et) (still σ keeps m bytes et)
+
+  writes : with_text notes 15 ≡ Some room → CanSay text place γ room notes (calls (placed (library ∷ cores) (address ∷ places)) d (address 3))
+  writes ok vs f σ told keeps gone top =
       let o = one_text text place notes vs 15 room ok told in
-      subst (λ (z : List ℕ). Runs σ IsWord σ (calls (program_of core address other) d (address 3) z f)) (sym o.alone)
-      (by_law σ (program_of core address other) (address 3) f d (2 + 3 * length o.string.bytes) 0 (o.value ∷ []) (omega arith) (after_writes o.string.bytes) (writes_keep o.string.bytes) (λ cells i streams t.
-      writes_law o.value o.string.bytes (core ∷ []) address (other ∷ []) base map_is cells streams f d t
-      (ready static text place address σ f 15 ground gone (omega (arith, o.needs, top)) cells i)
-      (subst (λ z. HoldsString cells z o.string.bytes) (sym o.string.is) (held σ cells i ground o.string.label o.string.bytes o.string.there))))
+      subst (λ (z : List ℕ). Runs σ IsWord σ (calls (placed (library ∷ cores) (address ∷ places)) d (address 3) z f)) (sym o.alone)
+      (by_law σ (placed (library ∷ cores) (address ∷ places)) (address 3) f d (2 + 3 * length o.string.bytes) 0 (o.value ∷ []) (omega arith) (after_writes o.string.bytes) (writes_keep o.string.bytes) (λ cells i streams t.
+      writes_law o.value o.string.bytes cores address places base map_is cells streams f d t
+      (ready γ address σ f 15 first keeps gone (omega (arith, o.needs, top)) cells i)
+      (subst (λ z. HoldsString cells z o.string.bytes) (sym o.string.is) (held σ cells i keeps o.string.label o.string.bytes o.string.there))))
 
-  finding : (side : Side) → with_text notes 3 ≡ Some room → CanSay library_fixed static text place (library_global address) room notes (calls (program_of core address other) d (find_address side))
-  finding side ok vs f σ told ground gone top =
+  finding : (side : Side) → with_text notes 3 ≡ Some room → CanSay text place γ room notes (calls (placed (library ∷ cores) (address ∷ places)) d (find_address side))
+  finding side ok vs f σ told keeps gone top =
       let o = one_text text place notes vs 3 room ok told in
-      subst (λ (z : List ℕ). Runs σ IsWord σ (calls (program_of core address other) d (find_address side) z f)) (sym o.alone)
-      (runs_find (program_of core address other) (find_address side) side (finds side (find_address side) refl) d o.value f σ o.word gone (omega (arith, o.needs, top)) o.string.bytes
-      (subst (λ z. HoldsWords σ z (string_words o.string.bytes)) (sym o.string.is) (ground.texts o.string.label o.string.bytes o.string.there))
+      subst (λ (z : List ℕ). Runs σ IsWord σ (calls (placed (library ∷ cores) (address ∷ places)) d (find_address side) z f)) (sym o.alone)
+      (runs_find (placed (library ∷ cores) (address ∷ places)) (find_address side) side (finds side (find_address side) refl) d o.value f σ o.word gone (omega (arith, o.needs, top)) o.string.bytes
+      (subst (λ z. HoldsWords σ z (string_words o.string.bytes)) (sym o.string.is) (still σ keeps o.string.label o.string.bytes o.string.there))
       (λ τ cells i words. string_held τ cells i o.value o.string.bytes (fine o.string.label o.string.bytes o.string.there) words))
 
   writef : (bytes : List ℕ) (more : List Note) → (nat_le (length more) 4 && fits_format false bytes more) ≡ true → 37 ≡ room
-      → CanSay library_fixed static text place (library_global address) room (Says bytes ∷ more) (calls (program_of core address other) d (address 6))
-  writef bytes more ok er [] f σ told ground gone top = absurd told
-  writef bytes more ok er (v ∷ vs) f σ told ground gone top =
+      → CanSay text place γ room (Says bytes ∷ more) (calls (placed (library ∷ cores) (address ∷ places)) d (address 6))
+  writef bytes more ok er [] f σ told keeps gone top = absurd told
+  writef bytes more ok er (v ∷ vs) f σ told keeps gone top =
       let oks = both_true (nat_le (length more) 4) (fits_format false bytes more) ok in
       let r = reads text place false bytes more vs oks.1 told.1 in
       let few : length vs ≤ 4 = omega (arith, at_most_true (length more) 4 oks.0, as_many text place more vs told.1) in
-      subst (λ (z : List ℕ). Runs σ IsWord σ (calls (program_of core address other) d (address 6) (v ∷ z) f)) (sym r.taken)
-      (by_law σ (program_of core address other) (address 6) f d (2 + turns_by r.pieces) 0 (v ∷ (taken_by r.pieces ++ r.more)) (omega arith) (after_writes (written_by r.pieces)) (writes_keep (written_by r.pieces)) (λ cells i streams t.
-      writef_law v r.pieces r.more (taken_few (taken_by r.pieces) r.more 4 (subst (λ (z : List ℕ). length z ≤ 4) r.taken few)) (core ∷ []) address (other ∷ []) base map_is cells streams f d t
-      (ready static text place address σ f 37 ground gone (omega (arith, er, top)) cells i)
-      (subst (λ (z : List ℕ). HoldsString cells v z) (sym r.format) (subst (λ z. HoldsString cells z bytes) (sym told.0.1.is) (held σ cells i ground told.0.1.label bytes told.0.1.there)), r.are cells (held σ cells i ground))))
+      subst (λ (z : List ℕ). Runs σ IsWord σ (calls (placed (library ∷ cores) (address ∷ places)) d (address 6) (v ∷ z) f)) (sym r.taken)
+      (by_law σ (placed (library ∷ cores) (address ∷ places)) (address 6) f d (2 + turns_by r.pieces) 0 (v ∷ (taken_by r.pieces ++ r.more)) (omega arith) (after_writes (written_by r.pieces)) (writes_keep (written_by r.pieces)) (λ cells i streams t.
+      writef_law v r.pieces r.more (taken_few (taken_by r.pieces) r.more 4 (subst (λ (z : List ℕ). length z ≤ 4) r.taken few)) cores address places base map_is cells streams f d t
+      (ready γ address σ f 37 first keeps gone (omega (arith, er, top)) cells i)
+      (subst (λ (z : List ℕ). HoldsString cells v z) (sym r.format) (subst (λ z. HoldsString cells z bytes) (sym told.0.1.is) (held σ cells i keeps told.0.1.label bytes told.0.1.there)), r.are cells (held σ cells i keeps))))
 
-  formatted : (ns : List Note) → with_format ns ≡ Some room → CanSay library_fixed static text place (library_global address) room ns (calls (program_of core address other) d (address 6))
+  formatted : (ns : List Note) → with_format ns ≡ Some room → CanSay text place γ room ns (calls (placed (library ∷ cores) (address ∷ places)) d (address 6))
   formatted [] ok = let z : ⊥ = cc in absurd z
   formatted (AWord ∷ ns) ok = let z : ⊥ = cc in absurd z
   formatted (AText ∷ ns) ok = let z : ⊥ = cc in absurd z
   formatted (Says bytes ∷ ns) ok = chosen (nat_le (length ns) 4 && fits_format false bytes ns) refl ok where
     chosen : (t : Bool) → (nat_le (length ns) 4 && fits_format false bytes ns) ≡ t → elim t as (λ z. Option ℕ) [ true ↦ Some 37 | false ↦ None ] ≡ Some room
-        → CanSay library_fixed static text place (library_global address) room (Says bytes ∷ ns) (calls (program_of core address other) d (address 6))
+        → CanSay text place γ room (Says bytes ∷ ns) (calls (placed (library ∷ cores) (address ∷ places)) d (address 6))
     chosen true et e1 = writef bytes ns et (ap number_of e1)
     chosen false et e1 = let z : ⊥ = cc in absurd z
 
   by : (x y u w : Bool) → (g == 22) ≡ x → (g == 25) ≡ y → (g == 15) ≡ u → (g == 16) ≡ w
       → elim x as (λ z. Option ℕ) [ true ↦ with_text notes 15 | false ↦ elim y as (λ z. Option ℕ) [ true ↦ with_format notes | false ↦ elim (u || w) as (λ z. Option ℕ) [ true ↦ with_text notes 3 | false ↦ None ] ] ] ≡ Some room
-      → (g < 512) × (library_fixed g ≡ true) × CanSay library_fixed static text place (library_global address) room notes (calls (program_of core address other) d (library_global address g))
-  by true y u w ex ey eu ew e1 = at 22 ex (omega arith, refl, writes e1)
-  by false true u w ex ey eu ew e1 = at 25 ey (omega arith, refl, formatted notes e1)
-  by false false true w ex ey eu ew e1 = at 15 eu (omega arith, refl, finding sides.Input e1)
-  by false false false true ex ey eu ew e1 = at 16 ew (omega arith, refl, finding sides.Output e1)
+      → Holds γ (calls (placed (library ∷ cores) (address ∷ places)) d) g (CanSay text place γ room notes)
+  by true y u w ex ey eu ew e1 = at 22 ex (omega arith) refl (writes e1)
+  by false true u w ex ey eu ew e1 = at 25 ey (omega arith) refl (formatted notes e1)
+  by false false true w ex ey eu ew e1 = at 15 eu (omega arith) refl (finding sides.Input e1)
+  by false false false true ex ey eu ew e1 = at 16 ew (omega arith) refl (finding sides.Output e1)
   by false false false false ex ey eu ew e1 = let z : ⊥ = cc in absurd z

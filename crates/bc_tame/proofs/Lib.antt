@@ -6,4 +6,5 @@ pub mod Routines
 pub mod Primitives
 pub mod Lawful
 pub mod Sections
+pub mod Placing
 pub mod Beginning

@@ -7,20 +7,20 @@ use Rattle.std.specs.Str.{bytes_eq}
 use Rattle.bc_machine_defs.specs.declared.streams.Side.{Side}
 use Rattle.bc_machine_defs.specs.declared.streams.Side.TheVariants as sides
 use Rattle.bc_machine_defs.specs.Streams.{Input, Content, numbered, AreBytes, HoldBytes}
-use Rattle.bc_machine_defs.specs.StreamCalls.{names_of, number_or_none, find_stream, next_byte, byte_of_input, read_byte, select_stream, after_read, end_stream}
+use Rattle.bc_machine_defs.specs.StreamCalls.{names_of, number_or_none, find_stream, next_byte, byte_of_input, read_byte, select_stream, end_stream}
 use Rattle.bc_machine_defs.specs.Execute.{byte_or_end}
 use Rattle.bc_machine_defs.proofs.Bytes.{numbered_at, read_keeps, end_keeps}
 use Rattle.bc_core.specs.Map.{Placed}
 use Rattle.bc_core.specs.Words.{string_words}
 use Rattle.bc_core.specs.Store.{Cell, Unset, Set, cell_at}
-use Rattle.bc_core.specs.Outcome.{State, Done, Run, read}
+use Rattle.bc_core.specs.Outcome.{State, Done, read}
 use Rattle.bc_core.specs.Primitive.{Primitive, Select, ReadByte, Find, EndStream, byte_of_string, bytes_of_string, string_of, on_streams, read_next, primitive_work}
 use Rattle.bc_core.specs.Meaning.{passed, OfLibrary, in_frame, with_arguments, calls, entered_at, entered_of}
 use Rattle.bc_core.proofs.Liveness.{Outside}
-use Rattle.bc_tame.proofs.Fine.{Kind, Gone, Live, Fixed, Fits, Shape, Inv, Meets, Fine, Runs, Readable, IsWord, differ, inv_set, runs_then, runs_read, runs_turn, runs_left}
+use Rattle.bc_tame.proofs.Fine.{Keeps, Kind, Gone, Live, Fixed, Fits, Shape, Inv, Meets, Fine, Runs, Readable, IsWord, differ, inv_set, runs_then, runs_read, runs_turn, runs_left}
 use Rattle.bc_library_laws.specs.Laws.{byte_in, HoldsBytes, HoldsString}
 use Rattle.bc_tame.proofs.Expressions.{HoldsWords, IsCallable}
-use Rattle.bc_tame.proofs.Shapes.{Keeps, words_kept}
+use Rattle.bc_tame.proofs.Shapes.{words_kept}
 
 -- a cell has this kind
 kind_at : ℕ → Kind → Shape → Shape
@@ -85,11 +85,11 @@ select_keeps sides.Input n c h = h
 select_keeps sides.Output n c h = h
 
 -- SELECTINPUT and SELECTOUTPUT
-pub select_callable : (fixed static : ℕ → Bool) (text : ℕ → Option (List ℕ)) (place global : ℕ → ℕ) (program : List Placed) (a : ℕ) (side : Side) (n : ℕ) → entered_at program a ≡ entered_of (Some (OfLibrary (Select side)))
-    → IsCallable fixed static text place global (record { arguments = 1; room = 3 }) (calls program n a)
-select_callable fixed static text place global program a side n is [] f σ args ground gone room = absurd (omega (arith, args.0))
-select_callable fixed static text place global program a side n is (v ∷ w ∷ vs) f σ args ground gone room = absurd (omega (arith, args.0))
-select_callable fixed static text place global program a side n is (v ∷ []) f σ args ground gone room =
+pub select_callable : (γ : Shape) (program : List Placed) (a : ℕ) (side : Side) (n : ℕ) → entered_at program a ≡ entered_of (Some (OfLibrary (Select side)))
+    → IsCallable γ (record { arguments = 1; room = 3 }) (calls program n a)
+select_callable γ program a side n is [] f σ args keeps gone room = absurd (omega (arith, args.0))
+select_callable γ program a side n is (v ∷ w ∷ vs) f σ args keeps gone room = absurd (omega (arith, args.0))
+select_callable γ program a side n is (v ∷ []) f σ args keeps gone room =
     let τ : Shape = kind_at (f + 2) (Fixed v) σ in
     runs_primitive program a (Select side) is n (v ∷ []) f σ (Set v) (Fixed v) (λ cells. refl) (refl, args.1.0) gone room
     (runs_then (kind_at (f + 2) (Fixed v) σ) (kind_at (f + 2) (Fixed v) σ) (kind_at (f + 2) (Fixed v) σ) IsWord IsWord (read (f + 2)) (λ w. on_streams (select_stream side w) 0)
@@ -97,17 +97,17 @@ select_callable fixed static text place global program a side n is (v ∷ []) f 
     (λ w lw. runs_streams (kind_at (f + 2) (Fixed v) σ) (select_stream side w) 0 (omega arith) (select_keeps side w)))
 
 -- RDCH
-pub read_callable : (fixed static : ℕ → Bool) (text : ℕ → Option (List ℕ)) (place global : ℕ → ℕ) (program : List Placed) (a n : ℕ) → entered_at program a ≡ entered_of (Some (OfLibrary ReadByte))
-    → IsCallable fixed static text place global (record { arguments = 0; room = 3 }) (calls program n a)
-read_callable fixed static text place global program a n is (v ∷ vs) f σ args ground gone room = absurd (omega (arith, args.0))
-read_callable fixed static text place global program a n is [] f σ args ground gone room =
+pub read_callable : (γ : Shape) (program : List Placed) (a n : ℕ) → entered_at program a ≡ entered_of (Some (OfLibrary ReadByte))
+    → IsCallable γ (record { arguments = 0; room = 3 }) (calls program n a)
+read_callable γ program a n is (v ∷ vs) f σ args keeps gone room = absurd (omega (arith, args.0))
+read_callable γ program a n is [] f σ args keeps gone room =
     runs_primitive program a ReadByte is n [] f σ Unset Live (λ cells. refl) tt gone room (runs_read_next (kind_at (f + 2) Live σ))
 
 -- ENDREAD and ENDWRITE
-pub end_callable : (fixed static : ℕ → Bool) (text : ℕ → Option (List ℕ)) (place global : ℕ → ℕ) (program : List Placed) (a : ℕ) (side : Side) (n : ℕ) → entered_at program a ≡ entered_of (Some (OfLibrary (EndStream side)))
-    → IsCallable fixed static text place global (record { arguments = 0; room = 3 }) (calls program n a)
-end_callable fixed static text place global program a side n is (v ∷ vs) f σ args ground gone room = absurd (omega (arith, args.0))
-end_callable fixed static text place global program a side n is [] f σ args ground gone room =
+pub end_callable : (γ : Shape) (program : List Placed) (a : ℕ) (side : Side) (n : ℕ) → entered_at program a ≡ entered_of (Some (OfLibrary (EndStream side)))
+    → IsCallable γ (record { arguments = 0; room = 3 }) (calls program n a)
+end_callable γ program a side n is (v ∷ vs) f σ args keeps gone room = absurd (omega (arith, args.0))
+end_callable γ program a side n is [] f σ args keeps gone room =
     runs_primitive program a (EndStream side) is n [] f σ Unset Live (λ cells. refl) tt gone room (runs_streams (kind_at (f + 2) Live σ) (end_stream side) 0 (omega arith) (end_keeps side))
 
 -- a string in the store, read byte by byte

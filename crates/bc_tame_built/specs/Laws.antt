@@ -1,5 +1,5 @@
 -- Every run of a tame program's image has the output and the ending that the sources mean.
-use Rattle.std.specs.Prelude.{ℕ, ◌≡◌, ◌+◌, ◌≤◌, true, List, [], ◌∷◌}
+use Rattle.std.specs.Prelude.{ℕ, ◌≡◌, ◌+◌, ◌≤◌, true, List, ◌∷◌, ◌++◌, map}
 use Rattle.bc_lex.specs.Files.{File}
 use Rattle.bc_parse_tree.specs.Tree.{Declarations}
 use Rattle.bc_scope_defs.specs.Translation.{core_of}
@@ -26,18 +26,28 @@ Does Wild n s = ⊥
 abbrev pub EveryRunIsMeant : List Declarations → Image → Type 0
 EveryRunIsMeant sections image = (streams : Content) → HoldBytes streams.inputs → (n : ℕ) → Does (meant sections image streams n) n (started image streams)
 
--- LIBHDR and BLIB are the first two files; BLIB and one other file are the mains. By the contract of `build`, these premises hold of every
--- program that it returns for these files and mains, besides the two that its own file is tame and that there is room for the stack.
+-- LIBHDR and BLIB are the first two files; BLIB is the first main. By the contract of `build`, these premises hold of every program that it
+-- returns for these files and mains, besides the two that its own sections are tame and that there is room for the stack.
 abbrev pub TamePrograms : Type 0
 TamePrograms =
-    (rest : List File) (main : ℕ) (blib own : Declarations) (image : Image) (rooms : Rooms)
-    → AreParsed (header_file ∷ source_file ∷ rest) (1 ∷ main ∷ []) (blib ∷ own ∷ []) → RunsAsMeant (blib ∷ own ∷ []) image
-    → is_tame (core_of own) rooms ≡ true → image.stack_base + 2 + rooms.room ≤ 65536
-    → EveryRunIsMeant (blib ∷ own ∷ []) image
+    (rest : List File) (mains : List ℕ) (blib : Declarations) (owns : List Declarations) (image : Image) (rooms : Rooms)
+    → AreParsed (header_file ∷ source_file ∷ rest) (1 ∷ mains) (blib ∷ owns) → RunsAsMeant (blib ∷ owns) image
+    → is_tame (map core_of owns) rooms ≡ true → image.stack_base + 2 + rooms.room ≤ 65536
+    → EveryRunIsMeant (blib ∷ owns) image
 
 -- the resolved section of a main
 abbrev pub IsResolved : List File → ℕ → Core → Type 0
 IsResolved files main core = (section : Declarations) → IsParsed files main section → core ≡ core_of section
+
+-- those of mains
+abbrev pub AreTranslated : List File → List ℕ → List Core → Type 0
+AreTranslated files mains cores = (sections : List Declarations) → AreParsed files mains sections → map core_of sections ≡ cores
+
+-- those of the first mains, where these others are left
+abbrev pub AreResolved : List File → (mains left : List ℕ) → List Core → Type 0
+AreResolved files mains left cores =
+    (sections : List Declarations) → AreParsed files mains sections
+    → (rest : List Declarations) × AreParsed files left rest × (map core_of sections ≡ cores ++ map core_of rest)
 
 -- if the first two of these files are LIBHDR and BLIB, every run is meant of an image of these mains that runs as meant
 abbrev pub RunsAsMeantWithLibrary : List File → List ℕ → Image → Type 0

@@ -4,5 +4,5 @@
 pub mod laws;
 mod program;
 
-pub use bc_tame_check::{BodyOf, Cause, NotTame, Spot};
+pub use bc_tame_check::{BodyOf, Cause, NotTame, RoutineAt, Spot};
 pub use program::tame_room;

@@ -1,16 +1,16 @@
 //! The public call: whether a program that was built is tame.
 
-ghost use Rattle.std.specs.Prelude.{◌≡◌, ◌+◌, ◌<◌, ◌≤◌, ◌∷◌, [], true, length, IfOk, IfSome};
+ghost use Rattle.std.specs.Prelude.{◌≡◌, ◌+◌, ◌<◌, ◌≤◌, ◌∷◌, true, length, map, IfOk, IfSome};
 ghost use Rattle.bc_lex.specs.Files.{files_of};
 ghost use Rattle.bc_core.specs.View.{section as section_view};
-ghost use Rattle.bc_tame_built.specs.Laws.{IsResolved, RunsAsMeantWithLibrary};
+ghost use Rattle.bc_tame_built.specs.Laws.{IsResolved, AreTranslated, RunsAsMeantWithLibrary};
 
 use bc_core::Core;
 use bc_lex::{Source, lex};
 use bc_machine_defs::Image;
 use bc_parse::parse;
 use bc_scope::resolve;
-use bc_tame_check::{BodyOf, Cause, NotTame, Rooms, Spot, tame_rooms};
+use bc_tame_check::{BodyOf, Cause, NotTame, Rooms, RoutineAt, Spot, tame_rooms};
 use bc_word::Memory;
 use std::alloc::Global;
 
@@ -35,6 +35,23 @@ fn resolved(alloc: Global, sources: &[Source<'_>], main: usize) -> Result<Core, 
     }
 }
 
+/// Lexes, parses and resolves these mains again.
+///
+/// `Memory` as for one main, or if a main isn't a source.
+fn all_resolved(alloc: Global, sources: &[Source<'_>], mains: &[usize]) -> Result<Vec<Core>, Memory>
+    ensures { IfOk result (λ cores. AreTranslated (files_of sources.now) mains.now (map section_view cores.items)) }
+{
+    let mut cores = Vec::new(alloc);
+    for main in mains {
+        if *main >= sources.len() {
+            return Err(Memory);
+        }
+        let core = resolved(alloc, sources, *main)?;
+        cores.push(core)?;
+    }
+    Ok(cores)
+}
+
 /// Whether the image leaves this room above the stack's base, and two cells.
 fn has_room(image: &Image, rooms: &Rooms) -> bool
     ensures { result ≡ true → image.now.stack_base + 2 + rooms.now.room ≤ 65536 }
@@ -43,22 +60,24 @@ fn has_room(image: &Image, rooms: &Rooms) -> bool
     rooms.room <= 65536 && base + 2 + rooms.room <= 65536
 }
 
-/// The beginning of the routine with this label.
-fn at_label(label: usize) -> Spot {
+/// The beginning of this routine.
+fn beginning(routine: RoutineAt) -> Spot {
     Spot {
-        body: BodyOf::Routine(label),
+        section: routine.section,
+        body: BodyOf::Routine(routine.label),
         before: 0,
     }
 }
 
-/// The main beside BLIB, which is the main before it, if these two are the only ones.
-fn own_main(sources: &[Source<'_>], mains: &[usize]) -> Option<usize>
-    ensures { IfSome result (λ main. (mains.now ≡ 1 ∷ main ∷ []) × (main < length sources.now)) }
+/// The mains after BLIB, which is the main before them.
+fn own_mains(mains: &[usize]) -> Option<&[usize]>
+    ensures { IfSome result (λ owns. mains.now ≡ 1 ∷ owns.now) }
 {
-    match mains {
-        [1, main] if *main < sources.len() => Some(*main),
-        _ => None,
+    let (first, owns) = mains.split_first()?;
+    if *first == 1 {
+        return Some(owns);
     }
+    None
 }
 
 /// Decides whether a program is tame that was built from LIBHDR, BLIB and further files, with these mains. If it is, no run of the image
@@ -73,14 +92,20 @@ pub fn tame_room(
 ) -> Result<usize, NotTame>
     ensures { IfOk result (λ _. RunsAsMeantWithLibrary (files_of sources.now) mains.now image.now) }
 {
-    let main = match own_main(sources, mains) {
-        Some(main) => main,
-        None => return Err(NotTame::Unknown(Cause::Sections, at_label(0))),
+    let owns = match own_mains(mains) {
+        Some(owns) => owns,
+        None => {
+            let start = RoutineAt {
+                section: 0,
+                label: 1,
+            };
+            return Err(NotTame::Unknown(Cause::Sections, beginning(start)));
+        }
     };
-    let core = resolved(alloc, sources, main)?;
-    let rooms = tame_rooms(alloc, &core)?;
+    let cores = all_resolved(alloc, sources, owns)?;
+    let rooms = tame_rooms(alloc, cores.as_slice())?;
     if has_room(image, &rooms) {
         return Ok(rooms.room);
     }
-    Err(NotTame::Unknown(Cause::Stack, at_label(rooms.start)))
+    Err(NotTame::Unknown(Cause::Stack, beginning(rooms.start)))
 }

@@ -7,6 +7,7 @@ pub mod Strings
 pub mod Valofs
 pub mod Labels
 pub mod Loops
-pub mod Setters
+pub mod Globals
+pub mod Sections
 pub mod Forms
 pub mod Lists

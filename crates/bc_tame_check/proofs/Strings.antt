@@ -1,5 +1,5 @@
 -- Expressions that are strings, and routines that return them.
-use Rattle.std.proofs.Common.{◌≡◌, ℕ, ◌+◌, ◌==◌, Bool, true, false, List, ◌∷◌, Option, Some, None, sym, ap, ◌∙◌, subst}
+use Rattle.std.proofs.Common.{◌≡◌, ℕ, ◌+◌, Bool, true, false, List, ◌∷◌, Option, Some, sym, ap, subst}
 use Rattle.std.proofs.lemmas.Bool.{eq-eqb}
 use Rattle.bc_core.specs.Tree.{Exp, Place, Cond, Call, Args}
 use Rattle.bc_core.specs.Commands as commands

@@ -1,10 +1,10 @@
 -- Tests of numbers and bytes that hold.
-use Rattle.std.proofs.Common.{◌≡◌, ℕ, ◌+◌, ◌<◌, ◌≤◌, Bool, true, false, List, ◌∷◌, Option, Some, None, length, sym, ap, ◌∙◌, subst, arith}
-use Rattle.std.specs.Prelude.{nat_lt, nat_le, ◌==◌, ◌&&◌, not}
+use Rattle.std.proofs.Common.{◌≡◌, ℕ, ◌+◌, ◌<◌, ◌≤◌, Bool, true, false, List, ◌∷◌, Some, None, length, sym, ap, ◌∙◌, subst, arith}
+use Rattle.std.specs.Prelude.{nat_lt, nat_le, ◌==◌, ◌&&◌, ◌||◌, not}
 use Rattle.std.proofs.lemmas.Bool.Decides.{nat_tests}
 use Rattle.std.proofs.lemmas.Bool.{eq-eqb}
 use Rattle.bc_tame.specs.Tame.{fits_call}
-use Rattle.bc_tame.specs.Programs.{known, are_bytes, fits_format, library_speaks, library_fixed}
+use Rattle.bc_tame.specs.Programs.{known, are_bytes, library_fixed, Setter, is_known, own_callable, fixed_with}
 
 pub and_true : (a b : Bool) → a ≡ true → b ≡ true → (a && b) ≡ true
 and_true a b e f = subst (λ t. (t && b) ≡ true) (sym e) f
@@ -24,6 +24,8 @@ byte_more b bs h e = and_true (nat_lt b 256) (are_bytes bs) (less_true b 256 h) 
 pub byte_first : (bs : List ℕ) → length bs < 256 → are_bytes bs ≡ true → are_bytes (length bs ∷ bs) ≡ true
 byte_first bs h e = byte_more (length bs) bs h e
 
--- a global that isn't fixed can be written
-pub global_written : (n : ℕ) (b : Bool) → n < 512 → b ≡ library_fixed n → b ≡ false → (nat_lt n 512 && not (library_fixed n)) ≡ true
-global_written n b h is isnt = and_true (nat_lt n 512) (not (library_fixed n)) (less_true n 512 h) (ap not (sym is ∙ isnt))
+-- a global that holds no routine can be written
+pub global_written : (ss : List Setter) (n : ℕ) (b : Bool) → n < 512 → b ≡ library_fixed n → b ≡ false → own_callable ss n ≡ None → (nat_lt n 512 && not (fixed_with ss n)) ≡ true
+global_written ss n b h is isnt none =
+    let free : fixed_with ss n ≡ false = ap (λ t. t || is_known (own_callable ss n)) (sym is ∙ isnt) ∙ ap is_known none in
+    and_true (nat_lt n 512) (not (fixed_with ss n)) (less_true n 512 h) (ap not free)

@@ -5,9 +5,22 @@ ghost use Rattle.bc_tame.specs.Tame.{fits_call};
 ghost use Rattle.bc_tame.specs.Programs.{known};
 ghost use Rattle.bc_tame_check.specs.Views.{reads_at};
 
-use crate::not_tame::{BodyOf, Cause, NotTame, Spot};
+use crate::not_tame::{BodyOf, Cause, NotTame, RoutineAt, Spot};
 use bc_core::{Place, Valof};
 use std::alloc::Global;
+
+/// A routine that sets a global.
+#[derive(Clone, Copy)]
+pub(crate) struct Setter {
+    /// The global.
+    pub global: u16,
+    /// The number of its arguments.
+    pub arguments: usize,
+    /// The number of cells that it may use, together with all that it calls; 0 if that isn't known yet.
+    pub room: usize,
+    /// Which routine it is.
+    pub routine: RoutineAt,
+}
 
 /// A section, with a guess of how many cells each routine may use together with all that it calls.
 #[derive(Clone, Copy)]
@@ -18,6 +31,10 @@ pub(crate) struct Around<'a> {
     pub places: &'a [Place],
     /// For each place, the number of cells that its routine may use; 0 if that isn't known yet.
     pub rooms: &'a [usize],
+    /// The routines of all sections that set globals.
+    pub setters: &'a [Setter],
+    /// The index of the section, among those that are checked.
+    pub section: usize,
     /// The number of cells that the routine being checked may use.
     pub size: usize,
 }
@@ -92,7 +109,11 @@ impl Walk {
     /// Enters a body. Returns where the check was.
     pub(crate) fn enter(&mut self, body: BodyOf) -> Spot {
         let outside = self.spot;
-        self.spot = Spot { body, before: 0 };
+        self.spot = Spot {
+            section: outside.section,
+            body,
+            before: 0,
+        };
         outside
     }
 

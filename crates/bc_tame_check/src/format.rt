@@ -3,7 +3,7 @@
 ghost use Rattle.std.specs.Prelude.{◌≡◌, ◌∷◌, true, false, length, IfSome, Some, List, ℕ};
 ghost use Rattle.bc_tame.specs.Tame.{Note};
 ghost use Rattle.bc_tame_check.specs.Views.{notes_in};
-ghost use Rattle.bc_tame.specs.Programs.{known, are_bytes as bytes_pass, fits_format as format_passes, library_callable, library_speaks, with_text, with_format, library_fixed, is_primitive as primitive_global};
+ghost use Rattle.bc_tame.specs.Programs.{known, are_bytes as bytes_pass, fits_format as format_passes, library_callable, library_speaks, with_text, with_format, library_fixed, library_sets, is_primitive as primitive_global};
 
 use crate::at::Known;
 use crate::lookup::{label_of, text_of};
@@ -52,6 +52,13 @@ pub(crate) fn is_fixed(global: u16) -> bool
         || global == 23
         || global == 24
         || global == 25
+}
+
+/// Whether the library sets a global.
+pub(crate) fn is_set_by_library(global: u16) -> bool
+    ensures { result ≡ library_sets global }
+{
+    is_fixed(global) || global == 21
 }
 
 /// Whether the bytes and their number are below 256.

@@ -1,4 +1,4 @@
-//! Decides whether a section is tame: whether no run of it with the library can meet a wild cell. A yes is proved.
+//! Decides whether sections are tame: whether no run of them with the library can meet a wild cell. A yes is proved.
 #![tactic(auto)]
 
 mod at;
@@ -7,8 +7,9 @@ mod format;
 mod lookup;
 mod not_tame;
 mod rooms;
+mod setters;
 mod texts;
 mod walk;
 
-pub use not_tame::{BodyOf, Cause, NotTame, Spot};
+pub use not_tame::{BodyOf, Cause, NotTame, RoutineAt, Spot};
 pub use rooms::{Rooms, tame_rooms};

@@ -1,16 +1,18 @@
-//! Finds a section's routines, statics and strings by their labels, which count from 1.
+//! Finds a section's routines, statics and strings by their labels, which count from 1, and routines by their globals.
 
 ghost use Rattle.std.specs.Prelude.{◌≡◌, ◌+◌, ◌∷◌, true, false, IfSome, Some, None, map, ℕ, List};
 ghost use Rattle.bc_core.specs.View.{place_of, exp};
 ghost use Rattle.bc_core.specs.Tree as tree;
 ghost use Rattle.bc_core.specs.Commands.{Place as CorePlace};
 ghost use Rattle.bc_tame.specs.Tame as tame;
-ghost use Rattle.bc_tame.specs.Programs.{known, routine_from, static_from, text_from};
-ghost use Rattle.bc_tame_check.specs.Views.{env_at};
+ghost use Rattle.bc_tame.specs.Programs as programs;
+ghost use Rattle.bc_tame.specs.Programs.{known, routine_from, static_from, text_from, setter_for, times_set, may_set, own_callable, callable_with};
+ghost use Rattle.bc_tame_check.specs.Views.{setter_of, setters_in, env_at};
 ghost use Rattle.bc_tame_check.specs.declared.lookup.Step.TheVariants as steps;
 
-use crate::at::{Around, At, Known};
-use crate::format::callable;
+use crate::at::{Around, At, Known, Setter};
+use crate::format::{callable, is_set_by_library};
+use crate::not_tame::RoutineAt;
 use bc_core::{CoreExp, Place};
 
 /// What a place is, compared with the label that is searched for.
@@ -168,15 +170,106 @@ pub(crate) fn global_of(e: &CoreExp) -> Option<u16>
     }
 }
 
+/// Whether a routine sets this global.
+#[tactic(auto, using(crate::proofs::Globals::setter_here, crate::proofs::Globals::setter_else, crate::proofs::Globals::times_here, crate::proofs::Globals::times_else))]
+fn sets(setter: &Setter, wanted: u16) -> bool
+    ensures found { result ≡ true → (ss : List programs.Setter)
+        → setter_for (setter_of setter.now ∷ ss) wanted ≡ Some (known setter.now.arguments setter.now.room) }
+    ensures passed { result ≡ false → (ss : List programs.Setter) → setter_for (setter_of setter.now ∷ ss) wanted ≡ setter_for ss wanted }
+    ensures counted { result ≡ true → (ss : List programs.Setter) → times_set (setter_of setter.now ∷ ss) wanted ≡ times_set ss wanted + 1 }
+    ensures uncounted { result ≡ false → (ss : List programs.Setter) → times_set (setter_of setter.now ∷ ss) wanted ≡ times_set ss wanted }
+{
+    setter.global == wanted
+}
+
+/// The first of these routines that sets a global.
+pub(crate) fn first_setter(setters: &[Setter], wanted: u16) -> Option<Setter>
+    ensures found { IfSome result (λ s. setter_for (setters_in setters.now) wanted ≡ Some (known s.arguments s.room)) }
+    ensures none { result ≡ None → setter_for (setters_in setters.now) wanted ≡ None }
+{
+    let mut left = setters;
+    while let [first, rest @ ..] = left {
+        if sets(first, wanted) {
+            return Some(*first);
+        }
+        left = rest;
+    }
+    None
+}
+
+/// How many of these routines set a global. `None` if the number overflows.
+fn times(setters: &[Setter], wanted: u16) -> Option<usize>
+    ensures { IfSome result (λ n. times_set (setters_in setters.now) wanted ≡ n) }
+{
+    let mut found = 0usize;
+    let mut left = setters;
+    while let [first, rest @ ..] = left {
+        if sets(first, wanted) {
+            found = found.checked_add(1)?;
+        }
+        left = rest;
+    }
+    Some(found)
+}
+
+/// Whether a routine may set this global, which isn't START's.
+#[tactic(auto, using(crate::proofs::Globals::may_true))]
+pub(crate) fn may_be_set(setters: &[Setter], global: u16) -> bool
+    ensures { result ≡ true → may_set (setters_in setters.now) (Some global) ≡ true }
+{
+    let found = match times(setters, global) {
+        Some(found) => found,
+        None => return false,
+    };
+    global < 512 && !is_set_by_library(global) && found == 1
+}
+
+/// How the routine that sets a global can be called through it, unless it is START.
+#[tactic(auto, using(crate::proofs::Globals::own_true, crate::proofs::Globals::own_none, crate::proofs::Globals::start_none))]
+pub(crate) fn own_setter(setters: &[Setter], global: u16) -> Option<Setter>
+    ensures found { IfSome result (λ s. own_callable (setters_in setters.now) global ≡ Some (known s.arguments s.room)) }
+    ensures none { result ≡ None → own_callable (setters_in setters.now) global ≡ None }
+{
+    if global == 1 {
+        return None;
+    }
+    first_setter(setters, global)
+}
+
+/// How the routine of a global can be called.
+#[tactic(auto, using(crate::proofs::Globals::own_first, crate::proofs::Globals::library_else))]
+fn global_callable(setters: &[Setter], global: u16) -> Option<Known>
+    ensures { IfSome result (λ k. callable_with (setters_in setters.now) global ≡ Some (known k.arguments k.room)) }
+{
+    match own_setter(setters, global) {
+        Some(setter) => Some(Known {
+            arguments: setter.arguments,
+            room: setter.room,
+        }),
+        None => callable(global),
+    }
+}
+
 /// How the routine that an expression names can be called.
 pub(crate) fn called(at: At<'_>, e: &CoreExp) -> Option<Known>
     ensures { IfSome result (λ k. tame.called (env_at at.entry) (exp e.now) ≡ Some (known k.arguments k.room)) }
 {
     if let Some(global) = global_of(e) {
-        return callable(global);
+        return global_callable(at.around.setters, global);
     }
     match e {
         CoreExp::Place(label) => routine_of(at.around, *label as usize),
         _ => None,
     }
+}
+
+/// The routine of the program that an expression names.
+pub(crate) fn routine_named(at: At<'_>, e: &CoreExp) -> Option<RoutineAt> {
+    if let Some(label) = label_of(e) {
+        return Some(RoutineAt {
+            section: at.around.section,
+            label,
+        });
+    }
+    Some(own_setter(at.around.setters, global_of(e)?)?.routine)
 }

@@ -1,4 +1,4 @@
-//! Why a section is not known to be tame, and where.
+//! Why sections are not known to be tame, and where.
 use bc_word::Memory;
 use std::alloc::{AllocError, AllocFailed};
 use thiserror::Error;
@@ -12,9 +12,20 @@ pub enum BodyOf {
     Valof(usize),
 }
 
+/// A routine of the program.
+#[derive(Clone, Copy, Debug)]
+pub struct RoutineAt {
+    /// The index of its section, among those that are checked.
+    pub section: usize,
+    /// Its label there, counted from 1.
+    pub label: usize,
+}
+
 /// A place in the text: a whole expression, test or assignment of a body.
 #[derive(Clone, Copy, Debug)]
 pub struct Spot {
+    /// The index of the section, among those that are checked.
+    pub section: usize,
     /// The body.
     pub body: BodyOf,
     /// How many whole expressions, tests and assignments of this body come before it, in the order of its code.
@@ -28,7 +39,7 @@ pub enum Cause {
     Indirection,
     /// The address of a table, routine or static is used as a value.
     Address,
-    /// A call whose routine is neither one of the section's, by its name, nor one of the library that the check knows.
+    /// A call whose routine is neither one of the program's, by its name or global, nor one of the library that the check knows.
     Call,
     /// A call with more or fewer arguments than the routine has parameters.
     Arguments,
@@ -38,18 +49,20 @@ pub enum Cause {
     Recursion,
     /// A global that holds a routine of the library is assigned.
     LibraryGlobal,
-    /// A routine sets a global other than START's.
+    /// A routine sets a global of the library, or one that another routine sets.
     OwnGlobal,
     /// A TABLE.
     Table,
-    /// The section has no START without parameters.
+    /// No section has a START without parameters.
     NoStart,
     /// The image leaves too few cells for the stack.
     Stack,
     /// The routines need more cells than the store has, or the text nests too deep.
     Size,
-    /// The program has other sections than BLIB and one more. `tame_rooms` never returns this.
+    /// The first main isn't BLIB, or there is no other. `tame_rooms` never returns this.
     Sections,
+    /// A global that holds a routine of the program is assigned.
+    RoutineGlobal,
 }
 
 /// Why no answer of yes was found.
@@ -58,9 +71,9 @@ pub enum NotTame {
     /// The check can't accept what is at this place. This means only that the answer isn't known.
     #[error("not known to be tame")]
     Unknown(Cause, Spot),
-    /// The routine with this label must be checked first. `tame_rooms` never returns this.
-    #[error("unchecked routine {0}")]
-    Unchecked(usize, Spot),
+    /// This routine must be checked first. `tame_rooms` never returns this.
+    #[error("unchecked routine")]
+    Unchecked(RoutineAt, Spot),
     /// An allocation failed.
     #[error("out of memory")]
     Memory,

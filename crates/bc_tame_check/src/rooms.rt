@@ -1,28 +1,29 @@
-//! The public call: finds how many cells each routine needs, and checks the section with these numbers.
+//! The public call: finds how many cells each routine needs, and checks the sections with these numbers.
 
-ghost use Rattle.std.specs.Prelude.{◌≡◌, ◌+◌, ◌∷◌, true, false, Some, IfOk, IfSome, OnOk, map, ℕ, List};
+ghost use Rattle.std.specs.Prelude.{◌≡◌, ◌∷◌, true, Some, IfOk, OnOk, map, ℕ, List};
 ghost use Rattle.bc_core.specs.View.{place_of, valof_of, routine_of as routine_view, section};
 ghost use Rattle.bc_core.specs.Commands.{Place as CorePlace};
 ghost use Rattle.bc_tame.specs.Tame.{tame_routine};
-ghost use Rattle.bc_tame.specs.Programs.{tame_places, global_is_start, setter_from, is_tame};
-ghost use Rattle.bc_tame_check.specs.Views.{env_around, hint, IsTameFrom};
+ghost use Rattle.bc_tame.specs.Programs.{tame_places, tame_sections, may_set, is_tame};
+ghost use Rattle.bc_tame_check.specs.Views.{setters_in, env_around, rooms_in, hint, AreTame};
 
-use crate::at::{Around, At, Exits, Walk};
+use crate::at::{Around, At, Exits, Setter, Walk};
 use crate::format::are_bytes;
-use crate::lookup::routine_of;
-use crate::not_tame::{BodyOf, Cause, NotTame, Spot};
+use crate::lookup::{first_setter, may_be_set};
+use crate::not_tame::{BodyOf, Cause, NotTame, RoutineAt, Spot};
+use crate::setters::setters_of;
 use crate::walk::{body, number};
 use bc_core::{Core, Place, Routine, Valof};
 use bc_interpret_frames::frame_size;
 use std::alloc::Global;
 
-/// The cells that the routines of a tame section need.
+/// The cells that the routines of tame sections need.
 #[derive(Debug, Drop)]
 pub struct Rooms {
-    /// For each place, the number of cells that its routine takes, together with all routines that it calls.
-    pub each: Vec<usize>,
-    /// The label of START.
-    pub start: usize,
+    /// For each place of each section, the number of cells that its routine takes, together with all routines that it calls.
+    pub each: Vec<Vec<usize>>,
+    /// START.
+    pub start: RoutineAt,
     /// The number of cells that a run takes, from two cells above the stack's base on.
     pub room: usize,
 }
@@ -33,11 +34,12 @@ const DEPTH: usize = 1000;
 /// The greatest number of cells.
 const CELLS: usize = 65536;
 
-/// The check at the beginning of the routine with this index.
-fn at_routine(index: usize) -> Walk {
+/// The check at the beginning of the routine with this label in this section.
+fn at_routine(section: usize, label: usize) -> Walk {
     Walk {
         spot: Spot {
-            body: BodyOf::Routine(index.saturating_add(1)),
+            section,
+            body: BodyOf::Routine(label),
             before: 0,
         },
         need: 0,
@@ -75,14 +77,15 @@ fn routine<'x>(
     body(at, &tree.body, walk)
 }
 
-/// Checks that a routine sets no global other than START's.
-fn own_global(global: Option<u16>, walk: &Walk) -> Result<(), NotTame>
-    ensures { OnOk result (global_is_start global ≡ true) }
+/// Checks that a routine may set its global.
+#[tactic(auto, using(crate::proofs::Globals::may_start))]
+fn own_global(global: Option<u16>, setters: &[Setter], walk: &Walk) -> Result<(), NotTame>
+    ensures { OnOk result (may_set (setters_in setters.now) global ≡ true) }
 {
     match global {
         None => Ok(()),
         Some(number) => {
-            if number == 1 {
+            if number == 1 || may_be_set(setters, number) {
                 Ok(())
             } else {
                 walk.stop(Cause::OwnGlobal)
@@ -95,12 +98,13 @@ fn own_global(global: Option<u16>, walk: &Walk) -> Result<(), NotTame>
 #[tactic(auto, using(crate::proofs::Tests::and_true))]
 fn place(around: Around<'_>, valofs: &[Valof], tree: &Place, walk: &mut Walk) -> Result<(), NotTame>
     ensures { OnOk result ((ps : List CorePlace) (rooms : List ℕ)
-        → tame_places (section (around.entry.places.now, valofs.now)) around.entry.rooms.now ps rooms ≡ true
-        → tame_places (section (around.entry.places.now, valofs.now)) around.entry.rooms.now (place_of tree.now ∷ ps) (around.entry.size ∷ rooms) ≡ true) }
+        → tame_places (section (around.entry.places.now, valofs.now)) around.entry.rooms.now (setters_in around.entry.setters.now) ps rooms ≡ true
+        → tame_places (section (around.entry.places.now, valofs.now)) around.entry.rooms.now (setters_in around.entry.setters.now)
+        (place_of tree.now ∷ ps) (around.entry.size ∷ rooms) ≡ true) }
 {
     match tree {
         Place::Routine(tree) => {
-            own_global(tree.global, walk)?;
+            own_global(tree.global, around.setters, walk)?;
             routine(around, valofs, tree, walk)
         }
         Place::Text(bytes) => {
@@ -118,17 +122,17 @@ fn place(around: Around<'_>, valofs: &[Valof], tree: &Place, walk: &mut Walk) ->
     }
 }
 
-/// Checks all places.
+/// Checks all places of a section.
 fn all_places<'x>(around: Around<'x>, valofs: &'x [Valof]) -> Result<(), NotTame>
     ensures { OnOk result
-        (tame_places (section (around.entry.places.now, valofs.now)) around.entry.rooms.now
+        (tame_places (section (around.entry.places.now, valofs.now)) around.entry.rooms.now (setters_in around.entry.setters.now)
         (map place_of around.entry.places.now) around.entry.rooms.now ≡ true) }
 {
-    let mut index = 0usize;
+    let mut label = 1usize;
     let mut left = around.places;
     let mut rooms = around.rooms;
     while let ([first, rest @ ..], [room, more @ ..]) = (left, rooms) {
-        let mut walk = at_routine(index);
+        let mut walk = at_routine(around.section, label);
         place(
             Around {
                 size: *room,
@@ -138,7 +142,7 @@ fn all_places<'x>(around: Around<'x>, valofs: &'x [Valof]) -> Result<(), NotTame
             first,
             &mut walk,
         )?;
-        index = index.saturating_add(1);
+        label = label.saturating_add(1);
         left = rest;
         rooms = more;
     }
@@ -149,66 +153,74 @@ fn all_places<'x>(around: Around<'x>, valofs: &'x [Valof]) -> Result<(), NotTame
     }
 }
 
-/// Whether a place is a routine that sets a global.
-#[tactic(auto, using(crate::proofs::Setters::setter_here, crate::proofs::Setters::setter_else))]
-fn sets_global(tree: &Place) -> bool
-    ensures found { result ≡ true → (ps : List CorePlace) (label : ℕ) → setter_from (place_of tree.now ∷ ps) label ≡ Some label }
-    ensures passed { result ≡ false → (ps : List CorePlace) (label : ℕ) → setter_from (place_of tree.now ∷ ps) label ≡ setter_from ps (label + 1) }
+/// Checks all sections with these rooms.
+#[tactic(auto, using(crate::proofs::Sections::section_more, crate::proofs::Sections::no_section))]
+fn all_sections(
+    alloc: Global,
+    cores: &[Core],
+    each: &[Vec<usize>],
+    setters: &[Setter],
+) -> Result<(), NotTame>
+    ensures { OnOk result (tame_sections (setters_in setters.now) (map section cores.now) (rooms_in each.now) ≡ true) }
 {
-    match tree {
-        Place::Routine(routine) => match routine.global {
-            Some(_) => true,
-            None => false,
-        },
-        Place::Static(_) => false,
-        Place::Table(_) => false,
-        Place::Text(_) => false,
+    let mut index = 0usize;
+    let mut left = cores;
+    let mut others = each;
+    while let Some((core, following)) = left.split_first() {
+        let Some((rooms, further)) = others.split_first() else {
+            return Err(NotTame::Memory);
+        };
+        let around = Around {
+            alloc,
+            places: core.places(),
+            rooms: rooms.as_slice(),
+            setters,
+            section: index,
+            size: CELLS,
+        };
+        all_places(around, core.valofs())?;
+        index = index.saturating_add(1);
+        left = following;
+        others = further;
+    }
+    if others.is_empty() {
+        Ok(())
+    } else {
+        Err(NotTame::Memory)
     }
 }
 
-/// The label of the first routine that sets a global.
-fn setter(places: &[Place]) -> Option<usize>
-    ensures { IfSome result (λ label. setter_from (map place_of places.now) 1 ≡ Some label) }
+/// Checks sections with these rooms. Returns START.
+#[tactic(auto, using(crate::proofs::Sections::tame_true))]
+fn checked(alloc: Global, cores: &[Core], each: &[Vec<usize>]) -> Result<Setter, NotTame>
+    ensures { IfOk result (λ start. AreTame (map section cores.now) (rooms_in each.now) start.room) }
 {
-    let mut label = 1usize;
-    let mut left = places;
-    while let [first, rest @ ..] = left {
-        if sets_global(first) {
-            return Some(label);
-        }
-        label = label.checked_add(1)?;
-        left = rest;
-    }
-    None
-}
-
-/// Checks a section with these rooms. Returns the label of START and its room.
-#[tactic(auto, using(crate::proofs::Setters::tame_true))]
-fn checked<'x>(around: Around<'x>, valofs: &'x [Valof]) -> Result<(usize, usize), NotTame>
-    ensures { IfOk result (λ r. IsTameFrom (section (around.entry.places.now, valofs.now)) around.entry.rooms.now r.0 r.1) }
-{
-    all_places(around, valofs)?;
-    let no_start = NotTame::Unknown(Cause::NoStart, at_routine(0).spot);
-    let start = match setter(around.places) {
+    let setters = setters_of(alloc, cores, each)?;
+    all_sections(alloc, cores, each, setters.as_slice())?;
+    let no_start = NotTame::Unknown(Cause::NoStart, at_routine(0, 1).spot);
+    let start = match first_setter(setters.as_slice(), 1) {
         Some(start) => start,
         None => return Err(no_start),
     };
-    let known = match routine_of(around, start) {
-        Some(known) => known,
-        None => return Err(no_start),
-    };
-    if known.arguments != 0 {
+    if start.arguments != 0 {
         return Err(no_start);
     }
-    Ok((start, known.room))
+    Ok(start)
 }
 
-/// The number of cells that the routine with this index needs, if those that it calls are known.
-fn measured<'x>(around: Around<'x>, valofs: &'x [Valof], index: usize) -> Result<usize, NotTame> {
-    let mut walk = at_routine(index);
-    match around.places.get(index) {
+/// The rooms as far as they are known, and the routines that set globals.
+#[derive(Drop)]
+struct Guess {
+    each: Vec<Vec<usize>>,
+    setters: Vec<Setter>,
+}
+
+/// The number of cells that a routine needs, if those that it calls are known.
+fn measured<'x>(around: Around<'x>, valofs: &'x [Valof], label: usize) -> Result<usize, NotTame> {
+    let mut walk = at_routine(around.section, label);
+    match around.places.get(label.saturating_sub(1)) {
         Some(Place::Routine(tree)) => {
-            own_global(tree.global, &walk)?;
+            own_global(tree.global, around.setters, &walk)?;
             routine(around, valofs, tree, &mut walk)?;
             Ok(walk.need)
         }
@@ -216,36 +228,74 @@ fn measured<'x>(around: Around<'x>, valofs: &'x [Valof], index: usize) -> Result
     }
 }
 
-/// Sets the room of a routine.
-fn set_room(rooms: &mut Vec<usize>, index: usize, room: usize) {
-    if let Some(cell) = rooms.get_mut(index) {
-        *cell = room;
+/// The number of cells that a routine of these sections needs, if those that it calls are known.
+fn measured_in(
+    alloc: Global,
+    cores: &[Core],
+    guess: &Guess,
+    at: RoutineAt,
+) -> Result<usize, NotTame> {
+    match (cores.get(at.section), guess.each.get(at.section)) {
+        (Some(core), Some(rooms)) => {
+            let around = Around {
+                alloc,
+                places: core.places(),
+                rooms: rooms.as_slice(),
+                setters: guess.setters.as_slice(),
+                section: at.section,
+                size: CELLS,
+            };
+            measured(around, core.valofs(), at.label)
+        }
+        _ => Err(NotTame::Memory),
     }
+}
+
+/// Whether these are one routine.
+fn is_same(one: RoutineAt, other: RoutineAt) -> bool {
+    one.section == other.section && one.label == other.label
+}
+
+/// Sets the room of a routine.
+fn set_room(guess: &mut Guess, at: RoutineAt, room: usize) {
+    if let Some(rooms) = guess.each.get_mut(at.section) {
+        if let Some(cell) = rooms.get_mut(at.label.saturating_sub(1)) {
+            *cell = room;
+        }
+    }
+    for setter in guess.setters.iter_mut() {
+        if is_same(setter.routine, at) {
+            setter.room = room;
+        }
+    }
+}
+
+/// Whether a routine is among these.
+fn is_among(routines: &[RoutineAt], wanted: RoutineAt) -> bool {
+    for each in routines {
+        if is_same(*each, wanted) {
+            return true;
+        }
+    }
+    false
 }
 
 /// Finds the room of the newest waiting routine, or lets one that it calls wait before it.
 fn settle(
-    around: (Global, &[Place]),
-    valofs: &[Valof],
-    waiting: &mut Vec<usize>,
-    rooms: &mut Vec<usize>,
-    index: usize,
+    alloc: Global,
+    cores: &[Core],
+    waiting: &mut Vec<RoutineAt>,
+    guess: &mut Guess,
+    newest: RoutineAt,
 ) -> Result<(), NotTame> {
-    let now = Around {
-        alloc: around.0,
-        places: around.1,
-        rooms: rooms.as_slice(),
-        size: CELLS,
-    };
-    match measured(now, valofs, index) {
+    match measured_in(alloc, cores, guess, newest) {
         Ok(room) => {
-            set_room(rooms, index, room);
+            set_room(guess, newest, room);
             let _done = waiting.pop();
             Ok(())
         }
-        Err(NotTame::Unchecked(label, spot)) => {
-            let called = label.saturating_sub(1);
-            if waiting.contains(&called) {
+        Err(NotTame::Unchecked(called, spot)) => {
+            if is_among(waiting.as_slice(), called) {
                 return Err(NotTame::Unknown(Cause::Recursion, spot));
             }
             waiting.push(called)?;
@@ -255,40 +305,69 @@ fn settle(
     }
 }
 
-/// Finds the rooms of all routines.
-fn guess(alloc: Global, places: &[Place], valofs: &[Valof]) -> Result<Vec<usize>, NotTame> {
-    let mut rooms = Vec::new(alloc);
-    for _place in places {
-        rooms.push(0)?;
+/// Finds the room of a routine, and of all that it calls.
+fn find_room(
+    alloc: Global,
+    cores: &[Core],
+    guess: &mut Guess,
+    wanted: RoutineAt,
+) -> Result<(), NotTame> {
+    let mut waiting = Vec::new(alloc);
+    waiting.push(wanted)?;
+    for _turn in 0..u64::MAX {
+        let newest = match waiting.last() {
+            Some(newest) => *newest,
+            None => break,
+        };
+        settle(alloc, cores, &mut waiting, guess, newest)?;
     }
-    for index in 0..places.len() {
-        let mut waiting = Vec::new(alloc);
-        waiting.push(index)?;
-        for _turn in 0..u64::MAX {
-            let newest = match waiting.last() {
-                Some(newest) => *newest,
-                None => break,
-            };
-            settle((alloc, places), valofs, &mut waiting, &mut rooms, newest)?;
-        }
-    }
-    Ok(rooms)
+    Ok(())
 }
 
-/// Decides whether a section is tame: if so, no run of it with the library meets a wild cell, provided that the stack's base leaves two
-/// cells and `room` more. Returns the cells that its routines need.
+/// No room is known.
+fn no_rooms(alloc: Global, cores: &[Core]) -> Result<Vec<Vec<usize>>, NotTame> {
+    let mut each = Vec::new(alloc);
+    for core in cores {
+        let mut rooms = Vec::new(alloc);
+        for _place in core.places() {
+            rooms.push(0)?;
+        }
+        each.push(rooms)?;
+    }
+    Ok(each)
+}
+
+/// Finds the rooms of all routines.
+fn all_rooms(alloc: Global, cores: &[Core]) -> Result<Vec<Vec<usize>>, NotTame> {
+    let each = no_rooms(alloc, cores)?;
+    let setters = setters_of(alloc, cores, each.as_slice())?;
+    let mut guess = Guess { each, setters };
+    let mut section = 0usize;
+    for core in cores {
+        for index in 0..core.places().len() {
+            let wanted = RoutineAt {
+                section,
+                label: index.saturating_add(1),
+            };
+            find_room(alloc, cores, &mut guess, wanted)?;
+        }
+        section = section.saturating_add(1);
+    }
+    Ok(guess.each)
+}
+
+/// Decides whether sections are tame: if so, no run of them with the library meets a wild cell, provided that the stack's base leaves two
+/// cells and `room` more. Returns the cells that their routines need.
 ///
-/// An error says what the check can't accept; the section may be harmless nevertheless. `Memory` if an allocation fails.
-pub fn tame_rooms(alloc: Global, core: &Core) -> Result<Rooms, NotTame>
-    ensures { IfOk result (λ rooms. is_tame (section core.now) (hint rooms) ≡ true) }
+/// An error says what the check can't accept; the sections may be harmless nevertheless. `Memory` if an allocation fails.
+pub fn tame_rooms(alloc: Global, cores: &[Core]) -> Result<Rooms, NotTame>
+    ensures { IfOk result (λ rooms. is_tame (map section cores.now) (hint rooms) ≡ true) }
 {
-    let each = guess(alloc, core.places(), core.valofs())?;
-    let around = Around {
-        alloc,
-        places: core.places(),
-        rooms: each.as_slice(),
-        size: CELLS,
-    };
-    let (start, room) = checked(around, core.valofs())?;
-    Ok(Rooms { each, start, room })
+    let each = all_rooms(alloc, cores)?;
+    let start = checked(alloc, cores, each.as_slice())?;
+    Ok(Rooms {
+        each,
+        start: start.routine,
+        room: start.room,
+    })
 }

@@ -14,7 +14,7 @@ ghost use Rattle.bc_tame_check.specs.Passes.{exp_passes, block_passes, CallFits,
 use crate::at::{At, Exits, Known, Walk, is_set};
 use crate::binding::{cells_of_all, labels_with, set_all};
 use crate::format::{is_fixed, speaks};
-use crate::lookup::{called, global_of, is_static, label_of, text_of};
+use crate::lookup::{called, global_of, is_static, own_setter, routine_named, text_of};
 use crate::not_tame::{BodyOf, Cause, NotTame};
 use bc_core::{Block, Body, Command, CoreExp, Declaration, ListItem, Variable};
 
@@ -84,7 +84,10 @@ fn writing(at: At<'_>, address: &CoreExp, walk: &Walk) -> Result<(), NotTame>
             } else if is_fixed(*number) {
                 walk.stop(Cause::LibraryGlobal)
             } else {
-                Ok(())
+                match own_setter(at.around.setters, *number) {
+                    Some(_) => walk.stop(Cause::RoutineGlobal),
+                    None => Ok(()),
+                }
             }
         }
         CoreExp::Place(label) => {
@@ -186,10 +189,10 @@ fn enters_known(
 ) -> Result<(), NotTame>
     ensures { OnOk result (tame.fits_call (Some (known_as known.arguments known.room)) arguments at.entry.level at.entry.around.size ≡ true) }
 {
-    if let Some(label) = label_of(routine)
-        && known.room == 0
+    if known.room == 0
+        && let Some(unchecked) = routine_named(at, routine)
     {
-        return Err(NotTame::Unchecked(label, walk.spot));
+        return Err(NotTame::Unchecked(unchecked, walk.spot));
     }
     walk.fits(known, arguments, at.level, at.around.size)
 }

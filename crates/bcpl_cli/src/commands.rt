@@ -495,7 +495,7 @@ const TAME: CommandSpec = CommandSpec {
            number of cells, from two above the base of the stack, that suffices for every run.\n\n\
            Otherwise prints the first place that the check can't accept and what it would need. Such a program is not\n\
            known to be tame; it may be harmless. `interpret` says whether one run is wild.\n\n\
-           The program is BLIB and one FILE.\n\n\
+           The program is BLIB and the FILEs.\n\n\
            Exit status: 0 tame, 1 refused or not known to be tame, 3 invalid arguments.\n\n\
            Example:\n  bcpl tame hello.bcpl",
     arguments: &[LIBRARY, GET, INCLUDE, PLACES, MESSAGES, FILES],

@@ -14,29 +14,42 @@ use std::io;
 use std::io::Write;
 use std::rt::Files;
 
-/// The explanation of why the program whose last file this is isn't known to be tame.
+/// The main in which this place is, and the reason. What the check can't accept in a section of the library is the library itself.
+fn reason_in(gathered: &Gathered<'_, '_>, reason: (Refused, Spot)) -> (usize, Refused) {
+    let number = reason.1.section.saturating_add(1);
+    let program = gathered.program();
+    match program.mains.get(number) {
+        Some(main) => {
+            if *main < gathered.library {
+                (gathered.last, Refused::Sections)
+            } else {
+                (*main, reason.0)
+            }
+        }
+        None => (gathered.last, reason.0),
+    }
+}
+
+/// The explanation of why the program isn't known to be tame, whose main this is.
 fn lines_of(
     alloc: Global,
     program: &Program<'_, '_>,
     reason: (Refused, Spot),
-    last: usize,
+    main: usize,
     failure: &Failure,
 ) -> Result<String, Memory> {
-    let message = tame_message(alloc, program.named.sources, last, reason.0, reason.1)?;
+    let message = tame_message(alloc, program.named.sources, main, reason.0, reason.1)?;
     let code = format!(in alloc; "{failure}")?;
     error_lines(alloc, program, code.as_str(), message)
 }
 
 /// The failure of a program that is not known to be tame.
-fn not_tame(
-    alloc: Global,
-    program: &Program<'_, '_>,
-    reason: (Refused, Spot),
-    last: usize,
-) -> Failure {
-    let (number, name) = number_of(reason.0);
+fn not_tame(alloc: Global, gathered: &Gathered<'_, '_>, reason: (Refused, Spot)) -> Failure {
+    let (main, cause) = reason_in(gathered, reason);
+    let (number, name) = number_of(cause);
     let failure = Failure::new(Cause::Tame(number, name));
-    match lines_of(alloc, program, reason, last, &failure) {
+    let program = gathered.program();
+    match lines_of(alloc, &program, (cause, reason.1), main, &failure) {
         Ok(lines) => failure.with(lines),
         Err(_) => Failure::new(Cause::Memory),
     }
@@ -56,9 +69,7 @@ pub fn room_of_built(
     let program = gathered.program();
     match tame_room(alloc, program.named.sources, program.mains, &built.image) {
         Ok(room) => Ok(room),
-        Err(NotTame::Unknown(cause, spot)) => {
-            Err(not_tame(alloc, &program, (cause, spot), gathered.last))
-        }
+        Err(NotTame::Unknown(cause, spot)) => Err(not_tame(alloc, gathered, (cause, spot))),
         Err(NotTame::Unchecked(_, _) | NotTame::Memory) => Err(Failure::new(Cause::Memory)),
     }
 }

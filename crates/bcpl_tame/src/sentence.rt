@@ -18,6 +18,7 @@ pub fn number_of(cause: Cause) -> (u32, &'static str) {
         Cause::Stack => (11, "Stack"),
         Cause::Size => (12, "Size"),
         Cause::Sections => (13, "Sections"),
+        Cause::RoutineGlobal => (14, "RoutineGlobal"),
     }
 }
 
@@ -41,16 +42,21 @@ pub(crate) fn sentence(cause: Cause) -> &'static str {
         Cause::LibraryGlobal => {
             "not known to be tame: this assigns a global that holds a routine of the library"
         }
-        Cause::OwnGlobal => { "not known to be tame: this routine sets a global other than START" }
+        Cause::OwnGlobal => {
+            "not known to be tame: this routine sets a global that the library or another routine sets"
+        }
         Cause::Table => "not known to be tame: the section has a TABLE",
-        Cause::NoStart => { "not known to be tame: the section has no START without parameters" }
+        Cause::NoStart => { "not known to be tame: no file has a START without parameters" }
         Cause::Stack => {
             "not known to be tame: its routines need more cells than the store has above the program"
         }
         Cause::Size => {
             "not known to be tame: its routines need too many cells, or it nests too deep"
         }
-        Cause::Sections => "not known to be tame: the program has more than one section",
+        Cause::Sections => "not known to be tame: the program has another library",
+        Cause::RoutineGlobal => {
+            "not known to be tame: this assigns a global that holds a routine of the program"
+        }
     }
 }
 
@@ -61,10 +67,10 @@ pub(crate) fn help(cause: Cause) -> &'static str {
             "the check follows variables, statics and globals, but no index; `bcpl interpret` says whether one run is wild"
         }
         Cause::Address => {
-            "the check follows numbers and strings only; a routine of this file can be called by its name"
+            "the check follows numbers and strings only; a routine can be called by its name or its global"
         }
         Cause::Call => {
-            "the check accepts the routines of this file by name, and of the library those for streams and for writing"
+            "the check accepts the program's routines by name or global, and of the library those for streams and for writing"
         }
         Cause::Arguments => "give each parameter exactly one argument",
         Cause::Format => {
@@ -73,11 +79,11 @@ pub(crate) fn help(cause: Cause) -> &'static str {
         Cause::Recursion => {
             "the check knows no bound for the depth of calls; a loop may do the same"
         }
-        Cause::LibraryGlobal => "use a variable or another global",
-        Cause::OwnGlobal => "take the routine's name out of the GLOBAL declaration",
+        Cause::LibraryGlobal | Cause::RoutineGlobal => "use a variable or another global",
+        Cause::OwnGlobal => "give the routine another global",
         Cause::Table => "the check follows variables, statics and globals, but no table",
-        Cause::NoStart => "define START() in this file, and GET \"LIBHDR\"",
+        Cause::NoStart => "define START() in a file that begins with GET \"LIBHDR\"",
         Cause::Stack | Cause::Size => { "use fewer variables, or fewer calls inside calls" }
-        Cause::Sections => "the check takes one file, without --library",
+        Cause::Sections => "the check takes BLIB and the files, without --library",
     }
 }

@@ -7,4 +7,4 @@ use Rattle.bc_tame_check.proofs.lookup.called.Goals as goal
 
 pub returns-in-Some : goal.returns-in-Some
 returns-in-Some c =
-    called_global (env_at c.args.at) c.in-Some.global (exp c.args.e.now) c.callable.result (λ k. Some (known k.arguments k.room)) c.in-Some.ensures c.callable.ensures
+    called_global (env_at c.args.at) c.in-Some.global (exp c.args.e.now) c.global_callable.result (λ k. Some (known k.arguments k.room)) c.in-Some.ensures c.global_callable.ensures

@@ -1,14 +1,11 @@
 use Rattle.std.proofs.Common.{◌≡◌, ◌∷◌, ◌-◌, true, map, length, take, drop, sym, ap, subst, ◌∙◌, rules, arith}
-use Rattle.std.specs.Prelude.{OnOk}
 use Rattle.std.proofs.lemmas.Grind.{common_steps}
 use Rattle.bc_core.specs.Tree as tree
 use Rattle.bc_core.specs.Commands as commands
 use Rattle.bc_core.specs.View.{exp, args, variable, command, items, block_of}
 use Rattle.bc_core.proofs.Rows.{call_view, if_view, test_view, while_view, repeat_view, repeat_while_view, nested_view, for_view, switchon_view}
 use Rattle.bc_tame.specs.Tame.{tame_variables}
-use Rattle.bc_tame.specs.Programs.{known}
 use Rattle.bc_tame_check.specs.Views.{env_at, reads_at}
-use Rattle.bc_tame_check.specs.Passes.{ExpPasses}
 use Rattle.bc_tame_check.proofs.Forms.{as_expression, as_command, call_passes}
 use Rattle.bc_tame_check.proofs.Lists.{apart}
 use Rattle.bc_tame_check.proofs.walk.+walk.Goals as goal
