@@ -196,7 +196,8 @@ pub(crate) fn serve<S: Streams>(
     streams: &mut S,
     name: &mut Vec<u8>,
 ) -> Result<Served, Memory>
-    ensures { IfOk result (λ served. ServesIn S.known S.content S.failures (primitive_of primitive) call.frame state.old state.new streams.old streams.new served) }
+    ensures { IfOk result (λ served. ServesIn S.known S.content S.failures (primitive_of primitive) call.frame state.old state.new
+        streams.old streams.new served) }
 {
     let argument = argument_in(call.frame as usize)?;
     let served = work(primitive, argument, state, streams, name)?;

@@ -10,7 +10,8 @@ use Rattle.bc_interpret_steps.specs.Code.{stacked, stack, given, open_call}
 use Rattle.bc_interpret_steps.proofs.Handing.{no_number_closes, no_value_closes, no_truth_closes, no_nothing_closes, no_exit_closes}
 use Rattle.bc_interpret_steps.proofs.Piles.{stack_more}
 use Rattle.bc_interpret_trace.specs.declared.trace.Standing.{Standing}
-use Rattle.bc_interpret_trace.specs.Shown.{call_of, opened}
+use Rattle.bc_interpret_trace.specs.Opened.{opened}
+use Rattle.bc_interpret_trace.specs.Shown.{call_of}
 
 -- one continuation
 first_open : (r : Rest) (rs : List machine.Rest) (vs : List ℕ) → calls_in (stacked rs vs r) ≡ map open_call (option_to_list (opened r)) ++ calls_in rs

@@ -1,9 +1,6 @@
 -- Which calls a trail shows.
-use Rattle.std.specs.Prelude.{◌≡◌, List, map, take, length, Option, None}
+use Rattle.std.specs.Prelude.{◌≡◌, List, map, take, length}
 use Rattle.bc_interpret_defs.specs.Machine as machine
-use Rattle.bc_interpret_steps.specs.declared.forms.OpenCall.{OpenCall}
-use Rattle.bc_interpret_steps.specs.declared.continuations.Rest.{Rest}
-use Rattle.bc_interpret_steps.specs.declared.continuations.Rest.TheVariants as rests
 use Rattle.bc_interpret_trace.specs.declared.trace.Standing.{Standing}
 use Rattle.bc_interpret_trace.specs.declared.trace.Trail.{Trail}
 
@@ -15,8 +12,3 @@ call_of s = record { routine = s.routine; frame = s.frame }
 pub record Shows (trail : Trail) (calls : List machine.OpenCall) : Type 0 where
   pub newest : map call_of trail.standings.items ≡ take 10 calls
   pub number : trail.calls ≡ length calls
-
--- the call that is over once this continuation is done
-abbrev pub opened : Rest → Option OpenCall
-opened (rests.Closes call n a) = call
-opened r = None

@@ -4,7 +4,8 @@
 ghost use Rattle.std.specs.Prelude.{◌≡◌, map, take, IfOk};
 ghost use Rattle.bc_interpret_defs.specs.OpenCalls.{calls_in};
 ghost use Rattle.bc_interpret_steps.specs.Code.{stack, open_call};
-ghost use Rattle.bc_interpret_trace.specs.Shown.{call_of, opened, Shows};
+ghost use Rattle.bc_interpret_trace.specs.Opened.{opened};
+ghost use Rattle.bc_interpret_trace.specs.Shown.{call_of, Shows};
 
 use crate::remaining::clue_of;
 use crate::roots::roots_of_block;
