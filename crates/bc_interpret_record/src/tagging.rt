@@ -15,7 +15,7 @@ use bc_core::{
     Variable, copy_expression,
 };
 use bc_interpret_steps::{ExitRest, Rest, TruthRest};
-use bc_word::Memory;
+use bc_word::{Memory, Word};
 use std::alloc::Global;
 
 /// The tag of site 0. Those of the others are below it. The labels of a section are numbered from 0 on.
@@ -392,8 +392,7 @@ impl Tagger {
         command: Command,
         list: &mut Vec<ListItem>,
     ) -> Result<(), Memory> {
-        let tag = self.tag(kind)?;
-        self.pass(1);
+        let tag = self.tag_of_root(kind)?;
         self.add(tag, command, list)
     }
 
@@ -419,20 +418,138 @@ impl Tagger {
         }
     }
 
+    /// Adds the site of what comes next, which has one root, and returns its tag; `None` if there are too many.
+    fn tag_of_root(&mut self, kind: StopKind) -> Result<Option<u16>, Memory> {
+        let tag = self.tag(kind)?;
+        self.pass(1);
+        Ok(tag)
+    }
+
+    /// Appends a call.
+    fn call(&mut self, call: &CoreExp, list: &mut Vec<ListItem>) -> Result<(), Memory> {
+        let call = copy_expression(self.alloc, call)?;
+        self.simple(StopKind::Call, Command::Call(call), list)
+    }
+
+    /// Appends a RESULTIS.
+    fn result(&mut self, value: &CoreExp, list: &mut Vec<ListItem>) -> Result<(), Memory> {
+        let value = copy_expression(self.alloc, value)?;
+        self.simple(StopKind::ResultIs, Command::ResultIs(value), list)
+    }
+
+    /// Appends a SWITCHON with this body.
+    fn add_switch(
+        &mut self,
+        tag: Option<u16>,
+        value: &CoreExp,
+        items: Result<Vec<ListItem>, Memory>,
+        list: &mut Vec<ListItem>,
+    ) -> Result<(), Memory> {
+        let items = items?;
+        let value = copy_expression(self.alloc, value)?;
+        self.add(tag, Command::SwitchOn(value, items), list)
+    }
+
+    /// Appends a block with its tags.
+    fn add_nested(
+        &mut self,
+        block: Result<Block, Memory>,
+        list: &mut Vec<ListItem>,
+    ) -> Result<(), Memory> {
+        self.add(None, Command::Nested(block?), list)
+    }
+
+    /// Appends an IF or UNLESS with this body.
+    fn add_if(
+        &mut self,
+        tag: Option<u16>,
+        condition: &Condition,
+        body: Result<Block, Memory>,
+        list: &mut Vec<ListItem>,
+    ) -> Result<(), Memory> {
+        let body = body?;
+        let condition = condition_of(self.alloc, condition)?;
+        self.add(tag, Command::If(condition, body), list)
+    }
+
+    /// Appends a TEST with these bodies.
+    fn add_test(
+        &mut self,
+        tag: Option<u16>,
+        test: &CoreExp,
+        bodies: (Result<Block, Memory>, Result<Block, Memory>),
+        list: &mut Vec<ListItem>,
+    ) -> Result<(), Memory> {
+        let (this, that) = bodies;
+        let this = this?;
+        let that = that?;
+        let test = copy_expression(self.alloc, test)?;
+        self.add(tag, Command::Test(test, this, that), list)
+    }
+
+    /// Appends a WHILE or UNTIL with this body.
+    fn add_while(
+        &mut self,
+        tag: Option<u16>,
+        condition: &Condition,
+        body: Result<Block, Memory>,
+        list: &mut Vec<ListItem>,
+    ) -> Result<(), Memory> {
+        let body = body?;
+        let condition = condition_of(self.alloc, condition)?;
+        self.add(tag, Command::While(condition, body), list)
+    }
+
+    /// Appends a REPEAT with this body.
+    fn add_repeat(
+        &mut self,
+        body: Result<Block, Memory>,
+        list: &mut Vec<ListItem>,
+    ) -> Result<(), Memory> {
+        self.add(None, Command::Repeat(body?), list)
+    }
+
+    /// Appends a REPEATWHILE or REPEATUNTIL with this body.
+    fn add_repeat_while(
+        &mut self,
+        condition: &Condition,
+        body: Result<Block, Memory>,
+        list: &mut Vec<ListItem>,
+    ) -> Result<(), Memory> {
+        let body = body?;
+        let tag = self.tag_of_root(StopKind::Repeat)?;
+        let condition = condition_of(self.alloc, condition)?;
+        self.add(tag, Command::RepeatWhile(body, condition), list)
+    }
+
+    /// Appends a FOR with this body.
+    fn add_for(
+        &mut self,
+        tag: Option<u16>,
+        range: (&CoreExp, &CoreExp, Word),
+        body: Result<Block, Memory>,
+        list: &mut Vec<ListItem>,
+    ) -> Result<(), Memory> {
+        let (start, limit, by) = range;
+        let body = body?;
+        let start = copy_expression(self.alloc, start)?;
+        let limit = copy_expression(self.alloc, limit)?;
+        let command = Command::For {
+            start,
+            limit,
+            by,
+            body,
+        };
+        self.add(tag, command, list)
+    }
+
     /// Appends a command with its tags.
     #[cycle(tagging)]
     fn command(&mut self, command: &Command, list: &mut Vec<ListItem>) -> Result<(), Memory> {
-        let alloc = self.alloc;
         match command {
-            Command::Call(call) => {
-                let call = copy_expression(alloc, call)?;
-                self.simple(StopKind::Call, Command::Call(call), list)
-            }
+            Command::Call(call) => self.call(call, list),
             Command::Assign { value, address } => self.assignment(value, address, list),
-            Command::ResultIs(value) => {
-                let value = copy_expression(alloc, value)?;
-                self.simple(StopKind::ResultIs, Command::ResultIs(value), list)
-            }
+            Command::ResultIs(value) => self.result(value, list),
             Command::If(_, _) | Command::Test(_, _, _) | Command::While(_, _) => {
                 self.conditional(command, list)
             }
@@ -440,15 +557,13 @@ impl Tagger {
                 self.looped(command, list)
             }
             Command::SwitchOn(value, items) => {
-                let value = copy_expression(alloc, value)?;
-                let tag = self.tag(StopKind::Switch)?;
-                self.pass(1);
-                let items = self.items(items, false)?;
-                self.add(tag, Command::SwitchOn(value, items), list)
+                let tag = self.tag_of_root(StopKind::Switch)?;
+                let items = self.items(items, false);
+                self.add_switch(tag, value, items, list)
             }
             Command::Nested(block) => {
-                let block = self.block(block)?;
-                self.add(None, Command::Nested(block), list)
+                let block = self.block(block);
+                self.add_nested(block, list)
             }
             Command::Break => self.plain(StopKind::Break, Command::Break, list),
             Command::Loop => self.plain(StopKind::Loop, Command::Loop, list),
@@ -462,29 +577,22 @@ impl Tagger {
     /// Appends an IF, TEST or WHILE with its tags; nothing for another command, which doesn't occur.
     #[cycle(tagging)]
     fn conditional(&mut self, command: &Command, list: &mut Vec<ListItem>) -> Result<(), Memory> {
-        let alloc = self.alloc;
         match command {
             Command::If(condition, body) => {
-                let condition = condition_of(alloc, condition)?;
-                let tag = self.tag(StopKind::If)?;
-                self.pass(1);
-                let body = self.body(body)?;
-                self.add(tag, Command::If(condition, body), list)
+                let tag = self.tag_of_root(StopKind::If)?;
+                let body = self.body(body);
+                self.add_if(tag, condition, body, list)
             }
             Command::Test(test, this, that) => {
-                let test = copy_expression(alloc, test)?;
-                let tag = self.tag(StopKind::Test)?;
-                self.pass(1);
-                let this = self.body(this)?;
-                let that = self.body(that)?;
-                self.add(tag, Command::Test(test, this, that), list)
+                let tag = self.tag_of_root(StopKind::Test)?;
+                let this = self.body(this);
+                let that = self.body(that);
+                self.add_test(tag, test, (this, that), list)
             }
             Command::While(condition, body) => {
-                let condition = condition_of(alloc, condition)?;
-                let tag = self.tag(StopKind::While)?;
-                self.pass(1);
-                let body = self.body(body)?;
-                self.add(tag, Command::While(condition, body), list)
+                let tag = self.tag_of_root(StopKind::While)?;
+                let body = self.body(body);
+                self.add_while(tag, condition, body, list)
             }
             _ => Ok(()),
         }
@@ -493,18 +601,14 @@ impl Tagger {
     /// Appends a REPEAT, REPEATWHILE or FOR with its tags; nothing for another command, which doesn't occur.
     #[cycle(tagging)]
     fn looped(&mut self, command: &Command, list: &mut Vec<ListItem>) -> Result<(), Memory> {
-        let alloc = self.alloc;
         match command {
             Command::Repeat(body) => {
-                let body = self.block(body)?;
-                self.add(None, Command::Repeat(body), list)
+                let body = self.block(body);
+                self.add_repeat(body, list)
             }
             Command::RepeatWhile(body, condition) => {
-                let body = self.block(body)?;
-                let tag = self.tag(StopKind::Repeat)?;
-                self.pass(1);
-                let condition = condition_of(alloc, condition)?;
-                self.add(tag, Command::RepeatWhile(body, condition), list)
+                let body = self.block(body);
+                self.add_repeat_while(condition, body, list)
             }
             Command::For {
                 start,
@@ -512,18 +616,10 @@ impl Tagger {
                 by,
                 body,
             } => {
-                let start = copy_expression(alloc, start)?;
-                let limit = copy_expression(alloc, limit)?;
                 let tag = self.tag(StopKind::For)?;
                 self.pass(2);
-                let body = self.body(body)?;
-                let command = Command::For {
-                    start,
-                    limit,
-                    by: *by,
-                    body,
-                };
-                self.add(tag, command, list)
+                let body = self.body(body);
+                self.add_for(tag, (start, limit, *by), body, list)
             }
             _ => Ok(()),
         }

@@ -303,34 +303,140 @@ impl Copier {
         self.tags.append(DeclaredVectors { first, count }, list)
     }
 
-    /// A copy of a block.
-    #[cycle(commands)]
-    fn block(&mut self, block: &Block) -> Result<Block, Memory> {
-        let mut declarations = Vec::new(self.alloc);
-        for declaration in &block.declarations {
-            declarations.push(self.declaration(declaration)?)?;
+    /// Copies of declarations.
+    fn declarations(&self, declarations: &[Declaration]) -> Result<Vec<Declaration>, Memory> {
+        let mut copies = Vec::new(self.alloc);
+        for declaration in declarations {
+            copies.push(self.declaration(declaration)?)?;
         }
-        let mut list = Vec::new(self.alloc);
-        self.tag_vectors(block, &mut list)?;
-        self.items(&block.list, &mut list)?;
+        Ok(copies)
+    }
+
+    /// A copy of a block with this copy of its list.
+    fn block_of(
+        &self,
+        block: &Block,
+        list: Result<Vec<ListItem>, Memory>,
+    ) -> Result<Block, Memory> {
+        let list = list?;
+        let declarations = self.declarations(block.declarations.as_slice())?;
         Ok(Block { declarations, list })
     }
 
-    /// Appends copies of items to a list.
+    /// A copy of a block.
     #[cycle(commands)]
-    fn items(&mut self, items: &[ListItem], list: &mut Vec<ListItem>) -> Result<(), Memory> {
+    fn block(&mut self, block: &Block) -> Result<Block, Memory> {
+        let mut list = Vec::new(self.alloc);
+        self.tag_vectors(block, &mut list)?;
+        let list = self.items(&block.list, list);
+        self.block_of(block, list)
+    }
+
+    /// Appends the copy of a command to a list.
+    fn add_command(
+        &self,
+        copy: Result<Command, Memory>,
+        list: &mut Vec<ListItem>,
+    ) -> Result<(), Memory> {
+        Ok(list.push(ListItem::Command(copy?))?)
+    }
+
+    /// Appends a copy of an item that is no command.
+    fn add_mark(&self, item: &ListItem, list: &mut Vec<ListItem>) -> Result<(), Memory> {
+        Ok(list.push(match item {
+            ListItem::Case(word) => ListItem::Case(*word),
+            ListItem::Label(label) => ListItem::Label(*label),
+            _ => ListItem::Default,
+        })?)
+    }
+
+    /// This list with copies of items after it.
+    #[cycle(commands)]
+    fn items(&mut self, items: &[ListItem], list: Vec<ListItem>) -> Result<Vec<ListItem>, Memory> {
+        let mut list = list;
         for item in items {
             match item {
                 ListItem::Command(command) => {
-                    let copy = self.command(command)?;
-                    list.push(ListItem::Command(copy))?;
+                    let copy = self.command(command);
+                    self.add_command(copy, &mut list)?;
                 }
-                ListItem::Case(word) => list.push(ListItem::Case(*word))?,
-                ListItem::Default => list.push(ListItem::Default)?,
-                ListItem::Label(label) => list.push(ListItem::Label(*label))?,
+                _ => self.add_mark(item, &mut list)?,
             }
         }
-        Ok(())
+        Ok(list)
+    }
+
+    /// A copy of an assignment.
+    fn assignment(&self, value: &CoreExp, address: &CoreExp) -> Result<Command, Memory> {
+        let address = self.assigned(value, address)?;
+        let value = self.expression(value)?;
+        Ok(Command::Assign { value, address })
+    }
+
+    /// A copy of a SWITCHON with this copy of its body.
+    fn switch_of(
+        &self,
+        value: &CoreExp,
+        list: Result<Vec<ListItem>, Memory>,
+    ) -> Result<Command, Memory> {
+        let list = list?;
+        Ok(Command::SwitchOn(self.expression(value)?, list))
+    }
+
+    /// A copy of a TEST with these copies of its bodies.
+    fn test_of(
+        &self,
+        test: &CoreExp,
+        this: Result<Block, Memory>,
+        that: Result<Block, Memory>,
+    ) -> Result<Command, Memory> {
+        let this = this?;
+        let that = that?;
+        Ok(Command::Test(self.expression(test)?, this, that))
+    }
+
+    /// A copy of an IF with this copy of its body.
+    fn if_of(&self, condition: &Condition, body: Result<Block, Memory>) -> Result<Command, Memory> {
+        let body = body?;
+        Ok(Command::If(self.condition(condition)?, body))
+    }
+
+    /// A copy of a WHILE with this copy of its body.
+    fn while_of(
+        &self,
+        condition: &Condition,
+        body: Result<Block, Memory>,
+    ) -> Result<Command, Memory> {
+        let body = body?;
+        Ok(Command::While(self.condition(condition)?, body))
+    }
+
+    /// A copy of a REPEATWHILE with this copy of its body.
+    fn repeat_while_of(
+        &self,
+        body: Result<Block, Memory>,
+        condition: &Condition,
+    ) -> Result<Command, Memory> {
+        let body = body?;
+        Ok(Command::RepeatWhile(body, self.condition(condition)?))
+    }
+
+    /// A copy of a FOR with this copy of its body.
+    fn for_of(
+        &self,
+        range: (&CoreExp, &CoreExp, Word),
+        body: Result<Block, Memory>,
+    ) -> Result<Command, Memory> {
+        let (start, limit, by) = range;
+        let body = body?;
+        let start = self.expression(start)?;
+        let limit = self.expression(limit)?;
+        Ok(Command::For {
+            start,
+            limit,
+            by,
+            body,
+        })
     }
 
     /// A copy of a command.
@@ -338,11 +444,7 @@ impl Copier {
     fn command(&mut self, command: &Command) -> Result<Command, Memory> {
         match command {
             Command::Call(call) => Ok(Command::Call(self.expression(call)?)),
-            Command::Assign { value, address } => {
-                let address = self.assigned(value, address)?;
-                let value = self.expression(value)?;
-                Ok(Command::Assign { value, address })
-            }
+            Command::Assign { value, address } => self.assignment(value, address),
             Command::ResultIs(value) => Ok(Command::ResultIs(self.expression(value)?)),
             Command::If(_, _) | Command::Test(_, _, _) | Command::While(_, _) => {
                 self.conditional(command)
@@ -351,10 +453,8 @@ impl Copier {
                 self.looped(command)
             }
             Command::SwitchOn(value, items) => {
-                let value = self.expression(value)?;
-                let mut list = Vec::new(self.alloc);
-                self.items(items, &mut list)?;
-                Ok(Command::SwitchOn(value, list))
+                let list = self.items(items, Vec::new(self.alloc));
+                self.switch_of(value, list)
             }
             Command::Nested(block) => Ok(Command::Nested(self.block(block)?)),
             Command::Break => Ok(Command::Break),
@@ -371,17 +471,17 @@ impl Copier {
     fn conditional(&mut self, command: &Command) -> Result<Command, Memory> {
         match command {
             Command::If(condition, body) => {
-                let condition = self.condition(condition)?;
-                Ok(Command::If(condition, self.block(body)?))
+                let body = self.block(body);
+                self.if_of(condition, body)
             }
             Command::Test(test, this, that) => {
-                let test = self.expression(test)?;
-                let this = self.block(this)?;
-                Ok(Command::Test(test, this, self.block(that)?))
+                let this = self.block(this);
+                let that = self.block(that);
+                self.test_of(test, this, that)
             }
             Command::While(condition, body) => {
-                let condition = self.condition(condition)?;
-                Ok(Command::While(condition, self.block(body)?))
+                let body = self.block(body);
+                self.while_of(condition, body)
             }
             _ => Ok(Command::Finish),
         }
@@ -393,8 +493,8 @@ impl Copier {
         match command {
             Command::Repeat(body) => Ok(Command::Repeat(self.block(body)?)),
             Command::RepeatWhile(body, condition) => {
-                let body = self.block(body)?;
-                Ok(Command::RepeatWhile(body, self.condition(condition)?))
+                let body = self.block(body);
+                self.repeat_while_of(body, condition)
             }
             Command::For {
                 start,
@@ -402,14 +502,8 @@ impl Copier {
                 by,
                 body,
             } => {
-                let start = self.expression(start)?;
-                let limit = self.expression(limit)?;
-                Ok(Command::For {
-                    start,
-                    limit,
-                    by: *by,
-                    body: self.block(body)?,
-                })
+                let body = self.block(body);
+                self.for_of((start, limit, *by), body)
             }
             _ => Ok(Command::Finish),
         }
