@@ -286,7 +286,7 @@ fn found_in(
     text: &[u8],
     options: Options<'_, '_>,
 ) -> Result<(Vec<Replacement>, Vec<Complaint>), Memory> {
-    let reading = Reading::new(alloc, text, options.shared)?;
+    let reading = Reading::new(alloc, text, options.shared, options.system)?;
     let source = reading.source(text);
     found(alloc, source, reading.dialect, options)?.finished(source)
 }

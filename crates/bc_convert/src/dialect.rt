@@ -19,8 +19,8 @@ pub struct Dialect {
     pub has_star_subscripts: bool,
     /// Strings are in single quotes, as characters are.
     pub has_quoted_strings: bool,
-    /// `@` gives the contents of a cell. No source shows this by itself.
-    pub has_alto_contents: bool,
+    /// `@` gives the contents of a cell, and `%` is a logical or. No source shows this by itself.
+    pub has_alto_signs: bool,
 }
 
 impl Dialect {
@@ -37,7 +37,7 @@ impl Dialect {
             has_small_library: has_small_words || has_small_library(source),
             has_star_subscripts: assigns_to_star(source),
             has_quoted_strings: has_quoted_strings(source),
-            has_alto_contents: false,
+            has_alto_signs: false,
         }
     }
 
@@ -79,7 +79,9 @@ fn must_be_string(source: TokenizedText<'_>, index: usize) -> bool {
     if index > 0 && is_same_word(source.bytes(index - 1), b"GET") {
         return true;
     }
-    let name = if index > 1 && source.kind(index - 1) == Kind::OpenRound {
+    let is_argument = index > 1
+        && matches!(source.kind(index - 1), Kind::OpenRound | Kind::OpenSquare);
+    let name = if is_argument {
         source.bytes(index - 2)
     } else {
         return false;
@@ -383,6 +385,7 @@ pub fn classified(
         let kind = match token.kind {
             Kind::Word => kind_of_word(source, index, dialect, are_names.as_slice()),
             Kind::Character => kind_of_character(source, index, dialect),
+            Kind::Percent if dialect.has_alto_signs => Kind::Disjunction,
             Kind::OpenSquare => {
                 let kind = kind_of_square(before, token.line_before && before.can_end());
                 open.push(kind)?;

@@ -82,20 +82,24 @@ pub fn find_formats(source: TokenizedText<'_>, notes: &mut Notes, options: Optio
     }
 }
 
-/// Whether a source may be written for the Alto: it has LV, a block in square brackets, or a character written with a dollar
-/// sign.
-fn may_be_alto(source: TokenizedText<'_>) -> bool {
+/// Whether a source looks like one for the Alto: it has a block in square brackets, or a character written with a dollar sign.
+pub fn looks_like_alto(source: TokenizedText<'_>) -> bool {
     (0..source.tokens.len()).any(|index| match source.kind(index) {
-        Kind::Address => source.bytes(index).eq_ignore_ascii_case(b"LV"),
         Kind::Character => source.bytes(index).starts_with(b"$".as_slice()),
         Kind::OpenSection => source.bytes(index) == b"[".as_slice(),
         _ => false,
     })
 }
 
-/// Reports each `@` in a source that may be written for the Alto.
+/// Whether a source has LV.
+fn has_address_word(source: TokenizedText<'_>) -> bool {
+    (0..source.tokens.len()).any(|index| source.kind(index) == Kind::Address
+        && source.bytes(index).eq_ignore_ascii_case(b"LV"))
+}
+
+/// Reports each `@` in a source that may be written for the Alto: it looks like that, or has LV.
 fn find_contents(source: TokenizedText<'_>, notes: &mut Notes) {
-    if !may_be_alto(source) {
+    if !looks_like_alto(source) && !has_address_word(source) {
         return;
     }
     for index in 0..source.tokens.len() {
@@ -160,7 +164,7 @@ fn find_octal_escapes(source: TokenizedText<'_>, notes: &mut Notes) {
 
 /// Reports what means something else in the dialect of the Alto, unless the source has that, and what may be octal.
 pub fn find_old_meanings(source: TokenizedText<'_>, notes: &mut Notes, dialect: Dialect) {
-    if !dialect.has_alto_contents {
+    if !dialect.has_alto_signs {
         find_contents(source, notes);
     }
     find_octal_number(source, notes);

@@ -1,6 +1,7 @@
-//! `%` between two flags, which means `|` in some dialects. It is reported.
+//! `%` between two flags, or in a source that looks like one for the Alto, which means `|` in some dialects. It is reported.
 
 use crate::complaint::Fault;
+use crate::doubts::looks_like_alto;
 use crate::kind::Kind;
 use crate::notes::Notes;
 use crate::source::TokenizedText;
@@ -56,14 +57,21 @@ fn joins_flags(source: TokenizedText<'_>, percent: usize) -> bool {
         && ends_condition(source, percent.saturating_add(2))
 }
 
-/// Reports each `%` between two names that are a whole condition, unless the source shows that `%` takes bytes.
+/// Whether the sign at an index is a `%` that was taken for a byte of a string.
+fn is_byte(source: TokenizedText<'_>, notes: &Notes, index: usize) -> bool {
+    source.kind(index) == Kind::Percent && notes.is_changed(index)
+}
+
+/// Reports each `%` between two names that are a whole condition, unless the source shows that `%` takes bytes. If it looks
+/// like one for the Alto, each `%` that was taken for a byte is reported.
 pub fn find_flags(source: TokenizedText<'_>, notes: &mut Notes) {
     let count = source.tokens.len();
     if (0..count).any(|index| takes_byte(source, index)) {
         return;
     }
+    let is_alto = looks_like_alto(source);
     for index in 0..count {
-        if joins_flags(source, index) {
+        if joins_flags(source, index) || is_alto && is_byte(source, notes, index) {
             notes.complain(source, index, Fault::PercentOr);
         }
     }

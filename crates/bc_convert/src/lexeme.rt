@@ -143,7 +143,7 @@ fn long_sign(bytes: &[u8]) -> Option<Kind>
     match bytes {
         [b':', b'=', ..] => Some(Kind::Assign),
         [b'-', b'>', ..] => Some(Kind::Arrow),
-        [b'~' | b'\\', b'=', ..] => Some(Kind::Relation),
+        [b'~' | b'\\' | b'^' | b'!' | b'=', b'=', ..] => Some(Kind::Relation),
         [b'<' | b'>', b'=', ..] => Some(Kind::Relation),
         [b'<', b'<', ..] | [b'>', b'>', ..] => Some(Kind::Shift),
         [b'/', b'\\', ..] => Some(Kind::Conjunction),

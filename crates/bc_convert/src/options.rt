@@ -24,7 +24,7 @@ pub enum System {
     Of1967,
     /// Those of 1979: `V*(I)` is a product.
     Of1979,
-    /// The Alto: `@` gives the contents of a cell.
+    /// The Alto: `@` gives the contents of a cell, and `%` is a logical or.
     Alto,
 }
 

@@ -61,7 +61,7 @@ impl Program {
     ///
     /// `Memory` if an allocation failed.
     pub fn of(alloc: Global, text: &[u8], library: &OldNames<'_>) -> Result<Program, Memory> {
-        let reading = Reading::new(alloc, text, None)?;
+        let reading = Reading::new(alloc, text, None, None)?;
         Ok(Program::shown(reading.source(text), reading.dialect, library))
     }
 
@@ -175,7 +175,7 @@ impl Program {
         Program {
             dialect: Dialect {
                 has_star_subscripts,
-                has_alto_contents: system == System::Alto,
+                has_alto_signs: system == System::Alto,
                 ..self.dialect
             },
             has_stars,

@@ -7,6 +7,7 @@ use crate::dialect::{Dialect, classified};
 use crate::lexing::lex;
 use crate::name_facts::NameTable;
 use crate::name_table::Names;
+use crate::options::System;
 use crate::shared_names::SharedNames;
 use crate::source::{Token, TokenizedText};
 use bc_word::Memory;
@@ -22,7 +23,8 @@ pub struct Reading {
 }
 
 impl Reading {
-    /// Reads a text. `shared` has the names that it shares with other sources.
+    /// Reads a text. `shared` has the names that it shares with other sources; `system` is the one it was written for, if that
+    /// was named.
     ///
     /// # Errors
     ///
@@ -31,10 +33,11 @@ impl Reading {
         alloc: Global,
         text: &[u8],
         shared: Option<&SharedNames>,
+        system: Option<System>,
     ) -> Result<Reading, Memory> {
         let tokens = with_arrows(alloc, text, lex(alloc, text)?)?;
         let raw = Paired::new(alloc, text, tokens)?;
-        Reading::classified(alloc, raw.source(text), shared)
+        Reading::classified(alloc, raw.source(text), shared, system)
     }
 
     /// Classifies the tokens of a text.
@@ -42,8 +45,12 @@ impl Reading {
         alloc: Global,
         raw: TokenizedText<'_>,
         shared: Option<&SharedNames>,
+        system: Option<System>,
     ) -> Result<Reading, Memory> {
-        let dialect = Dialect::of(raw);
+        let dialect = Dialect {
+            has_alto_signs: matches!(system, Some(System::Alto)),
+            ..Dialect::of(raw)
+        };
         let tokens = classified(alloc, raw, dialect, shared)?;
         let paired = Paired::new(alloc, raw.text, tokens)?;
         let names = Names::of(alloc, paired.source(raw.text), shared)?;

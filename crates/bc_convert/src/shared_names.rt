@@ -44,7 +44,7 @@ impl SharedNames {
     ///
     /// `Memory` if an allocation failed.
     pub fn add(&mut self, alloc: Global, text: &[u8]) -> Result<(), Memory> {
-        let reading = Reading::new(alloc, text, None)?;
+        let reading = Reading::new(alloc, text, None, None)?;
         let source = reading.source(text);
         let is_header = is_header(source);
         for index in 0..source.tokens.len() {

@@ -270,7 +270,7 @@ fn respell_sign(
         Kind::Query => notes.replace(index, b"0"),
         Kind::Underline => notes.replace(index, b":="),
         Kind::Not => replace_if_other(source, notes, index, b"~"),
-        Kind::Address if dialect.has_alto_contents => notes.replace(index, b"!"),
+        Kind::Address if dialect.has_alto_signs => notes.replace(index, b"!"),
         Kind::Relation => respell_relation(source, notes, index),
         Kind::Assign | Kind::Arrow | Kind::Conjunction | Kind::Disjunction => {
             respell_drawn(source, notes, index);
@@ -283,13 +283,13 @@ fn respell_sign(
     }
 }
 
-/// Rewrites an arrow, or a logical sign, that isn't ASCII.
+/// Rewrites an arrow, or a logical sign, that isn't ASCII, and the `%` of the Alto.
 fn respell_drawn(source: TokenizedText<'_>, notes: &mut Notes, index: usize) {
     let sign: &[u8] = match source.bytes(index) {
         [0xe2, 0x86, 0x90] => b":=",
         [0xe2, 0x86, 0x92] => b"->",
         [0xe2, 0x88, 0xa7] => b"&",
-        [0xe2, 0x88, 0xa8] => b"|",
+        [0xe2, 0x88, 0xa8] | [b'%'] => b"|",
         bytes => bytes,
     };
     replace_if_other(source, notes, index, sign)
@@ -298,7 +298,8 @@ fn respell_drawn(source: TokenizedText<'_>, notes: &mut Notes, index: usize) {
 /// Rewrites the sign of a relation.
 fn respell_relation(source: TokenizedText<'_>, notes: &mut Notes, index: usize) {
     let sign: &[u8] = match source.bytes(index) {
-        [b'\\' | 0xc2, ..] | [0xe2, 0x89, 0xa0] => b"~=",
+        [b'\\' | b'^' | b'!' | 0xc2, ..] | [0xe2, 0x89, 0xa0] => b"~=",
+        [b'=', ..] => b"=",
         [0xe2, 0x89, 0xa4] => b"<=",
         [0xe2, 0x89, 0xa5] => b">=",
         bytes => bytes,
