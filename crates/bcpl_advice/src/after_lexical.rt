@@ -1,8 +1,10 @@
-//! The further faults of a main that the lexer refused. A number that is too large, an unknown escape, or a character
-//! constant of several characters is replaced by one that is right and as long, so that all other places stay as they
-//! are. Then the rest is read again. Where it isn't plain what was meant, the search ends.
+//! The further faults of a main that the lexer refused. A number that is too large, an unknown escape, a character constant
+//! of several characters, a string that isn't closed, an underscore, or a subscript in square brackets is replaced by
+//! something that is right and as long, so that all other places stay as they are. Then the rest is read again. Where it
+//! isn't plain what was meant, the search ends.
 
 use crate::advice::advised;
+use crate::characters::line_end;
 use crate::further::{FurtherFault, further_faults, with_text};
 use bc_build::{BuildError, LexError};
 use bc_lex::{Source, lex};
@@ -51,13 +53,15 @@ fn mend_number(text: &mut [u8], at: usize) -> bool {
     is_there
 }
 
-/// The offset of the quote that closes the character constant at an offset, if it is on the same line.
-fn closing_quote(text: &[u8], at: usize) -> Option<usize> {
+/// The offset of this byte after another offset, if it is on the same line.
+fn next_on_line(text: &[u8], at: usize, byte: u8) -> Option<usize> {
     for index in at.saturating_add(1)..text.len() {
-        match text.get(index).copied() {
-            Some(b'\'') => return Some(index),
-            Some(b'\n') | None => return None,
-            _ => {}
+        let found = text.get(index).copied()?;
+        if found == byte {
+            return Some(index);
+        }
+        if found == b'\n' {
+            return None;
         }
     }
     None
@@ -69,7 +73,7 @@ fn mend_character(text: &mut [u8], at: usize) -> bool {
     if text.get(at).copied() != Some(b'\'') {
         return false;
     }
-    let Some(end) = closing_quote(text, at) else {
+    let Some(end) = next_on_line(text, at, b'\'') else {
         return false;
     };
     let first = at.saturating_add(1);
@@ -93,18 +97,131 @@ fn mend_escape(text: &mut [u8], at: usize) -> bool {
     }
 }
 
+/// How many parentheses are open before an offset in its line.
+fn open_before(text: &[u8], at: usize) -> usize {
+    let mut open: usize = 0;
+    let mut last = b'\n';
+    for byte in text.get(..at).unwrap_or(b"") {
+        match *byte {
+            b'\n' => open = 0,
+            b'(' if last != b'$' => open = open.saturating_add(1),
+            b')' if last != b'$' => open = open.saturating_sub(1),
+            _ => {}
+        }
+        last = *byte;
+    }
+    open
+}
+
+/// Where the blanks, semicolons and parentheses begin that end a line, if there are so many closing parentheses. `end` is the
+/// end of the line.
+fn closing_tail(text: &[u8], end: usize, open: usize) -> Option<usize> {
+    let mut tail = end;
+    let mut closed: usize = 0;
+    for _ in 0..end {
+        let before = tail.checked_sub(1)?;
+        match text.get(before).copied()? {
+            b')' => closed = closed.saturating_add(1),
+            b' ' | b'\t' | b'\r' | b';' => {}
+            b'$' => return None,
+            _ => break,
+        }
+        tail = before;
+    }
+    if closed == open { Some(tail) } else { None }
+}
+
+/// Empties the string at an offset, which isn't closed on its line, and closes it before the parentheses that end the line.
+/// Returns whether these close what the line opens before the string.
+fn mend_string(text: &mut [u8], at: usize) -> bool {
+    let end = match next_on_line(text, at, b'\n') {
+        Some(end) => end,
+        None => text.len(),
+    };
+    let open = open_before(text, at);
+    let first = at.saturating_add(1);
+    let Some(tail) = closing_tail(text, end, open) else {
+        return false;
+    };
+    if tail <= first {
+        return false;
+    }
+    for index in first..tail {
+        set(text, index, b' ');
+    }
+    set(text, first, b'"')
+}
+
+/// Mends the string or character constant at an offset. Returns whether it is plain how.
+fn mend_text(text: &mut [u8], at: usize) -> bool {
+    if text.get(at).copied() == Some(b'"') {
+        mend_string(text, at)
+    } else {
+        mend_character(text, at)
+    }
+}
+
+/// Replaces all underscores by what may be in a name.
+fn mend_underscores(text: &mut [u8]) -> bool {
+    let mut is_inside = false;
+    for index in 0..text.len() {
+        if text.get(index).copied() == Some(b'_') {
+            set(text, index, if is_inside { b'.' } else { b'U' });
+            is_inside = true;
+        } else {
+            is_inside = is_alphanumeric(text, index);
+        }
+    }
+    true
+}
+
+/// Whether the line before an offset is LET and a name.
+fn is_declared(text: &[u8], at: usize) -> bool {
+    let line = line_end(text.get(..at).unwrap_or(b""));
+    line.starts_with(b"LET") && !line.contains(&b'=')
+}
+
+/// Replaces the square brackets of a subscript at an offset: `V[10]` becomes `V(10)`, and `V=10` after LET. Returns whether
+/// it is one.
+fn mend_subscript(text: &mut [u8], at: usize) -> bool {
+    let Some(before) = at.checked_sub(1) else {
+        return false;
+    };
+    let Some(close) = next_on_line(text, at, b']') else {
+        return false;
+    };
+    if !is_alphanumeric(text, before) {
+        return false;
+    }
+    if is_declared(text, at) {
+        set(text, at, b'=') && set(text, close, b' ')
+    } else {
+        set(text, at, b'(') && set(text, close, b')')
+    }
+}
+
+/// Mends the byte at an offset, which begins no token. Returns whether it is plain how.
+fn mend_byte(text: &mut [u8], at: usize) -> bool {
+    match text.get(at).copied() {
+        Some(b'_') => mend_underscores(text),
+        Some(b'[') => mend_subscript(text, at),
+        _ => false,
+    }
+}
+
 /// Mends the fault of a main with this text. Returns whether it is plain how.
 fn mend(text: &mut [u8], main: usize, fault: LexError) -> bool {
     match fault {
         LexError::NumberTooLarge(file, at) if file == main => mend_number(text, at),
         LexError::BadEscape(file, at) if file == main => mend_escape(text, at),
-        LexError::Unterminated(file, at) if file == main => mend_character(text, at),
+        LexError::Unterminated(file, at) if file == main => mend_text(text, at),
+        LexError::BadCharacter(file, at) if file == main => mend_byte(text, at),
         _ => false,
     }
 }
 
 /// A fault with what is said about it, if anything is.
-fn explained(
+pub fn explained(
     alloc: Global,
     sources: &[Source<'_>],
     main: usize,

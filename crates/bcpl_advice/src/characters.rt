@@ -1,7 +1,7 @@
 //! Advice on a byte that begins no token, and on a GET of a name that no source has.
 
 /// What is after the last line feed or semicolon of a text, and after a section bracket that begins the line.
-fn line_end(text: &[u8]) -> &[u8] {
+pub fn line_end(text: &[u8]) -> &[u8] {
     let mut start: usize = 0;
     for (at, byte) in text.iter().enumerate() {
         if *byte == b'\n' || *byte == b';' {
@@ -69,8 +69,79 @@ fn is_directive(text: &[u8]) -> bool {
     false
 }
 
+/// Whether a text begins with words in braces, which are meant as a comment: letters, digits, blanks and full stops.
+fn is_braced_comment(text: &[u8]) -> bool {
+    let mut blanks: usize = 0;
+    let Some(rest) = text.strip_prefix(b"{") else {
+        return false;
+    };
+    for byte in rest.trim_ascii_start() {
+        match *byte {
+            b' ' => blanks = blanks.saturating_add(1),
+            b'}' => return blanks > 1,
+            b'.' | b',' | b'\'' | b'-' => {}
+            _ if byte.is_ascii_alphanumeric() => {}
+            _ => return false,
+        }
+    }
+    false
+}
+
+/// The quotes of printed texts, in UTF-8, and the one on the key beside 1.
+const QUOTES: [&[u8]; 5] = [
+    b"\xE2\x80\x9C",
+    b"\xE2\x80\x9D",
+    b"\xE2\x80\x98",
+    b"\xE2\x80\x99",
+    b"`",
+];
+
+/// Whether a text begins with a quote that is none in BCPL.
+fn is_other_quote(text: &[u8]) -> bool {
+    for quote in QUOTES {
+        if text.starts_with(quote) {
+            return true;
+        }
+    }
+    false
+}
+
+/// Routines of the library that a beginner calls first.
+const ROUTINES: [&[u8]; 6] = [
+    b"WRITES", b"WRITEN", b"WRITEF", b"WRCH", b"PUTBYTE", b"GETBYTE",
+];
+
+/// Whether a text ends with the name of one of these routines.
+fn ends_with_routine(text: &[u8]) -> bool {
+    for name in ROUTINES {
+        if text.ends_with(name) {
+            return true;
+        }
+    }
+    false
+}
+
+/// The help on a bracket, a brace or a quote that `rest` begins with, after the text `before`.
+fn sign_advice(before: &[u8], rest: &[u8]) -> Option<&'static str> {
+    if is_braced_comment(rest) {
+        Some("a comment begins with //, or is written /* .. */; a block is written $( .. $)")
+    } else if is_other_quote(rest) {
+        Some(
+            "a string is between straight double quotes, as in \"HELLO\", and a character between single ones, as in 'H'",
+        )
+    } else if rest.starts_with(b"[") && ends_with_routine(before) {
+        Some("the arguments of a call are in parentheses, as in WRITEN(X)")
+    } else {
+        None
+    }
+}
+
 /// The help on the byte or GET that `rest` begins with, after the text `before`.
 pub fn character_advice(before: &[u8], rest: &[u8]) -> Option<&'static str> {
+    let sign = sign_advice(before, rest);
+    if sign.is_some() {
+        return sign;
+    }
     let line = line_end(before);
     let next = rest.get(1).copied();
     match *rest.first()? {

@@ -2,8 +2,8 @@
 
 use crate::advice::Advice;
 use crate::words::{
-    LOOK_BACK, begins_line, depth_at, has_symbol, is_at, is_joined, is_name, is_one_of, is_word,
-    line_start, text_at,
+    LOOK_BACK, begins_line, depth_at, has_symbol, is_at, is_in_list, is_joined, is_name, is_one_of,
+    is_word, line_start, text_at,
 };
 use bc_lex_tokens::{Symbol, Token};
 
@@ -288,26 +288,6 @@ fn after_names(tokens: &[Token<'_>], start: usize) -> usize {
     start
 }
 
-/// Whether the innermost block around the token with this index is a list of constants.
-fn is_in_list(tokens: &[Token<'_>], at: usize) -> bool {
-    let mut depth: usize = 0;
-    let mut index = at;
-    for _ in 0..at {
-        index = index.saturating_sub(1);
-        if is_at(tokens, index, Symbol::CloseSection) {
-            depth = depth.saturating_add(1);
-        } else if is_at(tokens, index, Symbol::OpenSection) && depth > 0 {
-            depth = depth.saturating_sub(1);
-        } else if is_at(tokens, index, Symbol::OpenSection) {
-            let before = index.saturating_sub(1);
-            return is_at(tokens, before, Symbol::Manifest)
-                || is_at(tokens, before, Symbol::Static)
-                || is_at(tokens, before, Symbol::Global);
-        }
-    }
-    false
-}
-
 /// Advice on a line of the form `X = E` or `X, Y = E, F` before a refused token.
 fn assignment(tokens: &[Token<'_>], at: usize) -> Option<Advice> {
     let last = at.checked_sub(1)?;
@@ -326,7 +306,7 @@ fn assignment(tokens: &[Token<'_>], at: usize) -> Option<Advice> {
             start,
             last,
             "this compares, and nothing uses the result",
-            "to assign, write :=, as in X := 1 or A, B := B, A",
+            "to assign, write :=, as in X := 1 or A, B := 1, 2",
         ))
     } else {
         None

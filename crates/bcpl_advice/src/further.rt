@@ -3,13 +3,15 @@
 //! another is worse than none.
 
 use crate::advice::advised;
-use crate::blanking::{Faulty, blamed_on, blank, is_removable};
+use crate::blanking::{
+    Faulty, blamed_on, blank, is_removable, is_reserved_name, is_second, open_tests, separate,
+};
 use bc_build::BuildError;
 use bc_lex::{Source, lex};
-use bc_lex_tokens::Token;
+use bc_lex_tokens::{Symbol, Token};
 use bc_parse::{ParseError, parse};
 use bc_word::Memory;
-use bcpl_messages::{Message, message_of};
+use bcpl_messages::{Message, is_at, message_of};
 use std::alloc::Global;
 
 /// A further fault, and what is said about it.
@@ -28,6 +30,19 @@ struct Blamed {
     end: usize,
     /// Where the refused token begins, in the line or at the start of the next.
     refused: usize,
+    /// Whether it is an ELSE, which separates two commands.
+    is_second: bool,
+    /// How many TESTs were removed up to here whose ELSE is still there.
+    tests: usize,
+}
+
+/// A refused token.
+#[derive(Clone, Copy)]
+struct Refused {
+    /// Its index.
+    at: usize,
+    /// How many TESTs were removed before whose ELSE is still there.
+    tests: usize,
 }
 
 /// What was found when a text was parsed.
@@ -62,24 +77,37 @@ pub fn with_text<'t>(
     Ok(changed)
 }
 
+/// How many TESTs are removed without their ELSE if this is, too.
+fn tests_after(tokens: &[Token<'_>], faulty: Faulty, refused: Refused) -> usize {
+    if is_second(tokens, refused.at) {
+        refused.tests.saturating_sub(1)
+    } else {
+        refused.tests.saturating_add(open_tests(tokens, faulty))
+    }
+}
+
 /// What the fault at a token is blamed on; `None` if no token is there.
-fn blamed_at(tokens: &[Token<'_>], at: usize) -> Option<Blamed> {
-    let Faulty { from, to } = blamed_on(tokens, at);
-    let end = tokens.get(to.checked_sub(1)?)?.end;
+fn blamed_at(tokens: &[Token<'_>], refused: Refused) -> Option<Blamed> {
+    let faulty = blamed_on(tokens, refused.at);
+    let end = tokens.get(faulty.to.checked_sub(1)?)?.end;
     Some(Blamed {
-        start: tokens.get(from)?.start,
+        start: tokens.get(faulty.from)?.start,
         end,
-        refused: match tokens.get(at) {
+        refused: match tokens.get(refused.at) {
             Some(token) => token.start,
             None => end,
         },
+        is_second: is_second(tokens, refused.at),
+        tests: tests_after(tokens, faulty, refused),
     })
 }
 
 /// What the fault at a token of a main is blamed on; `None` if other lines depend on it.
-fn removable_at(tokens: &[Token<'_>], main: usize, at: usize) -> Option<Blamed> {
-    if is_removable(tokens, blamed_on(tokens, at), main) {
-        blamed_at(tokens, at)
+fn removable_at(tokens: &[Token<'_>], main: usize, refused: Refused) -> Option<Blamed> {
+    if is_removable(tokens, blamed_on(tokens, refused.at), main)
+        && !is_reserved_name(tokens, refused.at)
+    {
+        blamed_at(tokens, refused)
     } else {
         None
     }
@@ -91,14 +119,14 @@ fn blamed_in(
     sources: &[Source<'_>],
     main: usize,
     text: &[u8],
-    at: usize,
+    refused: Refused,
 ) -> Result<Option<Blamed>, Memory> {
     let changed = with_text(alloc, sources, main, text)?;
     if main >= changed.len() {
         return Ok(None);
     }
     Ok(match lex(alloc, changed.as_slice(), main) {
-        Ok(tokens) => removable_at(tokens.as_slice(), main, at),
+        Ok(tokens) => removable_at(tokens.as_slice(), main, refused),
         Err(_) => None,
     })
 }
@@ -109,6 +137,16 @@ fn is_new(tokens: &[Token<'_>], main: usize, at: usize, last: Blamed) -> bool {
     match tokens.get(from) {
         Some(token) => token.file == main && token.start >= last.end,
         None => false,
+    }
+}
+
+/// What the fault at a token of a main is blamed on, if that is after the last fault.
+fn blamed_after(tokens: &[Token<'_>], main: usize, at: usize, last: Blamed) -> Option<Blamed> {
+    if is_new(tokens, main, at, last) {
+        let tests = last.tests;
+        blamed_at(tokens, Refused { at, tests })
+    } else {
+        None
     }
 }
 
@@ -141,12 +179,12 @@ fn found_in(
     let Err(ParseError::Expected(at)) = parse(alloc, tokens.as_slice()) else {
         return Ok(Found::Nothing);
     };
-    if !is_new(tokens.as_slice(), main, at, last) {
-        return Ok(Found::Nothing);
-    }
-    let Some(blamed) = blamed_at(tokens.as_slice(), at) else {
+    let Some(blamed) = blamed_after(tokens.as_slice(), main, at, last) else {
         return Ok(Found::Nothing);
     };
+    if last.tests > 0 && is_at(tokens.as_slice(), at, Symbol::Else) {
+        return Ok(Found::Skipped(at));
+    }
     let error = BuildError::Parse(main, ParseError::Expected(at));
     let Some(message) = message_of(alloc, sources, &[main], &error)? else {
         return Ok(Found::Nothing);
@@ -157,6 +195,15 @@ fn found_in(
     } else {
         Found::Fault(at, FurtherFault { error, message })
     })
+}
+
+/// Removes what a fault is blamed on.
+fn remove(text: &mut [u8], blamed: Blamed) {
+    if blamed.is_second {
+        separate(text, blamed.start, blamed.end);
+    } else {
+        blank(text, blamed.start, blamed.end);
+    }
 }
 
 /// The further faults of a main that the parser refused at the token `at`, `most` at most. Returns `Memory` if an
@@ -174,11 +221,14 @@ pub fn further_faults(
     };
     let mut text = Vec::from_slice(alloc, source.text)?;
     let mut at = at;
+    let mut tests: usize = 0;
     for _ in 0..most {
-        let Some(last) = blamed_in(alloc, sources, main, text.as_slice(), at)? else {
+        let refused = Refused { at, tests };
+        let Some(last) = blamed_in(alloc, sources, main, text.as_slice(), refused)? else {
             break;
         };
-        blank(text.as_mut_slice(), last.start, last.end);
+        remove(text.as_mut_slice(), last);
+        tests = last.tests;
         match found_in(alloc, sources, main, text.as_slice(), last)? {
             Found::Fault(next, fault) => {
                 all.push(fault)?;

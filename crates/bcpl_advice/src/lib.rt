@@ -5,15 +5,20 @@
 
 mod advice;
 mod after_lexical;
+mod after_scopes;
 mod blanking;
 mod characters;
 mod foreign;
 mod further;
+mod mending;
 mod names;
+mod reserved;
+mod shapes;
 mod statements;
 mod words;
 
 pub use advice::advised;
 pub use after_lexical::faults_after_lexical;
+pub use after_scopes::further_scope_faults;
 pub use further::{FurtherFault, further_faults};
 pub use names::likely_meaning;

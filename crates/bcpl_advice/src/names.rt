@@ -13,7 +13,7 @@ use std::alloc::Global;
 const NULL: &str = "there is no NULL; write 0, or declare it with MANIFEST $( NULL = 0 $)";
 
 /// The help for output.
-const OUTPUT: &str =
+pub const OUTPUT: &str =
     "WRITES writes a string, WRITEN a number, and WRITEF both, as in WRITEF(\"%S %N*N\", S, N)";
 
 /// The help for input.

@@ -2,9 +2,11 @@
 
 use crate::advice::Advice;
 use crate::foreign::foreign_advice;
+use crate::reserved::reserved_advice;
+use crate::shapes::shape_advice;
 use crate::words::{
     LOOK_BACK, begins_line, depth_at, has_symbol, is_at, is_joined, is_name, is_number, is_one_of,
-    is_string, is_word, line_start, opened_by, symbol_at, text_at,
+    is_relation, is_string, is_word, line_start, opened_by, symbol_at, text_at,
 };
 use bc_lex_tokens::{Symbol, Token};
 
@@ -61,8 +63,8 @@ const DEFINING: [&str; 10] = [
 ];
 
 /// Words that name types in other languages.
-const TYPES: [&str; 10] = [
-    "INT", "CHAR", "VAR", "LONG", "BOOL", "STRING", "WORD", "AUTO", "DIM", "INTEGER",
+const TYPES: [&str; 9] = [
+    "INT", "CHAR", "VAR", "LONG", "BOOL", "STRING", "WORD", "AUTO", "INTEGER",
 ];
 
 /// The help of the first pair that fits a refused token.
@@ -241,21 +243,6 @@ fn joined(tokens: &[Token<'_>], at: usize) -> Option<Advice> {
         ));
     }
     None
-}
-
-/// Whether the token with this index is the sign of a relation.
-fn is_relation(tokens: &[Token<'_>], at: usize) -> bool {
-    matches!(
-        symbol_at(tokens, at),
-        Some(
-            Symbol::Equal
-                | Symbol::NotEqual
-                | Symbol::Less
-                | Symbol::LessEqual
-                | Symbol::Greater
-                | Symbol::GreaterEqual
-        )
-    )
 }
 
 /// Advice on a relation without a left side after `&` or `|`, and on two strings side by side.
@@ -534,6 +521,7 @@ fn line_before(tokens: &[Token<'_>], at: usize) -> Option<Advice> {
 /// The advice on a refused token.
 pub fn statement_advice(tokens: &[Token<'_>], at: usize) -> Option<Advice> {
     let tables = [
+        shape_advice(tokens, at),
         foreign_advice(tokens, at),
         paired(tokens, at),
         signs(tokens, at),
@@ -546,6 +534,7 @@ pub fn statement_advice(tokens: &[Token<'_>], at: usize) -> Option<Advice> {
         table(tokens, at),
         outside(tokens, at),
         typed(tokens, at),
+        reserved_advice(tokens, at),
         step(tokens, at),
         remark(tokens, at),
         line_before(tokens, at),

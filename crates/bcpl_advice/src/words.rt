@@ -131,3 +131,55 @@ pub fn opened_by(tokens: &[Token<'_>], at: usize) -> Option<usize> {
     }
     None
 }
+
+/// The index of the innermost parenthesis that is open before the token with this index, in the same block.
+pub fn opened_round(tokens: &[Token<'_>], at: usize) -> Option<usize> {
+    let mut depth: usize = 0;
+    let mut index = at;
+    for _ in 0..tokens.len() {
+        index = index.checked_sub(1)?;
+        match symbol_at(tokens, index) {
+            Some(Symbol::CloseBracket) => depth = depth.saturating_add(1),
+            Some(Symbol::OpenBracket) if depth == 0 => return Some(index),
+            Some(Symbol::OpenBracket) => depth = depth.saturating_sub(1),
+            Some(Symbol::OpenSection) => return None,
+            _ => {}
+        }
+    }
+    None
+}
+
+/// Whether the innermost block around the token with this index is a list of constants.
+pub fn is_in_list(tokens: &[Token<'_>], at: usize) -> bool {
+    let mut depth: usize = 0;
+    let mut index = at;
+    for _ in 0..at {
+        index = index.saturating_sub(1);
+        if is_at(tokens, index, Symbol::CloseSection) {
+            depth = depth.saturating_add(1);
+        } else if is_at(tokens, index, Symbol::OpenSection) && depth > 0 {
+            depth = depth.saturating_sub(1);
+        } else if is_at(tokens, index, Symbol::OpenSection) {
+            let before = index.saturating_sub(1);
+            return is_at(tokens, before, Symbol::Manifest)
+                || is_at(tokens, before, Symbol::Static)
+                || is_at(tokens, before, Symbol::Global);
+        }
+    }
+    false
+}
+
+/// Whether the token with this index is the sign of a relation.
+pub fn is_relation(tokens: &[Token<'_>], at: usize) -> bool {
+    matches!(
+        symbol_at(tokens, at),
+        Some(
+            Symbol::Equal
+                | Symbol::NotEqual
+                | Symbol::Less
+                | Symbol::LessEqual
+                | Symbol::Greater
+                | Symbol::GreaterEqual
+        )
+    )
+}

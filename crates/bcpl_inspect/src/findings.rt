@@ -2,7 +2,7 @@
 
 use bc_build::{BuildError, Built, ParseError, Parsed, ScopeFault, build_keeping};
 use bc_word::Memory;
-use bcpl_advice::{advised, further_faults, likely_meaning};
+use bcpl_advice::{FurtherFault, advised, further_faults, further_scope_faults, likely_meaning};
 use bcpl_cli::BuildLine;
 use bcpl_lsp::{Cost, Document, Finding, Related, line_starts, range_of, uri_of};
 use bcpl_messages::{Message, Note, message_of, shown};
@@ -181,9 +181,31 @@ impl<'s> Checked<'_, '_, 's> {
     ) -> Result<(), Memory> {
         let sources = self.program.named.sources;
         for fault in &further_faults(alloc, sources, self.main, at, MOST)? {
-            let line = BuildLine(&fault.error);
-            let code = format!(in alloc; "{line}")?;
-            findings.push(self.finding(alloc, code.as_str(), &fault.message)?)?;
+            findings.push(self.further(alloc, fault)?)?;
+        }
+        Ok(())
+    }
+
+    /// The finding of a further fault.
+    fn further(&self, alloc: Global, fault: &FurtherFault) -> Result<Finding, Memory> {
+        let line = BuildLine(&fault.error);
+        let code = format!(in alloc; "{line}")?;
+        self.finding(alloc, code.as_str(), &fault.message)
+    }
+
+    /// Adds the further faults of a source whose scopes have one.
+    fn add_scopes(
+        &self,
+        alloc: Global,
+        fault: &ScopeFault,
+        code: &str,
+        findings: &mut Vec<Finding>,
+    ) -> Result<(), Memory> {
+        if let ScopeFault::Undeclared(_) = fault {
+            self.add_unknown(alloc, code, findings)?;
+        }
+        for further in &further_scope_faults(alloc, self.program.named.sources, self.main, MOST)? {
+            findings.push(self.further(alloc, further)?)?;
         }
         Ok(())
     }
@@ -202,8 +224,12 @@ impl<'s> Checked<'_, '_, 's> {
         match fault {
             BuildError::Parse(main, ParseError::Expected(at)) if *main == self.main =>
                 self.add_further(alloc, *at, &mut findings)?,
-            BuildError::Scope(main, ScopeFault::Undeclared(_)) if *main == self.main =>
-                self.add_unknown(alloc, code.as_str(), &mut findings)?,
+            BuildError::Scope(main, fault) if *main == self.main => self.add_scopes(
+                alloc,
+                fault,
+                code.as_str(),
+                &mut findings,
+            )?,
             _ => {}
         }
         Ok(findings)

@@ -124,6 +124,10 @@ fn no_character(text: &[u8], at: usize) -> (&'static str, &'static str) {
             "an escape begins with *, not with a backslash",
             "write a line break as '*N', a tab as '*T', a quote as '*'', and a null character as 0",
         ),
+        Some(1) if is_star(text, at) => (
+            "*' is a quote here, so this character constant is not closed",
+            "write the sign * as '**', and a quote as '*''",
+        ),
         Some(0) => (
             "there is no character between these quotes",
             "a character constant has one character or one escape, as in 'A' or '*N'; the empty string is \"\"",
@@ -139,9 +143,32 @@ fn no_character(text: &[u8], at: usize) -> (&'static str, &'static str) {
     }
 }
 
+/// Whether a `*` is the first character after the quote at an offset.
+fn is_star(text: &[u8], at: usize) -> bool {
+    text.get(at.saturating_add(1)).copied() == Some(b'*')
+}
+
+/// Whether `*"` is on the line of the string at an offset, after a character that is no star.
+fn has_escaped_quote(text: &[u8], at: usize) -> bool {
+    let mut is_escape = false;
+    for byte in text.get(at..).unwrap_or(b"") {
+        match *byte {
+            b'\n' => return false,
+            b'"' if is_escape => return true,
+            b'*' => is_escape = !is_escape,
+            _ => is_escape = false,
+        }
+    }
+    false
+}
+
 /// The sentence and the help for a comment, string or character constant that isn't closed.
 fn unterminated(text: &[u8], at: usize) -> (&'static str, &'static str) {
     match text.get(at).copied().unwrap_or(0) {
+        b'"' if has_escaped_quote(text, at) => (
+            "this string is not closed on its line: *\" is a quote in it",
+            "write the sign * as **, and end the string with \"",
+        ),
         b'"' => (
             "this string is not closed on its line",
             "end a string with \" on the line where it begins; inside it, *N is a line break and *\" is a quote",

@@ -472,12 +472,22 @@ fn is_call(tokens: &[Token<'_>], at: TokenSpan) -> bool {
         && is_at(tokens, at.last, Symbol::CloseBracket)
 }
 
+/// Whether a sum or a difference begins with a cell of a vector, as in `V!I + 1`.
+fn is_sum_of_cell(tokens: &[Token<'_>], at: TokenSpan) -> bool {
+    let sign = at.first.saturating_add(3);
+    name_of(tokens.get(at.first)).is_some()
+        && is_at(tokens, at.first.saturating_add(1), Symbol::Indirection)
+        && (is_at(tokens, sign, Symbol::Plus) || is_at(tokens, sign, Symbol::Minus))
+}
+
 /// What may have been meant by an expression without a cell.
 fn help_for_cell(tokens: &[Token<'_>], at: TokenSpan) -> Option<&'static str> {
     let following = at.last.saturating_add(1);
     let is_assigned = is_at(tokens, following, Symbol::Assign);
     if is_assigned && is_after_star(tokens, following) {
         Some(POINTER)
+    } else if is_assigned && is_sum_of_cell(tokens, at) {
+        Some("! binds tighter than + and -: write the next cell as V!(I + 1)")
     } else if is_call(tokens, at) {
         Some("write an element of a vector as V!0, as in V!0 := 1; parentheses call a routine")
     } else if is_assigned && is_result(tokens, at) {

@@ -3,7 +3,10 @@
 use bc_build::{BuildError, ParseError, Parsed, ScopeFault, build};
 use bc_text_items::{Item, Segment};
 use bc_word::Memory;
-use bcpl_advice::{FurtherFault, advised, faults_after_lexical, further_faults, likely_meaning};
+use bcpl_advice::{
+    FurtherFault, advised, faults_after_lexical, further_faults, further_scope_faults,
+    likely_meaning,
+};
 use bcpl_cli::BuildLine;
 use bcpl_messages::{Message, Named, Note, message_lines, message_of, shown};
 use bcpl_places::Span;
@@ -133,7 +136,7 @@ fn completed(
     Ok(message)
 }
 
-/// The further faults of a main that the parser or the lexer refused, `most` at most, or one more.
+/// The further faults of a main that was refused, `most` at most, or one more.
 fn faults_after(
     alloc: Global,
     program: &Program<'_, '_>,
@@ -146,11 +149,12 @@ fn faults_after(
             further_faults(alloc, sources, *main, *at, most)
         }
         BuildError::Lex(main, fault) => faults_after_lexical(alloc, sources, *main, *fault, most),
+        BuildError::Scope(main, _) => further_scope_faults(alloc, sources, *main, most),
         _ => Ok(Vec::new(alloc)),
     }
 }
 
-/// Adds the explanations of the further faults of a main that the parser or the lexer refused.
+/// Adds the explanations of the further faults of a main that was refused.
 fn add_further(
     text: &mut String,
     alloc: Global,
