@@ -68,6 +68,18 @@ fn is_repeated_string(known: &Known<'_, '_>, at: usize) -> bool {
             || known.kinds.kind(tree.second(at)) == Kind::String)
 }
 
+/// The name of the routine that a node is, or its text if that isn't known.
+fn routine_name<'s>(known: &Known<'_, 's>, at: usize) -> &'s [u8] {
+    let declared = match known.kinds.fact(at).declaration() {
+        Some(index) => known.kinds.names.get(index),
+        None => None,
+    };
+    match declared {
+        Some(declared) => known.tree.text(declared.node),
+        None => known.text(at, at),
+    }
+}
+
 /// Adds the help on an argument of another kind.
 pub fn help_on(draft: &mut Draft, known: &Known<'_, '_>, at: usize, wanted: Wanted) {
     let text = known.text(at, at);
@@ -75,7 +87,7 @@ pub fn help_on(draft: &mut Draft, known: &Known<'_, '_>, at: usize, wanted: Want
     match (wanted, kind) {
         (_, Kind::Routine) => draft.help(
             "a call has parentheses, as in {}()",
-            &[Fill::Shown(text)],
+            &[Fill::Shown(routine_name(known, at))],
         ),
         (Wanted::Character, Kind::String) => match only_character(text) {
             Some(inside) => draft.help(
@@ -134,6 +146,45 @@ fn helps_with_routine(draft: &mut Draft, known: &Known<'_, '_>, at: usize, name:
     }
 }
 
+/// Warns of WRITEN(V + 2), where V is a vector. Returns whether it is one.
+fn warns_of_cell_address(draft: &mut Draft, known: &Known<'_, '_>, at: usize) -> bool {
+    let tree = known.tree;
+    let (vector, number) = (tree.first(at), tree.second(at));
+    let is_vector = matches!(known.kinds.kind(vector), Kind::Vector | Kind::Table)
+        && matches!(tree.form(vector), Form::Name);
+    let is_plain = matches!(tree.form(number), Form::Number(_) | Form::Name);
+    if !matches!(tree.form(at), Form::Bin(BinaryOp::Add)) || !is_vector || !is_plain {
+        return false;
+    }
+    known.begin(draft, at, at);
+    draft.say(
+        "WRITEN takes a number here, but {} is the address of a cell",
+        &[known.shown(at)],
+    );
+    draft.help(
+        "the value of the cell is {}!{}",
+        &[known.shown(vector), known.shown(number)],
+    );
+    true
+}
+
+/// Warns of WRCH(N REM 10). Returns whether it is one.
+fn warns_of_last_digit(draft: &mut Draft, known: &Known<'_, '_>, at: usize) -> bool {
+    let divisor = known.kinds.value(known.tree.second(at));
+    let is_digit = matches!(divisor, Some(word) if word.get() >= 2 && word.get() <= 10);
+    if !matches!(known.tree.form(at), Form::Bin(BinaryOp::Remainder)) || !is_digit {
+        return false;
+    }
+    let name = known.shown(at);
+    known.begin(draft, at, at);
+    draft.say(
+        "WRCH takes a character here, but {} is a number of one digit",
+        &[name],
+    );
+    draft.help("the character that shows it is '0' + {}", &[name]);
+    true
+}
+
 /// Warns of an argument of a routine of the library. Returns whether it does.
 fn warns_of_argument(
     draft: &mut Draft,
@@ -159,7 +210,10 @@ fn warns_of_argument(
         }
         return true;
     }
-    name == b"WRITEN".as_slice() && warns_of_large(draft, known, at)
+    if name == b"WRITEN".as_slice() {
+        return warns_of_large(draft, known, at) || warns_of_cell_address(draft, known, at);
+    }
+    name == b"WRCH".as_slice() && warns_of_last_digit(draft, known, at)
 }
 
 /// Warns of the arguments of a routine of the library. Returns whether it does.

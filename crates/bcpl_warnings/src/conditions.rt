@@ -7,11 +7,13 @@ use crate::kinds::is_relation;
 use crate::known::{Known, sign_of};
 use crate::names::Sort;
 use crate::node::Form;
+use crate::ranges::warns_of_range;
+use crate::relations::warns_of_equality;
 use bc_parse_tree::{BinaryOp, UnaryOp};
 use bcpl_messages::{Draft, Fill};
 
 /// The operator of a relation; `None` if the node isn't one.
-fn relation_at(known: &Known<'_, '_>, at: usize) -> Option<BinaryOp> {
+pub fn relation_at(known: &Known<'_, '_>, at: usize) -> Option<BinaryOp> {
     match known.tree.form(at) {
         Form::Bin(sign) if is_relation(sign) => Some(sign),
         _ => None,
@@ -31,7 +33,10 @@ fn warns_of_precedence(
         return false;
     };
     let (left, right) = (tree.first(second), tree.second(second));
-    if !known.is_constant(second) || known.kinds.kind(tree.first(at)) == Kind::Truth {
+    if !known.is_constant(second)
+        || known.kinds.kind(tree.first(at)) == Kind::Truth
+        || known.is_parenthesised(second)
+    {
         return false;
     }
     let first = known.shown(tree.first(at));
@@ -204,6 +209,14 @@ fn warns_of_truth(draft: &mut Draft, known: &Known<'_, '_>, at: usize) -> bool {
         return false;
     }
     known.begin(draft, at, at);
+    if matches!(tree.form(truth), Form::True) {
+        draft.say(
+            "{} is never TRUE: TRUE is -1, and FALSE is 0",
+            &[known.shown(number)],
+        );
+        draft.help("use TRUE and FALSE for truth values", &[]);
+        return true;
+    }
     draft.say(
         "{} is a truth value, and never {}: TRUE is -1, and FALSE is 0",
         &[known.shown(truth), known.shown(number)],
@@ -327,10 +340,14 @@ fn warns_of_extreme(draft: &mut Draft, known: &Known<'_, '_>, at: usize, sign: B
 
 /// Warns of a relation. Returns whether it does.
 fn warns_of_relation(draft: &mut Draft, known: &Known<'_, '_>, at: usize, sign: BinaryOp) -> bool {
+    let is_equality = matches!(sign, BinaryOp::Equal | BinaryOp::NotEqual);
+    if is_equality && warns_of_equality(draft, known, at, sign) {
+        return true;
+    }
     if warns_of_strings(draft, known, at) || warns_of_truth(draft, known, at) {
         return true;
     }
-    if matches!(sign, BinaryOp::Equal | BinaryOp::NotEqual) {
+    if is_equality {
         return warns_of_vectors(draft, known, at) || warns_of_end(draft, known, at);
     }
     let (left, right) = (known.tree.first(at), known.tree.second(at));
@@ -342,6 +359,26 @@ fn warns_of_relation(draft: &mut Draft, known: &Known<'_, '_>, at: usize, sign: 
         || warns_of_extreme(draft, known, at, sign)
 }
 
+/// Whether a node is a vector or a table.
+fn has_cells(known: &Known<'_, '_>, at: usize) -> bool {
+    matches!(known.kinds.kind(at), Kind::Vector | Kind::Table)
+}
+
+/// Warns of two vectors that are added. Returns whether they are.
+fn warns_of_added_vectors(draft: &mut Draft, known: &Known<'_, '_>, at: usize) -> bool {
+    let (left, right) = (known.tree.first(at), known.tree.second(at));
+    if !has_cells(known, left) || !has_cells(known, right) {
+        return false;
+    }
+    known.begin(draft, at, at);
+    draft.say("this adds the addresses of two vectors", &[]);
+    draft.help(
+        "add the cells in a FOR, as in {}!I + {}!I",
+        &[known.shown(left), known.shown(right)],
+    );
+    true
+}
+
 /// Warns of two strings that are added, or of a string that is written out and something else. Returns whether they are.
 fn warns_of_sum(draft: &mut Draft, known: &Known<'_, '_>, at: usize) -> bool {
     let tree = known.tree;
@@ -350,7 +387,7 @@ fn warns_of_sum(draft: &mut Draft, known: &Known<'_, '_>, at: usize) -> bool {
         && known.kinds.kind(right) == Kind::String;
     let is_one = is_string(known, left) || is_string(known, right);
     if !are_both && !is_one {
-        return false;
+        return warns_of_added_vectors(draft, known, at);
     }
     known.begin(draft, at, at);
     if !are_both {
@@ -384,6 +421,7 @@ pub fn warns_of_dyadic(
             warns_of_precedence(draft, known, at, sign)
                 || warns_of_alternative(draft, known, at, sign)
                 || warns_of_exclusion(draft, known, at, sign)
+                || warns_of_range(draft, known, at, sign)
         }
         BinaryOp::Add => warns_of_sum(draft, known, at),
         _ if is_relation(sign) => warns_of_relation(draft, known, at, sign),
@@ -455,11 +493,67 @@ pub fn is_not(sign: UnaryOp) -> bool {
     matches!(sign, UnaryOp::Not)
 }
 
-/// Warns of `!` before a truth value. Returns whether it is one.
+/// Warns of `!` before a string, whose word is passed on, or compared with a number or character. Returns whether it is.
+fn warns_of_word(draft: &mut Draft, known: &Known<'_, '_>, at: usize) -> bool {
+    let tree = known.tree;
+    let parent = tree.parent(at);
+    let other = if tree.is_first(at) {
+        tree.second(parent)
+    } else {
+        tree.first(parent)
+    };
+    let is_used = match tree.form(parent) {
+        Form::Call => !tree.is_first(at),
+        Form::Bin(sign) => is_relation(sign) && known.kinds.kind(other).is_plain(),
+        _ => false,
+    };
+    if !is_used {
+        return false;
+    }
+    let name = known.shown(tree.first(at));
+    known.begin(draft, at, at);
+    draft.say(
+        "{} is a string, and a word of it holds two characters",
+        &[name],
+    );
+    draft.help(
+        "the string itself is {}; its length is GETBYTE({}, 0), and its first character GETBYTE({}, 1)",
+        &[name, name, name],
+    );
+    true
+}
+
+/// Warns of `!` before a variable that is a number. Returns whether it is one.
+fn warns_of_loaded_number(draft: &mut Draft, known: &Known<'_, '_>, at: usize) -> bool {
+    let operand = known.tree.first(at);
+    let is_variable = match (known.tree.form(operand), known.kinds.names.at(operand)) {
+        (Form::Name, Some(declared)) => declared.sort == Sort::Variable,
+        _ => false,
+    };
+    if !is_variable {
+        return false;
+    }
+    let name = known.shown(operand);
+    known.begin(draft, at, at);
+    draft.say(
+        "{} is a number here, and ! takes it for an address",
+        &[name],
+    );
+    draft.help(
+        "the value of {} is written {}, and its address @{}",
+        &[name, name, name],
+    );
+    true
+}
+
+/// Warns of `!` before a truth value, a string or a number. Returns whether it is one.
 pub fn warns_of_load(draft: &mut Draft, known: &Known<'_, '_>, at: usize) -> bool {
     let operand = known.tree.first(at);
-    if known.kinds.kind(operand) != Kind::Truth {
-        return false;
+    match known.kinds.kind(operand) {
+        Kind::Truth => {}
+        Kind::String => return warns_of_word(draft, known, at),
+        Kind::Number => return warns_of_loaded_number(draft, known, at),
+        _ => return false,
     }
     let name = known.shown(operand);
     known.begin(draft, at, at);

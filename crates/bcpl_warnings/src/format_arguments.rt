@@ -40,6 +40,8 @@ struct Format {
     lost: Option<u8>,
     /// Whether some letter isn't known, or takes arguments in another order.
     is_other: bool,
+    /// Whether it is one of EXTHDR's WRITEF.
+    is_further: bool,
 }
 
 impl Format {
@@ -49,6 +51,7 @@ impl Format {
             letters: Vec::new(alloc),
             lost: None,
             is_other: false,
+            is_further,
         };
         let mut reading = Reading::Plain;
         let inside = match text.get(1..text.len().saturating_sub(1)) {
@@ -184,6 +187,56 @@ fn warns_of_surplus(draft: &mut Draft, known: &Known<'_, '_>, at: usize, taken: 
     true
 }
 
+/// How many arguments LIBHDR's WRITEF passes to a format.
+const MOST: usize = 4;
+
+/// How many EXTHDR's WRITEF passes.
+const FURTHER_MOST: usize = 11;
+
+/// Warns of a format that takes more arguments than WRITEF has. Returns whether it is one.
+fn warns_of_many(draft: &mut Draft, known: &Known<'_, '_>, at: usize, format: &Format) -> bool {
+    let taken = format.letters.len();
+    let (most, text) = if format.is_further {
+        (FURTHER_MOST, "11")
+    } else {
+        (MOST, "4")
+    };
+    if taken <= most {
+        return false;
+    }
+    let node = known.tree.second(at);
+    known.begin(draft, node, node);
+    draft.say(
+        "this format takes {} arguments, but WRITEF writes {} at most",
+        &[Fill::Number(taken as u64), Fill::Text(text)],
+    );
+    draft.help("write the others with another WRITEF", &[]);
+    true
+}
+
+/// Warns of a width before a letter, as in %5N, if an argument isn't written because of it. Returns whether there is one.
+fn warns_of_width(draft: &mut Draft, known: &Known<'_, '_>, at: usize, format: &Format) -> bool {
+    let Some(digit) = format.lost else {
+        return false;
+    };
+    let given = arguments(known, at).saturating_sub(1);
+    if !digit.is_ascii_digit() || given <= format.letters.len() {
+        return false;
+    }
+    let sign = [digit];
+    let node = known.tree.second(at);
+    known.begin(draft, node, node);
+    draft.say(
+        "no width comes before a letter: WRITEF writes {} for %{}, and no argument",
+        &[Fill::Shown(&sign), Fill::Shown(&sign)],
+    );
+    draft.help(
+        "write %N; with GET \"EXTHDR\" and --library ext, %I{} writes a number in a field of {}",
+        &[Fill::Shown(&sign), Fill::Shown(&sign)],
+    );
+    true
+}
+
 /// Warns of a percent sign that is lost. Returns whether there is one.
 fn warns_of_lost(draft: &mut Draft, known: &Known<'_, '_>, at: usize, lost: Option<u8>) -> bool {
     let Some(lost) = lost else {
@@ -209,6 +262,8 @@ pub fn warns_of_format(draft: &mut Draft, known: &Known<'_, '_>, at: usize) -> b
         return false;
     }
     warns_of_letters(draft, known, at, format.letters.as_slice())
+        || warns_of_many(draft, known, at, &format)
+        || warns_of_width(draft, known, at, &format)
         || warns_of_surplus(draft, known, at, format.letters.len())
         || warns_of_lost(draft, known, at, format.lost)
 }

@@ -140,7 +140,7 @@ pub fn warns_of_unused_value(draft: &mut Draft, known: &Known<'_, '_>, at: usize
 }
 
 /// Whether a node has a call of RDCH in it.
-fn reads_character(known: &Known<'_, '_>, at: usize) -> bool {
+pub fn reads_character(known: &Known<'_, '_>, at: usize) -> bool {
     for node in at..known.tree.end(at) {
         if matches!(known.tree.form(node), Form::Call)
             && is_library_call(known, node, b"RDCH".as_slice())

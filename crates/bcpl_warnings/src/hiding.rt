@@ -4,6 +4,7 @@
 use crate::known::Known;
 use crate::names::{Declared, Sort};
 use crate::node::Form;
+use bc_parse_tree::BinaryOp;
 use bcpl_messages::{Draft, Fill};
 use bcpl_places::Span;
 
@@ -78,6 +79,46 @@ pub fn warns_of_hiding(draft: &mut Draft, known: &Known<'_, '_>, at: usize) -> b
         "to assign to the one that exists, leave out LET and write :=",
         &[],
     );
+    true
+}
+
+/// Whether a product in a node is the square of the variable with this index.
+fn has_square(known: &Known<'_, '_>, at: usize, index: usize) -> bool {
+    let tree = known.tree;
+    for node in at..tree.end(at) {
+        if matches!(tree.form(node), Form::Bin(BinaryOp::Multiply))
+            && known.kinds.names.index_at(tree.first(node)) == Some(index)
+            && known.kinds.names.index_at(tree.second(node)) == Some(index)
+        {
+            return true;
+        }
+    }
+    false
+}
+
+/// Warns of a FOR whose variable hides that of a FOR around it, and is squared: both were meant. Returns whether it is one.
+pub fn warns_of_same_counter(draft: &mut Draft, known: &Known<'_, '_>, at: usize) -> bool {
+    let tree = known.tree;
+    let variable = tree.first(at);
+    let Some(index) = known.kinds.names.index_at(variable) else {
+        return false;
+    };
+    let Some(declared) = known.kinds.names.get(index) else {
+        return false;
+    };
+    let Some(outer) = hidden_by(known, declared) else {
+        return false;
+    };
+    if !matches!(tree.form_of_parent(outer), Form::For) || !has_square(known, at, index) {
+        return false;
+    }
+    let name = Fill::Shown(tree.text(variable));
+    known.begin(draft, variable, variable);
+    draft.say(
+        "this FOR has another {}, which hides that of the FOR around it",
+        &[name],
+    );
+    draft.help("give the variable of one of them another name", &[]);
     true
 }
 

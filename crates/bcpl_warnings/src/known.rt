@@ -88,6 +88,46 @@ fn after_parentheses(text: &[u8], end: usize, count: usize) -> usize {
     at
 }
 
+/// Whether a byte is a blank, a tab or part of a line break.
+fn is_blank(byte: u8) -> bool {
+    matches!(byte, b' ' | b'\t' | b'\n' | b'\r')
+}
+
+/// The sign before an offset, apart from blanks and line breaks.
+fn sign_before(text: &[u8], offset: usize) -> Option<u8> {
+    let mut at = offset;
+    for _ in 0..offset {
+        at = at.checked_sub(1)?;
+        let byte = *text.get(at)?;
+        if !is_blank(byte) {
+            return Some(byte);
+        }
+    }
+    None
+}
+
+/// The sign at an offset or after it, apart from blanks and line breaks.
+fn sign_from(text: &[u8], offset: usize) -> Option<u8> {
+    for at in offset..text.len() {
+        let byte = *text.get(at)?;
+        if !is_blank(byte) {
+            return Some(byte);
+        }
+    }
+    None
+}
+
+/// Whether the text between two offsets, with the parentheses that belong to it, has others directly around it.
+fn is_enclosed(text: &[u8], start: usize, end: usize) -> bool {
+    let Some(inside) = text.get(start..end) else {
+        return false;
+    };
+    let (closed, open) = unpaired(inside);
+    let first = before_parentheses(text, start, closed);
+    let last = after_parentheses(text, end, open);
+    sign_before(text, first) == Some(b'(') && sign_from(text, last) == Some(b')')
+}
+
 /// The text between two offsets, with the parentheses around it that belong to others in it.
 fn balanced(text: &[u8], start: usize, end: usize) -> &[u8] {
     let Some(inside) = text.get(start..end) else {
@@ -115,6 +155,32 @@ impl<'s> Known<'_, 's> {
             Some(source) => balanced(source.text, span.start, span.end),
             None => b"",
         }
+    }
+
+    /// Whether the source has parentheses around a node, besides those of its operands. A node that ends with a call without
+    /// arguments counts as one that has them: the end of its text isn't known.
+    pub fn is_parenthesised(&self, at: usize) -> bool {
+        let last = self.tree.end(at).saturating_sub(1);
+        if matches!(self.tree.form_of_parent(last), Form::Call) && self.tree.is_first(last) {
+            return true;
+        }
+        let Some(span) = self.tree.span(at, at) else {
+            return false;
+        };
+        match self.sources.get(span.file) {
+            Some(source) => is_enclosed(source.text, span.start, span.end),
+            None => false,
+        }
+    }
+
+    /// Whether a node is constant and written out, without names.
+    pub fn is_written(&self, at: usize) -> bool {
+        for node in at..self.tree.end(at) {
+            if matches!(self.tree.form(node), Form::Name) {
+                return false;
+            }
+        }
+        self.kinds.value(at).is_some()
     }
 
     /// A node's text, as a part of a sentence.

@@ -73,6 +73,14 @@ impl Counting {
         }
     }
 
+    /// Whether it counts up from a number greater than 0.
+    pub fn is_above_zero(&self) -> bool {
+        match (self.start, self.step) {
+            (Some(start), Some(step)) => rank(start) > LEAST && rank(step) > LEAST,
+            _ => false,
+        }
+    }
+
     /// Whether the start and the limit are written out, without names.
     fn is_literal(&self, known: &Known<'_, '_>) -> bool {
         for node in self.start_at..known.tree.end(self.limit_at) {
@@ -82,6 +90,22 @@ impl Counting {
         }
         true
     }
+
+    /// Whether the start is a variable that always has the same value, the limit is written out, and each call of the
+    /// routine comes to the FOR.
+    fn starts_at_variable(&self, known: &Known<'_, '_>) -> bool {
+        let is_variable = match known.kinds.names.at(self.start_at) {
+            Some(declared) => declared.sort == Sort::Variable,
+            None => false,
+        };
+        if !is_variable || !known.is_written(self.limit_at) {
+            return false;
+        }
+        match known.routine_of(self.start_at) {
+            Some(routine) => known.is_in_each_round(routine, known.tree.parent(self.start_at)),
+            None => false,
+        }
+    }
 }
 
 /// Warns of a FOR without a round. Returns whether it has none.
@@ -90,11 +114,12 @@ fn warns_of_nothing(draft: &mut Draft, known: &Known<'_, '_>, counting: &Countin
     else {
         return false;
     };
-    if !counting.is_literal(known) {
+    let is_literal = counting.is_literal(known);
+    if !is_literal && !counting.starts_at_variable(known) {
         return false;
     }
     let is_up = !is_negative(step) && step.get() != 0 && rank(start) > rank(limit);
-    let is_down = is_negative(step) && rank(start) < rank(limit);
+    let is_down = is_negative(step) && rank(start) < rank(limit) && is_literal;
     if !is_up && !is_down {
         return false;
     }
@@ -152,7 +177,7 @@ fn endless(counting: &Counting) -> Option<(&'static str, &'static str)> {
 }
 
 /// Whether a node is a variable whose only value is a character that RDCH returned.
-fn is_read_once(known: &Known<'_, '_>, at: usize) -> bool {
+pub fn is_read_once(known: &Known<'_, '_>, at: usize) -> bool {
     let tree = known.tree;
     let Some(declared) = known.kinds.names.at(at) else {
         return false;

@@ -1,10 +1,12 @@
 //! Warnings on what is wrong from the start: a loop whose condition ends it before its first round, and parameters of START.
 
+use crate::arithmetic::signed;
 use crate::hiding::is_read_from;
 use crate::kinds::{is_relation, value_of};
 use crate::known::Known;
 use crate::names::Sort;
 use crate::node::Form;
+use bc_parse_tree::BinaryOp;
 use bc_word::Word;
 use bcpl_messages::{Draft, Fill};
 
@@ -94,6 +96,94 @@ pub fn warns_of_no_round(draft: &mut Draft, known: &Known<'_, '_>, at: usize) ->
     draft.help(
         "WHILE goes on while its condition is true, and UNTIL while it is false",
         &[],
+    );
+    true
+}
+
+/// The step of the only assignment in a loop to the variable with this index, if that adds a number to it.
+fn only_step(known: &Known<'_, '_>, at: usize, index: usize) -> Option<u16> {
+    let tree = known.tree;
+    let mut step = None;
+    for node in at..tree.end(at) {
+        let is_place = matches!(tree.form_of_parent(node), Form::Places)
+            && known.kinds.names.index_at(node) == Some(index);
+        if is_place && step.is_some() {
+            return None;
+        }
+        if is_place {
+            step = Some(added_at(known, tree.parent(tree.parent(node)), index)?);
+        }
+    }
+    step
+}
+
+/// The number that an assignment adds to the variable with this index, if it does nothing else.
+fn added_at(known: &Known<'_, '_>, assign: usize, index: usize) -> Option<u16> {
+    let tree = known.tree;
+    let (place, value) = (
+        tree.first(tree.first(assign)),
+        tree.first(tree.second(assign)),
+    );
+    let is_sum = tree.end(place) == tree.second(assign)
+        && matches!(tree.form(value), Form::Bin(BinaryOp::Add))
+        && known.kinds.names.index_at(tree.first(value)) == Some(index);
+    match tree.form(tree.second(value)) {
+        Form::Number(word) if is_sum && word.get() > 1 && word.get() <= 32767 => {
+            Some(word.get())
+        }
+        _ => None,
+    }
+}
+
+/// Whether the sign of a condition is the one by which a loop ends at a single value.
+fn ends_at_value(known: &Known<'_, '_>, at: usize) -> bool {
+    match (known.tree.form(at), known.tree.form(known.tree.first(at))) {
+        (Form::Until, Form::Bin(BinaryOp::Equal)) => true,
+        (Form::While, Form::Bin(BinaryOp::NotEqual)) => true,
+        _ => false,
+    }
+}
+
+/// The step with which the variable of a loop's condition passes the only value that ends the loop.
+fn passing_step(known: &Known<'_, '_>, at: usize) -> Option<u16> {
+    let tree = known.tree;
+    let condition = tree.first(at);
+    let (left, right) = (tree.first(condition), tree.second(condition));
+    if !ends_at_value(known, at) || !known.is_written(right) {
+        return None;
+    }
+    let index = known.kinds.names.index_at(left)?;
+    let first = first_value(known, left, at)?;
+    let limit = known.kinds.value(right)?;
+    let step = only_step(known, tree.second(at), index)?;
+    let distance = limit.get().wrapping_add(first.negated().get());
+    if step != 0 && distance % step != 0 && signed(limit) > signed(first) {
+        Some(step)
+    } else {
+        None
+    }
+}
+
+/// Warns of a loop that ends at a value which its variable steps over. Returns whether it is one.
+pub fn warns_of_passing(draft: &mut Draft, known: &Known<'_, '_>, at: usize) -> bool {
+    let tree = known.tree;
+    let condition = tree.first(at);
+    let Some(step) = passing_step(known, at) else {
+        return false;
+    };
+    if known.flow.has_jump(tree, at) {
+        return false;
+    }
+    let name = known.shown(tree.first(condition));
+    let value = known.shown(tree.second(condition));
+    known.begin(draft, condition, condition);
+    draft.say(
+        "{} steps over {}: it grows by {} in each round",
+        &[name, value, Fill::Number(u64::from(step))],
+    );
+    draft.help(
+        "write UNTIL {} >= {}, or WHILE {} < {}",
+        &[name, value, name, value],
     );
     true
 }

@@ -3,7 +3,7 @@
 use crate::calls::say_signed;
 use crate::kind::{Fact, Kind};
 use crate::known::Known;
-use crate::loops::counting_of;
+use crate::loops::{counting_of, is_read_once};
 use crate::names::{Declared, Sort};
 use crate::node::Form;
 use crate::tree::Tree;
@@ -18,9 +18,22 @@ struct Outside {
     is_counted: bool,
 }
 
-/// The number of a FOR's variable that is outside, if a node names one and each round comes to it.
+/// The name at a node and 0, or the name and the number of which a node is the sum. A difference is a sum.
+fn name_and_number(known: &Known<'_, '_>, at: usize) -> (usize, u16) {
+    let tree = known.tree;
+    let first = tree.first(at);
+    match (tree.form(at), tree.form(tree.second(at))) {
+        (Form::Bin(BinaryOp::Add), Form::Number(word)) => (first, word.get()),
+        (Form::Bin(BinaryOp::Subtract), Form::Number(word)) => (first, word.negated().get()),
+        _ => (at, 0),
+    }
+}
+
+/// The number of a FOR's variable that is outside, if a node names one and each round comes to it. A number that is
+/// written out may be added to it.
 fn counted_outside(known: &Known<'_, '_>, at: usize, greatest: u16) -> Option<Outside> {
-    let Some(declared) = known.kinds.names.at(at) else {
+    let (name, added) = name_and_number(known, at);
+    let Some(declared) = known.kinds.names.at(name) else {
         return None;
     };
     if declared.sort != Sort::Counter || declared.is_assigned || declared.is_addressed {
@@ -28,10 +41,15 @@ fn counted_outside(known: &Known<'_, '_>, at: usize, greatest: u16) -> Option<Ou
     }
     let counting = known.tree.parent(declared.node);
     let (least, most) = counting_of(known, counting).range()?;
-    let number = if most.get() > greatest { most } else { least };
-    if number.get() > greatest && known.is_in_each_round(counting, at) {
+    let last = most.get().wrapping_add(added);
+    let number = if last > greatest {
+        last
+    } else {
+        least.get().wrapping_add(added)
+    };
+    if number > greatest && known.is_in_each_round(counting, at) {
         Some(Outside {
-            number,
+            number: Word::new(number),
             is_counted: true,
         })
     } else {
@@ -51,12 +69,35 @@ fn outside_at(known: &Known<'_, '_>, at: usize, greatest: u16) -> Option<Outside
     }
 }
 
+/// Warns of a subscript that is a character that was read, if the code of no digit is a subscript. Returns whether it is.
+fn warns_of_digit_subscript(
+    draft: &mut Draft,
+    known: &Known<'_, '_>,
+    at: usize,
+    greatest: u16,
+) -> bool {
+    if greatest >= u16::from(b'0') || !is_read_once(known, at) {
+        return false;
+    }
+    let name = known.shown(at);
+    known.begin(draft, at, at);
+    draft.say(
+        "{} is a character, whose code isn't the digit that it shows",
+        &[name],
+    );
+    draft.help("the number that a digit shows is {} - '0'", &[name]);
+    true
+}
+
 /// Warns of a subscript outside of a vector or table. Returns whether it is.
 fn warns_of_subscript(draft: &mut Draft, known: &Known<'_, '_>, at: usize, vector: &Fact) -> bool {
     let tree = known.tree;
     let Some(greatest) = vector.greatest() else {
         return false;
     };
+    if warns_of_digit_subscript(draft, known, tree.second(at), greatest) {
+        return true;
+    }
     let Some(found) = outside_at(known, tree.second(at), greatest) else {
         return false;
     };
@@ -123,15 +164,55 @@ fn warns_of_string(draft: &mut Draft, known: &Known<'_, '_>, at: usize) -> bool 
     true
 }
 
+/// Whether an assignment gives the variable with this index a number that is written out, or adds one to it.
+fn is_counted_by(known: &Known<'_, '_>, assign: usize, index: usize) -> bool {
+    let tree = known.tree;
+    let (place, value) = (
+        tree.first(tree.first(assign)),
+        tree.first(tree.second(assign)),
+    );
+    let is_sum = matches!(
+        tree.form(value),
+        Form::Bin(BinaryOp::Add | BinaryOp::Subtract)
+    ) && known.kinds.names.index_at(tree.first(value)) == Some(index)
+        && matches!(tree.form(tree.second(value)), Form::Number(_));
+    tree.end(place) == tree.second(assign)
+        && (is_sum || matches!(tree.form(value), Form::Number(_)))
+}
+
+/// Whether a node is a number, or a static that only counts.
+fn is_count(known: &Known<'_, '_>, at: usize) -> bool {
+    let tree = known.tree;
+    let (Some(index), Some(declared)) = (known.kinds.names.index_at(at), known.kinds.names.at(at))
+    else {
+        return known.kinds.kind(at).is_plain();
+    };
+    if declared.sort != Sort::Static || !declared.first.kind.is_plain() || declared.is_addressed {
+        return known.kinds.kind(at).is_plain();
+    }
+    for node in declared.node..declared.end {
+        if matches!(tree.form_of_parent(node), Form::Places)
+            && known.kinds.names.index_at(node) == Some(index)
+            && !is_counted_by(known, tree.parent(tree.parent(node)), index)
+        {
+            return false;
+        }
+    }
+    true
+}
+
 /// Warns of a number that is subscripted as if it were a vector. Returns whether it is one.
 fn warns_of_number(draft: &mut Draft, known: &Known<'_, '_>, at: usize) -> bool {
     let tree = known.tree;
     let vector = tree.first(at);
-    let is_variable = match (tree.form(vector), known.kinds.names.at(vector)) {
-        (Form::Name, Some(declared)) => declared.sort == Sort::Variable,
-        _ => false,
+    let (is_variable, is_static) = match (tree.form(vector), known.kinds.names.at(vector)) {
+        (Form::Name, Some(declared)) => (
+            declared.sort == Sort::Variable,
+            declared.sort == Sort::Static && !declared.is_assigned,
+        ),
+        _ => (false, false),
     };
-    if !is_variable || !known.kinds.kind(tree.second(at)).is_plain() {
+    if !is_variable && !is_static || !is_count(known, tree.second(at)) {
         return false;
     }
     let name = known.shown(vector);
@@ -140,7 +221,14 @@ fn warns_of_number(draft: &mut Draft, known: &Known<'_, '_>, at: usize) -> bool 
         "{} is a number here, and not the address of a vector",
         &[name],
     );
-    draft.help("a vector is declared as LET {} = VEC 10", &[name]);
+    if is_static {
+        draft.help(
+            "declare a vector in START, as in LET W = VEC 10, and assign {} := W",
+            &[name],
+        );
+    } else {
+        draft.help("a vector is declared as LET {} = VEC 10", &[name]);
+    }
     true
 }
 

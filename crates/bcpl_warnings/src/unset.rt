@@ -3,11 +3,12 @@
 use crate::arguments::is_called;
 use crate::declared::{Declarations, Meaning};
 use crate::mixed::gets_further;
+use crate::tokens::name_at;
 use bc_build::Parsed;
 use bc_lex_tokens::Token;
 use bc_library::library_name;
 use bc_word::Memory;
-use indexmap::IndexSet;
+use indexmap::{IndexMap, IndexSet};
 use std::alloc::Global;
 
 /// The globals that a program may set, and the declarations of its mains.
@@ -21,6 +22,12 @@ pub struct Settings<'s> {
     is_open: bool,
     /// Whether a main that isn't the library's gets EXTHDR.
     pub gets_further: bool,
+    /// The numbers that mains other than the library's may set.
+    own: IndexSet<u16>,
+    /// Whether such a main may set any global.
+    is_own_open: bool,
+    /// The names that the library's mains have for globals, by number.
+    names: IndexMap<u16, &'s [u8]>,
 }
 
 impl<'s> Settings<'s> {
@@ -37,13 +44,56 @@ impl<'s> Settings<'s> {
             numbers: IndexSet::new(alloc),
             is_open: false,
             gets_further: false,
+            own: IndexSet::new(alloc),
+            is_own_open: false,
+            names: IndexMap::new(alloc),
         };
         for (main, read) in mains.iter().zip(parsed) {
             let declarations = Declarations::of(alloc, read.tokens.as_slice())?;
+            if *main >= library {
+                settings.add_own(&declarations)?;
+            } else {
+                settings.add_names(&declarations)?;
+            }
             settings.add_main(&declarations, *main >= library)?;
             settings.declarations.push(declarations)?;
         }
         Ok(settings)
+    }
+
+    /// Adds the names of the globals of the library's main with these declarations.
+    fn add_names(&mut self, declarations: &Declarations<'s>) -> Result<(), Memory> {
+        for declared in &declarations.all {
+            if let Meaning::Global(Some(number)) = declared.meaning
+                && !self.names.contains_key(&number)
+            {
+                self.names.insert(number, declared.name)?;
+            }
+        }
+        Ok(())
+    }
+
+    /// Adds the globals that a main with these declarations, which isn't the library's, may set.
+    fn add_own(&mut self, declarations: &Declarations<'_>) -> Result<(), Memory> {
+        for declared in &declarations.all {
+            let Meaning::Global(number) = declared.meaning else {
+                continue;
+            };
+            let uses = declarations.uses_at(declared.at);
+            let is_set = declarations.has_routine(declared.at)
+                || uses.is_assigned
+                || uses.is_listed;
+            match number {
+                Some(number) if is_set => {
+                    self.own.insert(number)?;
+                }
+                _ => {}
+            }
+            if uses.is_addressed || is_set && number.is_none() {
+                self.is_own_open = true;
+            }
+        }
+        Ok(())
     }
 
     /// Adds the globals that the main with these declarations may set. It is the library's unless `is_own`.
@@ -99,6 +149,32 @@ pub fn unset_global(
     let number = number?;
     if declarations.uses_at(index).first_call? == index && settings.is_unset(number) {
         Some(number)
+    } else {
+        None
+    }
+}
+
+/// The number of the global that is called at this index and its name in the library. `None` unless the program has
+/// another name for it, nothing but the library sets it, and this is its first call in the main. The first `library` sources
+/// are the library's. LIBHDR's globals have a warning where they are declared.
+pub fn foreign_global<'s>(
+    tokens: &[Token<'_>],
+    declarations: &Declarations<'_>,
+    settings: &Settings<'s>,
+    library: usize,
+    index: usize,
+) -> Option<(u16, &'s [u8])> {
+    let (declared, number) = declarations.global_at(index)?;
+    let number = number?;
+    let name = *settings.names.get(&number)?;
+    let is_own = tokens.get(declared)?.file >= library && name_at(tokens, index)? != name;
+    if is_own
+        && declarations.uses_at(index).first_call? == index
+        && library_name(number).is_none()
+        && !settings.is_own_open
+        && !settings.own.contains(&number)
+    {
+        Some((number, name))
     } else {
         None
     }

@@ -18,7 +18,7 @@ use crate::strings::has_backslash;
 use crate::tokens::{is_at, symbol_at};
 use crate::tree::Tree;
 use crate::unreachable::unreached;
-use crate::unset::{Settings, unset_global};
+use crate::unset::{Settings, foreign_global, unset_global};
 use crate::values::is_used;
 use crate::vectors::is_vector_called;
 use bc_build::Parsed;
@@ -186,6 +186,35 @@ fn warns_of_unset(draft: &mut Draft, main: &Main<'_, '_, '_>, at: usize) -> bool
         } else {
             "a routine sets it if it is declared while its name means the global; is a file of the program missing?"
         },
+        &[],
+    );
+    true
+}
+
+/// Warns if the token with this index calls a global that only the library sets, under another name. Returns whether it
+/// does.
+fn warns_of_foreign(draft: &mut Draft, main: &Main<'_, '_, '_>, at: usize) -> bool {
+    let foreign = foreign_global(
+        main.tokens,
+        main.declarations,
+        main.settings,
+        main.library,
+        at,
+    );
+    let Some((number, name)) = foreign else {
+        return false;
+    };
+    begin(draft, main.tokens, at);
+    draft.say(
+        "the global {} is {} of the library, and nothing in the program sets it to its {}",
+        &[
+            Fill::Number(u64::from(number)),
+            Fill::Shown(name),
+            Fill::Shown(main.text(at)),
+        ],
+    );
+    draft.help(
+        "GET \"EXTHDR\" declares the library's routines; for your own, the numbers from 100 on are free",
         &[],
     );
     true
@@ -398,6 +427,7 @@ fn warns_by(
 fn warns_of_call(draft: &mut Draft, main: &Main<'_, '_, '_>, at: usize) -> bool {
     is_called(main.tokens, at)
         && (warns_of_unset(draft, main, at)
+            || warns_of_foreign(draft, main, at)
             || warns_of_arguments(draft, main, at)
             || warns_by(draft, main, at, call_oddity(main, at)))
 }

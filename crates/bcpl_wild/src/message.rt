@@ -4,13 +4,14 @@ use crate::calls::{Call, Parameter};
 use crate::extent::{Extent, only_reading};
 use crate::owner::{Owner, OwnerKind, owner_of};
 use crate::placed::{ReadMain, labelled, read};
-use crate::sentence::{WildContext, ending, help, say};
+use crate::sentence::{ByteAccess, WildContext, ending, help, say};
 use bc_interpret_pure::Cause;
 use bc_interpret_trace::Standing;
 use bc_lex::Source;
+use bc_lex_tokens::Symbol;
 use bc_machine_defs::Image;
 use bc_word::Memory;
-use bcpl_messages::{Draft, Fill, Message};
+use bcpl_messages::{Draft, Fill, Message, is_at};
 use bcpl_places::Span;
 use std::alloc::Global;
 
@@ -66,6 +67,41 @@ impl<'s> AccessPlace<'s> {
         match self.extent {
             Some(extent) => self.read.span_of(extent),
             None => self.read.span(sources, self.read.sites.label(self.label)?),
+        }
+    }
+
+    /// Whether the routine has a vector of this name.
+    fn has_vector(&self, name: &[u8]) -> bool {
+        for site in &self.read.sites.variables {
+            if site.routine == self.label
+                && site.cells > 1
+                && self.read.text(site.leaf).unwrap_or(b"") == name
+            {
+                return true;
+            }
+        }
+        false
+    }
+
+    /// The first argument of the only call of PUTBYTE, if that is a name.
+    fn stored_into(&self) -> Option<&'s [u8]> {
+        let call = self.only_call(Some(b"PUTBYTE".as_slice()))?;
+        let tokens = self.read.tokens.as_slice();
+        let first = call.extent.first.saturating_add(2);
+        if is_at(tokens, first.saturating_add(1), Symbol::Comma) {
+            Some(tokens.get(first)?.text)
+        } else {
+            None
+        }
+    }
+
+    /// Whether the only call of PUTBYTE is given a vector of the routine, and the name with this leaf is another one.
+    fn stores_into_other(&self, leaf: u64) -> bool {
+        match self.stored_into() {
+            Some(given) => {
+                self.has_vector(given) && self.read.text(leaf).unwrap_or(b"") != given
+            }
+            None => false,
         }
     }
 
@@ -299,14 +335,73 @@ fn owner_met(draft: &mut Draft, program: &WildProgram<'_, '_>, met: &Met<'_>) ->
     owner_of(draft, program, met.standings, address_of(met.cause)?)
 }
 
-/// Whether the newest call is one of PUTBYTE.
-fn is_in_putbyte(draft: &mut Draft, program: &WildProgram<'_, '_>, standings: &[Standing]) -> bool {
-    let Some(standing) = standings.first() else {
+/// The name of the routine that was called in the call that is `back` calls older than the newest one; empty if it isn't
+/// known.
+fn name_of_call<'s>(
+    draft: &mut Draft,
+    program: &WildProgram<'_, 's>,
+    standings: &[Standing],
+    back: usize,
+) -> &'s [u8] {
+    let Some(standing) = standings.get(back) else {
+        return b"";
+    };
+    match place_of(draft, program, standing) {
+        Some(place) => place.name().unwrap_or(b""),
+        None => b"",
+    }
+}
+
+/// The leaf of the name of the variable or vector whose cell this is, if it is one of the calling routine.
+fn leaf_in_caller(kind: OwnerKind) -> Option<u64> {
+    match kind {
+        OwnerKind::Element { back, leaf } if back == 1 => Some(leaf),
+        OwnerKind::Variable { back, leaf } if back == 1 => Some(leaf),
+        _ => None,
+    }
+}
+
+/// Whether the cell that a call of PUTBYTE met belongs to something other than the vector that it was given.
+fn is_after(
+    draft: &mut Draft,
+    program: &WildProgram<'_, '_>,
+    standings: &[Standing],
+    owner: Option<&Owner>,
+) -> bool {
+    let (Some(owner), Some(standing)) = (owner, standings.get(1)) else {
+        return false;
+    };
+    let Some(leaf) = leaf_in_caller(owner.kind) else {
         return false;
     };
     match place_of(draft, program, standing) {
-        Some(place) => place.name().unwrap_or(b"") == b"PUTBYTE".as_slice(),
+        Some(place) => place.stores_into_other(leaf),
         None => false,
+    }
+}
+
+/// What the run does with a byte, by the newest calls.
+fn byte_access(
+    draft: &mut Draft,
+    program: &WildProgram<'_, '_>,
+    standings: &[Standing],
+    owner: Option<&Owner>,
+) -> ByteAccess {
+    let name = name_of_call(draft, program, standings, 0);
+    if name == b"PUTBYTE".as_slice() && is_after(draft, program, standings, owner) {
+        return ByteAccess::StoredAfter;
+    }
+    if name == b"PUTBYTE".as_slice() {
+        return ByteAccess::Stored;
+    }
+    if name != b"GETBYTE".as_slice() {
+        return ByteAccess::None;
+    }
+    let caller = name_of_call(draft, program, standings, 1);
+    if caller == b"WRITES".as_slice() || caller == b"WRITEF".as_slice() {
+        ByteAccess::Written
+    } else {
+        ByteAccess::Read
     }
 }
 
@@ -338,7 +433,7 @@ fn tell(draft: &mut Draft, program: &WildProgram<'_, '_>, met: &Met<'_>) {
         owner: owner.as_ref(),
         is_not_handed: not_handed.is_some(),
         is_exact: spot.is_exact,
-        is_in_putbyte: is_in_putbyte(draft, program, stand.standings),
+        bytes: byte_access(draft, program, stand.standings, owner.as_ref()),
         has_pool: program
             .sources
             .iter()

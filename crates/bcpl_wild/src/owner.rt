@@ -30,6 +30,8 @@ pub enum OwnerKind {
     Cell,
     /// The cell of a variable whose name has this leaf, in the call that is `back` calls older than the newest one.
     Variable { back: usize, leaf: u64 },
+    /// A cell of a vector, in the same way.
+    Element { back: usize, leaf: u64 },
     /// No cell: the description says what it comes after.
     After,
     /// The first word of a routine's code.
@@ -270,7 +272,10 @@ impl<'s> Frame<'_, 's> {
                     "cell {} of the vector {} of {}",
                     &[Fill::Number(index), name, routine],
                 ),
-                kind: OwnerKind::Cell,
+                kind: OwnerKind::Element {
+                    back: self.back,
+                    leaf: site.leaf,
+                },
             },
         })
     }

@@ -5,6 +5,41 @@ use crate::owner::{GLOBALS, Owner, OwnerKind};
 use bc_interpret_pure::Cause;
 use bcpl_messages::{Draft, Fill};
 
+/// What a run does with a byte of a string or vector.
+#[derive(Clone, Copy, PartialEq, Eq)]
+pub enum ByteAccess {
+    /// Nothing.
+    None,
+    /// It is in GETBYTE.
+    Read,
+    /// It is in GETBYTE, which a routine of the library called that writes a string.
+    Written,
+    /// It is in PUTBYTE.
+    Stored,
+    /// It is in PUTBYTE, and met a cell after the vector that PUTBYTE was given.
+    StoredAfter,
+}
+
+impl ByteAccess {
+    /// The help if there is no cell for the byte.
+    fn help(self) -> Option<&'static str> {
+        match self {
+            ByteAccess::None => None,
+            ByteAccess::Read => Some(
+                "a string has the bytes 0, its length, to GETBYTE(S, 0); VEC N has the bytes 0 to 2*N+1",
+            ),
+            ByteAccess::Written => Some(
+                "byte 0 of a string is the number of its characters; was it set, as in PUTBYTE(S, 0, N)?",
+            ),
+            ByteAccess::Stored | ByteAccess::StoredAfter => Some(AFTER),
+        }
+    }
+}
+
+/// The help for a byte that is stored after the end of a vector or string.
+const AFTER: &str =
+    "VEC N has the bytes 0 to 2*N+1, and a string those up to its length; this byte is after them";
+
 /// What is known about a wild access, apart from its cause.
 #[derive(Clone, Copy)]
 pub struct WildContext<'k> {
@@ -14,8 +49,8 @@ pub struct WildContext<'k> {
     pub is_not_handed: bool,
     /// Whether the reported place is the access itself, rather than the whole expression.
     pub is_exact: bool,
-    /// Whether the run is in PUTBYTE.
-    pub is_in_putbyte: bool,
+    /// What the run does with a byte of a string or vector.
+    pub bytes: ByteAccess,
     /// Whether the program calls GETVEC.
     pub has_pool: bool,
 }
@@ -126,7 +161,7 @@ fn say_of_owner(draft: &mut Draft, known: WildContext<'_>, owner: &Owner, access
             &[text, verb, place, forbidden],
         ),
         OwnerKind::After => draft.say("the cell {} {} is {}", &[verb, place, text]),
-        OwnerKind::Cell | OwnerKind::Variable { .. } => draft.say(
+        OwnerKind::Cell | OwnerKind::Variable { .. } | OwnerKind::Element { .. } => draft.say(
             "{} is {} {}, but the program has no cell there now",
             &[text, verb, place],
         ),
@@ -174,7 +209,8 @@ pub fn help(met: &Met<'_>, known: WildContext<'_>) -> Option<&'static str> {
         Cause::Unset(_) if known.is_not_handed => Some(
             "a parameter has a value only if the call passes an argument for it",
         ),
-        Cause::Unset(_) if known.is_in_putbyte => Some(
+        Cause::Unset(_) if known.bytes == ByteAccess::StoredAfter => Some(AFTER),
+        Cause::Unset(_) if known.bytes == ByteAccess::Stored => Some(
             "PUTBYTE keeps the other byte of its word, so set the word before, as in V!0 := 0",
         ),
         Cause::Unset(_) => Some(
@@ -190,6 +226,7 @@ pub fn help(met: &Met<'_>, known: WildContext<'_>) -> Option<&'static str> {
                 "there is no vector at this address; was the address set, as in LET V = VEC 10?"
             })
         }
+        Cause::Dead(_) | Cause::NoCell(_) if known.bytes != ByteAccess::None => known.bytes.help(),
         Cause::Dead(_) | Cause::NoCell(_) if known.owner.is_none() => Some(
             "TABLE 1, 2, 3 has the cells 0 to 2, and VEC 2 has them too; character I of the string S is GETBYTE(S, I)",
         ),
