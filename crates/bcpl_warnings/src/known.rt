@@ -157,9 +157,25 @@ impl<'s> Known<'_, 's> {
         }
     }
 
-    /// Whether the source has parentheses around a node, besides those of its operands. A node that ends with a call without
-    /// arguments counts as one that has them: the end of its text isn't known.
+    /// Whether a node begins with a sign of one operand, as NOT or `-`.
+    fn begins_with_sign(&self, at: usize) -> bool {
+        let mut node = at;
+        for _ in 0..HIGHEST {
+            match self.tree.form(node) {
+                Form::Unary(_) => return true,
+                Form::Bin(_) | Form::Cond | Form::Call => node = self.tree.first(node),
+                _ => return false,
+            }
+        }
+        true
+    }
+
+    /// Whether the source has parentheses around a node, besides those of its operands. A node that begins with a sign of one
+    /// operand, or ends with a call without arguments, counts as one that has them: where its text begins or ends isn't known.
     pub fn is_parenthesised(&self, at: usize) -> bool {
+        if self.begins_with_sign(at) {
+            return true;
+        }
         let last = self.tree.end(at).saturating_sub(1);
         if matches!(self.tree.form_of_parent(last), Form::Call) && self.tree.is_first(last) {
             return true;
