@@ -170,10 +170,21 @@ impl<'s> Known<'_, 's> {
         true
     }
 
+    /// Whether a VALOF is in a node.
+    fn has_valof(&self, at: usize) -> bool {
+        for node in at..self.tree.end(at) {
+            if matches!(self.tree.form(node), Form::Valof) {
+                return true;
+            }
+        }
+        false
+    }
+
     /// Whether the source has parentheses around a node, besides those of its operands. A node that begins with a sign of one
-    /// operand, or ends with a call without arguments, counts as one that has them: where its text begins or ends isn't known.
+    /// operand, has a VALOF, or ends with a call without arguments counts as one that has them: where its text begins or ends
+    /// isn't known.
     pub fn is_parenthesised(&self, at: usize) -> bool {
-        if self.begins_with_sign(at) {
+        if self.begins_with_sign(at) || self.has_valof(at) {
             return true;
         }
         let last = self.tree.end(at).saturating_sub(1);
