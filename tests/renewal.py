@@ -1,4 +1,7 @@
-"""Renews an expected answer that came from the program itself, and shows what changes, so that somebody reads it before it is kept."""
+"""Renews an expected answer that came from the program itself, and shows what changes, so that somebody reads it before it is kept.
+
+    python3 tests/renewal.py PATH ANSWER    renews the file PATH by what the file ANSWER has
+"""
 import difflib
 import os
 import sys
@@ -19,3 +22,8 @@ def renew(path, answer):
     with open(path, "wb") as file:
         file.write(answer)
     return True
+
+
+if __name__ == "__main__":
+    with open(sys.argv[2], "rb") as given:
+        renew(sys.argv[1], given.read())

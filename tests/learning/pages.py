@@ -7,8 +7,12 @@ This is the convention of docs/tutorial.md, which this module runs as well.
 import os
 import re
 import subprocess
+import sys
 
 TOP = os.path.dirname(os.path.dirname(os.path.dirname(os.path.abspath(__file__))))
+sys.path.insert(0, os.path.join(TOP, "tests"))
+from renewal import renew  # noqa: E402
+
 FENCE = re.compile(r"(?ms)^(```.*?^```$)")
 KINDS = ("file", "console", "text")
 SECONDS = 60
@@ -89,6 +93,6 @@ class Page:
                     break
         return found
 
-    def rewrite(self):
-        with open(self.path, "w", encoding="utf-8") as file:
-            file.write(self.got)
+    def renew(self):
+        """Writes what the commands print into the page, and prints what changes."""
+        renew(self.path, self.got.encode())

@@ -1,2 +1,2 @@
 mod Settling
-mod Rising
+mod Gapping

@@ -1,11 +1,14 @@
 //! Bytes of a text: slices, and counts of the leading bytes of a kind.
 
-ghost use Rattle.std.specs.Prelude.{◌≡◌, ◌+◌, ◌≤◌, length};
+ghost use Rattle.std.specs.Prelude.{◌≡◌, ◌+◌, ◌≤◌, ◌==◌, not, length, drop};
+ghost use Rattle.std.specs.List.{prefix_len};
+ghost use Rattle.bc_convert.specs.Gaps.{is_space as is_space_of};
 
 /// The bytes from `at` on.
 pub fn following(bytes: &[u8], at: usize) -> &[u8]
     requires { at ≤ length bytes.now }
-    ensures { length result.now + at ≡ length bytes.now }
+    ensures rest { result.now ≡ drop at bytes.now }
+    ensures len { length result.now + at ≡ length bytes.now }
 {
     bytes.split_at(at).1
 }
@@ -25,7 +28,9 @@ pub fn is_name_byte(byte: u8) -> bool {
 }
 
 /// Whether a byte is a blank or a line break.
-pub fn is_space(byte: u8) -> bool {
+pub fn is_space(byte: u8) -> bool
+    ensures { result ≡ is_space_of byte }
+{
     matches!(byte, b' ' | b'\t' | b'\r' | b'\x0c' | b'\n')
 }
 
@@ -58,7 +63,8 @@ pub fn hexadecimal_bytes(bytes: &[u8]) -> usize
 
 /// The number of bytes before the first line break, or all.
 pub fn line_bytes(bytes: &[u8]) -> usize
-    ensures { result ≤ length bytes.now }
+    ensures value { result ≡ prefix_len (λ b. not (b == 10)) bytes.now }
+    ensures within { result ≤ length bytes.now }
 {
     bytes.iter().take_while(|byte| **byte != b'\n').count()
 }

@@ -365,6 +365,19 @@ fn kind_of_square(before: Kind, is_separated: bool) -> Kind {
     }
 }
 
+/// The kind of a `?`: the arrow of a choice after an operand, as on the Alto, else an undefined value.
+fn kind_of_query(before: Kind) -> Kind {
+    match before {
+        Kind::Name
+        | Kind::Number
+        | Kind::Character
+        | Kind::Text
+        | Kind::Constant
+        | Kind::CloseRound => Kind::Arrow,
+        _ => Kind::Query,
+    }
+}
+
 /// The tokens with each word classified, and each square bracket taken for a parenthesis or a section bracket. `shared` has
 /// the names that the source shares with others.
 ///
@@ -386,6 +399,7 @@ pub fn classified(
             Kind::Word => kind_of_word(source, index, dialect, are_names.as_slice()),
             Kind::Character => kind_of_character(source, index, dialect),
             Kind::Percent if dialect.has_alto_signs => Kind::Disjunction,
+            Kind::Query => kind_of_query(before),
             Kind::OpenSquare => {
                 let kind = kind_of_square(before, token.line_before && before.can_end());
                 open.push(kind)?;

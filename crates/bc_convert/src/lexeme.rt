@@ -1,24 +1,52 @@
 //! One token or one gap at the start of a text, with the number of its bytes.
 
-ghost use Rattle.std.specs.Prelude.{◌≡◌, ◌+◌, ◌<◌, ◌≤◌, length, IfSome};
+ghost use Rattle.std.specs.Prelude.{◌≡◌, ◌+◌, ◌<◌, ◌≤◌, length, drop, true, Some, IfSome};
+ghost use Rattle.bc_convert.specs.Gaps.{begins as begins_of, begins_line as begins_line_of, begins_space as begins_space_of, ends_comment, after_comment, GapThen};
 
 use crate::bytes::{
     digit_bytes, following, hexadecimal_bytes, is_name_byte, is_space, line_bytes, name_bytes, span,
 };
 use crate::kind::Kind;
 
+/// Whether the text begins with these two bytes.
+fn begins(bytes: &[u8], first: u8, second: u8) -> bool
+    ensures value { result ≡ begins_of first second bytes.now }
+    ensures long { result ≡ true → 2 ≤ length bytes.now }
+{
+    bytes.len() >= 2 && bytes[0] == first && bytes[1] == second
+}
+
+/// Whether the text begins with a comment to the end of the line.
+fn begins_line(bytes: &[u8]) -> bool
+    ensures value { result ≡ begins_line_of bytes.now }
+    ensures long { result ≡ true → 2 ≤ length bytes.now }
+{
+    begins(bytes, b'/', b'/') || begins(bytes, b'|', b'|') || begins(bytes, b'\\', b'\\')
+}
+
+/// Whether the text begins with a blank or a line break.
+fn begins_space(bytes: &[u8]) -> bool
+    ensures value { result ≡ begins_space_of bytes.now }
+    ensures long { result ≡ true → 1 ≤ length bytes.now }
+{
+    matches!(bytes, [byte, ..] if is_space(*byte))
+}
+
 /// Whether the text begins with the end of a block comment.
-fn closes(bytes: &[u8]) -> bool {
+fn closes(bytes: &[u8]) -> bool
+    ensures { result ≡ ends_comment bytes.now }
+{
     matches!(bytes, [b'*', b'/', ..])
 }
 
-/// The length of the block comment at the start, or `None` if it isn't closed.
-fn block_comment(bytes: &[u8]) -> Option<usize>
-    requires { 2 ≤ length bytes.now }
-    ensures { IfSome result (λ n. n ≤ length bytes.now) }
+/// The number of bytes up to and including the end of a block comment whose opening has been read, or `None` if it isn't
+/// closed.
+fn closing(bytes: &[u8]) -> Option<usize>
+    ensures within { IfSome result (λ n. n ≤ length bytes.now) }
+    ensures rest { IfSome result (λ n. after_comment bytes.now ≡ Some (drop n bytes.now)) }
 {
-    for at in 2..bytes.len() {
-        if at + 2 <= bytes.len() && closes(following(bytes, at)) {
+    for at in 0..bytes.len() {
+        if closes(following(bytes, at)) {
             return Some(at + 2);
         }
     }
@@ -28,19 +56,27 @@ fn block_comment(bytes: &[u8]) -> Option<usize>
 /// The length of the blank, line break or comment at the start. It is 0 if there is none, or if the comment isn't
 /// closed.
 fn blank(bytes: &[u8]) -> usize
-    ensures { result ≤ length bytes.now }
+    ensures within { result ≤ length bytes.now }
+    ensures gap { GapThen bytes.now (drop result bytes.now) }
 {
-    match bytes {
-        [b'/', b'/', ..] | [b'|', b'|', ..] | [b'\\', b'\\', ..] => line_bytes(bytes),
-        [b'/', b'*', ..] => block_comment(bytes).unwrap_or(0),
-        [byte, ..] if is_space(*byte) => 1,
-        _ => 0,
+    if begins_line(bytes) {
+        2 + line_bytes(following(bytes, 2))
+    } else if begins(bytes, b'/', b'*') {
+        match closing(following(bytes, 2)) {
+            Some(count) => 2 + count,
+            None => 0,
+        }
+    } else if begins_space(bytes) {
+        1
+    } else {
+        0
     }
 }
 
 /// The length of the blanks, line breaks and comments at the start.
 pub fn gap(bytes: &[u8]) -> usize
-    ensures { result ≤ length bytes.now }
+    ensures within { result ≤ length bytes.now }
+    ensures gap { GapThen bytes.now (drop result bytes.now) }
 {
     let mut at = 0;
     for _ in 0..bytes.len() {
@@ -70,7 +106,8 @@ pub fn next_old_comment(gap: &[u8], from: usize) -> Option<(usize, usize)> {
 /// The length of the string or character constant at the start, with its quotes, or `None` if it isn't closed. It
 /// continues over a line break only after a `*`.
 fn quoted(bytes: &[u8], close: u8) -> Option<usize>
-    ensures { IfSome result (λ n. n ≤ length bytes.now) }
+    ensures nonempty { IfSome result (λ n. 0 < n) }
+    ensures within { IfSome result (λ n. n ≤ length bytes.now) }
 {
     let mut is_escaped = false;
     let mut goes_on = false;
@@ -98,11 +135,13 @@ fn quoted(bytes: &[u8], close: u8) -> Option<usize>
     None
 }
 
-/// The number at the start.
+/// The number at the start of a text that begins with a digit.
 fn number(bytes: &[u8]) -> (Kind, usize)
-    ensures { result.1 ≤ length bytes.now }
+    requires { 0 < length bytes.now }
+    ensures nonempty { 0 < result.1 }
+    ensures within { result.1 ≤ length bytes.now }
 {
-    let whole = digit_bytes(bytes);
+    let whole = 1 + digit_bytes(following(bytes, 1));
     match following(bytes, whole) {
         [b'.', digit, ..] if digit.is_ascii_digit() => {
             let fraction = digit_bytes(following(bytes, whole + 1));
@@ -115,7 +154,8 @@ fn number(bytes: &[u8]) -> (Kind, usize)
 /// The number with a base at the start.
 fn based(bytes: &[u8]) -> (Kind, usize)
     requires { 0 < length bytes.now }
-    ensures { result.1 ≤ length bytes.now }
+    ensures nonempty { 0 < result.1 }
+    ensures within { result.1 ≤ length bytes.now }
 {
     match bytes {
         [b'#', b'X' | b'x', ..] => (Kind::Number, 2 + hexadecimal_bytes(following(bytes, 2))),
@@ -185,7 +225,8 @@ fn short_sign(byte: u8) -> Kind {
 /// The length of the character at the start, which is over 1 for a character of UTF-8 outside ASCII.
 fn character_bytes(bytes: &[u8]) -> usize
     requires { 0 < length bytes.now }
-    ensures { result ≤ length bytes.now }
+    ensures nonempty { 0 < result }
+    ensures within { result ≤ length bytes.now }
 {
     match bytes {
         [0xc2..=0xdf, 0x80..=0xbf, ..] => 2,
@@ -208,7 +249,8 @@ fn is_dollar_character(bytes: &[u8]) -> bool {
 /// The sign at the start. A section bracket includes its whole tag, and so does a sign of conditional compilation.
 fn sign(bytes: &[u8]) -> (Kind, usize)
     requires { 0 < length bytes.now }
-    ensures { result.1 ≤ length bytes.now }
+    ensures nonempty { 0 < result.1 }
+    ensures within { result.1 ≤ length bytes.now }
 {
     match bytes {
         [b'$', b'(', ..] => (Kind::OpenSection, 2 + name_bytes(following(bytes, 2))),
@@ -234,24 +276,27 @@ fn sign(bytes: &[u8]) -> (Kind, usize)
     }
 }
 
-/// The string or character constant at the start. An unclosed one ends with its line.
+/// The string or character constant at the start of a text that begins with a quote. An unclosed one ends with its line.
 fn quoted_token(bytes: &[u8], close: u8, kind: Kind) -> (Kind, usize)
-    ensures { result.1 ≤ length bytes.now }
+    requires { 0 < length bytes.now }
+    ensures nonempty { 0 < result.1 }
+    ensures within { result.1 ≤ length bytes.now }
 {
     match quoted(bytes, close) {
         Some(count) => (kind, count),
-        None => (Kind::Unclosed, line_bytes(bytes)),
+        None => (Kind::Unclosed, 1 + line_bytes(following(bytes, 1))),
     }
 }
 
 /// The token at the start of a text that begins with neither a blank nor a comment.
 pub fn lexeme(bytes: &[u8]) -> (Kind, usize)
     requires { 0 < length bytes.now }
-    ensures { result.1 ≤ length bytes.now }
+    ensures nonempty { 0 < result.1 }
+    ensures within { result.1 ≤ length bytes.now }
 {
     let first = bytes[0];
     if first.is_ascii_alphabetic() {
-        (Kind::Word, name_bytes(bytes))
+        (Kind::Word, 1 + name_bytes(following(bytes, 1)))
     } else if first.is_ascii_digit() {
         number(bytes)
     } else if first == b'#' {

@@ -1,7 +1,7 @@
 //! The tokens of a text.
 
-ghost use Rattle.std.specs.Prelude.{◌≤◌, length, IfOk};
-ghost use Rattle.bc_convert.specs.Spans.{TokensWithin};
+ghost use Rattle.std.specs.Prelude.{IfOk};
+ghost use Rattle.bc_convert.specs.Spans.{TokensFrom};
 
 use crate::bytes::{following, span};
 use crate::lexeme::{gap, lexeme};
@@ -15,11 +15,12 @@ use std::alloc::Global;
 ///
 /// `Memory` if an allocation failed.
 pub fn lex(alloc: Global, text: &[u8]) -> Result<Vec<Token>, Memory>
-    // The tokens are slices of the text, in order and without overlaps.
-    ensures { IfOk result (λ tokens. TokensWithin 0 (length text.now) tokens.items) }
+    // The text is the tokens, in order, with only blanks, line breaks and comments before, between and after them.
+    ensures { IfOk result (λ tokens. TokensFrom text.now 0 tokens.items) }
 {
     let mut tokens = Vec::new(alloc);
     let mut at = 0;
+    // Each iteration reads at least one byte.
     for _ in 0..text.len() {
         let start = at + gap(following(text, at));
         let rest = following(text, start);

@@ -283,11 +283,11 @@ fn respell_sign(
     }
 }
 
-/// Rewrites an arrow, or a logical sign, that isn't ASCII, and the `%` of the Alto.
+/// Rewrites an arrow, or a logical sign, that isn't ASCII, and the `%` and the `?` of the Alto.
 fn respell_drawn(source: TokenizedText<'_>, notes: &mut Notes, index: usize) {
     let sign: &[u8] = match source.bytes(index) {
         [0xe2, 0x86, 0x90] => b":=",
-        [0xe2, 0x86, 0x92] => b"->",
+        [0xe2, 0x86, 0x92] | [b'?'] => b"->",
         [0xe2, 0x88, 0xa7] => b"&",
         [0xe2, 0x88, 0xa8] | [b'%'] => b"|",
         bytes => bytes,

@@ -29,8 +29,8 @@ use Rattle.bc_tame.specs.Tame.{Note, AWord, AText, Says, is_text}
 use Rattle.bc_tame.specs.Programs.{library_global, library_fixed, library_speaks, with_text, with_format, are_bytes, fits_format}
 use Rattle.bc_tame.proofs.Primitives.{runs_find}
 use Rattle.bc_tame.proofs.Fine.{Keeps, within, both_true, less_true, at_most_true, same_true, Gone, Fixed, Fits, Shape, Inv, Fine, Runs, IsWord}
-use Rattle.bc_tame.proofs.Expressions.{HoldsWords, IsText, AreNoted, text_told, Holds, CanSay, IsCallable}
-use Rattle.bc_tame.proofs.Shapes.{words_kept}
+use Rattle.bc_tame.proofs.Frames.{HoldsWords, words_kept}
+use Rattle.bc_tame.proofs.Expressions.{IsText, AreNoted, text_told, Holds, CanSay, IsCallable}
 use Rattle.bc_core.proofs.Turns.{Goes, later, more_calls}
 
 abbrev cells_in : Outcome ℕ → List Cell

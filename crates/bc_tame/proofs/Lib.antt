@@ -1,6 +1,13 @@
 pub mod Fine
+pub mod Frames
+pub mod Indices
 pub mod Expressions
 pub mod Shapes
+pub mod Assignments
+pub mod Counting
+pub mod Loops
+pub mod Lists
+pub mod Filling
 pub mod Commands
 pub mod Routines
 pub mod Primitives

@@ -11,9 +11,10 @@ use Rattle.bc_core.specs.Meaning.{callee, callee_among}
 use Rattle.bc_library_laws.specs.Library.{library}
 use Rattle.bc_library_laws.proofs.Finding.{itself}
 use Rattle.bc_tame.specs.Tame.{Known, tame_routine}
-use Rattle.bc_tame.specs.Programs.{library_sets, known, routine_from, Setter, setter_at, setters_from, setter_for, times_set, env_of, may_set, tame_places, tame_sections, text_from, static_from, are_bytes}
+use Rattle.bc_tame.specs.Programs.{library_sets, known, routine_from, Setter, setter_at, setters_from, setter_for, times_set, env_of, may_set, tame_places, tame_sections, text_from, table_from, static_from, are_bytes, are_words}
 use Rattle.bc_tame.proofs.Fine.{Shape, Fixed, both_true, same_true, less_true}
-use Rattle.bc_tame.proofs.Expressions.{HoldsWords, AreWords}
+use Rattle.bc_tame.proofs.Frames.{HoldsWords}
+use Rattle.bc_tame.proofs.Expressions.{AreWords}
 use Rattle.bc_tame.proofs.Sections.{of_text, either_of, bytes_of}
 
 -- a routine sets START's global, or one that isn't the library's
@@ -60,7 +61,11 @@ set_among address core all setters [] (room ∷ rooms) label rest more g k ok e 
 set_among address core all setters (Code r ∷ ps) [] label rest more g k ok e = let z : ⊥ = cc in absurd z
 set_among address core all setters (Static w ∷ ps) [] label rest more g k ok e = let z : ⊥ = cc in absurd z
 set_among address core all setters (Text bs ∷ ps) [] label rest more g k ok e = let z : ⊥ = cc in absurd z
-set_among address core all setters (Table ws ∷ ps) rooms label rest more g k ok e = let z : ⊥ = cc in absurd z
+set_among address core all setters (Table ws ∷ ps) [] label rest more g k ok e = let z : ⊥ = cc in absurd z
+set_among address core all setters (Table ws ∷ ps) (room ∷ rooms) label rest more g k ok e =
+    ⊎_elim (λ h. let up : label ≤ h.place = omega (arith, h.above) in inl (record { place = h.place; above = up; routine = h.routine; is = h.is; may = h.may }))
+    (λ h. inr (record { later = h.later; is = h.is }))
+    (set_among address core all setters ps rooms (label + 1) rest more g k (both_true (are_words ws) (tame_places core all setters ps rooms) ok).1 e)
 set_among address core all setters (Static w ∷ ps) (room ∷ rooms) label rest more g k ok e =
     ⊎_elim (λ h. let up : label ≤ h.place = omega (arith, h.above) in inl (record { place = h.place; above = up; routine = h.routine; is = h.is; may = h.may }))
     (λ h. inr (record { later = h.later; is = h.is }))
@@ -100,7 +105,9 @@ setting_other address core all setters [] rooms label g rest ok lib = refl
 setting_other address core all setters (Code r ∷ ps) [] label g rest ok lib = let z : ⊥ = cc in absurd z
 setting_other address core all setters (Static w ∷ ps) [] label g rest ok lib = let z : ⊥ = cc in absurd z
 setting_other address core all setters (Text bs ∷ ps) [] label g rest ok lib = let z : ⊥ = cc in absurd z
-setting_other address core all setters (Table ws ∷ ps) rooms label g rest ok lib = let z : ⊥ = cc in absurd z
+setting_other address core all setters (Table ws ∷ ps) [] label g rest ok lib = let z : ⊥ = cc in absurd z
+setting_other address core all setters (Table ws ∷ ps) (room ∷ rooms) label g rest ok lib =
+    setting_other address core all setters ps rooms (label + 1) g rest (both_true (are_words ws) (tame_places core all setters ps rooms) ok).1 lib
 setting_other address core all setters (Static w ∷ ps) (room ∷ rooms) label g rest ok lib =
     setting_other address core all setters ps rooms (label + 1) g rest (both_true (nat_lt w 65536) (tame_places core all setters ps rooms) ok).1 lib
 setting_other address core all setters (Text bs ∷ ps) (room ∷ rooms) label g rest ok lib =
@@ -180,6 +187,10 @@ packed_words (high ∷ low ∷ bs) ok =
     let b : low < 256 = less_true low 256 more.0 in
     (omega (arith, a, b), packed_words bs more.1)
 
+small_words : (ws : List ℕ) → are_words ws ≡ true → AreWords ws
+small_words [] ok = tt
+small_words (w ∷ ws) ok = let oks = both_true (nat_lt w 65536) (are_words ws) ok in (less_true w 65536 oks.0, small_words ws oks.1)
+
 chosen_get : (t : Bool) (o : Option ℕ) → MaybeWord o → MaybeWord (elim t as (λ z. Option ℕ) [ true ↦ o | false ↦ None ])
 chosen_get true o h = h
 chosen_get false o h = tt
@@ -194,7 +205,12 @@ data_small address core all setters (Static w ∷ ps) (room ∷ rooms) label a r
     either (word_of (Words (w ∷ [])) (address label) a) (data_word (standing_from address (label + 1) ps ++ rest) a)
     (chosen_get (nat_le (address label) a) (slice_get (w ∷ []) (a - address label)) (small_get (w ∷ []) (lt, tt) (a - address label)))
     (data_small address core all setters ps rooms (label + 1) a rest oks.1 h)
-data_small address core all setters (Table ws ∷ ps) rooms label a rest ok h = let z : ⊥ = cc in absurd z
+data_small address core all setters (Table ws ∷ ps) [] label a rest ok h = let z : ⊥ = cc in absurd z
+data_small address core all setters (Table ws ∷ ps) (room ∷ rooms) label a rest ok h =
+    let oks = both_true (are_words ws) (tame_places core all setters ps rooms) ok in
+    either (word_of (Words ws) (address label) a) (data_word (standing_from address (label + 1) ps ++ rest) a)
+    (chosen_get (nat_le (address label) a) (slice_get ws (a - address label)) (small_get ws (small_words ws oks.0) (a - address label)))
+    (data_small address core all setters ps rooms (label + 1) a rest oks.1 h)
 data_small address core all setters (Code r ∷ ps) [] label a rest ok h = let z : ⊥ = cc in absurd z
 data_small address core all setters (Text bs ∷ ps) [] label a rest ok h = let z : ⊥ = cc in absurd z
 data_small address core all setters (Code r ∷ ps) (room ∷ rooms) label a rest ok h =
@@ -246,10 +262,11 @@ word_at address (Text bs ∷ ps) label m bytes rest apart e i w there =
           let out = not_within (address label) (length (string_words bytes)) (address m + i) (address m) i (string_words bs) (of_text address (Apart (range (address label) (length (string_words bs)))) ps (label + 1) m bytes rest e1 apart.0) (slice_get_within (string_words bytes) i w there) refl in
           rw out (next e1)
 
--- whether a static is at an address; the answer for other places is given
+-- whether an address is that of a static or of a word of a table; the answer for other places is given
 pub is_static : (ℕ → ℕ) → List Place → (label : ℕ) → (others : Bool) → (a : ℕ) → Bool
 is_static address [] label others a = others
 is_static address (Static w ∷ ps) label others a = (address label == a) || is_static address ps (label + 1) others a
+is_static address (Table ws ∷ ps) label others a = (nat_le (address label) a && nat_lt a (address label + length ws)) || is_static address ps (label + 1) others a
 is_static address (p ∷ ps) label others a = is_static address ps (label + 1) others a
 
 -- the same for all sections
@@ -265,7 +282,7 @@ pub static_there : (address : ℕ → ℕ) (ps : List Place) (label m : ℕ) (ot
 unfolding is_static
 static_there address [] label m others e = let z : ⊥ = cc in absurd z
 static_there address (Code r ∷ ps) label m others e = static_there address ps (label + 1) m others e
-static_there address (Table ws ∷ ps) label m others e = static_there address ps (label + 1) m others e
+static_there address (Table ws ∷ ps) label m others e = right _ _ (static_there address ps (label + 1) m others e)
 static_there address (Text bs ∷ ps) label m others e = static_there address ps (label + 1) m others e
 static_there address (Static w ∷ ps) label m others e = by (λ e1. static_there address ps (label + 1) m others e1) (label == m) refl e where
   by : (static_from ps (label + 1) m ≡ true → is_static address ps (label + 1) others (address m) ≡ true) → (t : Bool) → (label == m) ≡ t
@@ -275,12 +292,21 @@ static_there address (Static w ∷ ps) label m others e = by (λ e1. static_ther
       let test : (address label == address m) ≡ true = grind (arith, nat_tests) in rw test refl
   by next false other e1 = right (address label == address m) _ (next e1)
 
+not_among : (from many b size a : ℕ) → Apart (range from many) (range b size) → b ≤ a → a < b + size → (nat_le from a && nat_lt a (from + many)) ≡ false
+not_among from many b size a (inl x) le lt =
+    let up : nat_le from a ≡ true = grind (arith, nat_tests) in
+    let past_end : nat_lt a (from + many) ≡ false = grind (arith, nat_tests) in
+    rw (up, past_end) refl
+not_among from many b size a (inr x) le lt = let low : nat_le from a ≡ false = grind (arith, nat_tests) in rw low refl
+
 static_not : (address : ℕ → ℕ) (ps : List Place) (label a b size : ℕ) (rest : List Standing) (others : Bool) → All (λ x. Apart x (range b size)) (map range_of (standing_from address label ps ++ rest)) → b ≤ a → a < b + size
     → (All (λ x. Apart x (range b size)) (map range_of rest) → others ≡ false) → is_static address ps label others a ≡ false
 unfolding is_static
 static_not address [] label a b size rest others h le lt absent = absent h
 static_not address (Code r ∷ ps) label a b size rest others h le lt absent = static_not address ps (label + 1) a b size rest others (λ k d l. h (suc k) d (omega arith)) le lt absent
-static_not address (Table ws ∷ ps) label a b size rest others h le lt absent = static_not address ps (label + 1) a b size rest others (λ k d l. h (suc k) d (omega arith)) le lt absent
+static_not address (Table ws ∷ ps) label a b size rest others h le lt absent =
+    let test : (nat_le (address label) a && nat_lt a (address label + length ws)) ≡ false = not_among (address label) (length ws) b size a (h 0 (range 0 0) (omega arith)) le lt in
+    rw test (static_not address ps (label + 1) a b size rest others (λ k d l. h (suc k) d (omega arith)) le lt absent)
 static_not address (Text bs ∷ ps) label a b size rest others h le lt absent = static_not address ps (label + 1) a b size rest others (λ k d l. h (suc k) d (omega arith)) le lt absent
 static_not address (Static w ∷ ps) label a b size rest others h le lt absent =
     let test : (address label == a) ≡ false = away (h 0 (range 0 0) (omega arith)) in
@@ -305,7 +331,10 @@ pub static_not_text : (address : ℕ → ℕ) (ps : List Place) (label m : ℕ) 
 unfolding is_static
 static_not_text address [] label m bytes rest others apart e i lt absent = let z : ⊥ = cc in absurd z
 static_not_text address (Code r ∷ ps) label m bytes rest others apart e i lt absent = static_not_text address ps (label + 1) m bytes rest others apart.1 e i lt absent
-static_not_text address (Table ws ∷ ps) label m bytes rest others apart e i lt absent = static_not_text address ps (label + 1) m bytes rest others apart.1 e i lt absent
+static_not_text address (Table ws ∷ ps) label m bytes rest others apart e i lt absent =
+    let test : (nat_le (address label) (address m + i) && nat_lt (address m + i) (address label + length ws)) ≡ false =
+    not_among (address label) (length ws) (address m) (length (string_words bytes)) (address m + i) (of_text address (Apart (range (address label) (length ws))) ps (label + 1) m bytes rest e apart.0) (omega arith) (omega (arith, lt)) in
+    rw test (static_not_text address ps (label + 1) m bytes rest others apart.1 e i lt absent)
 static_not_text address (Static w ∷ ps) label m bytes rest others apart e i lt absent =
     let test : (address label == address m + i) ≡ false = away (of_text address (Apart (range (address label) 1)) ps (label + 1) m bytes rest e apart.0) in
     rw test (static_not_text address ps (label + 1) m bytes rest others apart.1 e i lt absent) where
@@ -363,6 +392,60 @@ static_word address (Static w ∷ ps) label m rest e = by (λ e1. static_word ad
       (w, rw (up, back, word_of) refl)
   by next false other e1 = either_some (word_of (Words (w ∷ [])) (address label) (address m)) _ (next e1)
 
+-- the words of tables
+pub of_table : (address : ℕ → ℕ) (P : Range → Type 0) (ps : List Place) (label m : ℕ) (rest : List Standing)
+    → 0 < table_from ps label m → All P (map range_of (standing_from address label ps ++ rest)) → P (range (address m) (table_from ps label m))
+of_table address P [] label m rest some h = absurd (omega (arith, some))
+of_table address P (Code r ∷ ps) label m rest some h = of_table address P ps (label + 1) m rest some (λ k d lt. h (suc k) d (omega arith))
+of_table address P (Text bs ∷ ps) label m rest some h = of_table address P ps (label + 1) m rest some (λ k d lt. h (suc k) d (omega arith))
+of_table address P (Static w ∷ ps) label m rest some h = of_table address P ps (label + 1) m rest some (λ k d lt. h (suc k) d (omega arith))
+of_table address P (Table ws ∷ ps) label m rest some h =
+    by (λ some1. of_table address P ps (label + 1) m rest some1 (λ k d lt. h (suc k) d (omega arith))) (label == m) refl some where
+      by : (0 < table_from ps (label + 1) m → P (range (address m) (table_from ps (label + 1) m))) → (t : Bool) → (label == m) ≡ t
+          → 0 < elim t as (λ z. ℕ) [ true ↦ length ws | false ↦ table_from ps (label + 1) m ] → P (range (address m) (elim t as (λ z. ℕ) [ true ↦ length ws | false ↦ table_from ps (label + 1) m ]))
+      by next true same some1 = subst (λ z. P (range (address z) (length ws))) (same_true label m same) (h 0 (range 0 0) (omega arith))
+      by next false other some1 = next some1
+
+pub table_there : (address : ℕ → ℕ) (ps : List Place) (label m i : ℕ) (others : Bool) → i < table_from ps label m → is_static address ps label others (address m + i) ≡ true
+unfolding is_static
+table_there address [] label m i others lt = absurd (omega (arith, lt))
+table_there address (Code r ∷ ps) label m i others lt = table_there address ps (label + 1) m i others lt
+table_there address (Text bs ∷ ps) label m i others lt = table_there address ps (label + 1) m i others lt
+table_there address (Static w ∷ ps) label m i others lt = right (address label == address m + i) _ (table_there address ps (label + 1) m i others lt)
+table_there address (Table ws ∷ ps) label m i others lt = by (λ lt1. table_there address ps (label + 1) m i others lt1) (label == m) refl lt where
+  by : (i < table_from ps (label + 1) m → is_static address ps (label + 1) others (address m + i) ≡ true) → (t : Bool) → (label == m) ≡ t
+      → i < elim t as (λ z. ℕ) [ true ↦ length ws | false ↦ table_from ps (label + 1) m ]
+      → ((nat_le (address label) (address m + i) && nat_lt (address m + i) (address label + length ws)) || is_static address ps (label + 1) others (address m + i)) ≡ true
+  by next true same lt1 =
+      let here : address label ≡ address m = ap address (same_true label m same) in
+      let low : nat_le (address label) (address m + i) ≡ true = grind (arith, nat_tests) in
+      let high : nat_lt (address m + i) (address label + length ws) ≡ true = grind (arith, nat_tests) in
+      rw (low, high) refl
+  by next false other lt1 = right (nat_le (address label) (address m + i) && nat_lt (address m + i) (address label + length ws)) _ (next lt1)
+
+word_in : (ws : List ℕ) (i : ℕ) → i < length ws → (w : ℕ) × (slice_get ws i ≡ Some w)
+word_in [] i lt = absurd (omega arith)
+word_in (w ∷ ws) zero lt = (w, refl)
+word_in (w ∷ ws) (suc i) lt = word_in ws i (omega arith)
+
+pub table_word : (address : ℕ → ℕ) (ps : List Place) (label m i : ℕ) (rest : List Standing) → i < table_from ps label m → (w : ℕ) × (data_word (standing_from address label ps ++ rest) (address m + i) ≡ Some w)
+table_word address [] label m i rest lt = absurd (omega (arith, lt))
+table_word address (Code r ∷ ps) label m i rest lt = table_word address ps (label + 1) m i rest lt
+table_word address (Text bs ∷ ps) label m i rest lt = either_some (word_of (Words (string_words bs)) (address label) (address m + i)) _ (table_word address ps (label + 1) m i rest lt)
+table_word address (Static v ∷ ps) label m i rest lt = either_some (word_of (Words (v ∷ [])) (address label) (address m + i)) _ (table_word address ps (label + 1) m i rest lt)
+table_word address (Table ws ∷ ps) label m i rest lt = by (λ lt1. table_word address ps (label + 1) m i rest lt1) (label == m) refl lt where
+  by : (i < table_from ps (label + 1) m → (v : ℕ) × (data_word (standing_from address (label + 1) ps ++ rest) (address m + i) ≡ Some v)) → (t : Bool) → (label == m) ≡ t
+      → i < elim t as (λ z. ℕ) [ true ↦ length ws | false ↦ table_from ps (label + 1) m ]
+      → (v : ℕ) × (or_else (word_of (Words ws) (address label) (address m + i)) (data_word (standing_from address (label + 1) ps ++ rest) (address m + i)) ≡ Some v)
+  by next true same lt1 =
+      let here : address label ≡ address m = ap address (same_true label m same) in
+      let up : nat_le (address label) (address m + i) ≡ true = grind (arith, nat_tests) in
+      let back : address m + i - address label ≡ i = omega (arith, here) in
+      let w = word_in ws i lt1 in
+      let get = w.1 in
+      (w.0, rw (up, back, get, word_of) refl)
+  by next false other lt1 = either_some (word_of (Words ws) (address label) (address m + i)) _ (next lt1)
+
 -- an address is in one of these ranges
 abbrev pub Within : ℕ → List Range → Type 0
 Within a [] = ⊥
@@ -393,6 +476,13 @@ no_word_here : (from a : ℕ) (ws : List ℕ) → (a < from) ⊎ (from + length 
 no_word_here from a ws (inl h) = let low : nat_le from a ≡ false = grind (arith, nat_tests) in rw low refl
 no_word_here from a ws (inr h) = let up : nat_le from a ≡ true = grind (arith, nat_tests) in rw up (slice_get_past ws (a - from) (omega (arith, h)))
 
+not_inside : (from many a : ℕ) → (a < from) ⊎ (from + many ≤ a) → (nat_le from a && nat_lt a (from + many)) ≡ false
+not_inside from many a (inl h) = let low : nat_le from a ≡ false = grind (arith, nat_tests) in rw low refl
+not_inside from many a (inr h) =
+    let up : nat_le from a ≡ true = grind (arith, nat_tests) in
+    let past_end : nat_lt a (from + many) ≡ false = grind (arith, nat_tests) in
+    rw (up, past_end) refl
+
 -- at an address in other places these places have nothing
 pub record Past (section : Placed) (label : ℕ) (ps : List Place) (rest : List Standing) (a : ℕ) : Type 0 where
   pub called : callee_among section label ps a ≡ None
@@ -415,8 +505,10 @@ past section label (Static v ∷ ps) rest a apart w =
     record { called = p.called; word = rw (word_of, none) p.word; static = λ others. rw test (p.static others) }
 past section label (Table ws ∷ ps) rest a apart w =
     let p = past section (label + 1) ps rest a apart.1 w in
-    let none = no_word_here (section.address label) a ws (away_from (range (section.address label) (length ws)) a _ apart.0 (within_more section.address (label + 1) ps rest a w)) in
-    record { called = p.called; word = rw (word_of, none) p.word; static = p.static }
+    let away = away_from (range (section.address label) (length ws)) a _ apart.0 (within_more section.address (label + 1) ps rest a w) in
+    let none = no_word_here (section.address label) a ws away in
+    let test : (nat_le (section.address label) a && nat_lt a (section.address label + length ws)) ≡ false = not_inside (section.address label) (length ws) a away in
+    record { called = p.called; word = rw (word_of, none) p.word; static = λ others. rw test (p.static others) }
 past section label (Text bs ∷ ps) rest a apart w =
     let p = past section (label + 1) ps rest a apart.1 w in
     let none = no_word_here (section.address label) a (string_words bs) (away_from (range (section.address label) (length (string_words bs))) a _ apart.0 (within_more section.address (label + 1) ps rest a w)) in

@@ -1,5 +1,5 @@
 -- Calls of the primitives that work on streams aren't wild, and their values are words.
-use Rattle.std.proofs.Common.{◌≡◌, ◌≢◌, ⊎_elim, ℕ, zero, suc, ◌+◌, ◌/◌, ◌%◌, ◌<◌, ◌≤◌, ◌==◌, List, [], ◌∷◌, length, Bool, true, false, Option, Some, None, refl, sym, ap, ◌∙◌, subst, arith, inl, inr}
+use Rattle.std.proofs.Common.{◌≡◌, ◌≢◌, ℕ, zero, suc, ◌+◌, ◌/◌, ◌%◌, ◌<◌, ◌≤◌, List, [], ◌∷◌, length, Bool, true, false, Option, Some, None, refl, sym, ap, subst, arith, inl, inr}
 use Rattle.std.specs.Prelude.{nat_le, cond, slice_set}
 use Rattle.std.proofs.lemmas.Bool.Decides.{nat_tests}
 use Rattle.std.specs.List.{position_from}
@@ -17,23 +17,13 @@ use Rattle.bc_core.specs.Outcome.{State, Done, read}
 use Rattle.bc_core.specs.Primitive.{Primitive, Select, ReadByte, Find, EndStream, byte_of_string, bytes_of_string, string_of, on_streams, read_next, primitive_work}
 use Rattle.bc_core.specs.Meaning.{passed, OfLibrary, in_frame, with_arguments, calls, entered_at, entered_of}
 use Rattle.bc_core.proofs.Liveness.{Outside}
-use Rattle.bc_tame.proofs.Fine.{Keeps, Kind, Gone, Live, Fixed, Fits, Shape, Inv, Meets, Fine, Runs, Readable, IsWord, differ, inv_set, runs_then, runs_read, runs_turn, runs_left}
+use Rattle.bc_tame.proofs.Fine.{Kind, Gone, Live, Fixed, Fits, Shape, Inv, Meets, Fine, Runs, Readable, IsWord, inv_set, runs_then, runs_read, runs_turn, runs_left}
 use Rattle.bc_library_laws.specs.Laws.{byte_in, HoldsBytes, HoldsString}
-use Rattle.bc_tame.proofs.Expressions.{HoldsWords, IsCallable}
-use Rattle.bc_tame.proofs.Shapes.{words_kept}
+use Rattle.bc_tame.proofs.Frames.{HoldsWords, words_kept}
+use Rattle.bc_tame.proofs.Expressions.{IsCallable}
+use Rattle.bc_tame.proofs.Shapes.{kind_at, kind_here, kind_there, keeps_kind}
 
 -- a cell has this kind
-kind_at : ℕ → Kind → Shape → Shape
-kind_at a k σ = λ b. elim (b == a) as (λ z. Kind) [ true ↦ k | false ↦ σ b ]
-
-kind_here : (a : ℕ) (k : Kind) (σ : Shape) → kind_at a k σ a ≡ k
-unfolding kind_at
-kind_here a k σ = let e : (a == a) ≡ true = grind (arith, nat_tests) in rw (e, kind_at) refl
-
-kind_there : (a : ℕ) (k : Kind) (σ : Shape) (b : ℕ) → b ≢ a → kind_at a k σ b ≡ σ b
-unfolding kind_at
-kind_there a k σ b ne = let e : (b == a) ≡ false = grind (arith, nat_tests) in rw (e, kind_at) refl
-
 outside : (a b : ℕ) → Outside 1 a b → b ≢ a
 outside a b (inl lt) e = omega arith
 outside a b (inr up) e = omega arith
@@ -41,25 +31,25 @@ outside a b (inr up) e = omega arith
 -- a call of a primitive, in whose frame the cell of the argument has this kind
 runs_primitive : (program : List Placed) (a : ℕ) (p : Primitive) → entered_at program a ≡ entered_of (Some (OfLibrary p)) → (n : ℕ) (vs : List ℕ) (f : ℕ) (σ : Shape) (c : Cell) (k : Kind)
     → ((cells : List Cell) → passed 1 (f + 2) vs cells ≡ slice_set cells (f + 2) c) → Fits k c → ((b : ℕ) → f ≤ b → σ b ≡ Gone) → f + 3 ≤ 65536
-    → Runs (kind_at (f + 2) k σ) IsWord (kind_at (f + 2) k σ) (primitive_work p f) → Runs σ IsWord σ (calls program n a vs f)
+    → Runs (kind_at k (f + 2) σ) IsWord (kind_at k (f + 2) σ) (primitive_work p f) → Runs σ IsWord σ (calls program n a vs f)
 runs_primitive program a p is zero vs f σ c k passes fits gone room h = record { from = λ st i. tt }
 runs_primitive program a p is (suc n) vs f σ c k passes fits gone room h = record { from = λ st i. rw is (framed.from st i) } where
   τ : Shape
-  τ = kind_at (f + 2) k σ
+  τ = kind_at k (f + 2) σ
 
-  same : (b : ℕ) → b ≢ f + 2 → kind_at (f + 2) k σ b ≡ σ b
-  same b ne = kind_there (f + 2) k σ b ne
+  same : (b : ℕ) → b ≢ f + 2 → kind_at k (f + 2) σ b ≡ σ b
+  same b ne = kind_there k (f + 2) σ b ne
 
-  fits_there : Fits (kind_at (f + 2) k σ (f + 2)) c
-  fits_there = subst (λ z. Fits z c) (sym (kind_here (f + 2) k σ)) fits
+  fits_there : Fits (kind_at k (f + 2) σ (f + 2)) c
+  fits_there = subst (λ z. Fits z c) (sym (kind_here k (f + 2) σ)) fits
 
-  entering : (cells : List Cell) → Inv σ cells → Inv (kind_at (f + 2) k σ) (passed 1 (f + 2) vs cells)
-  entering cells i = subst (λ z. Inv (kind_at (f + 2) k σ) z) (sym (passes cells)) (inv_set σ (kind_at (f + 2) k σ) cells (f + 2) c (omega (arith, room)) i fits_there same)
+  entering : (cells : List Cell) → Inv σ cells → Inv (kind_at k (f + 2) σ) (passed 1 (f + 2) vs cells)
+  entering cells i = subst (λ z. Inv (kind_at k (f + 2) σ) z) (sym (passes cells)) (inv_set σ (kind_at k (f + 2) σ) cells (f + 2) c (omega (arith, room)) i fits_there same)
 
   framed : Runs σ IsWord σ (in_frame f 3 (with_arguments 1 (f + 2) vs (primitive_work p f)))
   framed =
       let within : nat_le (f + 3) 65536 ≡ true = grind (arith, nat_tests) in
-      rw within (runs_turn σ σ IsWord _ (runs_left σ (kind_at (f + 2) k σ) (kind_at (f + 2) k σ) IsWord 1 (f + 2) (passed 1 (f + 2) vs) (primitive_work p f) entering
+      rw within (runs_turn σ σ IsWord _ (runs_left σ σ (kind_at k (f + 2) σ) (kind_at k (f + 2) σ) IsWord 1 (f + 2) (passed 1 (f + 2) vs) (primitive_work p f) entering
       (λ b out. same b (outside (f + 2) b out)) (λ b up lt. gone b (omega (arith, up))) h))
 
 -- the streams change, and the inputs still hold bytes
@@ -90,25 +80,25 @@ pub select_callable : (γ : Shape) (program : List Placed) (a : ℕ) (side : Sid
 select_callable γ program a side n is [] f σ args keeps gone room = absurd (omega (arith, args.0))
 select_callable γ program a side n is (v ∷ w ∷ vs) f σ args keeps gone room = absurd (omega (arith, args.0))
 select_callable γ program a side n is (v ∷ []) f σ args keeps gone room =
-    let τ : Shape = kind_at (f + 2) (Fixed v) σ in
+    let τ : Shape = kind_at (Fixed v) (f + 2) σ in
     runs_primitive program a (Select side) is n (v ∷ []) f σ (Set v) (Fixed v) (λ cells. refl) (refl, args.1.0) gone room
-    (runs_then (kind_at (f + 2) (Fixed v) σ) (kind_at (f + 2) (Fixed v) σ) (kind_at (f + 2) (Fixed v) σ) IsWord IsWord (read (f + 2)) (λ w. on_streams (select_stream side w) 0)
-    (runs_read (kind_at (f + 2) (Fixed v) σ) (f + 2) (subst Readable (sym (kind_here (f + 2) (Fixed v) σ)) tt))
-    (λ w lw. runs_streams (kind_at (f + 2) (Fixed v) σ) (select_stream side w) 0 (omega arith) (select_keeps side w)))
+    (runs_then (kind_at (Fixed v) (f + 2) σ) (kind_at (Fixed v) (f + 2) σ) (kind_at (Fixed v) (f + 2) σ) IsWord IsWord (read (f + 2)) (λ w. on_streams (select_stream side w) 0)
+    (runs_read (kind_at (Fixed v) (f + 2) σ) (f + 2) (subst Readable (sym (kind_here (Fixed v) (f + 2) σ)) tt))
+    (λ w lw. runs_streams (kind_at (Fixed v) (f + 2) σ) (select_stream side w) 0 (omega arith) (select_keeps side w)))
 
 -- RDCH
 pub read_callable : (γ : Shape) (program : List Placed) (a n : ℕ) → entered_at program a ≡ entered_of (Some (OfLibrary ReadByte))
     → IsCallable γ (record { arguments = 0; room = 3 }) (calls program n a)
 read_callable γ program a n is (v ∷ vs) f σ args keeps gone room = absurd (omega (arith, args.0))
 read_callable γ program a n is [] f σ args keeps gone room =
-    runs_primitive program a ReadByte is n [] f σ Unset Live (λ cells. refl) tt gone room (runs_read_next (kind_at (f + 2) Live σ))
+    runs_primitive program a ReadByte is n [] f σ Unset Live (λ cells. refl) tt gone room (runs_read_next (kind_at Live (f + 2) σ))
 
 -- ENDREAD and ENDWRITE
 pub end_callable : (γ : Shape) (program : List Placed) (a : ℕ) (side : Side) (n : ℕ) → entered_at program a ≡ entered_of (Some (OfLibrary (EndStream side)))
     → IsCallable γ (record { arguments = 0; room = 3 }) (calls program n a)
 end_callable γ program a side n is (v ∷ vs) f σ args keeps gone room = absurd (omega (arith, args.0))
 end_callable γ program a side n is [] f σ args keeps gone room =
-    runs_primitive program a (EndStream side) is n [] f σ Unset Live (λ cells. refl) tt gone room (runs_streams (kind_at (f + 2) Live σ) (end_stream side) 0 (omega arith) (end_keeps side))
+    runs_primitive program a (EndStream side) is n [] f σ Unset Live (λ cells. refl) tt gone room (runs_streams (kind_at Live (f + 2) σ) (end_stream side) 0 (omega arith) (end_keeps side))
 
 -- a string in the store, read byte by byte
 byte_is : (s k byte : ℕ) (st : State) → ((word : ℕ) × (cell_at st.cells ((s + k / 2) % 65536) ≡ Set word) × (byte_in k word ≡ byte) × (byte < 256)) → byte_of_string s k st ≡ Done byte st
@@ -135,19 +125,16 @@ find_small side name c = number_small (position_from (λ known. bytes_eq known n
 found_is : (side : Side) (f v : ℕ) (bytes : List ℕ) (st : State) → cell_at st.cells (f + 2) ≡ Set v → HoldsString st.cells v bytes → primitive_work (Find side) f st ≡ Done (find_stream side bytes st.streams) st
 found_is side f v bytes st cell held = rw (cell, string_is v bytes st held) refl
 
-keeps_kind : (a : ℕ) (k : Kind) (σ : Shape) → σ a ≡ Gone → Keeps σ (kind_at a k σ)
-keeps_kind a k σ gone = record { keeps = λ b r. ⊎_elim (λ ne. kind_there a k σ b ne) (λ here. absurd (subst Readable (ap σ here ∙ gone) r)) (differ b a) }
-
 -- FINDINPUT and FINDOUTPUT
 pub runs_find : (program : List Placed) (a : ℕ) (side : Side) → entered_at program a ≡ entered_of (Some (OfLibrary (Find side))) → (n v f : ℕ) (σ : Shape) → v < 65536 → ((b : ℕ) → f ≤ b → σ b ≡ Gone) → f + 3 ≤ 65536
     → (bytes : List ℕ) → HoldsWords σ v (string_words bytes) → ((τ : Shape) (cells : List Cell) → Inv τ cells → HoldsWords τ v (string_words bytes) → HoldsString cells v bytes)
     → Runs σ IsWord σ (calls program n a (v ∷ []) f)
 runs_find program a side is n v f σ word gone room bytes words held =
     runs_primitive program a (Find side) is n (v ∷ []) f σ (Set v) (Fixed v) (λ cells. refl) (refl, word) gone room (record { from = λ st i. by st i }) where
-      by : (st : State) → Meets (kind_at (f + 2) (Fixed v) σ) st → Fine IsWord (kind_at (f + 2) (Fixed v) σ) (primitive_work (Find side) f st)
+      by : (st : State) → Meets (kind_at (Fixed v) (f + 2) σ) st → Fine IsWord (kind_at (Fixed v) (f + 2) σ) (primitive_work (Find side) f st)
       by st i =
           let up : f ≤ f + 2 = omega arith in
-          let cell : cell_at st.cells (f + 2) ≡ Set v = (subst (λ k. Fits k (cell_at st.cells (f + 2))) (kind_here (f + 2) (Fixed v) σ) (i.0.fits (f + 2))).0 in
-          let string : HoldsString st.cells v bytes = held (kind_at (f + 2) (Fixed v) σ) st.cells i.0
-          (words_kept σ (kind_at (f + 2) (Fixed v) σ) (keeps_kind (f + 2) (Fixed v) σ (gone (f + 2) up)) v (string_words bytes) words) in
-          subst (λ o. Fine IsWord (kind_at (f + 2) (Fixed v) σ) o) (sym (found_is side f v bytes st cell string)) (find_small side bytes st.streams, i)
+          let cell : cell_at st.cells (f + 2) ≡ Set v = (subst (λ k. Fits k (cell_at st.cells (f + 2))) (kind_here (Fixed v) (f + 2) σ) (i.0.fits (f + 2))).0 in
+          let string : HoldsString st.cells v bytes = held (kind_at (Fixed v) (f + 2) σ) st.cells i.0
+          (words_kept σ (kind_at (Fixed v) (f + 2) σ) (keeps_kind (Fixed v) (f + 2) σ (λ r. subst Readable (gone (f + 2) up) r)) v (string_words bytes) words) in
+          subst (λ o. Fine IsWord (kind_at (Fixed v) (f + 2) σ) o) (sym (found_is side f v bytes st cell string)) (find_small side bytes st.streams, i)

@@ -4,7 +4,7 @@ use Rattle.std.specs.Prelude.{◌||◌, IfSome}
 use Rattle.bc_core.specs.Tree.{Exp, Glob, Load, Call, Args, count}
 use Rattle.bc_core.specs.View.{args}
 use Rattle.bc_core.specs.declared.expression.CoreExp.{CoreExp}
-use Rattle.bc_tame.specs.Tame.{Note, notes_of, Known, Reads, Env, called, fits_call, spoken, fits_room, tame_exp, tame_args}
+use Rattle.bc_tame.specs.Tame.{Note, notes_of, Known, Knows, Env, called, fits_call, spoken, fits_room, tame_exp, tame_args}
 use Rattle.bc_tame_check.proofs.Tests.{and_true, most_true}
 
 pub called_global : {K : Type 0} (E : Env) (g : ℕ) (e : Exp) (r : Option K) (f : K → Option Known) → e ≡ Load (Glob g)
@@ -36,8 +36,8 @@ pub said_call : (E : Env) (es : Args) (f : Exp) (notes : List Note) (s : ℕ)
     → fits_room (spoken E f notes) s E.size ≡ true → (fits_call (called E f) (count es) s E.size || fits_room (spoken E f notes) s E.size) ≡ true
 said_call E es f notes s fits = or_true (fits_call (called E f) (count es) s E.size) (fits_room (spoken E f notes) s E.size) fits
 
-pub call_true : (E : Env) (R : Reads) (es : Args) (f : Exp) (s level : ℕ) → level ≡ s + 2 → tame_args E R es level ≡ true
-    → (fits_call (called E f) (count es) s E.size || fits_room (spoken E f (notes_of E.text E.gives es)) s E.size) ≡ true → tame_exp E R (Call es f) s ≡ true
+pub call_true : (E : Env) (R : Knows) (es : Args) (f : Exp) (s level : ℕ) → level ≡ s + 2 → tame_args E R es level ≡ true
+    → (fits_call (called E f) (count es) s E.size || fits_room (spoken E f (notes_of E.text E.gives R es)) s E.size) ≡ true → tame_exp E R (Call es f) s ≡ true
 call_true E R es f s level above all fits =
-    and_true (tame_args E R es (s + 2)) (fits_call (called E f) (count es) s E.size || fits_room (spoken E f (notes_of E.text E.gives es)) s E.size)
+    and_true (tame_args E R es (s + 2)) (fits_call (called E f) (count es) s E.size || fits_room (spoken E f (notes_of E.text E.gives R es)) s E.size)
     (subst (λ n. tame_args E R es n ≡ true) above all) fits

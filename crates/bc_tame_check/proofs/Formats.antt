@@ -6,9 +6,10 @@ use Rattle.bc_core.specs.declared.command.Place.{Place}
 use Rattle.bc_core.specs.declared.expression.CoreExp.{CoreExp}
 use Rattle.bc_core.specs.View.{exp, args, place_of}
 use Rattle.bc_core.specs.Tree as tree
-use Rattle.bc_tame.specs.Tame.{Note, AWord, AText, Says, is_text, note_of, note_of_place, notes_of}
+use Rattle.bc_tame.specs.Tame.{Knows, Note, AWord, AText, Says, is_text, note_of, note_of_place, notes_of}
 use Rattle.bc_tame.specs.Programs.{fits_format, with_text, with_format, text_from, gives_from}
-use Rattle.bc_tame_check.specs.Views.{notes_in}
+use Rattle.bc_tame_check.specs.declared.at.At.{At}
+use Rattle.bc_tame_check.specs.Views.{reads_at, notes_in}
 use Rattle.bc_tame_check.proofs.Tests.{and_true, most_true}
 
 apart : (a b : ℕ) → ((a ≡ b) → ⊥) → (a == b) ≡ false
@@ -53,24 +54,23 @@ alone AWord room e = let z : ⊥ = cc in absurd z
 alone AText room e = refl
 alone (Says bytes) room e = refl
 
-many_notes : (text : ℕ → Option (List ℕ)) (gives : ℕ → Bool) (es : List CoreExp) → length (notes_of text gives (args es)) ≡ length es
-many_notes text gives [] = refl
-many_notes text gives (e ∷ es) = let h = many_notes text gives es in omega arith
+many_notes : (text : ℕ → Option (List ℕ)) (gives : ℕ → Bool) (R : Knows) (es : List CoreExp) → length (notes_of text gives R (args es)) ≡ length es
+many_notes text gives R [] = refl
+many_notes text gives R (e ∷ es) = let h = many_notes text gives R es in omega arith
 
-formatted : (text : ℕ → Option (List ℕ)) (gives : ℕ → Bool) (e : tree.Exp) (m : ℕ) (bytes : List ℕ) (notes : List Note)
-    → e ≡ tree.Place m → text m ≡ Some bytes → length notes ≤ 4 → fits_format false bytes notes ≡ true → with_format (note_of text gives e ∷ notes) ≡ Some 37
-formatted text gives e m bytes notes is there few fits =
-    ap (λ x. with_format (note_of text gives x ∷ notes)) is
+formatted : (text : ℕ → Option (List ℕ)) (gives : ℕ → Bool) (R : Knows) (e : tree.Exp) (m : ℕ) (bytes : List ℕ) (notes : List Note)
+    → e ≡ tree.Place m → text m ≡ Some bytes → length notes ≤ 4 → fits_format false bytes notes ≡ true → with_format (note_of text gives R e ∷ notes) ≡ Some 37
+formatted text gives R e m bytes notes is there few fits =
+    ap (λ x. with_format (note_of text gives R x ∷ notes)) is
     ∙ (ap (λ o. with_format (note_of_place o ∷ notes)) there
     ∙ ap (λ t. elim t as (λ z. Option ℕ) [ true ↦ Some 37 | false ↦ None ]) (and_true (nat_le (length notes) 4) (fits_format false bytes notes) (most_true (length notes) 4 few) fits))
 
 -- a format and what it takes
-pub formatted_with : (places : List Place) (es : List CoreExp) (e : CoreExp) (rest : List CoreExp) (m : ℕ) (bytes : List ℕ)
-    → es ≡ e ∷ rest → exp e ≡ tree.Place m → text_from (map place_of places) 1 m ≡ Some bytes → length rest ≤ 4 → fits_format false bytes (notes_in places rest) ≡ true
-    → with_format (notes_in places es) ≡ Some 37
-formatted_with places es e rest m bytes split is there few fits =
-    let text = text_from (map place_of places) 1 in
-    let gives = gives_from (text_from (map place_of places) 1) (map place_of places) 1 in
-    subst (λ xs. with_format (notes_in places xs) ≡ Some 37) (sym split)
-    (formatted (text_from (map place_of places) 1) (gives_from (text_from (map place_of places) 1) (map place_of places) 1) (exp e) m bytes (notes_in places rest) is there
-    (omega (arith, few, many_notes (text_from (map place_of places) 1) (gives_from (text_from (map place_of places) 1) (map place_of places) 1) rest)) fits)
+pub formatted_with : (at : At) (es : List CoreExp) (e : CoreExp) (rest : List CoreExp) (m : ℕ) (bytes : List ℕ)
+    → es ≡ e ∷ rest → exp e ≡ tree.Place m → text_from (map place_of at.around.places.now) 1 m ≡ Some bytes → length rest ≤ 4 → fits_format false bytes (notes_in at rest) ≡ true
+    → with_format (notes_in at es) ≡ Some 37
+formatted_with at es e rest m bytes split is there few fits =
+    let places : List Place = at.around.places.now in
+    subst (λ xs. with_format (notes_in at xs) ≡ Some 37) (sym split)
+    (formatted (text_from (map place_of places) 1) (gives_from (text_from (map place_of places) 1) (map place_of places) 1) (reads_at at) (exp e) m bytes (notes_in at rest) is there
+    (omega (arith, few, many_notes (text_from (map place_of places) 1) (gives_from (text_from (map place_of places) 1) (map place_of places) 1) (reads_at at) rest)) fits)

@@ -1,6 +1,10 @@
 pub mod Tests
 pub mod Formats
-pub mod Offsets
+pub mod Knowledge
+pub mod Bounded
+pub mod Bindings
+pub mod Lessons
+pub mod Fills
 pub mod Places
 pub mod Calls
 pub mod Strings

@@ -4,7 +4,7 @@ use Rattle.std.specs.Prelude.{nat_lt, nat_le, ◌==◌, ◌&&◌, ◌||◌, not}
 use Rattle.std.proofs.lemmas.Bool.Decides.{nat_tests}
 use Rattle.std.proofs.lemmas.Bool.{eq-eqb}
 use Rattle.bc_tame.specs.Tame.{fits_call}
-use Rattle.bc_tame.specs.Programs.{known, are_bytes, library_fixed, Setter, is_known, own_callable, fixed_with}
+use Rattle.bc_tame.specs.Programs.{known, are_bytes, are_words, library_fixed, Setter, is_known, own_callable, fixed_with}
 
 pub and_true : (a b : Bool) → a ≡ true → b ≡ true → (a && b) ≡ true
 and_true a b e f = subst (λ t. (t && b) ≡ true) (sym e) f
@@ -23,6 +23,9 @@ byte_more b bs h e = and_true (nat_lt b 256) (are_bytes bs) (less_true b 256 h) 
 
 pub byte_first : (bs : List ℕ) → length bs < 256 → are_bytes bs ≡ true → are_bytes (length bs ∷ bs) ≡ true
 byte_first bs h e = byte_more (length bs) bs h e
+
+pub word_more : (w : ℕ) (ws : List ℕ) → nat_lt w 65536 ≡ true → are_words ws ≡ true → are_words (w ∷ ws) ≡ true
+word_more w ws h e = and_true (nat_lt w 65536) (are_words ws) h e
 
 -- a global that holds no routine can be written
 pub global_written : (ss : List Setter) (n : ℕ) (b : Bool) → n < 512 → b ≡ library_fixed n → b ≡ false → own_callable ss n ≡ None → (nat_lt n 512 && not (fixed_with ss n)) ≡ true

@@ -1,10 +1,10 @@
-//! Where the check is: the section around, the level, what is set there, and which jumps are allowed.
+//! Where the check is: the section around, the level, what is known of the frame there, and which jumps are allowed.
 
 ghost use Rattle.std.specs.Prelude.{◌≡◌, ◌+◌, ◌≤◌, true, Some, IfOk, OnOk};
 ghost use Rattle.bc_tame.specs.Tame.{fits_call};
 ghost use Rattle.bc_tame.specs.Programs.{known};
-ghost use Rattle.bc_tame_check.specs.Views.{reads_at};
 
+use crate::held::Entry;
 use crate::not_tame::{BodyOf, Cause, NotTame, RoutineAt, Spot};
 use bc_core::{Place, Valof};
 use std::alloc::Global;
@@ -65,8 +65,8 @@ pub(crate) struct At<'a> {
     pub valofs: &'a [Valof],
     /// The number of parameters of the routine.
     pub parameters: usize,
-    /// The offsets of the variables that are set, besides the parameters.
-    pub reads: &'a [usize],
+    /// What is known of the frame, besides the parameters. A later entry counts more than an earlier one.
+    pub reads: &'a [Entry],
     /// The jumps that are allowed.
     pub exits: Exits<'a>,
     /// The next free offset of the frame.
@@ -91,6 +91,12 @@ pub(crate) struct Walk {
     pub spot: Spot,
     /// The number of cells that were needed up to here.
     pub need: usize,
+    /// The offset of a variable whose assignment stopped the check, if it may pass where less is known of the variable.
+    pub assigned: Option<usize>,
+    /// Whether a jump stopped the check.
+    pub jumped: bool,
+    /// How many more times a part may be checked again in another way.
+    pub tries: usize,
 }
 
 impl Walk {
@@ -99,6 +105,36 @@ impl Walk {
         ensures { OnOk result ⊥ }
     {
         Err(NotTame::Unknown(cause, self.spot))
+    }
+
+    /// Whether to check a part again, after a variable from this level on was assigned. If so, goes back to where the part began.
+    pub(crate) fn goes_back(&mut self, level: usize, began: Spot) -> bool {
+        match self.assigned {
+            Some(offset) if offset >= level => self.tries_again(began),
+            _ => false,
+        }
+    }
+
+    /// Whether to check a FOR again that may not fill cells, since it can be left or its variable is assigned. If so, goes back to
+    /// where it began.
+    pub(crate) fn gives_up_filling(&mut self, level: usize, began: Spot) -> bool {
+        if self.jumped {
+            self.tries_again(began)
+        } else {
+            self.goes_back(level, began)
+        }
+    }
+
+    /// Goes back to where a part began, unless that was done too often.
+    fn tries_again(&mut self, began: Spot) -> bool {
+        if self.tries == 0 {
+            return false;
+        }
+        self.tries -= 1;
+        self.spot = began;
+        self.assigned = None;
+        self.jumped = false;
+        true
     }
 
     /// Passes a whole expression, test or assignment.
@@ -166,20 +202,4 @@ impl Walk {
         let cells = self.above(level, routine.room)?;
         self.needs(cells, size)
     }
-}
-
-/// Whether the variable at this offset is set.
-#[tactic(auto, using(crate::proofs::Offsets::in_parameters, crate::proofs::Offsets::in_reads))]
-pub(crate) fn is_set(at: At<'_>, offset: usize) -> bool
-    ensures { result ≡ true → reads_at at.entry offset ≡ true }
-{
-    if offset >= 2 && offset - 2 < at.parameters {
-        return true;
-    }
-    for each in at.reads {
-        if *each == offset {
-            return true;
-        }
-    }
-    false
 }

@@ -3,12 +3,14 @@
 ghost use Rattle.std.specs.Prelude.{◌≡◌, ◌∷◌, true, false, length, IfSome, Some, List, ℕ};
 ghost use Rattle.bc_tame.specs.Tame.{Note};
 ghost use Rattle.bc_tame_check.specs.Views.{notes_in};
-ghost use Rattle.bc_tame.specs.Programs.{known, are_bytes as bytes_pass, fits_format as format_passes, library_callable, library_speaks, with_text, with_format, library_fixed, library_sets, is_primitive as primitive_global};
+ghost use Rattle.bc_tame.specs.Programs.{known, are_bytes as bytes_pass, are_words, fits_format as format_passes, library_callable, library_speaks, with_text, with_format, library_fixed, library_sets, is_primitive as primitive_global};
 
-use crate::at::Known;
+use crate::at::{At, Known};
 use crate::lookup::{label_of, text_of};
 use crate::texts::is_string;
-use bc_core::{CoreExp, Place};
+use crate::walk::number;
+use bc_core::CoreExp;
+use bc_word::Word;
 
 /// How the stream primitives, WRITEN and NEWLINE can be called, by their globals.
 pub(crate) fn callable(global: u16) -> Option<Known>
@@ -75,10 +77,23 @@ pub(crate) fn are_bytes(bytes: &[u8]) -> bool
     bytes.len() < 256
 }
 
+/// Every word passes.
+#[tactic(auto, using(crate::proofs::Tests::word_more))]
+pub(crate) fn check_words(words: &[Word])
+    ensures { are_words words.now ≡ true }
+{
+    let mut left = words;
+    while let [first, rest @ ..] = left {
+        // The proof needs a word's range.
+        let _number = number(first.get());
+        left = rest;
+    }
+}
+
 /// What remains of the arguments after one that %N, %C or %S takes. `None` if there is none, or if it is no string for %S.
-fn taken<'a>(places: &[Place], byte: u8, values: &'a [CoreExp]) -> Option<&'a [CoreExp]>
-    ensures { IfSome result (λ rest. (left : List ℕ) → format_passes false left (notes_in places.now rest.now) ≡ true
-        → format_passes true (byte ∷ left) (notes_in places.now values.now) ≡ true) }
+fn taken<'a>(at: At<'_>, byte: u8, values: &'a [CoreExp]) -> Option<&'a [CoreExp]>
+    ensures { IfSome result (λ rest. (left : List ℕ) → format_passes false left (notes_in at.entry rest.now) ≡ true
+        → format_passes true (byte ∷ left) (notes_in at.entry values.now) ≡ true) }
 {
     match values {
         [] => None,
@@ -86,7 +101,7 @@ fn taken<'a>(places: &[Place], byte: u8, values: &'a [CoreExp]) -> Option<&'a [C
             b'N' => Some(rest),
             b'C' => Some(rest),
             b'S' => {
-                if is_string(places, first) {
+                if is_string(at, first) {
                     Some(rest)
                 } else {
                     None
@@ -100,19 +115,19 @@ fn taken<'a>(places: &[Place], byte: u8, values: &'a [CoreExp]) -> Option<&'a [C
 /// What remains after a byte of a format: whether it is a %, and which arguments. `None` if the byte isn't accepted.
 #[tactic(auto, using(crate::proofs::Formats::plain, crate::proofs::Formats::other))]
 fn format_step<'a>(
-    places: &[Place],
+    at: At<'_>,
     byte: u8,
     after_percent: bool,
     values: &'a [CoreExp],
 ) -> Option<(bool, &'a [CoreExp])>
-    ensures { IfSome result (λ r. (left : List ℕ) → format_passes r.0 left (notes_in places.now r.1.now) ≡ true
-        → format_passes after_percent (byte ∷ left) (notes_in places.now values.now) ≡ true) }
+    ensures { IfSome result (λ r. (left : List ℕ) → format_passes r.0 left (notes_in at.entry r.1.now) ≡ true
+        → format_passes after_percent (byte ∷ left) (notes_in at.entry values.now) ≡ true) }
 {
     if !after_percent {
         return Some((byte == b'%', values));
     }
     if byte == b'S' || byte == b'N' || byte == b'C' {
-        return match taken(places, byte, values) {
+        return match taken(at, byte, values) {
             Some(rest) => Some((false, rest)),
             None => None,
         };
@@ -121,14 +136,14 @@ fn format_step<'a>(
 }
 
 /// Whether a format takes no more than these arguments, and by %S a string.
-pub(crate) fn fits_format(places: &[Place], format: &[u8], values: &[CoreExp]) -> bool
-    ensures { result ≡ true → format_passes false format.now (notes_in places.now values.now) ≡ true }
+pub(crate) fn fits_format(at: At<'_>, format: &[u8], values: &[CoreExp]) -> bool
+    ensures { result ≡ true → format_passes false format.now (notes_in at.entry values.now) ≡ true }
 {
     let mut after_percent = false;
     let mut values_left = values;
     let mut left = format;
     while let [byte, rest @ ..] = left {
-        match format_step(places, *byte, after_percent, values_left) {
+        match format_step(at, *byte, after_percent, values_left) {
             Some(next) => {
                 after_percent = next.0;
                 values_left = next.1;
@@ -142,23 +157,23 @@ pub(crate) fn fits_format(places: &[Place], format: &[u8], values: &[CoreExp]) -
 
 /// Whether the arguments are a string alone.
 #[tactic(auto, using(crate::proofs::Formats::alone))]
-fn is_string_alone(places: &[Place], values: &[CoreExp]) -> bool
-    ensures { result ≡ true → (room : ℕ) → with_text (notes_in places.now values.now) room ≡ Some room }
+fn is_string_alone(at: At<'_>, values: &[CoreExp]) -> bool
+    ensures { result ≡ true → (room : ℕ) → with_text (notes_in at.entry values.now) room ≡ Some room }
 {
     match values {
-        [only] => is_string(places, only),
+        [only] => is_string(at, only),
         _ => false,
     }
 }
 
 /// Whether the arguments are a format and what it takes, at most four.
-fn are_formatted(places: &[Place], values: &[CoreExp]) -> bool
-    ensures { result ≡ true → with_format (notes_in places.now values.now) ≡ Some 37 }
+fn are_formatted(at: At<'_>, values: &[CoreExp]) -> bool
+    ensures { result ≡ true → with_format (notes_in at.entry values.now) ≡ Some 37 }
 {
     match values {
         [first, rest @ ..] => match label_of(first) {
-            Some(label) => match text_of(places, label) {
-                Some(bytes) => rest.len() <= 4 && fits_format(places, bytes, rest),
+            Some(label) => match text_of(at.around.places, label) {
+                Some(bytes) => rest.len() <= 4 && fits_format(at, bytes, rest),
                 None => false,
             },
             None => false,
@@ -180,18 +195,18 @@ fn string_room(global: u16) -> Option<usize>
 }
 
 /// The room that WRITES, WRITEF, FINDINPUT or FINDOUTPUT needs with these arguments, by their globals.
-pub(crate) fn speaks(places: &[Place], global: u16, values: &[CoreExp]) -> Option<usize>
-    ensures { IfSome result (λ room. library_speaks global (notes_in places.now values.now) ≡ Some room) }
+pub(crate) fn speaks(at: At<'_>, global: u16, values: &[CoreExp]) -> Option<usize>
+    ensures { IfSome result (λ room. library_speaks global (notes_in at.entry values.now) ≡ Some room) }
 {
     if let Some(room) = string_room(global) {
-        return if is_string_alone(places, values) {
+        return if is_string_alone(at, values) {
             Some(room)
         } else {
             None
         };
     }
     match global {
-        25 if are_formatted(places, values) => Some(37),
+        25 if are_formatted(at, values) => Some(37),
         _ => None,
     }
 }

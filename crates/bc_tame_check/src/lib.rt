@@ -3,7 +3,13 @@
 
 mod at;
 mod binding;
+mod bounds;
+mod causes;
+mod filling;
 mod format;
+mod held;
+mod knows;
+mod learning;
 mod lookup;
 mod not_tame;
 mod rooms;

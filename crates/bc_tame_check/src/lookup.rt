@@ -6,7 +6,7 @@ ghost use Rattle.bc_core.specs.Tree as tree;
 ghost use Rattle.bc_core.specs.Commands.{Place as CorePlace};
 ghost use Rattle.bc_tame.specs.Tame as tame;
 ghost use Rattle.bc_tame.specs.Programs as programs;
-ghost use Rattle.bc_tame.specs.Programs.{known, routine_from, static_from, text_from, setter_for, times_set, may_set, own_callable, callable_with};
+ghost use Rattle.bc_tame.specs.Programs.{known, routine_from, static_from, table_from, text_from, setter_for, times_set, may_set, own_callable, callable_with};
 ghost use Rattle.bc_tame_check.specs.Views.{setter_of, setters_in, env_at};
 ghost use Rattle.bc_tame_check.specs.declared.lookup.Step.TheVariants as steps;
 
@@ -22,8 +22,6 @@ enum Step {
     Found(Known),
     /// The search goes on after it.
     Passed,
-    /// The search ends.
-    Ended,
 }
 
 /// Compares a place with this label with the routine that is searched for.
@@ -47,7 +45,7 @@ fn routine_step(place: &Place, room: usize, label: usize, wanted: usize) -> Step
         }
         Place::Static(_) => Step::Passed,
         Place::Text(_) => Step::Passed,
-        Place::Table(_) => Step::Ended,
+        Place::Table(_) => Step::Passed,
     }
 }
 
@@ -62,7 +60,6 @@ pub(crate) fn routine_of(around: Around<'_>, wanted: usize) -> Option<Known>
         match routine_step(place, *room, label, wanted) {
             Step::Found(known) => return Some(known),
             Step::Passed => {}
-            Step::Ended => return None,
         }
         label = label.checked_add(1)?;
         left = rest;
@@ -126,18 +123,55 @@ fn text_step<'a>(place: &'a Place, label: usize, wanted: usize) -> Option<&'a [u
 
 /// The bytes of the string with this label.
 pub(crate) fn text_of<'a>(places: &'a [Place], wanted: usize) -> Option<&'a [u8]>
-    ensures { IfSome result (λ bytes. text_from (map place_of places.now) 1 wanted ≡ Some bytes.now) }
+    ensures found { IfSome result (λ bytes. text_from (map place_of places.now) 1 wanted ≡ Some bytes.now) }
+    ensures none { result ≡ None → text_from (map place_of places.now) 1 wanted ≡ None }
 {
-    let mut label = 1usize;
+    let mut index = 0usize;
     let mut left = places;
     while let [place, rest @ ..] = left {
-        if let Some(bytes) = text_step(place, label, wanted) {
+        if let Some(bytes) = text_step(place, index + 1, wanted) {
             return Some(bytes);
         }
-        label = label.checked_add(1)?;
+        index += 1;
         left = rest;
     }
     None
+}
+
+/// Compares a place with this label with the table that is searched for. Returns its number of words.
+#[tactic(auto, using(crate::proofs::Places::table_here, crate::proofs::Places::table_else))]
+fn table_step(place: &Place, label: usize, wanted: usize) -> Option<usize>
+    ensures found { IfSome result (λ n. (ps : List CorePlace) → table_from (place_of place.now ∷ ps) label wanted ≡ n) }
+    ensures passed { result ≡ None → (ps : List CorePlace) → table_from (place_of place.now ∷ ps) label wanted ≡ table_from ps (label + 1) wanted }
+{
+    match place {
+        Place::Table(words) => {
+            if label == wanted {
+                Some(words.len())
+            } else {
+                None
+            }
+        }
+        Place::Routine(_) => None,
+        Place::Static(_) => None,
+        Place::Text(_) => None,
+    }
+}
+
+/// The number of words of the table with this label, or 0.
+pub(crate) fn words_of(places: &[Place], wanted: usize) -> usize
+    ensures { result ≡ table_from (map place_of places.now) 1 wanted }
+{
+    let mut index = 0usize;
+    let mut left = places;
+    while let [place, rest @ ..] = left {
+        if let Some(words) = table_step(place, index + 1, wanted) {
+            return words;
+        }
+        index += 1;
+        left = rest;
+    }
+    0
 }
 
 /// The label, if the expression is the address of a place.

@@ -1,4 +1,5 @@
 //! Why sections are not known to be tame, and where.
+use crate::held::TooLarge;
 use bc_word::Memory;
 use std::alloc::{AllocError, AllocFailed};
 use thiserror::Error;
@@ -35,9 +36,9 @@ pub struct Spot {
 /// What the check can't accept.
 #[derive(Clone, Copy, Debug)]
 pub enum Cause {
-    /// A cell that no variable, static or global names is read or written, as by `!`.
+    /// A cell that no variable, static or global names is read or written, as by `!`, and it isn't one of a vector or table that is known.
     Indirection,
-    /// The address of a table, routine or static is used as a value.
+    /// The address of a routine or static is used as a value, or that of a table without words.
     Address,
     /// A call whose routine is neither one of the program's, by its name or global, nor one of the library that the check knows.
     Call,
@@ -51,7 +52,7 @@ pub enum Cause {
     LibraryGlobal,
     /// A routine sets a global of the library, or one that another routine sets.
     OwnGlobal,
-    /// A TABLE.
+    /// A TABLE. `tame_rooms` never returns this.
     Table,
     /// No section has a START without parameters.
     NoStart,
@@ -63,6 +64,10 @@ pub enum Cause {
     Sections,
     /// A global that holds a routine of the program is assigned.
     RoutineGlobal,
+    /// An index of a vector or table may be outside of it.
+    Index,
+    /// A cell of a vector is read that may be unset.
+    Unset,
 }
 
 /// Why no answer of yes was found.
@@ -81,6 +86,13 @@ pub enum NotTame {
 
 impl From<Memory> for NotTame {
     fn from(_refused: Memory) -> NotTame {
+        NotTame::Memory
+    }
+}
+
+impl From<TooLarge> for NotTame {
+    // No text that fits into memory has so large offsets.
+    fn from(_number: TooLarge) -> NotTame {
         NotTame::Memory
     }
 }

@@ -8,7 +8,7 @@ ghost use Rattle.bc_tame.specs.Programs.{tame_places, tame_sections, may_set, is
 ghost use Rattle.bc_tame_check.specs.Views.{setters_in, env_around, rooms_in, hint, AreTame};
 
 use crate::at::{Around, At, Exits, Setter, Walk};
-use crate::format::are_bytes;
+use crate::format::{are_bytes, check_words};
 use crate::lookup::{first_setter, may_be_set};
 use crate::not_tame::{BodyOf, Cause, NotTame, RoutineAt, Spot};
 use crate::setters::setters_of;
@@ -31,6 +31,9 @@ pub struct Rooms {
 /// How deep a text may nest.
 const DEPTH: usize = 1000;
 
+/// How many times parts of a routine may be checked in a second way.
+const TRIES: usize = 1000;
+
 /// The greatest number of cells.
 const CELLS: usize = 65536;
 
@@ -43,6 +46,9 @@ fn at_routine(section: usize, label: usize) -> Walk {
             before: 0,
         },
         need: 0,
+        assigned: None,
+        jumped: false,
+        tries: TRIES,
     }
 }
 
@@ -118,7 +124,10 @@ fn place(around: Around<'_>, valofs: &[Valof], tree: &Place, walk: &mut Walk) ->
             let _number = number(word.get());
             Ok(())
         }
-        Place::Table(_) => walk.stop(Cause::Table),
+        Place::Table(words) => {
+            check_words(words);
+            Ok(())
+        }
     }
 }
 

@@ -1,18 +1,25 @@
-//! Which expressions are the address of a string constant, whatever the program does.
+//! Which expressions are the address of a string constant.
 
 ghost use Rattle.std.specs.Prelude.{◌≡◌, ◌+◌, ◌∷◌, true, false, None, IfSome, map, ℕ, List, Option, Bool};
 ghost use Rattle.bc_core.specs.View.{place_of, exp, body_of};
 ghost use Rattle.bc_core.specs.Commands.{Place as CorePlace};
-ghost use Rattle.bc_tame.specs.Tame.{is_text, note_of};
+ghost use Rattle.bc_core.specs.Tree.{Load};
+ghost use Rattle.bc_tame.specs.Tame.{Knows, is_text, note_of};
 ghost use Rattle.bc_tame.specs.Programs.{text_from, gives_text, gives_from};
+ghost use Rattle.bc_tame_check.specs.Views.{reads_at};
 
+use crate::at::At;
+use crate::bounds::offsets_at;
+use crate::held::Test;
+use crate::knows::all_between;
 use crate::lookup::{label_of, text_of};
 use bc_core::{Body, CoreExp, Place};
 
 /// Whether an expression is a string constant or chooses one.
 #[tactic(auto, using(crate::proofs::Strings::place_text, crate::proofs::Strings::choice_text))]
 fn is_constant(places: &[Place], e: &CoreExp) -> bool
-    ensures { result ≡ true → (gives : ℕ → Bool) → is_text (note_of (text_from (map place_of places.now) 1) gives (exp e.now)) ≡ true }
+    ensures { result ≡ true → (gives : ℕ → Bool) (R : Knows)
+        → is_text (note_of (text_from (map place_of places.now) 1) gives R (exp e.now)) ≡ true }
 {
     match e {
         CoreExp::Place(label) => text_of(places, *label as usize).is_some(),
@@ -69,18 +76,34 @@ fn is_giving(places: &[Place], wanted: usize) -> bool
     }
 }
 
-/// Whether an expression is the address of a string constant: such a constant, a choice of two, or a call of a routine that returns one.
+/// Whether an address is that of cells of vectors that hold strings.
+#[tactic(auto, using(crate::proofs::Strings::cells_text))]
+fn are_strings(at: At<'_>, address: &CoreExp) -> bool
+    ensures { result ≡ true → is_text (note_of (text_from (map place_of at.entry.around.places.now) 1)
+        (gives_from (text_from (map place_of at.entry.around.places.now) 1) (map place_of at.entry.around.places.now) 1)
+        (reads_at at.entry) (Load (exp address.now))) ≡ true }
+{
+    match offsets_at(at, address) {
+        Ok(Some(cells)) => all_between(at, Test::String, cells),
+        _ => false,
+    }
+}
+
+/// Whether an expression is the address of a string constant: such a constant, what a cell holds that was set to one, a choice of two, or a
+/// call of a routine that returns one.
 #[tactic(auto, using(crate::proofs::Strings::call_text, crate::proofs::Strings::choice_text))]
-pub(crate) fn is_string(places: &[Place], e: &CoreExp) -> bool
-    ensures { result ≡ true → is_text (note_of (text_from (map place_of places.now) 1)
-        (gives_from (text_from (map place_of places.now) 1) (map place_of places.now) 1) (exp e.now)) ≡ true }
+pub(crate) fn is_string(at: At<'_>, e: &CoreExp) -> bool
+    ensures { result ≡ true → is_text (note_of (text_from (map place_of at.entry.around.places.now) 1)
+        (gives_from (text_from (map place_of at.entry.around.places.now) 1) (map place_of at.entry.around.places.now) 1)
+        (reads_at at.entry) (exp e.now)) ≡ true }
 {
     match e {
         CoreExp::Call(_, routine) => match label_of(routine) {
-            Some(label) => is_giving(places, label),
+            Some(label) => is_giving(at.around.places, label),
             None => false,
         },
-        CoreExp::Cond(_, this, that) => is_string(places, this) && is_string(places, that),
-        _ => is_constant(places, e),
+        CoreExp::Cond(_, this, that) => is_string(at, this) && is_string(at, that),
+        CoreExp::Load(address) => are_strings(at, address),
+        _ => is_constant(at.around.places, e),
     }
 }

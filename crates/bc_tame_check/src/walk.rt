@@ -1,22 +1,29 @@
 //! The check of expressions, commands and blocks. The functions call one another and are proved as one cycle.
 
-ghost use Rattle.std.specs.Prelude.{◌≡◌, ◌+◌, ◌≤◌, ◌∷◌, ◌&&◌, nat_lt, true, Some, map, ℕ, List, OnOk, IfOk};
+ghost use Rattle.std.specs.Prelude.{◌≡◌, ◌+◌, ◌≤◌, ◌∷◌, ◌&&◌, ◌||◌, nat_lt, true, Some, map, ℕ, List, OnOk, IfOk, IfSome};
 ghost use Rattle.bc_core.specs.Tree as tree;
 ghost use Rattle.bc_core.specs.Commands as forms;
+ghost use Rattle.bc_core.specs.Level.{side_level};
 ghost use Rattle.bc_core.specs.View.{exp, args, variable, declarations as declarations_view, command as command_view, items as items_view};
 ghost use Rattle.bc_core.specs.View.{items_before, block_of, body_of};
 ghost use Rattle.bc_tame.specs.Tame as tame;
-ghost use Rattle.bc_tame.specs.Tame.{tame_exp, tame_args, tame_variables};
+ghost use Rattle.bc_tame.specs.Tame.{AnyWord, and_also, tame_exp, tame_args, tame_variables};
 ghost use Rattle.bc_tame.specs.Programs.{known as known_as};
-ghost use Rattle.bc_tame_check.specs.Views.{env_at, reads_at, exits_at, notes_in, AreDeclared};
-ghost use Rattle.bc_tame_check.specs.Passes.{exp_passes, block_passes, CallFits, ExpPasses, CommandPasses, BlockPasses, ItemsPass, ListPasses};
+ghost use Rattle.bc_tame_check.specs.Views.{env_at, reads_at, exits_at, notes_in, held_of, test_of, bounds_in, bounds_found, AreDeclared, FillsCells, IsFilling};
+ghost use Rattle.bc_tame_check.specs.Passes.{exp_passes, block_passes, block_passes_as, round_passes, plain_passes, rounds_pass, closed_passes, ItemPasses, CallFits, ExpPasses, CommandPasses, BlockPasses, ItemsPass, ListPasses, ValofPasses};
 
-use crate::at::{At, Exits, Known, Walk, is_set};
+use crate::at::{At, Exits, Known, Walk};
 use crate::binding::{cells_of_all, labels_with, set_all};
+use crate::bounds::{bounds_of, counted, is_indexed};
+use crate::causes::why_not;
+use crate::filling::{Rounds, filled_by};
 use crate::format::{is_fixed, speaks};
-use crate::lookup::{called, global_of, is_static, own_setter, routine_named, text_of};
+use crate::held::{Bounds, Entry, Held, Test};
+use crate::knows::{held_at, is_word, passes};
+use crate::learning::{has_no_entry, learned};
+use crate::lookup::{called, global_of, is_static, own_setter, routine_named, text_of, words_of};
 use crate::not_tame::{BodyOf, Cause, NotTame};
-use bc_core::{Block, Body, Command, CoreExp, Declaration, ListItem, Variable};
+use bc_core::{Block, Body, Command, CoreExp, Declaration, ListItem, Variable, operand};
 
 /// Checks a number, which every word passes.
 #[tactic(auto, using(crate::proofs::Tests::less_true))]
@@ -34,19 +41,37 @@ struct Steps<'a> {
     by: u16,
 }
 
+/// Checks the address of a cell of a vector or table.
+fn indexing(at: At<'_>, test: Test, address: &CoreExp, walk: &Walk) -> Result<(), NotTame>
+    ensures { OnOk result ((tame.all_between (test_of test) (reads_at at.entry) (tame.offsets_at (reads_at at.entry) (exp address.now))
+        || tame.is_in_table ((env_at at.entry).table) (reads_at at.entry) (exp address.now)) ≡ true) }
+{
+    if is_indexed(at, test, address) {
+        Ok(())
+    } else {
+        walk.stop(why_not(at, address))
+    }
+}
+
+/// Checks the variable at an offset that is read.
+#[tactic(auto, using(crate::proofs::Knowledge::cell_set))]
+fn reading_local(at: At<'_>, offset: usize, walk: &Walk) -> Result<(), NotTame>
+    ensures { OnOk result (tame.is_set (reads_at at.entry offset) ≡ true) }
+{
+    if passes(Test::Set, held_at(at, offset)) {
+        Ok(())
+    } else {
+        walk.stop(Cause::Indirection)
+    }
+}
+
 /// Checks the address of a cell that is read.
 #[tactic(auto, using(crate::proofs::Tests::less_true))]
 fn reading(at: At<'_>, address: &CoreExp, walk: &Walk) -> Result<(), NotTame>
     ensures { OnOk result (tame.can_read (env_at at.entry) (reads_at at.entry) (exp address.now) ≡ true) }
 {
     match address {
-        CoreExp::Frame(offset) => {
-            if is_set(at, *offset as usize) {
-                Ok(())
-            } else {
-                walk.stop(Cause::Indirection)
-            }
-        }
+        CoreExp::Frame(offset) => reading_local(at, *offset as usize, walk),
         CoreExp::Glob(number) => {
             if *number < 512 {
                 Ok(())
@@ -61,23 +86,31 @@ fn reading(at: At<'_>, address: &CoreExp, walk: &Walk) -> Result<(), NotTame>
                 walk.stop(Cause::Indirection)
             }
         }
+        CoreExp::Load(_) | CoreExp::Bin(_, _, _) => indexing(at, Test::Set, address, walk),
         _ => walk.stop(Cause::Indirection),
+    }
+}
+
+/// Checks the variable at an offset that is written.
+#[tactic(auto, using(crate::proofs::Knowledge::cell_word))]
+fn writing_local(at: At<'_>, offset: usize, walk: &mut Walk) -> Result<(), NotTame>
+    ensures { OnOk result (tame.is_word (reads_at at.entry offset) ≡ true) }
+{
+    if is_word(held_at(at, offset)) {
+        Ok(())
+    } else {
+        walk.assigned = Some(offset);
+        walk.stop(Cause::Size)
     }
 }
 
 /// Checks the address of a cell that is written.
 #[tactic(auto, using(crate::proofs::Tests::global_written))]
-fn writing(at: At<'_>, address: &CoreExp, walk: &Walk) -> Result<(), NotTame>
+fn writing(at: At<'_>, address: &CoreExp, walk: &mut Walk) -> Result<(), NotTame>
     ensures { OnOk result (tame.can_write (env_at at.entry) (reads_at at.entry) (exp address.now) ≡ true) }
 {
     match address {
-        CoreExp::Frame(offset) => {
-            if is_set(at, *offset as usize) {
-                Ok(())
-            } else {
-                walk.stop(Cause::Indirection)
-            }
-        }
+        CoreExp::Frame(offset) => writing_local(at, *offset as usize, walk),
         CoreExp::Glob(number) => {
             if *number >= 512 {
                 walk.stop(Cause::Indirection)
@@ -97,24 +130,26 @@ fn writing(at: At<'_>, address: &CoreExp, walk: &Walk) -> Result<(), NotTame>
                 walk.stop(Cause::Indirection)
             }
         }
+        CoreExp::Load(_) | CoreExp::Bin(_, _, _) => indexing(at, Test::Writable, address, walk),
         _ => walk.stop(Cause::Indirection),
     }
 }
 
 /// Checks that a jump is allowed.
-fn jump(allowed: bool, walk: &Walk) -> Result<(), NotTame>
+fn jump(allowed: bool, walk: &mut Walk) -> Result<(), NotTame>
     ensures { OnOk result (allowed ≡ true) }
 {
     if allowed {
         Ok(())
     } else {
+        walk.jumped = true;
         walk.stop(Cause::Size)
     }
 }
 
 /// Checks that GOTO may go to a label.
 #[tactic(auto, using(crate::proofs::Labels::at_index))]
-fn goto(at: At<'_>, label: u16, walk: &Walk) -> Result<(), NotTame>
+fn goto(at: At<'_>, label: u16, walk: &mut Walk) -> Result<(), NotTame>
     ensures { OnOk result ((exits_at at.entry).labels label ≡ true) }
 {
     for each in at.exits.labels {
@@ -122,6 +157,7 @@ fn goto(at: At<'_>, label: u16, walk: &Walk) -> Result<(), NotTame>
             return Ok(());
         }
     }
+    walk.jumped = true;
     walk.stop(Cause::Size)
 }
 
@@ -205,14 +241,14 @@ fn enters_said(
     routine: &CoreExp,
     walk: &mut Walk,
 ) -> Result<(), NotTame>
-    ensures { OnOk result (tame.fits_room (tame.spoken (env_at at.entry) (exp routine.now) (notes_in at.entry.around.places.now values.now))
+    ensures { OnOk result (tame.fits_room (tame.spoken (env_at at.entry) (exp routine.now) (notes_in at.entry values.now))
         at.entry.level at.entry.around.size ≡ true) }
 {
     let global = match global_of(routine) {
         Some(global) => global,
         None => return Err(NotTame::Unknown(Cause::Call, walk.spot)),
     };
-    let room = match speaks(at.around.places, global, values) {
+    let room = match speaks(at, global, values) {
         Some(room) => room,
         None => return Err(NotTame::Unknown(said_cause(global), walk.spot)),
     };
@@ -242,14 +278,20 @@ fn call(at: At<'_>, values: &[CoreExp], routine: &CoreExp, walk: &mut Walk) -> R
     enters(at, values, routine, walk)
 }
 
-/// Checks the address of a place that is used as a value: only a string constant's passes.
-#[tactic(auto, using(crate::proofs::Strings::text_there))]
+/// Checks the address of a place that is used as a value: only that of a string constant or of a table with words passes.
+#[tactic(auto, using(crate::proofs::Strings::text_there, crate::proofs::Strings::table_there))]
 fn place_value(at: At<'_>, label: usize, walk: &Walk) -> Result<(), NotTame>
     ensures { OnOk result ((env_at at.entry).place label ≡ true) }
 {
     match text_of(at.around.places, label) {
         Some(_) => Ok(()),
-        None => walk.stop(Cause::Address),
+        None => {
+            if words_of(at.around.places, label) > 0 {
+                Ok(())
+            } else {
+                walk.stop(Cause::Address)
+            }
+        }
     }
 }
 
@@ -278,6 +320,24 @@ fn arguments(at: At<'_>, values: &[CoreExp], walk: &mut Walk) -> Result<(), NotT
     Ok(())
 }
 
+/// Checks the body of a VALOF, in which only RESULTIS is allowed.
+#[cycle(walk)]
+fn valof_body(at: At<'_>, body: &Block, walk: &mut Walk) -> Result<(), NotTame>
+    ensures { OnOk result (ValofPasses (env_at at.entry) (reads_at at.entry) (block_of body.now) at.entry.level) }
+{
+    let inside = At {
+        exits: Exits {
+            in_loop: false,
+            in_cases: false,
+            in_valof: true,
+            may_return: false,
+            labels: &[],
+        },
+        ..at
+    };
+    block(inside, body, walk)
+}
+
 /// Checks the VALOF with this number.
 #[cycle(walk)]
 #[tactic(auto, using(crate::proofs::Valofs::valof_true))]
@@ -295,17 +355,10 @@ fn valof(at: At<'_>, number: usize, walk: &mut Walk) -> Result<(), NotTame>
     let inside = At {
         first,
         valofs: &at.valofs[index + 1..],
-        exits: Exits {
-            in_loop: false,
-            in_cases: false,
-            in_valof: true,
-            may_return: false,
-            labels: &[],
-        },
         ..at
     };
     let outside = walk.enter(BodyOf::Valof(number));
-    block(inside, &at.valofs[index].body, walk)?;
+    valof_body(inside, &at.valofs[index].body, walk)?;
     walk.spot = outside;
     Ok(())
 }
@@ -320,6 +373,16 @@ fn whole(at: At<'_>, e: &CoreExp, walk: &mut Walk) -> Result<(), NotTame>
     Ok(())
 }
 
+/// The level at which the sides of an assignment to this address are computed. An error if it overflows.
+fn level_of_sides(at: At<'_>, address: &CoreExp, walk: &Walk) -> Result<usize, NotTame>
+    ensures { IfOk result (λ r. r ≡ side_level (exp address.now) at.entry.level) }
+{
+    match operand(address) {
+        Some(_) => Ok(at.level),
+        None => walk.above(at.level, 1),
+    }
+}
+
 /// Checks an assignment.
 #[cycle(walk)]
 #[tactic(auto, using(crate::proofs::Tests::and_true))]
@@ -327,7 +390,8 @@ fn assign(at: At<'_>, value: &CoreExp, address: &CoreExp, walk: &mut Walk) -> Re
     ensures { OnOk result (CommandPasses at.entry (forms.Assign (exp value.now) (exp address.now))) }
 {
     writing(at, address, walk)?;
-    whole(at, value, walk)
+    let level = level_of_sides(at, address, walk)?;
+    whole(At { level, ..at }, value, walk)
 }
 
 /// Checks a test and the block that it controls.
@@ -367,29 +431,225 @@ fn tested_both(
     block(at, that, walk)
 }
 
+/// Checks the body of a FOR whose variable holds this.
+#[cycle(walk)]
+#[tactic(auto, using(crate::proofs::Loops::round_true, crate::proofs::Knowledge::one_pushed))]
+fn round(at: At<'_>, holds: Held, body: &Block, walk: &mut Walk) -> Result<(), NotTame>
+    ensures { OnOk result (round_passes at.entry (held_of holds) (block_of body.now) ≡ true) }
+{
+    let level = walk.above(at.level, 2)?;
+    let mut reads = Vec::from_slice(at.around.alloc, at.reads)?;
+    reads.push(Entry::One(at.level, holds))?;
+    let inside = At {
+        reads: reads.as_slice(),
+        level,
+        ..at
+    };
+    block(inside, body, walk)
+}
+
+/// Checks the limit of a FOR whose variable may be any word.
+#[cycle(walk)]
+#[tactic(auto, using(crate::proofs::Loops::limit_true, crate::proofs::Knowledge::one_pushed))]
+fn limit(at: At<'_>, e: &CoreExp, walk: &mut Walk) -> Result<(), NotTame>
+    ensures { OnOk result (tame_exp (env_at at.entry) (and_also at.entry.level AnyWord (reads_at at.entry)) (exp e.now) (at.entry.level + 2) ≡ true) }
+{
+    let level = walk.above(at.level, 2)?;
+    let mut reads = Vec::from_slice(at.around.alloc, at.reads)?;
+    reads.push(Entry::One(at.level, Held::Word))?;
+    let inside = At {
+        reads: reads.as_slice(),
+        level,
+        ..at
+    };
+    whole(inside, e, walk)
+}
+
+/// Checks the start, the limit and the body of a FOR whose variable may be any word.
+#[cycle(walk)]
+#[tactic(auto, using(crate::proofs::Loops::plain_true))]
+fn plain_rounds(at: At<'_>, steps: Steps<'_>, body: &Block, walk: &mut Walk) -> Result<(), NotTame>
+    ensures { OnOk result (plain_passes at.entry (exp steps.entry.start.now) (exp steps.entry.limit.now) (block_of body.now) ≡ true) }
+{
+    let level = walk.above(at.level, 2)?;
+    whole(At { level, ..at }, steps.start, walk)?;
+    limit(at, steps.limit, walk)?;
+    round(at, Held::Word, body, walk)
+}
+
+/// Checks the body of a FOR whose variable is within bounds. Its start and limit are of constants and such variables.
+#[cycle(walk)]
+fn counted_rounds(at: At<'_>, all: Bounds, body: &Block, walk: &mut Walk) -> Result<(), NotTame>
+    ensures { OnOk result (round_passes at.entry (tame.held_between (bounds_in all)) (block_of body.now) ≡ true) }
+{
+    walk.passed();
+    walk.passed();
+    round(at, Held::Between(all), body, walk)
+}
+
+/// Checks what remains of a FOR, if the bounds of its variable are found.
+#[cycle(walk)]
+#[tactic(auto, using(crate::proofs::Loops::counted_true, crate::proofs::Loops::uncounted_true))]
+fn rounds(
+    at: At<'_>,
+    steps: Steps<'_>,
+    counts: Option<Bounds>,
+    body: &Block,
+    walk: &mut Walk,
+) -> Result<(), NotTame>
+    ensures { OnOk result (rounds_pass at.entry (bounds_found counts) (exp steps.entry.start.now) (exp steps.entry.limit.now) (block_of body.now) ≡ true) }
+{
+    let Some(all) = counts else {
+        return plain_rounds(at, steps, body, walk);
+    };
+    let began = walk.spot;
+    match counted_rounds(at, all, body, walk) {
+        Ok(()) => Ok(()),
+        Err(stop) => {
+            if !walk.goes_back(at.level, began) {
+                return Err(stop);
+            }
+            plain_rounds(at, steps, body, walk)
+        }
+    }
+}
+
+/// The bounds of a FOR's variable.
+#[tactic(auto, using(crate::proofs::Loops::counts_found))]
+fn counts_of(at: At<'_>, steps: Steps<'_>) -> Result<Option<Bounds>, NotTame>
+    ensures { IfOk result (λ b. bounds_found b
+        ≡ tame.counted (tame.bounds_of (reads_at at.entry) (exp steps.entry.start.now))
+        (tame.bounds_of (reads_at at.entry) (exp steps.entry.limit.now)) steps.entry.by) }
+{
+    let start = bounds_of(at, steps.start)?;
+    let limit = bounds_of(at, steps.limit)?;
+    Ok(counted(start, limit, steps.by)?)
+}
+
 /// Checks a FOR with this body.
 #[cycle(walk)]
-#[tactic(auto, using(crate::proofs::Loops::for_true, crate::proofs::Offsets::set_more))]
+#[tactic(auto, using(crate::proofs::Loops::for_true))]
 fn for_loop(at: At<'_>, steps: Steps<'_>, body: &Block, walk: &mut Walk) -> Result<(), NotTame>
     ensures { OnOk result (CommandPasses at.entry (forms.For (exp steps.entry.start.now) (exp steps.entry.limit.now) steps.entry.by (block_of body.now))) }
 {
     let level = walk.above(at.level, 2)?;
     walk.needs(level, at.around.size)?;
     let _number = number(steps.by);
-    whole(At { level, ..at }, steps.start, walk)?;
-    let mut reads = Vec::from_slice(at.around.alloc, at.reads)?;
-    reads.push(at.level)?;
-    let inside = At {
-        reads: reads.as_slice(),
+    let counts = counts_of(at, steps)?;
+    let looped = At {
         exits: Exits {
             in_loop: true,
             ..at.exits
         },
-        level,
         ..at
     };
-    whole(inside, steps.limit, walk)?;
-    block(inside, body, walk)
+    rounds(looped, steps, counts, body, walk)
+}
+
+/// Checks the body of a FOR that can't be left and whose variable is within bounds.
+#[cycle(walk)]
+#[tactic(auto, using(crate::proofs::Loops::closed_true))]
+fn closed_rounds(at: At<'_>, all: Bounds, body: &Block, walk: &mut Walk) -> Result<(), NotTame>
+    ensures { OnOk result (closed_passes at.entry (bounds_in all) (block_of body.now) ≡ true) }
+{
+    let level = walk.above(at.level, 2)?;
+    walk.needs(level, at.around.size)?;
+    let closed = At {
+        exits: Exits {
+            in_loop: false,
+            in_cases: false,
+            in_valof: false,
+            may_return: false,
+            labels: &[],
+        },
+        ..at
+    };
+    counted_rounds(closed, all, body, walk)
+}
+
+/// The cells of vectors that a FOR fills with a block that declares nothing, if its step is 1 and the bounds of its variable are these.
+#[tactic(auto, using(crate::proofs::Loops::filled_found))]
+fn filled_cells(at: At<'_>, steps: Steps<'_>, body: &Block) -> Result<Vec<Entry>, NotTame>
+    ensures { IfOk result (λ more. FillsCells at.entry
+        (forms.For (exp steps.entry.start.now) (exp steps.entry.limit.now) steps.entry.by (block_of body.now)) more.items) }
+{
+    let none = Vec::new(at.around.alloc);
+    if !body.declarations.is_empty() {
+        return Ok(none);
+    }
+    if !has_no_entry(&body.list) {
+        return Ok(none);
+    }
+    let Some(first) = bounds_of(at, steps.start)? else {
+        return Ok(none);
+    };
+    let Some(last) = bounds_of(at, steps.limit)? else {
+        return Ok(none);
+    };
+    let rounds = Rounds {
+        variable: at.level,
+        first: first.greatest,
+        last: last.least,
+    };
+    filled_by(at, rounds, &body.list)
+}
+
+/// Checks a FOR that fills cells of vectors. `None` if it doesn't, or may be left before its end.
+#[cycle(walk)]
+#[tactic(auto, using(crate::proofs::Loops::filling_true))]
+fn filling_for(
+    at: At<'_>,
+    steps: Steps<'_>,
+    body: &Block,
+    walk: &mut Walk,
+) -> Result<Option<Vec<Entry>>, NotTame>
+    ensures { IfOk result (λ o. IfSome o (λ more. IsFilling at.entry
+        (forms.For (exp steps.entry.start.now) (exp steps.entry.limit.now) steps.entry.by (block_of body.now)) more.items)) }
+{
+    if steps.by != 1 {
+        return Ok(None);
+    }
+    let more = filled_cells(at, steps, body)?;
+    if more.is_empty() {
+        return Ok(None);
+    }
+    let Some(all) = counts_of(at, steps)? else {
+        return Ok(None);
+    };
+    let began = walk.spot;
+    match closed_rounds(at, all, body, walk) {
+        Ok(()) => Ok(Some(more)),
+        Err(stop) => {
+            if !walk.gives_up_filling(at.level, began) {
+                return Err(stop);
+            }
+            Ok(None)
+        }
+    }
+}
+
+/// Checks a command that fills cells of vectors. `None` if it doesn't.
+#[cycle(walk)]
+fn filling(at: At<'_>, form: &Command, walk: &mut Walk) -> Result<Option<Vec<Entry>>, NotTame>
+    ensures { IfOk result (λ o. IfSome o (λ more. IsFilling at.entry (command_view form.now) more.items)) }
+{
+    match form {
+        Command::For {
+            start,
+            limit,
+            by,
+            body,
+        } => {
+            let depth = walk.deeper(at.depth)?;
+            let steps = Steps {
+                start,
+                limit,
+                by: by.get(),
+            };
+            filling_for(At { depth, ..at }, steps, body, walk)
+        }
+        _ => Ok(None),
+    }
 }
 
 /// Checks a SWITCHON.
@@ -463,17 +723,55 @@ fn result_is(at: At<'_>, e: &CoreExp, walk: &mut Walk) -> Result<(), NotTame>
     whole(at, e, walk)
 }
 
-/// Checks an item of a list.
+/// Checks a command of a list. Returns what is known after it, in addition to what was known before.
 #[cycle(walk)]
-#[tactic(auto, using(crate::proofs::Tests::and_true))]
-fn item(at: At<'_>, entry: &ListItem, walk: &mut Walk) -> Result<(), NotTame>
-    ensures { OnOk result ((is : forms.Items) → ItemsPass at.entry is → ItemsPass at.entry (items_before entry.now is)) }
+#[tactic(auto, using(crate::proofs::Loops::plain_next))]
+fn plain_command(
+    at: At<'_>,
+    form: &Command,
+    rest: &[ListItem],
+    walk: &mut Walk,
+) -> Result<Vec<Entry>, NotTame>
+    ensures { IfOk result (λ more. ItemPasses at.entry (forms.command (command_view form.now) (items_view rest.now)) (items_view rest.now) more.items) }
+{
+    command(at, form, walk)?;
+    learned(at, form, rest)
+}
+
+/// Checks a command of a list, which may be a FOR that fills cells. Returns what is known after it, in addition to what was known before.
+#[cycle(walk)]
+#[tactic(auto, using(crate::proofs::Loops::filling_next))]
+fn next_command(
+    at: At<'_>,
+    form: &Command,
+    rest: &[ListItem],
+    walk: &mut Walk,
+) -> Result<Vec<Entry>, NotTame>
+    ensures { IfOk result (λ more. ItemPasses at.entry (forms.command (command_view form.now) (items_view rest.now)) (items_view rest.now) more.items) }
+{
+    if has_no_entry(rest) {
+        if let Some(more) = filling(at, form, walk)? {
+            return Ok(more);
+        }
+    }
+    plain_command(at, form, rest, walk)
+}
+
+/// Checks an item of a list. Returns what is known after it, in addition to what was known before.
+#[cycle(walk)]
+fn item(
+    at: At<'_>,
+    entry: &ListItem,
+    rest: &[ListItem],
+    walk: &mut Walk,
+) -> Result<Vec<Entry>, NotTame>
+    ensures { IfOk result (λ more. ItemPasses at.entry (items_before entry.now (items_view rest.now)) (items_view rest.now) more.items) }
 {
     match entry {
-        ListItem::Command(form) => command(at, form, walk),
-        ListItem::Case(_) => Ok(()),
-        ListItem::Default => Ok(()),
-        ListItem::Label(_) => Ok(()),
+        ListItem::Command(form) => next_command(at, form, rest, walk),
+        ListItem::Case(_) => Ok(Vec::new(at.around.alloc)),
+        ListItem::Default => Ok(Vec::new(at.around.alloc)),
+        ListItem::Label(_) => Ok(Vec::new(at.around.alloc)),
     }
 }
 
@@ -499,9 +797,15 @@ fn items(at: At<'_>, list: &[ListItem], walk: &mut Walk) -> Result<(), NotTame>
 fn all_items(at: At<'_>, list: &[ListItem], walk: &mut Walk) -> Result<(), NotTame>
     ensures { OnOk result (ItemsPass at.entry (items_view list.now)) }
 {
+    let mut reads = Vec::from_slice(at.around.alloc, at.reads)?;
     let mut left = list;
     while let [first, rest @ ..] = left {
-        item(at, first, walk)?;
+        let inside = At {
+            reads: reads.as_slice(),
+            ..at
+        };
+        let more = item(inside, first, rest, walk)?;
+        reads.extend_from_slice(more.as_slice())?;
         left = rest;
     }
     Ok(())
@@ -534,17 +838,22 @@ fn initial(at: At<'_>, declared: &Variable, walk: &mut Walk) -> Result<(), NotTa
     }
 }
 
-/// The offsets that are set after declarations, and the level then.
+/// What is known after declarations, and the level then.
 #[derive(Drop)]
 struct Declared {
-    reads: Vec<usize>,
+    reads: Vec<Entry>,
     level: usize,
 }
 
-/// Checks declarations.
+/// Checks declarations, of which what holds a vector or a table is kept in the block or not.
 #[cycle(walk)]
-fn declarations(at: At<'_>, all: &[Declaration], walk: &mut Walk) -> Result<Declared, NotTame>
-    ensures { IfOk result (λ d. AreDeclared at.entry (declarations_view all.now) d.reads.items d.level) }
+fn declarations(
+    at: At<'_>,
+    kept: bool,
+    all: &[Declaration],
+    walk: &mut Walk,
+) -> Result<Declared, NotTame>
+    ensures { IfOk result (λ d. AreDeclared at.entry kept (declarations_view all.now) d.reads.items d.level) }
 {
     let mut reads = Vec::from_slice(at.around.alloc, at.reads)?;
     let mut level = at.level;
@@ -558,26 +867,44 @@ fn declarations(at: At<'_>, all: &[Declaration], walk: &mut Walk) -> Result<Decl
             ..at
         };
         variables(inside, &first.variables, walk)?;
-        set_all(&mut reads, &first.variables, level)?;
+        set_all(&mut reads, at, kept, &first.variables, level)?;
         level = above;
         left = rest;
     }
     Ok(Declared { reads, level })
 }
 
-/// Checks a block.
+/// Checks a block, whose vectors and tables are kept or may be assigned.
 #[cycle(walk)]
 #[tactic(auto, using(crate::proofs::Loops::block_true))]
-pub(crate) fn block(at: At<'_>, form: &Block, walk: &mut Walk) -> Result<(), NotTame>
-    ensures { OnOk result (BlockPasses at.entry (block_of form.now)) }
+fn block_as(at: At<'_>, kept: bool, form: &Block, walk: &mut Walk) -> Result<(), NotTame>
+    ensures { OnOk result (block_passes_as at.entry kept (block_of form.now) ≡ true) }
 {
-    let declared = declarations(at, &form.declarations, walk)?;
+    let declared = declarations(at, kept, &form.declarations, walk)?;
     let inside = At {
         reads: declared.reads.as_slice(),
         level: declared.level,
         ..at
     };
     items(inside, &form.list, walk)
+}
+
+/// Checks a block: first as if its variables that hold vectors and tables were never assigned, and if one is, without that.
+#[cycle(walk)]
+#[tactic(auto, using(crate::proofs::Loops::kept_true, crate::proofs::Loops::assigned_true))]
+pub(crate) fn block(at: At<'_>, form: &Block, walk: &mut Walk) -> Result<(), NotTame>
+    ensures { OnOk result (BlockPasses at.entry (block_of form.now)) }
+{
+    let began = walk.spot;
+    match block_as(at, true, form, walk) {
+        Ok(()) => Ok(()),
+        Err(stop) => {
+            if !walk.goes_back(at.level, began) {
+                return Err(stop);
+            }
+            block_as(at, false, form, walk)
+        }
+    }
 }
 
 /// Checks the body of a routine, in which only RETURN is allowed.

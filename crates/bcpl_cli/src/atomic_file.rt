@@ -1,6 +1,6 @@
 //! Files that are either written completely or left as they were, as far as their folders allow it.
 
-use crate::Failure;
+use crate::failure::{Cause, Failure};
 use bc_word::Memory;
 use std::alloc::Global;
 use std::fs::{File, Metadata, OpenOptions, Permissions};
@@ -128,6 +128,45 @@ struct NoneBeside {
     is_denied: bool,
 }
 
+/// A new file with this path, made beside the one with path `path`; `None` if there is such a file already.
+fn created<F: Files>(
+    rt: &F,
+    alloc: Global,
+    path: &str,
+    beside: &str,
+) -> Result<Option<F::File>, NoneBeside> {
+    match File::create_new(rt, beside) {
+        Ok(file) => Ok(Some(file)),
+        Err(error) if error.kind() == io::ErrorKind::AlreadyExists => Ok(None),
+        Err(error) => Err(NoneBeside {
+            failure: Failure::io(alloc, &error, path),
+            is_denied: error.kind() == io::ErrorKind::PermissionDenied,
+        }),
+    }
+}
+
+/// The new file with this number beside the one with this path, and its path; `None` if there is such a file already.
+fn new_numbered<F: Files>(
+    rt: &F,
+    alloc: Global,
+    path: &str,
+    number: usize,
+) -> Result<Option<(String, F::File)>, NoneBeside> {
+    let Ok(beside) = unfinished_path(alloc, path, number) else {
+        return Err(NoneBeside {
+            failure: Failure::new(Cause::Memory),
+            is_denied: false,
+        });
+    };
+    match created(rt, alloc, path, beside.as_str())? {
+        Some(file) => {
+            let _ = remove_stale_files(rt, alloc, path, beside.as_str(), number);
+            Ok(Some((beside, file)))
+        }
+        None => Ok(None),
+    }
+}
+
 /// A new file beside the one with this path, and the new file's path.
 fn new_beside<F: Files>(
     rt: &F,
@@ -135,27 +174,8 @@ fn new_beside<F: Files>(
     path: &str,
 ) -> Result<(String, F::File), NoneBeside> {
     for number in 0..NAMES {
-        let beside = match unfinished_path(alloc, path, number) {
-            Ok(beside) => beside,
-            Err(refused) => {
-                return Err(NoneBeside {
-                    failure: Failure::from(refused),
-                    is_denied: false,
-                });
-            }
-        };
-        match File::create_new(rt, beside.as_str()) {
-            Ok(file) => {
-                let _ = remove_stale_files(rt, alloc, path, beside.as_str(), number);
-                return Ok((beside, file));
-            }
-            Err(error) if error.kind() == io::ErrorKind::AlreadyExists => {}
-            Err(error) => {
-                return Err(NoneBeside {
-                    failure: Failure::io(alloc, &error, path),
-                    is_denied: error.kind() == io::ErrorKind::PermissionDenied,
-                });
-            }
+        if let Some(found) = new_numbered(rt, alloc, path, number)? {
+            return Ok(found);
         }
     }
     Err(NoneBeside {

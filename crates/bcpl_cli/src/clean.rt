@@ -72,21 +72,26 @@ impl<W: Write + Drop> Clean<W> {
         self.is_terminal
     }
 
-    /// Writes a line of a message in colours, without its line feed.
-    fn write_parts(&mut self, parts: ColouredLine<'_>) -> io::Result<()> {
-        self.write_all(parts.before.as_bytes())?;
-        self.write_all(parts.gap.as_bytes())?;
+    /// Writes the part of a message's line that is in colour.
+    fn write_label(&mut self, parts: &ColouredLine<'_>) -> io::Result<()> {
         self.out.write_all(parts.colour)?;
         self.write_all(parts.label.as_bytes())?;
         self.write_all(parts.mark.as_bytes())?;
-        self.out.write_all(PLAIN)?;
+        self.out.write_all(PLAIN)
+    }
+
+    /// Writes a line of a message in colours, without its line feed.
+    fn write_parts(&mut self, parts: &ColouredLine<'_>) -> io::Result<()> {
+        self.write_all(parts.before.as_bytes())?;
+        self.write_all(parts.gap.as_bytes())?;
+        self.write_label(parts)?;
         self.write_all(parts.after.as_bytes())
     }
 
     /// Writes a line of a message in colours.
     fn write_line(&mut self, line: &str) -> io::Result<()> {
         match coloured(line) {
-            Some(parts) => self.write_parts(parts)?,
+            Some(parts) => self.write_parts(&parts)?,
             None => self.write_all(line.as_bytes())?,
         }
         self.write_all(b"\n")

@@ -1,12 +1,11 @@
 //! The files of a command. An output that would overwrite another of them is refused before anything is written.
 
-use crate::Failure;
 use crate::arguments::{
     Binding, BuildOrder, DebugOrder, ExplainOrder, ProgramOrder, RunOrder, STANDARD_OUTPUT,
 };
+use crate::failure::{Cause, Failure};
 use crate::file_identity::is_same_file;
 use crate::loaded_sources::LoadedSource;
-use bc_word::Memory;
 use std::alloc::Global;
 use std::rt::Files;
 
@@ -100,11 +99,14 @@ impl CommandFile<'_> {
     }
 }
 
-/// The files of a command: those that it reads, then those that it writes.
+/// The files of a command: those that it reads, then those that it writes. It remembers a failed allocation; once one has
+/// failed, `protect` fails.
 #[derive(Drop)]
 struct CommandFiles<'a> {
     alloc: Global,
     files: Vec<CommandFile<'a>>,
+    /// Whether an allocation failed.
+    is_refused: bool,
 }
 
 impl<'a> CommandFiles<'a> {
@@ -113,66 +115,61 @@ impl<'a> CommandFiles<'a> {
         CommandFiles {
             alloc,
             files: Vec::new(alloc),
+            is_refused: false,
+        }
+    }
+
+    /// Adds the file of a stream, or a file for GET. The name of another file is empty.
+    fn add_named(&mut self, path: &'a str, usage: FileUse, stream: &'a str) {
+        let file = CommandFile {
+            path,
+            usage,
+            stream,
+        };
+        if self.files.push(file).is_err() {
+            self.is_refused = true;
         }
     }
 
     /// Adds a file.
-    fn add(&mut self, path: &'a str, usage: FileUse) -> Result<(), Memory> {
-        let stream = "";
-        self.files.push(CommandFile {
-            path,
-            usage,
-            stream,
-        })?;
-        Ok(())
+    fn add(&mut self, path: &'a str, usage: FileUse) {
+        self.add_named(path, usage, "");
     }
 
     /// Adds files.
-    fn add_all(&mut self, paths: &[&'a str], usage: FileUse) -> Result<(), Memory> {
+    fn add_all(&mut self, paths: &[&'a str], usage: FileUse) {
         for path in paths {
-            self.add(*path, usage)?;
+            self.add(*path, usage);
         }
-        Ok(())
     }
 
     /// Adds the files of streams, or those for GET.
-    fn add_bindings(&mut self, bindings: &[Binding<'a>], usage: FileUse) -> Result<(), Memory> {
+    fn add_bindings(&mut self, bindings: &[Binding<'a>], usage: FileUse) {
         for binding in bindings {
             let Binding { name, path } = *binding;
-            self.files.push(CommandFile {
-                path,
-                usage,
-                stream: name,
-            })?;
+            self.add_named(path, usage, name);
         }
-        Ok(())
     }
 
     /// Adds the sources.
-    fn add_sources(&mut self, sources: &'a [LoadedSource]) -> Result<(), Memory> {
+    fn add_sources(&mut self, sources: &'a [LoadedSource]) {
         for source in sources {
-            self.add(source.path.as_str(), FileUse::Source)?;
+            self.add(source.path.as_str(), FileUse::Source);
         }
-        Ok(())
     }
 
     /// Adds the streams of a run.
-    fn add_streams(
-        &mut self,
-        inputs: &[Binding<'a>],
-        outputs: &[Binding<'a>],
-    ) -> Result<(), Memory> {
-        self.add_bindings(inputs, FileUse::Input)?;
-        self.add(STANDARD_INPUT, FileUse::StandardInput)?;
-        self.add(STANDARD_OUTPUT, FileUse::StandardOutput)?;
-        self.add_bindings(outputs, FileUse::Output)
+    fn add_streams(&mut self, inputs: &[Binding<'a>], outputs: &[Binding<'a>]) {
+        self.add_bindings(inputs, FileUse::Input);
+        self.add(STANDARD_INPUT, FileUse::StandardInput);
+        self.add(STANDARD_OUTPUT, FileUse::StandardOutput);
+        self.add_bindings(outputs, FileUse::Output);
     }
 
     /// Adds a file if there is one.
-    fn add_if_given(&mut self, path: Option<&'a str>, usage: FileUse) -> Result<(), Memory> {
-        match path {
-            Some(path) => self.add(path, usage),
-            None => Ok(()),
+    fn add_if_given(&mut self, path: Option<&'a str>, usage: FileUse) {
+        if let Some(path) = path {
+            self.add(path, usage);
         }
     }
 
@@ -191,8 +188,11 @@ impl<'a> CommandFiles<'a> {
         Ok(())
     }
 
-    /// Refuses an output that is the file of an earlier one, or a file that the command reads.
+    /// Refuses an output that is the file of an earlier one, or a file that the command reads. Fails if an allocation has failed.
     fn protect<F: Files>(&self, rt: &F) -> Result<(), Failure> {
+        if self.is_refused {
+            return Err(Failure::new(Cause::Memory));
+        }
         let files = self.files.as_slice();
         for (number, file) in files.iter().enumerate() {
             if file.usage.is_replaced() {
@@ -216,9 +216,9 @@ impl BuildOrder<'_> {
         sources: &[LoadedSource],
     ) -> Result<(), Failure> {
         let mut files = CommandFiles::new(alloc);
-        files.add_sources(sources)?;
-        files.add(self.out, FileUse::BuiltText)?;
-        files.add_if_given(self.certificate, FileUse::Certificate)?;
+        files.add_sources(sources);
+        files.add(self.out, FileUse::BuiltText);
+        files.add_if_given(self.certificate, FileUse::Certificate);
         files.protect(rt)
     }
 }
@@ -232,8 +232,8 @@ impl ExplainOrder<'_> {
         sources: &[LoadedSource],
     ) -> Result<(), Failure> {
         let mut files = CommandFiles::new(alloc);
-        files.add_sources(sources)?;
-        files.add_if_given(self.out, FileUse::Page)?;
+        files.add_sources(sources);
+        files.add_if_given(self.out, FileUse::Page);
         files.protect(rt)
     }
 }
@@ -248,11 +248,11 @@ impl DebugOrder<'_> {
         sources: &[LoadedSource],
     ) -> Result<(), Failure> {
         let mut files = CommandFiles::new(alloc);
-        files.add_sources(sources)?;
-        files.add_if_given(self.input, FileUse::Input)?;
-        files.add_if_given(self.script, FileUse::Script)?;
-        files.add_streams(self.inputs.as_slice(), self.outputs.as_slice())?;
-        files.add_if_given(self.out, FileUse::Page)?;
+        files.add_sources(sources);
+        files.add_if_given(self.input, FileUse::Input);
+        files.add_if_given(self.script, FileUse::Script);
+        files.add_streams(self.inputs.as_slice(), self.outputs.as_slice());
+        files.add_if_given(self.out, FileUse::Page);
         files.protect(rt)
     }
 }
@@ -267,8 +267,8 @@ impl ProgramOrder<'_> {
         sources: &[LoadedSource],
     ) -> Result<(), Failure> {
         let mut files = CommandFiles::new(alloc);
-        files.add_sources(sources)?;
-        files.add_streams(self.inputs.as_slice(), self.outputs.as_slice())?;
+        files.add_sources(sources);
+        files.add_streams(self.inputs.as_slice(), self.outputs.as_slice());
         files.protect(rt)
     }
 }
@@ -278,12 +278,12 @@ impl RunOrder<'_> {
     /// `BuildOrder::protect_files`.
     pub fn protect_files<F: Files>(&self, rt: &F, alloc: Global) -> Result<(), Failure> {
         let mut files = CommandFiles::new(alloc);
-        files.add_all(self.texts.as_slice(), FileUse::Text)?;
-        files.add_all(self.sources.files.as_slice(), FileUse::Source)?;
-        files.add_bindings(self.sources.gets.as_slice(), FileUse::Source)?;
-        files.add_streams(self.inputs.as_slice(), self.outputs.as_slice())?;
-        files.add_if_given(self.watch.trace, FileUse::Trace)?;
-        files.add_if_given(self.watch.profile, FileUse::Profile)?;
+        files.add_all(self.texts.as_slice(), FileUse::Text);
+        files.add_all(self.sources.files.as_slice(), FileUse::Source);
+        files.add_bindings(self.sources.gets.as_slice(), FileUse::Source);
+        files.add_streams(self.inputs.as_slice(), self.outputs.as_slice());
+        files.add_if_given(self.watch.trace, FileUse::Trace);
+        files.add_if_given(self.watch.profile, FileUse::Profile);
         files.protect(rt)
     }
 }

@@ -6,7 +6,7 @@ ghost use Rattle.bcpl_cli.specs.declared.failure.Cause.TheVariants as causes;
 
 use crate::escaped::Escaped;
 use crate::refusals::{
-    write_against, write_build, write_check, write_link, write_streams, write_text,
+    write_against, write_build, write_check, write_link, write_numbered, write_streams, write_text,
 };
 use bc_build::BuildError;
 use bc_cert::{CheckFault, Mismatch};
@@ -234,35 +234,36 @@ impl From<StreamsError> for Failure {
 /// Prints how a run ended.
 fn write_end<W: fmt::Write>(f: &mut fmt::Formatter<W>, end: End) -> fmt::Result {
     match end {
-        End::Finished => write!(f, "ended Finished"),
-        End::ZeroDivide => write!(f, "ended ZeroDivide"),
+        End::Finished => f.write_str("ended Finished"),
+        End::ZeroDivide => f.write_str("ended ZeroDivide"),
         End::BadInstruction(address) => {
-            let address = address.get();
-            write!(f, "ended BadInstruction {address}")
+            write_numbered(f, "ended BadInstruction", u64::from(address.get()))
         }
-        End::BudgetSpent => write!(f, "ended BudgetSpent"),
-        End::Device => write!(f, "ended Device"),
+        End::BudgetSpent => f.write_str("ended BudgetSpent"),
+        End::Device => f.write_str("ended Device"),
     }
 }
 
 /// Prints a wild access.
 fn write_wild<W: fmt::Write>(f: &mut fmt::Formatter<W>, wild: Wild) -> fmt::Result {
     match wild {
-        Wild::Unset(address) => write!(f, "wild 1 Unset {address}"),
-        Wild::Dead(address) => write!(f, "wild 2 Dead {address}"),
-        Wild::NoCell(address) => write!(f, "wild 3 NoCell {address}"),
-        Wild::NotRoutine(value) => write!(f, "wild 4 NotRoutine {value}"),
-        Wild::FrameTooLarge(cell) => write!(f, "wild 5 FrameTooLarge {cell}"),
+        Wild::Unset(address) => write_numbered(f, "wild 1 Unset", u64::from(address)),
+        Wild::Dead(address) => write_numbered(f, "wild 2 Dead", u64::from(address)),
+        Wild::NoCell(address) => write_numbered(f, "wild 3 NoCell", u64::from(address)),
+        Wild::NotRoutine(value) => write_numbered(f, "wild 4 NotRoutine", u64::from(value)),
+        Wild::FrameTooLarge(cell) => write_numbered(f, "wild 5 FrameTooLarge", cell),
     }
 }
 
 /// Prints an access that ends a strict run.
 fn write_strict<W: fmt::Write>(f: &mut fmt::Formatter<W>, strict: Strict) -> fmt::Result {
     match strict {
-        Strict::Outside(address) => write!(f, "strict 1 Outside {address}"),
-        Strict::NoGlobal(number) => write!(f, "strict 2 NoGlobal {number}"),
-        Strict::Constant(address) => write!(f, "strict 3 Constant {address}"),
-        Strict::UnsetGlobal(number) => write!(f, "strict 4 UnsetGlobal {number}"),
+        Strict::Outside(address) => write_numbered(f, "strict 1 Outside", u64::from(address)),
+        Strict::NoGlobal(number) => write_numbered(f, "strict 2 NoGlobal", u64::from(number)),
+        Strict::Constant(address) => write_numbered(f, "strict 3 Constant", u64::from(address)),
+        Strict::UnsetGlobal(number) => {
+            write_numbered(f, "strict 4 UnsetGlobal", u64::from(number))
+        }
     }
 }
 
@@ -281,20 +282,20 @@ impl fmt::Display for Failure {
         match &self.cause {
             Cause::Text(fault) => write_text(f, *fault),
             Cause::Build(fault) => write_build(f, fault),
-            Cause::Certificate => write!(f, "cert 2 Memory"),
+            Cause::Certificate => f.write_str("cert 2 Memory"),
             Cause::Check(fault) => write_check(f, *fault),
             Cause::Against(mismatch) => write_against(f, *mismatch),
             Cause::Link(fault) => write_link(f, *fault),
             Cause::Streams(fault) => write_streams(f, *fault),
             Cause::File(path) => write!(f, "file {path}"),
             Cause::Ended(end) => write_end(f, *end),
-            Cause::TurnsSpent => write!(f, "ended TurnsSpent"),
+            Cause::TurnsSpent => f.write_str("ended TurnsSpent"),
             Cause::Wild(wild) => write_wild(f, *wild),
             Cause::Strict(strict) => write_strict(f, *strict),
             Cause::Tame(number, name) => write!(f, "tame {number} {name}"),
-            Cause::ByHand(count) => write!(f, "convert 1 ByHand {count}"),
-            Cause::NotLaidOut(count) => write!(f, "format 1 NotLaidOut {count}"),
-            Cause::Memory => write!(f, "memory"),
+            Cause::ByHand(count) => write_numbered(f, "convert 1 ByHand", *count as u64),
+            Cause::NotLaidOut(count) => write_numbered(f, "format 1 NotLaidOut", *count as u64),
+            Cause::Memory => f.write_str("memory"),
         }
     }
 }

@@ -95,6 +95,26 @@ fn is_same_name(one: &Option<String>, other: &Option<String>) -> bool {
     }
 }
 
+/// Whether two files are the same.
+fn is_same(one: &FileIdentity, other: &FileIdentity) -> bool {
+    one.device == other.device
+        && one.inode == other.inode
+        && is_same_name(&one.absent, &other.absent)
+}
+
+/// Whether this path leads to that file.
+fn leads_to<F: Files>(
+    rt: &F,
+    alloc: Global,
+    path: &str,
+    file: &FileIdentity,
+) -> Result<bool, Memory> {
+    match identity_of(rt, alloc, path)? {
+        Some(found) => Ok(is_same(&found, file)),
+        None => Ok(false),
+    }
+}
+
 /// Whether two paths lead to the same regular file, by whatever spelling or link, also if it doesn't exist yet.
 /// `Memory` if an allocation fails.
 pub fn is_same_file<F: Files>(
@@ -103,15 +123,8 @@ pub fn is_same_file<F: Files>(
     one: &str,
     other: &str,
 ) -> Result<bool, Memory> {
-    let Some(one) = identity_of(rt, alloc, one)? else {
-        return Ok(false);
-    };
-    let Some(other) = identity_of(rt, alloc, other)? else {
-        return Ok(false);
-    };
-    Ok(
-        one.device == other.device
-            && one.inode == other.inode
-            && is_same_name(&one.absent, &other.absent),
-    )
+    match identity_of(rt, alloc, one)? {
+        Some(file) => leads_to(rt, alloc, other, &file),
+        None => Ok(false),
+    }
 }

@@ -108,22 +108,32 @@ impl<'p, W: Write + Drop> FilePair<'p, W> {
         links: Links,
     ) -> Result<FilePair<'p, W>, Failure> {
         let first = AtomicFile::open(rt, alloc, paths.0, links)?;
-        let second = match AtomicFile::open(rt, alloc, paths.1, links) {
-            Ok(second) => second,
+        match AtomicFile::open(rt, alloc, paths.1, links) {
+            Ok(second) => {
+                let pair = FilePair {
+                    first,
+                    second,
+                    paths,
+                };
+                pair.started(rt, alloc)
+            }
             Err(failure) => {
                 first.abandon(rt);
-                return Err(failure);
+                Err(failure)
             }
-        };
-        let pair = FilePair {
-            first,
-            second,
-            paths,
-        };
-        match pair.start(rt, alloc) {
-            Ok(()) => Ok(pair),
+        }
+    }
+
+    /// This pair, after `start`. If that fails, the unfinished files are removed.
+    fn started<F: Files<File = W>>(
+        self,
+        rt: &F,
+        alloc: Global,
+    ) -> Result<FilePair<'p, W>, Failure> {
+        match self.start(rt, alloc) {
+            Ok(()) => Ok(self),
             Err(failure) => {
-                pair.abandon(rt);
+                self.abandon(rt);
                 Err(failure)
             }
         }
@@ -150,22 +160,27 @@ impl<'p, W: Write + Drop> FilePair<'p, W> {
 
     /// Gives both files their names. If the second can't be given its name, the first is restored.
     fn put<F: Files>(&self, rt: &F, alloc: Global) -> Result<(), Failure> {
-        let (first, second) = self.paths;
-        let earlier = Earlier::of(rt, alloc, &self.first, first)?;
-        if let Err(failure) = self.first.put(rt, alloc, first) {
-            earlier.forget(rt);
-            return Err(failure);
-        }
-        match self.second.put(rt, alloc, second) {
-            Ok(()) => {
-                earlier.forget(rt);
-                Ok(())
-            }
+        let (path, _) = self.paths;
+        let earlier = Earlier::of(rt, alloc, &self.first, path)?;
+        match self.first.put(rt, alloc, path) {
+            Ok(()) => self.put_second(rt, alloc, earlier),
             Err(failure) => {
-                earlier.restore(rt, first);
+                earlier.forget(rt);
                 Err(failure)
             }
         }
+    }
+
+    /// Gives the second file its name. If that fails, the first path gets back what it had earlier.
+    fn put_second<F: Files>(&self, rt: &F, alloc: Global, earlier: Earlier) -> Result<(), Failure> {
+        let (first, second) = self.paths;
+        let done = self.second.put(rt, alloc, second);
+        if done.is_ok() {
+            earlier.forget(rt);
+        } else {
+            earlier.restore(rt, first);
+        }
+        done
     }
 
     /// Completes both files and gives them their names. Fails if one of them can't be flushed or renamed; the other is

@@ -3,6 +3,7 @@
 use crate::Failure;
 use crate::escaped::Escaped;
 use crate::file_kinds::{FileKind, file_kind};
+use bc_word::Memory;
 use std::alloc::Global;
 
 /// What is expected where a file was named.
@@ -26,8 +27,67 @@ pub fn without_extension(path: &str) -> &str {
     }
 }
 
-/// A hint for a file with this path and content that looks like something other than `parse_arguments`: what it looks like,
-/// and which command accepts it. `None` if it looks as expected, or like nothing known.
+/// What a file of this kind looks like where something else is expected, and which command accepts it. `@` means its path,
+/// and `#` its path without the extension. `None` if it looks as expected.
+fn template_of(kind: FileKind, expected: Expected) -> Option<&'static str> {
+    match (kind, expected) {
+        (FileKind::Wide, _) => Some(
+            "@ begins with a UTF-16 byte order mark: save it as plain text, in ASCII or UTF-8",
+        ),
+        (FileKind::Returns, Expected::Source) => Some(
+            "@ has carriage returns and no line feeds, so it counts as one line: save it with line feeds",
+        ),
+        (FileKind::Source | FileKind::Returns, Expected::Command) => Some(
+            "@ looks like BCPL source: `bcpl go @` builds and runs it, `bcpl build @ -o #.int` makes a text for `bcpl run`",
+        ),
+        (FileKind::Source | FileKind::Returns, Expected::Text) => Some(
+            "@ looks like BCPL source: `bcpl build @ -o #.int` makes a text for `bcpl run`, `bcpl interpret @` runs it directly",
+        ),
+        (FileKind::Source | FileKind::Returns, Expected::Certificate) => Some(
+            "@ looks like BCPL source: `bcpl build @ -o #.int --cert #.cert` builds it with a certificate",
+        ),
+        (FileKind::Text, Expected::Source | Expected::Command) => {
+            Some("@ looks like INTCODE text: `bcpl run --steps 1000000 @` runs it")
+        }
+        (FileKind::Text, Expected::Certificate) => Some(
+            "@ looks like INTCODE text: the certificate comes before it, as in `bcpl check CERT @`",
+        ),
+        (FileKind::Certificate, Expected::Source | Expected::Text | Expected::Command) => {
+            Some("@ looks like a certificate: `bcpl check @` checks it")
+        }
+        (FileKind::Source, Expected::Source)
+        | (FileKind::Text, Expected::Text)
+        | (FileKind::Certificate, Expected::Certificate) => None,
+    }
+}
+
+/// Adds a part of a template, with this path for each `#`.
+fn add_part(text: &mut String, part: &str, bare: Escaped<'_>) -> Result<(), Memory> {
+    for (index, piece) in part.split('#').enumerate() {
+        if index > 0 {
+            write!(text, "{bare}")?;
+        }
+        text.push_str(piece)?;
+    }
+    Ok(())
+}
+
+/// A template with this path for each `@`, and without its extension for each `#`.
+fn filled(alloc: Global, template: &str, path: &str) -> Result<String, Memory> {
+    let bare = Escaped(without_extension(path));
+    let path = Escaped(path);
+    let mut text = String::new(alloc);
+    for (index, part) in template.split('@').enumerate() {
+        if index > 0 {
+            write!(text, "{path}")?;
+        }
+        add_part(&mut text, part, bare)?;
+    }
+    Ok(text)
+}
+
+/// A hint for a file with this path and content that looks like something other than expected: what it looks like, and
+/// which command accepts it. `None` if it looks as expected, or like nothing known.
 ///
 /// # Errors
 ///
@@ -38,40 +98,12 @@ pub fn hint(
     path: &str,
     bytes: &[u8],
 ) -> Result<Option<String>, Failure> {
-    let bare = Escaped(without_extension(path));
-    let path = Escaped(path);
-    Ok(match (file_kind(bytes), expected) {
-        (Some(FileKind::Wide), _) => Some(format!(in alloc;
-            "{path} begins with a UTF-16 byte order mark: save it as plain text, in ASCII or UTF-8"
-        )?),
-        (Some(FileKind::Returns), Expected::Source) => Some(format!(in alloc;
-            "{path} has carriage returns and no line feeds, so it counts as one line: save it with line feeds"
-        )?),
-        (Some(FileKind::Source | FileKind::Returns), Expected::Command) => Some(format!(in alloc;
-            "{path} looks like BCPL source: `bcpl go {path}` builds and runs it, `bcpl build {path} -o {bare}.int` makes a text for `bcpl run`"
-        )?),
-        (Some(FileKind::Source | FileKind::Returns), Expected::Text) => Some(format!(in alloc;
-            "{path} looks like BCPL source: `bcpl build {path} -o {bare}.int` makes a text for `bcpl run`, `bcpl interpret {path}` runs it directly"
-        )?),
-        (Some(FileKind::Source | FileKind::Returns), Expected::Certificate) => Some(
-            format!(in alloc;
-                "{path} looks like BCPL source: `bcpl build {path} -o {bare}.int --cert {bare}.cert` builds it with a certificate"
-            )?,
-        ),
-        (Some(FileKind::Text), Expected::Source | Expected::Command) => Some(format!(in alloc;
-            "{path} looks like INTCODE text: `bcpl run --steps 1000000 {path}` runs it"
-        )?),
-        (Some(FileKind::Text), Expected::Certificate) => Some(format!(in alloc;
-            "{path} looks like INTCODE text: the certificate comes before it, as in `bcpl check CERT {path}`"
-        )?),
-        (Some(FileKind::Certificate), Expected::Source | Expected::Text | Expected::Command) => {
-            Some(format!(in alloc;
-                "{path} looks like a certificate: `bcpl check {path}` checks it"
-            )?)
-        }
-        (Some(FileKind::Source), Expected::Source)
-        | (Some(FileKind::Text), Expected::Text)
-        | (Some(FileKind::Certificate), Expected::Certificate)
-        | (None, _) => None,
-    })
+    let template = match file_kind(bytes) {
+        Some(kind) => template_of(kind, expected),
+        None => None,
+    };
+    match template {
+        Some(template) => Ok(Some(filled(alloc, template, path)?)),
+        None => Ok(None),
+    }
 }

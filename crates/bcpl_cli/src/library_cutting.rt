@@ -119,6 +119,20 @@ fn lean_text(
     Ok(lean)
 }
 
+/// Marks the definitions that are reached from these sources, and those that the sources replace.
+fn mark(definitions: &mut [Definition<'_>], sources: &[&[u8]]) {
+    for source in sources {
+        reach_all(definitions, source);
+    }
+    for source in sources {
+        replace_routines(definitions, source);
+    }
+    for source in sources {
+        keep_numbered(definitions, source);
+    }
+    reach_further(definitions);
+}
+
 /// The texts of these libraries with only the definitions that the sources can reach by name: those whose names are in
 /// a source, in a comment or a string too, and those whose names are in a definition that is kept. What comes before
 /// the first definition is kept. A routine of a source replaces the library's of the same name, unless a source declares
@@ -129,16 +143,7 @@ pub fn lean_libraries(
     sources: &[&[u8]],
 ) -> Result<Vec<String>, Memory> {
     let mut definitions = definitions_of(alloc, libraries)?;
-    for source in sources {
-        reach_all(definitions.as_mut_slice(), source);
-    }
-    for source in sources {
-        replace_routines(definitions.as_mut_slice(), source);
-    }
-    for source in sources {
-        keep_numbered(definitions.as_mut_slice(), source);
-    }
-    reach_further(definitions.as_mut_slice());
+    mark(definitions.as_mut_slice(), sources);
     let mut lean = Vec::new(alloc);
     for (library, text) in libraries.iter().enumerate() {
         lean.push(lean_text(alloc, library, text, definitions.as_slice())?)?;

@@ -23,6 +23,16 @@ pub struct LoadedSource {
     pub text: Vec<u8>,
 }
 
+/// A source with this content.
+fn loaded(alloc: Global, name: &str, path: &str, text: Vec<u8>) -> Result<LoadedSource, Memory> {
+    Ok(LoadedSource {
+        name: String::from_str(alloc, name)?,
+        path: String::from_str(alloc, path)?,
+        shown: shown_path(alloc, path)?,
+        text,
+    })
+}
+
 /// Reads a source from the file with this path, and adds it.
 fn add_source<F: Files>(
     rt: &F,
@@ -32,13 +42,7 @@ fn add_source<F: Files>(
     path: &str,
 ) -> Result<(), Failure> {
     let text = contents(rt, alloc, path)?;
-    sources.push(LoadedSource {
-        name: String::from_str(alloc, name)?,
-        path: String::from_str(alloc, path)?,
-        shown: shown_path(alloc, path)?,
-        text,
-    })?;
-    Ok(())
+    Ok(sources.push(loaded(alloc, name, path, text)?)?)
 }
 
 /// Whether GET finds a source with this name.

@@ -1,16 +1,16 @@
 //! The command `convert`: reads the sources, converts them, writes them and reports what must be done by hand.
 
 use crate::job::{Job, Target, write_job};
-use crate::lawful::{Given, lawful_files};
+use crate::lawful::Given;
 use crate::protected_files::spare;
+use crate::rounds::{
+    Converted, MOST_ROUNDS, Round, Shown, compiled_texts, first_round, further_round, lawful_in,
+    may_change_any, needs_another_round, texts_up_to_here,
+};
 use crate::summary::{add_told, told_of};
-use bc_convert::{
-    Header, Lawful, NameList, OldNames, Options, Program, SharedNames, System, compiled_text,
-    convert, renamings,
-};
-use bcpl_cli::{
-    Cause, ConvertDialect, ConvertHeader, ConvertOrder, Escaped, Failure, Places, contents,
-};
+use bc_convert::{Lawful, NameList, OldNames, renamings};
+use bc_word::Memory;
+use bcpl_cli::{Cause, ConvertOrder, Escaped, Failure, Places, contents};
 use std::alloc::Global;
 use std::fs;
 use std::io::Write;
@@ -97,109 +97,109 @@ fn texts_of<F: Files>(
     Ok(texts)
 }
 
-/// What the sources show together; `None` if there is no source.
-///
-/// # Errors
-///
-/// Fails if an allocation fails.
-pub fn program_of(
-    alloc: Global,
-    texts: &[Vec<u8>],
-    library: &OldNames<'_>,
-) -> Result<Option<Program>, Failure> {
-    let mut whole: Option<Program> = None;
-    for text in texts {
-        let program = Program::of(alloc, text.as_slice(), library)?;
-        whole = Some(match whole {
-            Some(whole) => whole.with(program),
-            None => program,
-        });
-    }
-    Ok(whole)
-}
-
-/// The names that these sources share: none if there is only one source.
-///
-/// # Errors
-///
-/// Fails if an allocation fails.
-pub fn shared_by(alloc: Global, texts: &[Vec<u8>]) -> Result<SharedNames, Failure> {
-    let mut shared = SharedNames::new(alloc);
-    if texts.len() < 2 {
-        return Ok(shared);
-    }
-    for text in texts {
-        shared.add(alloc, text.as_slice())?;
-    }
-    Ok(shared)
-}
-
-/// The system for which the sources were written.
-fn system_of(dialect: ConvertDialect) -> Option<System> {
-    match dialect {
-        ConvertDialect::Shown => None,
-        ConvertDialect::Of1967 => Some(System::Of1967),
-        ConvertDialect::Of1979 => Some(System::Of1979),
-        ConvertDialect::Alto => Some(System::Alto),
-    }
-}
-
-/// How sources are converted that show this program together, and of which none is known to build as it is.
-pub fn options_of<'o, 'd>(
-    order: &'d ConvertOrder<'_>,
-    library: &'o OldNames<'o>,
-    program: Option<Program>,
-) -> Options<'o, 'd> {
-    Options {
-        library,
-        header: match order.header {
-            ConvertHeader::Basic => Some(Header::Basic),
-            ConvertHeader::Further => Some(Header::Further),
-            ConvertHeader::Needed => None,
-        },
-        program,
-        lawful: Lawful::No,
-        system: system_of(order.dialect),
-        shared: None,
-        defines: order.defines.as_slice(),
-    }
-}
-
-/// These texts without the parts that conditional compilation leaves out.
-///
-/// # Errors
-///
-/// Fails if an allocation fails.
-pub fn compiled_texts(
+/// For each of these texts of the sources whether it builds as it is.
+fn lawful_texts<F: Files>(
+    rt: &F,
     alloc: Global,
     order: &ConvertOrder<'_>,
     texts: &[Vec<u8>],
-) -> Result<Vec<Vec<u8>>, Failure> {
-    let mut compiled = Vec::new(alloc);
-    for text in texts {
-        compiled.push(compiled_text(alloc, text.as_slice(), order.defines.as_slice())?)?;
-    }
-    Ok(compiled)
+    round: Round<'_>,
+) -> Result<Vec<Lawful>, Memory> {
+    let given = Given {
+        paths: order.files.as_slice(),
+        texts,
+    };
+    lawful_in(rt, alloc, given, round)
 }
 
-/// The conversion of each source, and where it goes. Files that `lawful` doesn't have need a conversion.
+/// What these texts show together.
+fn shown_by(
+    alloc: Global,
+    texts: &[Vec<u8>],
+    library: &OldNames<'_>,
+    round: Round<'_>,
+) -> Result<Shown, Memory> {
+    let compiled = compiled_texts(alloc, round.defines, texts)?;
+    Shown::by(alloc, compiled.as_slice(), library)
+}
+
+/// The conversions of these texts in the first round.
+fn converted_first<F: Files>(
+    rt: &F,
+    alloc: Global,
+    order: &ConvertOrder<'_>,
+    library: &OldNames<'_>,
+    texts: &[Vec<u8>],
+) -> Result<Vec<Converted>, Memory> {
+    let round = Round::first(order);
+    let shown = shown_by(alloc, texts, library, round)?;
+    let lawful = lawful_texts(rt, alloc, order, texts, round)?;
+    first_round(
+        alloc,
+        texts,
+        lawful.as_slice(),
+        shown.options(round, library),
+    )
+}
+
+/// Converts the texts once more. Returns whether that changes one.
+fn convert_again<F: Files>(
+    rt: &F,
+    alloc: Global,
+    order: &ConvertOrder<'_>,
+    library: &OldNames<'_>,
+    converted: &mut [Converted],
+) -> Result<bool, Memory> {
+    let round = Round::first(order).next();
+    let texts = texts_up_to_here(alloc, converted)?;
+    let lawful = lawful_texts(rt, alloc, order, texts.as_slice(), round)?;
+    if !may_change_any(lawful.as_slice()) {
+        return Ok(false);
+    }
+    let shown = shown_by(alloc, texts.as_slice(), library, round)?;
+    further_round(
+        alloc,
+        converted,
+        lawful.as_slice(),
+        shown.options(round, library),
+    )
+}
+
+/// The conversions of these texts, in as many rounds as change something.
+fn converted_in_rounds<F: Files>(
+    rt: &F,
+    alloc: Global,
+    order: &ConvertOrder<'_>,
+    library: &OldNames<'_>,
+    texts: &[Vec<u8>],
+) -> Result<Vec<Converted>, Memory> {
+    let mut converted = converted_first(rt, alloc, order, library, texts)?;
+    if !needs_another_round(Round::first(order), converted.as_slice()) {
+        return Ok(converted);
+    }
+    for _ in 0..MOST_ROUNDS {
+        if !convert_again(rt, alloc, order, library, converted.as_mut_slice())? {
+            break;
+        }
+    }
+    Ok(converted)
+}
+
+/// The conversion of each source, and where it goes.
 fn jobs_of<'a>(
     alloc: Global,
     order: &ConvertOrder<'a>,
     texts: Vec<Vec<u8>>,
-    lawful: &[Lawful],
-    options: Options<'_, '_>,
+    all: Vec<Converted>,
 ) -> Result<Vec<Job<'a>>, Failure> {
     let mut jobs = Vec::new(alloc);
-    for (index, (file, old)) in order.files.iter().zip(texts).enumerate() {
-        let lawful = lawful.get(index).copied().unwrap_or(Lawful::No);
-        let options = Options { lawful, ..options };
-        let conversion = convert(alloc, old.as_slice(), options)?;
-        let to = Target::of(alloc, order.to, file, &conversion)?;
+    for ((file, old), converted) in order.files.iter().zip(texts).zip(all) {
+        let is_changed = old.as_slice() != converted.text();
+        let to = Target::of(alloc, order.to, file, is_changed)?;
         jobs.push(Job {
             file,
             old,
-            conversion,
+            converted,
             to,
             links: order.links,
         })?;
@@ -212,7 +212,7 @@ fn tell_jobs(alloc: Global, order: &ConvertOrder<'_>, jobs: &[Job<'_>]) -> Resul
     let mut count: usize = 0;
     let mut told = String::new(alloc);
     for job in jobs {
-        let complaints = job.conversion.complaints.as_slice();
+        let complaints = job.converted.conversion.complaints.as_slice();
         count = count.saturating_add(complaints.len());
         add_told(
             alloc,
@@ -238,22 +238,8 @@ fn convert_with<F: Files, O: Write + Drop>(
     out: &mut O,
 ) -> Result<(), Failure> {
     let texts = texts_of(rt, alloc, order)?;
-    let compiled = compiled_texts(alloc, order, texts.as_slice())?;
-    let program = program_of(alloc, compiled.as_slice(), library)?;
-    let shared = shared_by(alloc, compiled.as_slice())?;
-    let options = Options {
-        shared: Some(&shared),
-        ..options_of(order, library, program)
-    };
-    let given = Given {
-        paths: order.files.as_slice(),
-        texts: texts.as_slice(),
-    };
-    let lawful = match options.system {
-        None => lawful_files(rt, alloc, given, options.header.is_some())?,
-        Some(_) => Vec::new(alloc),
-    };
-    let jobs = jobs_of(alloc, order, texts, lawful.as_slice(), options)?;
+    let converted = converted_in_rounds(rt, alloc, order, library, texts.as_slice())?;
+    let jobs = jobs_of(alloc, order, texts, converted)?;
     spare(rt, alloc, order, jobs.as_slice())?;
     for job in &jobs {
         write_job(rt, alloc, job, out)?;

@@ -1,6 +1,6 @@
 //! One source of the command: its conversion, and where that goes.
 
-use bc_convert::Conversion;
+use crate::rounds::Converted;
 use bcpl_cli::{AtomicFile, ConvertTo, Failure, Links};
 use std::alloc::{AllocError, Global};
 use std::io::Write;
@@ -23,12 +23,12 @@ pub enum Target {
 }
 
 impl Target {
-    /// Where the conversion of a file goes.
+    /// Where the conversion of a file goes, which changes it or doesn't.
     pub fn of(
         alloc: Global,
         to: ConvertTo<'_>,
         file: &str,
-        conversion: &Conversion,
+        is_changed: bool,
     ) -> Result<Target, AllocError> {
         match to {
             ConvertTo::Standard => Ok(Target::Standard),
@@ -37,8 +37,10 @@ impl Target {
                 let name = name_of(file);
                 Ok(Target::File(format!(in alloc; "{folder}/{name}")?))
             }
-            ConvertTo::Source if conversion.replacements.is_empty() => Ok(Target::Nowhere),
-            ConvertTo::Source => Ok(Target::Place(format!(in alloc; "{file}{KEPT}")?)),
+            ConvertTo::Source if is_changed => Ok(Target::Place(format!(in alloc;
+                "{file}{KEPT}"
+            )?)),
+            ConvertTo::Source => Ok(Target::Nowhere),
         }
     }
 }
@@ -55,7 +57,7 @@ pub struct Job<'a> {
     pub file: &'a str,
     /// The old text.
     pub old: Vec<u8>,
-    pub conversion: Conversion,
+    pub converted: Converted,
     pub to: Target,
     /// What happens to further names of the target.
     pub links: Links,
@@ -113,7 +115,7 @@ pub fn write_job<F: Files, O: Write + Drop>(
     job: &Job<'_>,
     out: &mut O,
 ) -> Result<(), Failure> {
-    let text = job.conversion.text.as_slice();
+    let text = job.converted.text();
     match &job.to {
         Target::Standard => print(alloc, text, out),
         Target::File(path) => write_file(rt, alloc, path.as_str(), job.links, text),

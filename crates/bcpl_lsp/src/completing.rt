@@ -2,13 +2,14 @@
 
 use crate::described::{call_of, library_text, noun, shown};
 use crate::document::{Document, tokens_before};
+use crate::json_values::{JsonArray, JsonObject};
 use crate::library_routines::{LibraryRoutine, library_routine};
 use crate::names::Sort;
 use crate::scanned::{ScannedName, is_symbol, names_at_end, parameters_after, symbol_of};
 use bc_lex_tokens::{Symbol, Token, TokenKind};
 use bc_word::Memory;
 use indexmap::IndexSet;
-use serde_json::{Value, json};
+use serde_json::Value;
 use std::alloc::Global;
 
 /// The reserved words.
@@ -116,13 +117,28 @@ fn routine_at(tokens: &[Token<'_>], scanned: ScannedName, name: &str) -> Option<
 fn library_item(alloc: Global, routine: &LibraryRoutine) -> Result<Value, Memory> {
     let call = call_of(alloc, routine)?;
     let said = library_text(alloc, routine)?;
-    let value = json!(in alloc; {
-        "label": routine.name,
-        "kind": 3,
-        "detail": call,
-        "documentation": said
-    })?;
-    Ok(value)
+    let mut object = JsonObject::new(alloc);
+    object.add_text("label", routine.name);
+    object.add_number("kind", 3);
+    object.add_text("detail", call.as_str());
+    object.add_text("documentation", said.as_str());
+    object.finish()
+}
+
+/// The parameters that the source declares after a name, as they are written.
+fn parameters_of<'d>(
+    document: &'d Document,
+    tokens: &[Token<'_>],
+    scanned: ScannedName,
+) -> &'d str {
+    let text = match tokens.get(scanned.token) {
+        Some(token) => match document.file(token.file) {
+            Some(file) => file.text.as_slice(),
+            None => b"",
+        },
+        None => b"",
+    };
+    shown(parameters_after(tokens, scanned.token, text))
 }
 
 /// The proposal of a name that the source declares.
@@ -135,22 +151,14 @@ fn own_item(
 ) -> Result<Value, Memory> {
     let mut detail = String::from_str(alloc, noun(scanned.sort))?;
     if scanned.sort == Sort::Routine {
-        let text = match tokens.get(scanned.token) {
-            Some(token) => match document.file(token.file) {
-                Some(file) => file.text.as_slice(),
-                None => b"",
-            },
-            None => b"",
-        };
-        let parameters = shown(parameters_after(tokens, scanned.token, text));
+        let parameters = parameters_of(document, tokens, scanned);
         write!(detail, " {name}({parameters})")?;
     }
-    let value = json!(in alloc; {
-        "label": name,
-        "kind": item_kind(scanned.sort),
-        "detail": detail
-    })?;
-    Ok(value)
+    let mut object = JsonObject::new(alloc);
+    object.add_text("label", name);
+    object.add_number("kind", item_kind(scanned.sort));
+    object.add_text("detail", detail.as_str());
+    object.finish()
 }
 
 /// The proposal of a name in scope.
@@ -169,7 +177,7 @@ fn name_item(
 
 /// Adds the names in scope, each once, the innermost first.
 fn add_names(
-    list: &mut Vec<Value>,
+    list: &mut JsonArray,
     alloc: Global,
     document: &Document,
     tokens: &[Token<'_>],
@@ -181,18 +189,25 @@ fn add_names(
             && met.insert(token.text)?
         {
             let name = shown(token.text);
-            list.push(name_item(alloc, document, tokens, *scanned, name)?)?;
+            list.add(name_item(alloc, document, tokens, *scanned, name));
         }
     }
     Ok(())
 }
 
+/// The proposal of a reserved word.
+fn word_item(alloc: Global, word: &str) -> Result<Value, Memory> {
+    let mut object = JsonObject::new(alloc);
+    object.add_text("label", word);
+    object.add_number("kind", 14);
+    object.finish()
+}
+
 /// Adds the reserved words.
-fn add_words(list: &mut Vec<Value>, alloc: Global) -> Result<(), Memory> {
+fn add_words(list: &mut JsonArray, alloc: Global) {
     for word in WORDS.iter() {
-        list.push(json!(in alloc; {"label": *word, "kind": 14})?)?;
+        list.add(word_item(alloc, word));
     }
-    Ok(())
 }
 
 /// The answer to `textDocument/completion`. Nothing is proposed in strings, comments and numbers. Returns `Memory` if an
@@ -204,13 +219,13 @@ pub fn completion(alloc: Global, document: &Document, offset: usize) -> Result<V
         None => false,
     };
     let tokens = tokens_before(alloc, document.files.as_slice(), start)?;
-    let mut list = Vec::new(alloc);
+    let mut list = JsonArray::new(alloc);
     let is_begun = tokens.is_empty() && !is_blank(document.text(), start);
     if !is_number && !is_begun {
         add_names(&mut list, alloc, document, tokens.as_slice())?;
-        add_words(&mut list, alloc)?;
+        add_words(&mut list, alloc);
     }
-    Ok(Value::from(list))
+    list.finish()
 }
 
 /// Whether a text has only white space before an offset.
@@ -263,6 +278,25 @@ fn scanned_named(tokens: &[Token<'_>], names: &[ScannedName], name: &[u8]) -> Op
     None
 }
 
+/// A parameter of a signature.
+fn parameter_item(alloc: Global, parameter: &str) -> Result<Value, Memory> {
+    let mut object = JsonObject::new(alloc);
+    object.add_text("label", parameter);
+    object.finish()
+}
+
+/// The parameters of a signature. `parameters` has their names with commas.
+fn parameter_list(alloc: Global, parameters: &str) -> JsonArray {
+    let mut list = JsonArray::new(alloc);
+    for parameter in parameters.split(',') {
+        let parameter = parameter.trim();
+        if !parameter.is_empty() {
+            list.add(parameter_item(alloc, parameter));
+        }
+    }
+    list
+}
+
 /// A signature, as the protocol has it. `parameters` has the names with commas.
 fn signature(
     alloc: Global,
@@ -272,21 +306,45 @@ fn signature(
     commas: u64,
 ) -> Result<Value, Memory> {
     let label = format!(in alloc; "{name}({parameters})")?;
-    let mut list = Vec::new(alloc);
-    for parameter in parameters.split(',') {
-        let parameter = parameter.trim();
-        if !parameter.is_empty() {
-            list.push(json!(in alloc; {"label": parameter})?)?;
-        }
-    }
+    let list = parameter_list(alloc, parameters);
     let last = (list.len() as u64).saturating_sub(1);
-    let parameters = Value::from(list);
-    let value = json!(in alloc; {
-        "signatures": [{"label": label, "documentation": said, "parameters": parameters}],
-        "activeSignature": 0,
-        "activeParameter": commas.min(last)
-    })?;
-    Ok(value)
+    let mut signature = JsonObject::new(alloc);
+    signature.add_text("label", label.as_str());
+    signature.add_text("documentation", said);
+    signature.add("parameters", list.finish());
+    let mut signatures = JsonArray::new(alloc);
+    signatures.add(signature.finish());
+    let mut object = JsonObject::new(alloc);
+    object.add("signatures", signatures.finish());
+    object.add_number("activeSignature", 0);
+    object.add_number("activeParameter", commas.min(last));
+    object.finish()
+}
+
+/// The newest declaration of a name before the end of these tokens, if there is one.
+fn declaration_of(
+    alloc: Global,
+    tokens: &[Token<'_>],
+    name: &[u8],
+) -> Result<Option<ScannedName>, Memory> {
+    let names = names_at_end(alloc, tokens)?;
+    Ok(scanned_named(tokens, names.as_slice(), name))
+}
+
+/// The signature of a library's routine.
+fn library_signature(
+    alloc: Global,
+    routine: &LibraryRoutine,
+    commas: u64,
+) -> Result<Value, Memory> {
+    let said = library_text(alloc, routine)?;
+    signature(
+        alloc,
+        routine.name,
+        routine.parameters,
+        said.as_str(),
+        commas,
+    )
 }
 
 /// The signature of the routine that a name declares; null if it isn't known.
@@ -299,27 +357,17 @@ fn signature_of(
     let Some(token) = tokens.get(call.name) else {
         return Ok(Value::Null);
     };
-    let name = shown(token.text);
-    let names = names_at_end(alloc, tokens)?;
-    let Some(scanned) = scanned_named(tokens, names.as_slice(), token.text) else {
+    let Some(scanned) = declaration_of(alloc, tokens, token.text)? else {
         return Ok(Value::Null);
     };
+    let name = shown(token.text);
     if let Some(routine) = routine_at(tokens, scanned, name) {
-        let said = library_text(alloc, &routine)?;
-        return signature(alloc, name, routine.parameters, said.as_str(), call.commas);
+        return library_signature(alloc, &routine, call.commas);
     }
-    let declared = match tokens.get(scanned.token) {
-        Some(declared) => declared.file,
-        None => 0,
-    };
-    let text = match document.file(declared) {
-        Some(file) => file.text.as_slice(),
-        None => b"",
-    };
     if !is_symbol(tokens, scanned.token.saturating_add(1), Symbol::OpenBracket) {
         return Ok(Value::Null);
     }
-    let parameters = shown(parameters_after(tokens, scanned.token, text));
+    let parameters = parameters_of(document, tokens, scanned);
     signature(alloc, name, parameters, "", call.commas)
 }
 

@@ -213,23 +213,34 @@ fn add_stretch(
     Ok(())
 }
 
-/// Adds how many words the code of a root takes.
-fn add_cost(
-    text: &mut String,
-    document: &Document,
+/// A root at its place in a document.
+#[derive(Clone, Copy)]
+struct PlacedRoot {
+    /// The stretch of its address, if it is an assignment.
     address: Option<(usize, usize)>,
+    /// That of its value.
     value: (usize, usize),
+    /// How many words its code takes.
     words: u64,
-) -> Result<(), Memory> {
-    text.push_str("The code of `")?;
-    if let Some(address) = address {
+}
+
+/// Adds a root as the document has it.
+fn add_root(text: &mut String, document: &Document, root: PlacedRoot) -> Result<(), Memory> {
+    if let Some(address) = root.address {
         add_stretch(text, document, address)?;
         text.push_str(" := ")?;
     }
-    add_stretch(text, document, value)?;
+    add_stretch(text, document, root.value)
+}
+
+/// How many words the code of a root takes.
+fn cost_text(alloc: Global, document: &Document, root: PlacedRoot) -> Result<String, Memory> {
+    let words = root.words;
     let unit = if words == 1 { "word" } else { "words" };
+    let mut text = String::from_str(alloc, "The code of `")?;
+    add_root(&mut text, document, root)?;
     write!(text, "` takes {words} {unit}.")?;
-    Ok(())
+    Ok(text)
 }
 
 /// The offset at which the part of a root begins that is nearest before this offset, or at it.
@@ -272,14 +283,41 @@ fn near(costs: &[Cost], offset: usize) -> [Option<Cost>; 2] {
     [before, after]
 }
 
-/// What is said of the code of the expression, test or assignment at an offset; empty if none is there, or if the document
-/// can't be built. Returns `Memory` if an allocation fails.
-pub fn cost_at(alloc: Global, document: &Document, offset: usize) -> Result<String, Memory> {
-    let mut text = String::new(alloc);
-    let costs = match &document.costs {
-        Some(costs) if !costs.is_empty() => costs.as_slice(),
-        _ => return Ok(text),
+/// This root at its place, if it has this offset.
+fn placed(tokens: &[Token<'_>], cost: &Cost, offset: usize) -> Option<PlacedRoot> {
+    let address = match cost.address {
+        Some(start) => stretch_from(tokens, start, true),
+        None => None,
     };
+    let value = stretch_from(tokens, cost.value, false)?;
+    let is_there = has(value, offset) || address.is_some_and(|stretch| has(stretch, offset));
+    if is_there {
+        Some(PlacedRoot {
+            address,
+            value,
+            words: cost.words,
+        })
+    } else {
+        None
+    }
+}
+
+/// The root that has an offset.
+fn root_at(tokens: &[Token<'_>], costs: &[Cost], offset: usize) -> Option<PlacedRoot> {
+    let offset = offset_for(tokens, offset);
+    let [before, after] = near(costs, offset);
+    let first = match before {
+        Some(cost) => placed(tokens, &cost, offset),
+        None => None,
+    };
+    match (first, after) {
+        (None, Some(cost)) => placed(tokens, &cost, offset),
+        (first, _) => first,
+    }
+}
+
+/// The tokens of a document's own text, without those that it gets.
+fn own_tokens(alloc: Global, document: &Document) -> Result<Vec<Token<'_>>, Memory> {
     let sources = sources_of(alloc, document.files.as_slice())?;
     let mut tokens = Vec::new(alloc);
     for token in &tokens_of(alloc, sources.as_slice()) {
@@ -287,23 +325,19 @@ pub fn cost_at(alloc: Global, document: &Document, offset: usize) -> Result<Stri
             tokens.push(*token)?;
         }
     }
-    let tokens = tokens.as_slice();
-    let offset = offset_for(tokens, offset);
-    let roots = near(costs, offset);
-    for found in &roots {
-        let Some(cost) = found else {
-            continue;
-        };
-        let address = match cost.address {
-            Some(start) => stretch_from(tokens, start, true),
-            None => None,
-        };
-        if let Some(value) = stretch_from(tokens, cost.value, false)
-            && (has(value, offset) || address.is_some_and(|stretch| has(stretch, offset)))
-        {
-            add_cost(&mut text, document, address, value, cost.words)?;
-            return Ok(text);
-        }
+    Ok(tokens)
+}
+
+/// What is said of the code of the expression, test or assignment at an offset; empty if none is there, or if the document
+/// can't be built. Returns `Memory` if an allocation fails.
+pub fn cost_at(alloc: Global, document: &Document, offset: usize) -> Result<String, Memory> {
+    let costs = match &document.costs {
+        Some(costs) if !costs.is_empty() => costs.as_slice(),
+        _ => return Ok(String::new(alloc)),
+    };
+    let tokens = own_tokens(alloc, document)?;
+    match root_at(tokens.as_slice(), costs, offset) {
+        Some(root) => cost_text(alloc, document, root),
+        None => Ok(String::new(alloc)),
     }
-    Ok(text)
 }

@@ -147,19 +147,16 @@ fn add_global(text: &mut String, document: &Document, index: usize) -> Result<()
     Ok(())
 }
 
-/// What is said of the declaration with this index, in Markdown. Returns `Memory` if an allocation fails.
-pub fn said_of(
+/// Adds the declaration itself, or what a library's routine does, and what the name is.
+fn add_heading(
+    text: &mut String,
     alloc: Global,
     document: &Document,
-    index: usize,
+    file: &File,
     declared: Declared,
-) -> Result<String, Memory> {
-    let mut text = String::new(alloc);
-    let Some(file) = document.file(declared.file) else {
-        return Ok(text);
-    };
+) -> Result<(), Memory> {
     match library_of(document, declared) {
-        Some(routine) => add_library(&mut text, alloc, &routine)?,
+        Some(routine) => add_library(text, alloc, &routine)?,
         None => {
             let line = line_from(file, declared);
             write!(text, "```bcpl\n{line}\n```\n")?;
@@ -168,9 +165,34 @@ pub fn said_of(
     let name = name_of(document, declared);
     let noun = noun(declared.sort);
     write!(text, "`{name}`: {noun}")?;
-    add_routine(&mut text, document, declared)?;
-    add_place(&mut text, file, declared)?;
-    add_cells(&mut text, declared)?;
+    Ok(())
+}
+
+/// Adds the routine, the line and the cells of a declaration.
+fn add_position(
+    text: &mut String,
+    document: &Document,
+    file: &File,
+    declared: Declared,
+) -> Result<(), Memory> {
+    add_routine(text, document, declared)?;
+    add_place(text, file, declared)?;
+    add_cells(text, declared)
+}
+
+/// What is said of the declaration with this index, in Markdown. Returns `Memory` if an allocation fails.
+pub fn said_of(
+    alloc: Global,
+    document: &Document,
+    index: usize,
+    declared: Declared,
+) -> Result<String, Memory> {
+    let Some(file) = document.file(declared.file) else {
+        return Ok(String::new(alloc));
+    };
+    let mut text = String::new(alloc);
+    add_heading(&mut text, alloc, document, file, declared)?;
+    add_position(&mut text, document, file, declared)?;
     add_global(&mut text, document, index)?;
     Ok(text)
 }

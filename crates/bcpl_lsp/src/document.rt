@@ -2,6 +2,7 @@
 
 use crate::costs::Cost;
 use crate::finding::Finding;
+use crate::json_values::JsonObject;
 use crate::names::{Names, names_of};
 use crate::positions::{Position, line_starts, offset_of, range_of};
 use bc_lex::{Source, Token, lex};
@@ -73,15 +74,21 @@ pub struct Document {
     pub costs: Option<Vec<Cost>>,
 }
 
+/// The files of a document with this path and text, before it is known what it gets.
+fn files_with(alloc: Global, path: &str, text: &str) -> Result<Vec<File>, Memory> {
+    let text = Vec::from_slice(alloc, text.as_bytes())?;
+    let mut files = Vec::new(alloc);
+    files.push(File::new(alloc, path, path, text)?)?;
+    Ok(files)
+}
+
 impl Document {
     /// A document with this text, and nothing known of it. Returns `Memory` if an allocation fails.
     pub fn new(alloc: Global, uri: &str, path: &str, text: &str) -> Result<Document, Memory> {
-        let text = Vec::from_slice(alloc, text.as_bytes())?;
-        let file = File::new(alloc, path, path, text)?;
-        let mut files = Vec::new(alloc);
-        files.push(file)?;
+        let uri = String::from_str(alloc, uri)?;
+        let files = files_with(alloc, path, text)?;
         Ok(Document {
-            uri: String::from_str(alloc, uri)?,
+            uri,
             version: None,
             files,
             names: Names::new(alloc),
@@ -130,6 +137,20 @@ impl Document {
             Some(file) => file.range(alloc, start, end),
             None => Ok(Value::Null),
         }
+    }
+
+    /// The edit that gives a stretch of its own text another text. Returns `Memory` if an allocation fails.
+    pub fn edit(
+        &self,
+        alloc: Global,
+        start: usize,
+        end: usize,
+        text: &str,
+    ) -> Result<Value, Memory> {
+        let mut object = JsonObject::new(alloc);
+        object.add("range", self.range(alloc, start, end));
+        object.add_text("newText", text);
+        object.finish()
     }
 
     /// Sets its own text. Returns `Memory` if an allocation fails.

@@ -1,8 +1,9 @@
 //! Errors and warnings as an editor shows them.
 
 use crate::document::Document;
+use crate::json_values::{JsonArray, JsonObject};
 use bc_word::Memory;
-use serde_json::{Value, json};
+use serde_json::Value;
 use std::alloc::Global;
 
 /// A place that a finding mentions, with a sentence on it.
@@ -40,16 +41,24 @@ fn severity(finding: &Finding) -> u64 {
     if finding.is_error { 1 } else { 2 }
 }
 
+/// A related place as the protocol has it.
+fn related_value(alloc: Global, related: &Related) -> Result<Value, Memory> {
+    let mut location = JsonObject::new(alloc);
+    location.add_text("uri", related.uri.as_str());
+    location.put("range", related.range.clone()?);
+    let mut object = JsonObject::new(alloc);
+    object.add("location", location.finish());
+    object.add_text("message", related.sentence.as_str());
+    object.finish()
+}
+
 /// The related places of a finding.
 fn related_of(alloc: Global, finding: &Finding) -> Result<Value, Memory> {
-    let mut list = Vec::new(alloc);
+    let mut list = JsonArray::new(alloc);
     for related in &finding.related {
-        list.push(json!(in alloc; {
-            "location": {"uri": related.uri.as_str(), "range": &related.range},
-            "message": related.sentence.as_str()
-        })?)?;
+        list.add(related_value(alloc, related));
     }
-    Ok(Value::from(list))
+    list.finish()
 }
 
 /// The sentence of a finding, and the help on a line of its own.
@@ -64,25 +73,22 @@ fn message_of(alloc: Global, finding: &Finding) -> Result<String, Memory> {
 
 /// A finding as the protocol has it. Returns `Memory` if an allocation fails.
 pub fn diagnostic(alloc: Global, document: &Document, finding: &Finding) -> Result<Value, Memory> {
-    let range = document.range(alloc, finding.start, finding.end)?;
-    let related = related_of(alloc, finding)?;
     let message = message_of(alloc, finding)?;
-    let value = json!(in alloc; {
-        "range": range,
-        "severity": severity(finding),
-        "code": finding.code.as_str(),
-        "source": "bcpl",
-        "message": message,
-        "relatedInformation": related
-    })?;
-    Ok(value)
+    let mut object = JsonObject::new(alloc);
+    object.add("range", document.range(alloc, finding.start, finding.end));
+    object.add_number("severity", severity(finding));
+    object.add_text("code", finding.code.as_str());
+    object.add_text("source", "bcpl");
+    object.add_text("message", message.as_str());
+    object.add("relatedInformation", related_of(alloc, finding));
+    object.finish()
 }
 
 /// The findings of a document as the protocol has them. Returns `Memory` if an allocation fails.
 pub fn diagnostics(alloc: Global, document: &Document) -> Result<Value, Memory> {
-    let mut list = Vec::new(alloc);
+    let mut list = JsonArray::new(alloc);
     for finding in &document.findings {
-        list.push(diagnostic(alloc, document, finding)?)?;
+        list.add(diagnostic(alloc, document, finding));
     }
-    Ok(Value::from(list))
+    list.finish()
 }

@@ -2,9 +2,10 @@
 
 use crate::document::Document;
 use crate::finding::{Finding, diagnostic};
+use crate::json_values::{JsonArray, JsonObject};
 use crate::looking::changes_of;
 use bc_word::Memory;
-use serde_json::{Value, json};
+use serde_json::Value;
 use std::alloc::Global;
 
 /// The header that LIBHDR's names need.
@@ -159,6 +160,15 @@ fn fix_of_header<'t>(text: &[u8], finding: &'t Finding) -> Option<Fix<'t>> {
     }
 }
 
+/// The edit for a replacement.
+fn edit_of(alloc: Global, document: &Document, fix: Fix<'_>) -> Result<Value, Memory> {
+    let (text, after) = (fix.text, fix.after);
+    let new_text = format!(in alloc; "{text}{after}")?;
+    let mut edits = JsonArray::new(alloc);
+    edits.add(document.edit(alloc, fix.start, fix.end, new_text.as_str()));
+    changes_of(alloc, document, edits)
+}
+
 /// A code action for a replacement.
 fn action(
     alloc: Global,
@@ -166,20 +176,16 @@ fn action(
     finding: &Finding,
     fix: Fix<'_>,
 ) -> Result<Value, Memory> {
-    let (text, after) = (fix.text, fix.after);
+    let text = fix.text;
     let title = format!(in alloc; "write {text}")?;
-    let new_text = format!(in alloc; "{text}{after}")?;
-    let range = document.range(alloc, fix.start, fix.end)?;
-    let edits = json!(in alloc; [{"range": range, "newText": new_text}])?;
-    let edit = changes_of(alloc, document, edits)?;
-    let mended = diagnostic(alloc, document, finding)?;
-    let value = json!(in alloc; {
-        "title": title,
-        "kind": "quickfix",
-        "diagnostics": [mended],
-        "edit": edit
-    })?;
-    Ok(value)
+    let mut mended = JsonArray::new(alloc);
+    mended.add(diagnostic(alloc, document, finding));
+    let mut object = JsonObject::new(alloc);
+    object.add_text("title", title.as_str());
+    object.add_text("kind", "quickfix");
+    object.add("diagnostics", mended.finish());
+    object.add("edit", edit_of(alloc, document, fix));
+    object.finish()
 }
 
 /// Whether a finding touches a stretch of the text.
@@ -194,17 +200,17 @@ pub fn actions(
     start: usize,
     end: usize,
 ) -> Result<Value, Memory> {
-    let mut list = Vec::new(alloc);
+    let mut list = JsonArray::new(alloc);
     for finding in &document.findings {
         if !touches(finding, start, end) {
             continue;
         }
         if let Some(fix) = fix_there(document.text(), finding) {
-            list.push(action(alloc, document, finding, fix)?)?;
+            list.add(action(alloc, document, finding, fix));
         }
         if let Some(fix) = fix_of_header(document.text(), finding) {
-            list.push(action(alloc, document, finding, fix)?)?;
+            list.add(action(alloc, document, finding, fix));
         }
     }
-    Ok(Value::from(list))
+    list.finish()
 }

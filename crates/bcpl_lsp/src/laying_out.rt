@@ -1,10 +1,11 @@
 //! The layout of a whole document.
 
 use crate::document::{Document, sources_of};
+use crate::json_values::JsonArray;
 use crate::reply::{Reply, RequestError};
 use bc_word::Memory;
 use bcpl_format::{FormatError, Style, formatted};
-use serde_json::{Value, json};
+use serde_json::Value;
 use std::alloc::Global;
 
 /// The number of bytes of the lines with which both texts begin.
@@ -38,22 +39,19 @@ fn common_end(left: &[u8], right: &[u8]) -> usize {
 /// The edit that makes another text of a document's: of the lines from the first to the last one that differ, so that an
 /// editor keeps its place in the others. No edit if both are the same.
 fn edits_to(alloc: Global, document: &Document, text: &[u8]) -> Result<Value, Memory> {
-    let nothing: Vec<Value> = Vec::new(alloc);
     let old = document.text();
-    if text == old {
-        return Ok(Value::from(nothing));
+    let mut edits = JsonArray::new(alloc);
+    if text != old {
+        let start = common_start(old, text);
+        let old_rest = old.get(start..).unwrap_or(b"");
+        let rest = text.get(start..).unwrap_or(b"");
+        let end = common_end(old_rest, rest);
+        let new = rest.get(..rest.len().saturating_sub(end)).unwrap_or(b"");
+        if let Ok(new) = std::str::from_utf8(new) {
+            edits.add(document.edit(alloc, start, old.len().saturating_sub(end), new));
+        }
     }
-    let start = common_start(old, text);
-    let old_rest = old.get(start..).unwrap_or(b"");
-    let rest = text.get(start..).unwrap_or(b"");
-    let end = common_end(old_rest, rest);
-    let new = rest.get(..rest.len().saturating_sub(end)).unwrap_or(b"");
-    let Ok(new) = std::str::from_utf8(new) else {
-        return Ok(Value::from(nothing));
-    };
-    let range = document.range(alloc, start, old.len().saturating_sub(end))?;
-    let value = json!(in alloc; [{"range": range, "newText": new}])?;
-    Ok(value)
+    edits.finish()
 }
 
 /// The answer to `textDocument/formatting`: what `bcpl format` gives. Returns `Memory` if an allocation fails.

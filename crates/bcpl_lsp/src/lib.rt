@@ -12,6 +12,7 @@ mod document;
 mod finding;
 mod fixing;
 mod framing;
+mod json_values;
 mod laying_out;
 mod library_routines;
 mod looking;

@@ -3,13 +3,14 @@
 use crate::costs::cost_at;
 use crate::described::{name_of, said_of};
 use crate::document::{Document, sources_of, tokens_of};
+use crate::json_values::{JsonArray, JsonObject};
 use crate::names::{Declared, Mention};
 use crate::paths::uri_of;
 use bc_lex::Source;
 use bc_lex_tokens::TokenKind;
 use bc_parse_tree::leaves_of;
 use bc_word::Memory;
-use serde_json::{Map, Value, json};
+use serde_json::Value;
 use std::alloc::Global;
 
 /// What is said of the name at an offset; empty if none is there.
@@ -30,26 +31,39 @@ fn range_at(alloc: Global, document: &Document, offset: usize) -> Result<Value, 
     }
 }
 
-/// The answer to `textDocument/hover`: what the name there is, and how many words the code of the expression takes. Returns
-/// `Memory` if an allocation fails.
-pub fn hover(alloc: Global, document: &Document, offset: usize) -> Result<Value, Memory> {
+/// What is said of the name at an offset, and how many words the code of the expression there takes; empty if nothing is
+/// known.
+fn hover_text(alloc: Global, document: &Document, offset: usize) -> Result<String, Memory> {
     let mut text = said_at(alloc, document, offset)?;
     let cost = cost_at(alloc, document, offset)?;
     if !text.is_empty() && !cost.is_empty() {
         text.push_str("\n")?;
     }
     text.push_str(cost.as_str())?;
+    Ok(text)
+}
+
+/// A hover with this text on this range, which may be null.
+fn hover_value(alloc: Global, text: &str, range: Value) -> Result<Value, Memory> {
+    let mut contents = JsonObject::new(alloc);
+    contents.add_text("kind", "markdown");
+    contents.add_text("value", text);
+    let mut object = JsonObject::new(alloc);
+    object.add("contents", contents.finish());
+    if !range.is_null() {
+        object.put("range", range);
+    }
+    object.finish()
+}
+
+/// The answer to `textDocument/hover`: what the name there is, and how many words the code of the expression takes. Returns
+/// `Memory` if an allocation fails.
+pub fn hover(alloc: Global, document: &Document, offset: usize) -> Result<Value, Memory> {
+    let text = hover_text(alloc, document, offset)?;
     if text.is_empty() {
         return Ok(Value::Null);
     }
-    let contents = json!(in alloc; {"kind": "markdown", "value": text})?;
-    let range = range_at(alloc, document, offset)?;
-    let value = if range.is_null() {
-        json!(in alloc; {"contents": contents})?
-    } else {
-        json!(in alloc; {"contents": contents, "range": range})?
-    };
-    Ok(value)
+    hover_value(alloc, text.as_str(), range_at(alloc, document, offset)?)
 }
 
 /// The URI of a file of a document; `None` for a header of the library, which is no file.
@@ -73,9 +87,10 @@ fn location(
     let (Some(uri), Some(file)) = (uri_at(alloc, document, file)?, document.file(file)) else {
         return Ok(Value::Null);
     };
-    let range = file.range(alloc, stretch.0, stretch.1)?;
-    let value = json!(in alloc; {"uri": uri, "range": range})?;
-    Ok(value)
+    let mut object = JsonObject::new(alloc);
+    object.add_text("uri", uri.as_str());
+    object.add("range", file.range(alloc, stretch.0, stretch.1));
+    object.finish()
 }
 
 /// The answer to `textDocument/definition`. Returns `Memory` if an allocation fails.
@@ -106,7 +121,6 @@ pub fn references(
     offset: usize,
     with_declaration: bool,
 ) -> Result<Value, Memory> {
-    let mut list = Vec::new(alloc);
     let Some(at) = document.names.mention_at(offset) else {
         return Ok(Value::Null);
     };
@@ -114,34 +128,38 @@ pub fn references(
         return Ok(Value::Null);
     };
     let root = document.names.root_of(at.declared);
+    let mut list = JsonArray::new(alloc);
     for mention in &document.names.mentions {
         if document.names.root_of(mention.declared) == root
             && (with_declaration || !is_declaration(mention, declared))
         {
             let stretch = (mention.start, mention.end);
-            let found = location(alloc, document, mention.file, stretch)?;
-            if !found.is_null() {
-                list.push(found)?;
-            }
+            list.add_unless_null(location(alloc, document, mention.file, stretch));
         }
     }
-    Ok(Value::from(list))
+    list.finish()
+}
+
+/// A highlight of a stretch.
+fn highlight(alloc: Global, document: &Document, mention: &Mention) -> Result<Value, Memory> {
+    let mut object = JsonObject::new(alloc);
+    object.add("range", document.range(alloc, mention.start, mention.end));
+    object.finish()
 }
 
 /// The answer to `textDocument/documentHighlight`. Returns `Memory` if an allocation fails.
 pub fn highlights(alloc: Global, document: &Document, offset: usize) -> Result<Value, Memory> {
-    let mut list = Vec::new(alloc);
     let Some(at) = document.names.mention_at(offset) else {
         return Ok(Value::Null);
     };
     let root = document.names.root_of(at.declared);
+    let mut list = JsonArray::new(alloc);
     for mention in &document.names.mentions {
         if document.names.root_of(mention.declared) == root && mention.file == 0 {
-            let range = document.range(alloc, mention.start, mention.end)?;
-            list.push(json!(in alloc; {"range": range})?)?;
+            list.add(highlight(alloc, document, mention));
         }
     }
-    Ok(Value::from(list))
+    list.finish()
 }
 
 /// Why a name can't be changed.
@@ -261,23 +279,22 @@ pub fn prepared_rename(
 
 /// The edits that give the declaration with this index another name.
 fn edits_of(alloc: Global, document: &Document, index: usize, name: &str) -> Result<Value, Memory> {
-    let mut list = Vec::new(alloc);
+    let mut list = JsonArray::new(alloc);
     for mention in &document.names.mentions {
         if document.names.root_of(mention.declared) == index && mention.file == 0 {
-            let range = document.range(alloc, mention.start, mention.end)?;
-            list.push(json!(in alloc; {"range": range, "newText": name})?)?;
+            list.add(document.edit(alloc, mention.start, mention.end, name));
         }
     }
-    changes_of(alloc, document, Value::from(list))
+    changes_of(alloc, document, list)
 }
 
 /// Edits of a document, as the protocol has them. Returns `Memory` if an allocation fails.
-pub fn changes_of(alloc: Global, document: &Document, edits: Value) -> Result<Value, Memory> {
-    let mut changes = Map::new(alloc);
-    changes.insert(String::from_str(alloc, document.uri.as_str())?, edits)?;
-    let changes = Value::from(changes);
-    let value = json!(in alloc; {"changes": changes})?;
-    Ok(value)
+pub fn changes_of(alloc: Global, document: &Document, edits: JsonArray) -> Result<Value, Memory> {
+    let mut changes = JsonObject::new(alloc);
+    changes.add(document.uri.as_str(), edits.finish());
+    let mut object = JsonObject::new(alloc);
+    object.add("changes", changes.finish());
+    object.finish()
 }
 
 /// Why the declaration can't have this name.

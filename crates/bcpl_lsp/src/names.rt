@@ -557,17 +557,26 @@ impl<'s> Walk<'s> {
     }
 }
 
+/// The walk over a section that was parsed from these tokens.
+fn walk_of<'s>(
+    alloc: Global,
+    tokens: &[Token<'s>],
+    section: &Section<'s>,
+) -> Result<Walk<'s>, Memory> {
+    let visits = visits_of(alloc, section)?;
+    let coming = coming_of(alloc, visits.as_slice())?;
+    let mut walk = Walk::new(alloc, leaves_of(alloc, tokens)?, coming)?;
+    walk.walk(visits.as_slice());
+    Ok(walk)
+}
+
 /// The names of a section that was parsed from these tokens.
 fn names_in<'s>(
     alloc: Global,
     tokens: &[Token<'s>],
     section: &Section<'s>,
 ) -> Result<Names, Memory> {
-    let visits = visits_of(alloc, section)?;
-    let coming = coming_of(alloc, visits.as_slice())?;
-    let leaves = leaves_of(alloc, tokens)?;
-    let mut walk = Walk::new(alloc, leaves, coming)?;
-    walk.walk(visits.as_slice());
+    let mut walk = walk_of(alloc, tokens, section)?;
     walk.set_numbers(alloc, section)?;
     if walk.is_refused {
         return Err(Memory);

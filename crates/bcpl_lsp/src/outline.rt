@@ -2,12 +2,13 @@
 
 use crate::described::{name_of, noun, shown};
 use crate::document::{Document, sources_of, tokens_of};
+use crate::json_values::{JsonArray, JsonObject};
 use crate::names::{Declared, NONE, Sort};
 use crate::positions::line_of;
 use crate::scanned::{ScannedName, names_at_end};
 use bc_lex_tokens::{Symbol, Token, TokenKind};
 use bc_word::Memory;
-use serde_json::{Value, json};
+use serde_json::Value;
 use std::alloc::Global;
 
 /// The kind that the protocol has for a symbol of this sort.
@@ -34,48 +35,58 @@ fn symbol(
     alloc: Global,
     document: &Document,
     declared: Declared,
-    children: Vec<Value>,
+    children: JsonArray,
 ) -> Result<Value, Memory> {
-    let range = document.range(alloc, declared.start, declared.whole)?;
-    let selection = document.range(alloc, declared.start, declared.end)?;
-    let children = Value::from(children);
-    let value = json!(in alloc; {
-        "name": name_of(document, declared),
-        "detail": noun(declared.sort),
-        "kind": symbol_kind(declared.sort),
-        "range": range,
-        "selectionRange": selection,
-        "children": children
-    })?;
-    Ok(value)
+    let mut object = JsonObject::new(alloc);
+    object.add_text("name", name_of(document, declared));
+    object.add_text("detail", noun(declared.sort));
+    object.add_number("kind", symbol_kind(declared.sort));
+    object.add(
+        "range",
+        document.range(alloc, declared.start, declared.whole),
+    );
+    object.add(
+        "selectionRange",
+        document.range(alloc, declared.start, declared.end),
+    );
+    object.add("children", children.finish());
+    object.finish()
 }
 
 /// The symbols that are declared in the routine with this index, but not in one within it.
-fn symbols_in(alloc: Global, document: &Document, routine: usize) -> Result<Vec<Value>, Memory> {
-    let mut list = Vec::new(alloc);
+fn symbols_in(alloc: Global, document: &Document, routine: usize) -> JsonArray {
+    let mut list = JsonArray::new(alloc);
     for declared in &document.names.declared {
         if declared.routine == routine && is_listed(*declared) {
-            list.push(symbol(alloc, document, *declared, Vec::new(alloc))?)?;
+            list.add(symbol(alloc, document, *declared, JsonArray::new(alloc)));
         }
     }
-    Ok(list)
+    list
+}
+
+/// The symbols within the declaration with this index: those of a routine.
+fn symbols_within(
+    alloc: Global,
+    document: &Document,
+    index: usize,
+    declared: Declared,
+) -> JsonArray {
+    match declared.sort {
+        Sort::Function | Sort::Routine => symbols_in(alloc, document, index),
+        _ => JsonArray::new(alloc),
+    }
 }
 
 /// The symbols of a source that can be parsed.
 fn parsed_symbols(alloc: Global, document: &Document) -> Result<Value, Memory> {
-    let mut list = Vec::new(alloc);
+    let mut list = JsonArray::new(alloc);
     for (index, declared) in document.names.declared.iter().enumerate() {
         if declared.routine == NONE && is_listed(*declared) {
-            let is_routine = matches!(declared.sort, Sort::Function | Sort::Routine);
-            let children = if is_routine {
-                symbols_in(alloc, document, index)?
-            } else {
-                Vec::new(alloc)
-            };
-            list.push(symbol(alloc, document, *declared, children)?)?;
+            let children = symbols_within(alloc, document, index, *declared);
+            list.add(symbol(alloc, document, *declared, children));
         }
     }
-    Ok(Value::from(list))
+    list.finish()
 }
 
 /// The symbol of a name that was found without parsing.
@@ -85,31 +96,32 @@ fn scanned_symbol(
     token: &Token<'_>,
     sort: Sort,
 ) -> Result<Value, Memory> {
-    let range = document.range(alloc, token.start, token.end)?;
-    let value = json!(in alloc; {
-        "name": shown(token.text),
-        "detail": noun(sort),
-        "kind": symbol_kind(sort),
-        "range": &range,
-        "selectionRange": &range
-    })?;
-    Ok(value)
+    let mut object = JsonObject::new(alloc);
+    object.add_text("name", shown(token.text));
+    object.add_text("detail", noun(sort));
+    object.add_number("kind", symbol_kind(sort));
+    object.add("range", document.range(alloc, token.start, token.end));
+    object.add(
+        "selectionRange",
+        document.range(alloc, token.start, token.end),
+    );
+    object.finish()
 }
 
 /// The symbols of a source that can't be parsed.
 fn scanned_symbols(alloc: Global, document: &Document) -> Result<Value, Memory> {
     let sources = sources_of(alloc, document.files.as_slice())?;
     let tokens = tokens_of(alloc, sources.as_slice());
-    let mut list = Vec::new(alloc);
+    let mut list = JsonArray::new(alloc);
     for scanned in &names_at_end(alloc, tokens.as_slice())? {
         let ScannedName { sort, token } = *scanned;
         if let Some(token) = tokens.get(token)
             && token.file == 0
         {
-            list.push(scanned_symbol(alloc, document, token, sort)?)?;
+            list.add(scanned_symbol(alloc, document, token, sort));
         }
     }
-    Ok(Value::from(list))
+    list.finish()
 }
 
 /// The answer to `textDocument/documentSymbol`. Returns `Memory` if an allocation fails.
@@ -121,17 +133,12 @@ pub fn symbols(alloc: Global, document: &Document) -> Result<Value, Memory> {
     }
 }
 
-/// Adds the lines from one to another as a range that can be folded, unless it is a single line.
-fn add_folding(
-    list: &mut Vec<Value>,
-    alloc: Global,
-    first: usize,
-    last: usize,
-) -> Result<(), Memory> {
-    if first < last {
-        list.push(json!(in alloc; {"startLine": first, "endLine": last})?)?;
-    }
-    Ok(())
+/// The lines from one to another, as a range that can be folded.
+fn folding(alloc: Global, first: usize, last: usize) -> Result<Value, Memory> {
+    let mut object = JsonObject::new(alloc);
+    object.put("startLine", Value::from(first));
+    object.put("endLine", Value::from(last));
+    object.finish()
 }
 
 /// The brackets that are open, by their lines and tags.
@@ -156,31 +163,51 @@ fn closed_by(open: &[OpenBracket<'_>], tag: &[u8]) -> usize {
     1
 }
 
-/// The answer to `textDocument/foldingRange`: from each section bracket to the line before its closing one. Returns
-/// `Memory` if an allocation fails.
-pub fn foldings(alloc: Global, document: &Document) -> Result<Value, Memory> {
-    let sources = sources_of(alloc, document.files.as_slice())?;
-    let tokens = tokens_of(alloc, sources.as_slice());
-    let mut list = Vec::new(alloc);
+/// Adds what can be folded if a bracket with this tag closes brackets on this line: the lines before it, unless it is a
+/// single one.
+fn add_closed(
+    list: &mut JsonArray,
+    alloc: Global,
+    open: &mut Vec<OpenBracket<'_>>,
+    line: usize,
+    tag: &[u8],
+) {
+    let last = line.saturating_sub(1);
+    for _each in 0..closed_by(open.as_slice(), tag) {
+        if let Some(bracket) = open.pop()
+            && bracket.line < last
+        {
+            list.add(folding(alloc, bracket.line, last));
+        }
+    }
+}
+
+/// What can be folded in the text with these tokens, whose lines begin at these offsets.
+fn foldings_of(alloc: Global, starts: &[usize], tokens: &[Token<'_>]) -> Result<Value, Memory> {
+    let mut list = JsonArray::new(alloc);
     let mut open: Vec<OpenBracket<'_>> = Vec::new(alloc);
-    let Some(main) = document.main() else {
-        return Ok(Value::Null);
-    };
-    for token in &tokens {
+    for token in tokens {
         if token.file != 0 {
             continue;
         }
-        let line = line_of(main.starts.as_slice(), token.start);
+        let line = line_of(starts, token.start);
         let tag = token.text.get(2..).unwrap_or(b"");
         if token.kind == TokenKind::Symbol(Symbol::OpenSection) {
             open.push(OpenBracket { line, tag })?;
         } else if token.kind == TokenKind::Symbol(Symbol::CloseSection) {
-            for _each in 0..closed_by(open.as_slice(), tag) {
-                if let Some(bracket) = open.pop() {
-                    add_folding(&mut list, alloc, bracket.line, line.saturating_sub(1))?;
-                }
-            }
+            add_closed(&mut list, alloc, &mut open, line, tag);
         }
     }
-    Ok(Value::from(list))
+    list.finish()
+}
+
+/// The answer to `textDocument/foldingRange`: from each section bracket to the line before its closing one. Returns
+/// `Memory` if an allocation fails.
+pub fn foldings(alloc: Global, document: &Document) -> Result<Value, Memory> {
+    let Some(main) = document.main() else {
+        return Ok(Value::Null);
+    };
+    let sources = sources_of(alloc, document.files.as_slice())?;
+    let tokens = tokens_of(alloc, sources.as_slice());
+    foldings_of(alloc, main.starts.as_slice(), tokens.as_slice())
 }

@@ -1,7 +1,8 @@
 //! Positions in a text: offsets in bytes, and lines with UTF-16 units, as the protocol counts them.
 
+use crate::json_values::JsonObject;
 use bc_word::Memory;
-use serde_json::{Value, json};
+use serde_json::Value;
 use std::alloc::Global;
 
 /// A position as the protocol counts it, from 0.
@@ -112,13 +113,20 @@ pub fn position_in(value: &Value) -> Option<Position> {
     })
 }
 
+/// A position of the protocol.
+fn position_value(alloc: Global, position: Position) -> Result<Value, Memory> {
+    let mut object = JsonObject::new(alloc);
+    object.put("line", Value::from(position.line));
+    object.put("character", Value::from(position.character));
+    object.finish()
+}
+
 /// A range of the protocol. Returns `Memory` if an allocation fails.
 pub fn range_value(alloc: Global, first: Position, last: Position) -> Result<Value, Memory> {
-    let value = json!(in alloc; {
-        "start": {"line": first.line, "character": first.character},
-        "end": {"line": last.line, "character": last.character}
-    })?;
-    Ok(value)
+    let mut object = JsonObject::new(alloc);
+    object.add("start", position_value(alloc, first));
+    object.add("end", position_value(alloc, last));
+    object.finish()
 }
 
 /// The range of a stretch of a text. Returns `Memory` if an allocation fails.

@@ -1,7 +1,8 @@
 //! Answers to requests, as texts of JSON-RPC.
 
+use crate::json_values::JsonObject;
 use bc_word::Memory;
-use serde_json::{Value, json};
+use serde_json::Value;
 use std::alloc::Global;
 
 /// Why a request has no result.
@@ -58,25 +59,33 @@ pub enum Reply {
     Error(RequestError),
 }
 
-/// The message with the answer to the request that has this id. Returns `Memory` if an allocation fails.
-pub fn reply_text(alloc: Global, id: &Value, reply: &Reply) -> Result<String, Memory> {
+/// The message with the answer to the request that has this id: `key` says what the answer is, and `value` is its text.
+fn answer_text(alloc: Global, id: &Value, key: &str, value: &str) -> Result<String, Memory> {
     let id = id.to_string(alloc)?;
     let id = id.as_str();
+    Ok(format!(in alloc; "{{\"jsonrpc\":\"2.0\",\"id\":{id},\"{key}\":{value}}}")?)
+}
+
+/// The same with this value.
+fn value_text(alloc: Global, id: &Value, key: &str, value: &Value) -> Result<String, Memory> {
+    let value = value.to_string(alloc)?;
+    answer_text(alloc, id, key, value.as_str())
+}
+
+/// An error as the protocol has it.
+fn error_value(alloc: Global, error: RequestError) -> Result<Value, Memory> {
+    let mut object = JsonObject::new(alloc);
+    object.put("code", Value::from(error.code()));
+    object.add_text("message", error.sentence());
+    object.finish()
+}
+
+/// The message with the answer to the request that has this id. Returns `Memory` if an allocation fails.
+pub fn reply_text(alloc: Global, id: &Value, reply: &Reply) -> Result<String, Memory> {
     match reply {
-        Reply::Result(result) => {
-            let result = result.to_string(alloc)?;
-            let result = result.as_str();
-            Ok(format!(in alloc; "{{\"jsonrpc\":\"2.0\",\"id\":{id},\"result\":{result}}}")?)
-        }
-        Reply::Text(result) => {
-            Ok(format!(in alloc; "{{\"jsonrpc\":\"2.0\",\"id\":{id},\"result\":{result}}}")?)
-        }
-        Reply::Error(error) => {
-            let error = json!(in alloc; {"code": error.code(), "message": error.sentence()})?;
-            let error = error.to_string(alloc)?;
-            let error = error.as_str();
-            Ok(format!(in alloc; "{{\"jsonrpc\":\"2.0\",\"id\":{id},\"error\":{error}}}")?)
-        }
+        Reply::Result(result) => value_text(alloc, id, "result", result),
+        Reply::Text(result) => answer_text(alloc, id, "result", result),
+        Reply::Error(error) => value_text(alloc, id, "error", &error_value(alloc, *error)?),
     }
 }
 

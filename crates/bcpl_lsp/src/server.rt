@@ -6,6 +6,7 @@ use crate::costs::Cost;
 use crate::document::{Document, File};
 use crate::finding::{Finding, diagnostics};
 use crate::fixing::actions;
+use crate::json_values::{JsonArray, JsonObject};
 use crate::laying_out::formatting;
 use crate::looking::{
     NoRename, definition, highlights, hover, prepared_rename, references, rename,
@@ -15,7 +16,7 @@ use crate::paths::path_of;
 use crate::positions::position_in;
 use crate::reply::{Reply, RequestError, notification, reply_text};
 use bc_word::Memory;
-use serde_json::{Value, json};
+use serde_json::Value;
 use std::alloc::Global;
 
 /// The answer to `initialize`.
@@ -89,6 +90,53 @@ fn said(text: String) -> Answer {
 /// A text in an object.
 fn text_at<'v>(value: &'v Value, pointer: &str) -> Option<&'v str> {
     value.pointer(pointer).and_then(Value::as_str)
+}
+
+/// The message that shows what is wrong with a document.
+fn publication(alloc: Global, document: &Document) -> Result<String, Memory> {
+    let mut params = JsonObject::new(alloc);
+    params.add_text("uri", document.uri.as_str());
+    if let Some(version) = document.version {
+        params.put("version", Value::from(version));
+    }
+    params.add("diagnostics", diagnostics(alloc, document));
+    notification(alloc, "textDocument/publishDiagnostics", &params.finish()?)
+}
+
+/// The message that nothing is wrong with the document with this URI, which is closed.
+fn empty_publication(alloc: Global, uri: &str) -> Result<String, Memory> {
+    let mut params = JsonObject::new(alloc);
+    params.add_text("uri", uri);
+    params.add("diagnostics", JsonArray::new(alloc).finish());
+    notification(alloc, "textDocument/publishDiagnostics", &params.finish()?)
+}
+
+/// The number of a document's state, as parameters have it.
+fn version_in(params: &Value) -> Option<i64> {
+    params
+        .pointer("/textDocument/version")
+        .and_then(Value::as_i64)
+}
+
+/// The document that parameters have with its text, if they have one.
+fn document_of(alloc: Global, params: &Value) -> Result<Option<Document>, Memory> {
+    let uri = text_at(params, "/textDocument/uri");
+    let text = text_at(params, "/textDocument/text");
+    let (Some(uri), Some(text)) = (uri, text) else {
+        return Ok(None);
+    };
+    let path = path_of(alloc, uri)?;
+    let mut document = Document::new(alloc, uri, path.as_str(), text)?;
+    document.version = version_in(params);
+    Ok(Some(document))
+}
+
+/// Whether references include the declaration: they do unless the parameters say otherwise.
+fn with_declaration(params: &Value) -> bool {
+    params
+        .pointer("/context/includeDeclaration")
+        .and_then(Value::as_bool)
+        .unwrap_or(true)
 }
 
 /// The answer with a result, or with the reason why nothing can be renamed.
@@ -171,14 +219,7 @@ impl Server {
             return Ok(String::new(alloc));
         };
         document.findings = findings;
-        let list = diagnostics(alloc, document)?;
-        let params = match document.version {
-            Some(version) => json!(in alloc; {
-                "uri": document.uri.as_str(), "version": version, "diagnostics": list
-            })?,
-            None => json!(in alloc; {"uri": document.uri.as_str(), "diagnostics": list})?,
-        };
-        notification(alloc, "textDocument/publishDiagnostics", &params)
+        publication(alloc, document)
     }
 
     /// Sets the files that a document's GETs can name. Returns `Memory` if an allocation fails.
@@ -286,9 +327,8 @@ impl Server {
             | "textDocument/references"
             | "textDocument/documentHighlight"
             | "textDocument/completion"
-            | "textDocument/signatureHelp"
-            | "textDocument/prepareRename"
-            | "textDocument/rename" => self.at_place(method, params),
+            | "textDocument/signatureHelp" => self.at_place(method, params),
+            "textDocument/prepareRename" | "textDocument/rename" => self.on_name(method, params),
             _ => Ok(Reply::Error(RequestError::MethodNotFound)),
         }
     }
@@ -323,36 +363,28 @@ impl Server {
         };
         let alloc = self.alloc;
         let found = match method {
-            "textDocument/hover" => hover(alloc, document, offset)?,
-            "textDocument/definition" => definition(alloc, document, offset)?,
-            "textDocument/documentHighlight" => highlights(alloc, document, offset)?,
-            "textDocument/completion" => completion(alloc, document, offset)?,
-            "textDocument/signatureHelp" => signature_help(alloc, document, offset)?,
-            "textDocument/references" => {
-                let with = params
-                    .pointer("/context/includeDeclaration")
-                    .and_then(Value::as_bool);
-                references(alloc, document, offset, with.unwrap_or(true))?
-            }
-            "textDocument/prepareRename" => {
-                return Ok(renamed(prepared_rename(alloc, document, offset)?));
-            }
-            _ => return self.renaming(document, offset, params),
+            "textDocument/hover" => hover(alloc, document, offset),
+            "textDocument/definition" => definition(alloc, document, offset),
+            "textDocument/documentHighlight" => highlights(alloc, document, offset),
+            "textDocument/completion" => completion(alloc, document, offset),
+            "textDocument/signatureHelp" => signature_help(alloc, document, offset),
+            _ => references(alloc, document, offset, with_declaration(params)),
         };
-        Ok(Reply::Result(found))
+        Ok(Reply::Result(found?))
     }
 
-    /// The answer to `textDocument/rename`.
-    fn renaming(
-        &self,
-        document: &Document,
-        offset: usize,
-        params: &Value,
-    ) -> Result<Reply, Memory> {
-        match text_at(params, "/newName") {
-            Some(name) => Ok(renamed(rename(self.alloc, document, offset, name)?)),
-            None => Ok(Reply::Error(RequestError::Params)),
-        }
+    /// The answer to a request on another name for the one at a place.
+    fn on_name(&self, method: &str, params: &Value) -> Result<Reply, Memory> {
+        let Some((document, offset)) = self.place_in(params) else {
+            return Ok(Reply::Error(RequestError::Params));
+        };
+        let alloc = self.alloc;
+        let found = match (method, text_at(params, "/newName")) {
+            ("textDocument/prepareRename", _) => prepared_rename(alloc, document, offset),
+            (_, Some(name)) => rename(alloc, document, offset, name),
+            (_, None) => return Ok(Reply::Error(RequestError::Params)),
+        };
+        Ok(renamed(found?))
     }
 
     /// Takes a notification. One that isn't known is passed over.
@@ -374,17 +406,15 @@ impl Server {
 
     /// Opens a document, or sets the text of one that is open.
     fn open(&mut self, params: &Value) -> Result<Answer, Memory> {
-        let uri = text_at(params, "/textDocument/uri");
-        let text = text_at(params, "/textDocument/text");
-        let (Some(uri), Some(text)) = (uri, text) else {
-            return Ok(only(Job::Nothing));
-        };
-        let path = path_of(self.alloc, uri)?;
-        let mut document = Document::new(self.alloc, uri, path.as_str(), text)?;
-        document.version = params
-            .pointer("/textDocument/version")
-            .and_then(Value::as_i64);
         let index = self.index_of(params).unwrap_or(self.documents.len());
+        match document_of(self.alloc, params)? {
+            Some(document) => self.keep(index, document),
+            None => Ok(only(Job::Nothing)),
+        }
+    }
+
+    /// Keeps a document instead of the one with this index, or as a further one. It must be checked.
+    fn keep(&mut self, index: usize, document: Document) -> Result<Answer, Memory> {
         match self.documents.get_mut(index) {
             Some(place) => *place = document,
             None => self.documents.push(document)?,
@@ -403,9 +433,7 @@ impl Server {
             None => &[],
         };
         if let Some(document) = self.documents.get_mut(index) {
-            document.version = params
-                .pointer("/textDocument/version")
-                .and_then(Value::as_i64);
+            document.version = version_in(params);
             change(alloc, document, changes)?;
         }
         Ok(only(Job::Check(index)))
@@ -413,7 +441,6 @@ impl Server {
 
     /// Closes a document.
     fn close(&mut self, params: &Value) -> Result<Answer, Memory> {
-        let alloc = self.alloc;
         let Some(index) = self.index_of(params) else {
             return Ok(only(Job::Nothing));
         };
@@ -421,7 +448,6 @@ impl Server {
             let _ = self.documents.remove(index);
         }
         let uri = text_at(params, "/textDocument/uri").unwrap_or("");
-        let params = json!(in alloc; {"uri": uri, "diagnostics": []})?;
-        Ok(said(notification(alloc, "textDocument/publishDiagnostics", &params)?))
+        Ok(said(empty_publication(self.alloc, uri)?))
     }
 }

@@ -46,7 +46,11 @@ const PAIRS: [(&[u8], &[u8], &str); 31] = [
     (b"-", b"-", "to subtract from X, write X := X - 1"),
     (b"-", b"=", "to subtract from X, write X := X - 1"),
     (b"*", b"=", "to multiply X, write X := X * 2"),
-    (b"/", b"=", "to divide X, write X := X / 2"),
+    (
+        b"/",
+        b"=",
+        "write ~= or NE for not equal; to divide X, write X := X / 2",
+    ),
     (b"=", b"+", "to add to X, write X := X + 1"),
     (b"=", b"/", "to divide X, write X := X / 2"),
     (b"+", b":=", "to add to X, write X := X + 1"),
@@ -369,9 +373,13 @@ fn is_enclosed_table(tokens: &[Token<'_>], index: usize) -> bool {
     is_at(tokens, index, Symbol::Comma) && is_at(tokens, open.wrapping_sub(1), Symbol::Table)
 }
 
-/// The help for an ELSE or OR after the command of an IF or UNLESS.
+/// The help for an ELSE or OR after the command of an IF.
 const NO_SECOND: &str =
     "an IF has no second command; write TEST E THEN C ELSE D, where ELSE may be written OR";
+
+/// The help for an ELSE or OR after the command of an UNLESS.
+const NO_SECOND_UNLESS: &str =
+    "an UNLESS has no second command; write TEST E THEN D ELSE C, with its own command C after ELSE";
 
 /// The help for OR in a condition.
 const NO_OR: &str = "write | for the operator or; OR is another word for the ELSE of a TEST";
@@ -379,6 +387,15 @@ const NO_OR: &str = "write | for the operator or; OR is another word for the ELS
 /// Whether there is IF or UNLESS at an index.
 fn is_choice(tokens: &[Token<'_>], place: usize) -> bool {
     is_at(tokens, place, Symbol::If) || is_at(tokens, place, Symbol::Unless)
+}
+
+/// The help for a second command after the IF or UNLESS at an index.
+fn no_second(tokens: &[Token<'_>], place: usize) -> &'static str {
+    if is_at(tokens, place, Symbol::Unless) {
+        NO_SECOND_UNLESS
+    } else {
+        NO_SECOND
+    }
 }
 
 /// Whether there is TEST, WHILE or UNTIL at an index.
@@ -398,7 +415,8 @@ fn help_for_else(tokens: &[Token<'_>], index: usize) -> Option<&'static str> {
         return None;
     }
     let mut inside: usize = 0;
-    let mut has_command = false;
+    // IF A C ELSE D lacks its DO, which is no reason to explain OR.
+    let mut has_command = text_of(tokens.get(index)) == b"ELSE".as_slice();
     for count in 1..FAR_BACK {
         let place = index.checked_sub(count)?;
         if is_at(tokens, place, Symbol::CloseSection) {
@@ -409,7 +427,11 @@ fn help_for_else(tokens: &[Token<'_>], index: usize) -> Option<&'static str> {
             if is_at(tokens, place, Symbol::Do) {
                 has_command = true;
             } else if is_choice(tokens, place) {
-                return Some(if has_command { NO_SECOND } else { NO_OR });
+                return Some(if has_command {
+                    no_second(tokens, place)
+                } else {
+                    NO_OR
+                });
             } else if is_other_condition(tokens, place) {
                 return if has_command { None } else { Some(NO_OR) };
             }

@@ -1,6 +1,6 @@
 //! The steps of `convert --project`.
 
-use crate::files::OldFile;
+use crate::files::{OldFile, is_source};
 use crate::folder::{
     OldProject, PAGE, REPORT, SCRIPT, make_folder, old_project, path_in, spare_files,
 };
@@ -12,15 +12,16 @@ use crate::programs::{
 };
 use crate::renames::{Renamed, add_shared, shared_names};
 use crate::report::{Report, ShownDialect, page_of};
-use crate::script::script_of;
-use crate::unknown::unknown_in;
-use bc_convert::{Conversion, Lawful, OldNames, Options, Program, System, convert, renamings};
+use crate::script::{Parts, script_of};
+use crate::unknown::{UnknownNames, unknown_in};
+use bc_convert::{Lawful, OldNames, Options, Program, System, renamings};
 use bc_lex::Source;
 use bc_word::Memory;
 use bcpl_cli::{ConvertDialect, ConvertOrder, ConvertTo, Failure, Links};
 use bcpl_convert::{
-    Given, by_hand, compiled_texts, lawful_files, list_text, options_of, program_of, refuse_list,
-    shared_by, write_file,
+    Converted, Given, MOST_ROUNDS, Round, Shown, by_hand, compiled_texts, first_round,
+    further_round, lawful_in, list_text, may_change_any, needs_another_round, refuse_list,
+    write_file,
 };
 use bcpl_messages::Named;
 use std::alloc::Global;
@@ -64,17 +65,18 @@ fn old_paths<'f>(
 fn lawful_of<F: Files>(
     rt: &F,
     alloc: Global,
-    files: &[OldFile],
-    aliases: &[Alias],
-    may_exchange: bool,
+    read: &ReadFiles,
+    round: Round<'_>,
 ) -> Result<Vec<Lawful>, Memory> {
+    let files = read.files.as_slice();
+    let aliases = read.headers.aliases.as_slice();
     let texts = texts_of(alloc, files, aliases)?;
     let paths = old_paths(alloc, files, aliases)?;
     let given = Given {
         paths: paths.as_slice(),
         texts: texts.as_slice(),
     };
-    let mut lawful = lawful_files(rt, alloc, given, may_exchange)?;
+    let mut lawful = lawful_in(rt, alloc, given, round)?;
     for (number, alias) in aliases.iter().enumerate() {
         let index = files.len().saturating_add(number);
         let found = lawful.get(index).copied().unwrap_or(Lawful::No);
@@ -85,35 +87,21 @@ fn lawful_of<F: Files>(
     Ok(lawful)
 }
 
-/// The conversions of these files.
-fn conversions_of(
-    alloc: Global,
-    files: &[OldFile],
-    lawful: &[Lawful],
-    options: Options<'_, '_>,
-) -> Result<Vec<Conversion>, Memory> {
-    let mut conversions = Vec::new(alloc);
-    for (index, file) in files.iter().enumerate() {
-        let lawful = lawful.get(index).copied().unwrap_or(Lawful::No);
-        let options = Options { lawful, ..options };
-        conversions.push(convert(alloc, file.text.as_slice(), options)?)?;
-    }
-    Ok(conversions)
-}
-
 /// These files with their conversions.
 fn new_files(
     alloc: Global,
     files: Vec<OldFile>,
-    conversions: Vec<Conversion>,
+    all: Vec<Converted>,
     is_header: &[bool],
 ) -> Result<Vec<NewFile>, Memory> {
     let mut new = Vec::new(alloc);
-    for (index, (old, conversion)) in files.into_iter().zip(conversions).enumerate() {
-        let has_start = declares_start(alloc, conversion.text.as_slice())?;
+    for (index, (old, converted)) in files.into_iter().zip(all).enumerate() {
+        let has_start = declares_start(alloc, converted.text())?;
+        let Converted { conversion, later } = converted;
         new.push(NewFile {
             old,
             conversion,
+            later,
             is_header: is_header.get(index).copied().unwrap_or(false),
             has_start,
         })?;
@@ -277,10 +265,9 @@ fn write_report<F: Files>(
     destination: Destination<'_>,
     report: &Report<'_>,
 ) -> Result<(), Failure> {
-    let mut page = page_of(alloc, report)?;
-    write_in(rt, alloc, destination, REPORT, page.markdown())?;
-    let html = page.html()?;
-    write_in(rt, alloc, destination, PAGE, html)
+    let pages = page_of(alloc, report)?;
+    write_in(rt, alloc, destination, REPORT, pages.markdown.as_bytes())?;
+    write_in(rt, alloc, destination, PAGE, pages.html.as_bytes())
 }
 
 /// Prints what was done.
@@ -351,14 +338,12 @@ fn write_files<F: Files>(
     for file in report.files {
         write_in(rt, alloc, destination, file.name(), file.text())?;
     }
-    let aliases = project.headers.aliases.as_slice();
-    let script = script_of(
-        alloc,
-        report.programs,
-        report.files,
-        aliases,
-        report.is_further,
-    )?;
+    let parts = Parts {
+        files: report.files,
+        aliases: project.headers.aliases.as_slice(),
+        is_further: report.is_further,
+    };
+    let script = script_of(alloc, report.programs, parts)?;
     write_script(rt, alloc, destination, script.as_str())?;
     write_report(rt, alloc, destination, report)
 }
@@ -379,14 +364,51 @@ fn with_missing<'s>(
     Ok(sources)
 }
 
-/// Builds the new project in memory, writes it, and prints what was done.
-fn write_project<F: Files, O: Write + Drop>(
-    rt: &F,
+/// What building the new project in memory shows.
+#[derive(Drop)]
+struct Judged {
+    programs: Vec<ProjectProgram>,
+    /// Why each file doesn't build.
+    refusals: Vec<Option<Refusal>>,
+    /// Why each program doesn't build.
+    unbuilt: Vec<Option<Refusal>>,
+    unknown: UnknownNames,
+}
+
+/// The names that nothing declares in these files.
+fn unknown_names(alloc: Global, project: &NewProject<'_>) -> Result<UnknownNames, Memory> {
+    let files = project.files.as_slice();
+    let readable = with_missing(alloc, files, &project.headers)?;
+    let paths = paths_of(alloc, files, project.headers.aliases.as_slice())?;
+    let named = Named {
+        sources: readable.as_slice(),
+        paths: paths.as_slice(),
+    };
+    unknown_in(alloc, files, named)
+}
+
+/// Builds each file and each program of the new project in memory.
+fn judge_under(
     alloc: Global,
-    order: &ConvertOrder<'_>,
     project: &NewProject<'_>,
-    out: &mut O,
-) -> Result<(), Failure> {
+    named: Named<'_, '_>,
+) -> Result<Judged, Memory> {
+    let files = project.files.as_slice();
+    let mut programs = programs_of(alloc, files)?;
+    let refusals = refusals_of(alloc, files, named)?;
+    let is_further = project.is_further;
+    let unbuilt = unbuilt_of(alloc, programs.as_mut_slice(), files, named, is_further)?;
+    let unknown = unknown_names(alloc, project)?;
+    Ok(Judged {
+        programs,
+        refusals,
+        unbuilt,
+        unknown,
+    })
+}
+
+/// Builds the new project in memory.
+fn judge(alloc: Global, project: &NewProject<'_>) -> Result<Judged, Memory> {
     let files = project.files.as_slice();
     let aliases = project.headers.aliases.as_slice();
     let sources = sources_of(alloc, files, aliases)?;
@@ -395,28 +417,35 @@ fn write_project<F: Files, O: Write + Drop>(
         sources: sources.as_slice(),
         paths: paths.as_slice(),
     };
-    let mut programs = programs_of(alloc, files)?;
-    let refusals = refusals_of(alloc, files, named)?;
-    let is_further = project.is_further;
-    let unbuilt = unbuilt_of(alloc, programs.as_mut_slice(), files, named, is_further)?;
-    let readable = with_missing(alloc, files, &project.headers)?;
-    let all = Named {
-        sources: readable.as_slice(),
-        paths: paths.as_slice(),
-    };
-    let unknown = unknown_in(alloc, files, all)?;
-    let report = Report {
+    judge_under(alloc, project, named)
+}
+
+/// The report on a new project.
+fn report_of<'r>(project: &'r NewProject<'r>, judged: &'r Judged) -> Report<'r> {
+    Report {
         dialect: &project.dialect,
         is_further: project.is_further,
-        files,
+        files: project.files.as_slice(),
         others: project.others.as_slice(),
         missing: project.headers.missing.as_slice(),
         shared: project.shared,
-        unknown: unknown.rows.as_slice(),
-        refusals: refusals.as_slice(),
-        programs: programs.as_slice(),
-        unbuilt: unbuilt.as_slice(),
-    };
+        unknown: judged.unknown.rows.as_slice(),
+        refusals: judged.refusals.as_slice(),
+        programs: judged.programs.as_slice(),
+        unbuilt: judged.unbuilt.as_slice(),
+    }
+}
+
+/// Builds the new project in memory, writes it, and prints what was done.
+fn write_project<F: Files, O: Write + Drop>(
+    rt: &F,
+    alloc: Global,
+    order: &ConvertOrder<'_>,
+    project: &NewProject<'_>,
+    out: &mut O,
+) -> Result<(), Failure> {
+    let judged = judge(alloc, project)?;
+    let report = report_of(project, &judged);
     write_files(rt, alloc, order, project, &report)?;
     print_summary(alloc, &report, folder_of(order), out)?;
     tell_left(alloc, order, &report)
@@ -434,39 +463,200 @@ fn as_one_dialect<'o, 'd>(options: Options<'o, 'd>) -> Options<'o, 'd> {
     }
 }
 
+/// Old files, with what is known of them before any is converted.
+#[derive(Drop)]
+struct ReadFiles {
+    files: Vec<OldFile>,
+    texts: Vec<Vec<u8>>,
+    /// The texts with the tags of conditional compilation decided.
+    compiled: Vec<Vec<u8>>,
+    headers: Headers,
+}
+
+/// Reads these files as sources, where these tags of conditional compilation are set.
+fn read_files(alloc: Global, defines: &[&str], files: Vec<OldFile>) -> Result<ReadFiles, Memory> {
+    let texts = texts_of(alloc, files.as_slice(), &[])?;
+    let compiled = compiled_texts(alloc, defines, texts.as_slice())?;
+    let headers = headers_of(alloc, files.as_slice(), compiled.as_slice())?;
+    Ok(ReadFiles {
+        files,
+        texts,
+        compiled,
+        headers,
+    })
+}
+
+/// What the files of a project are converted by.
+#[derive(Clone, Copy)]
+struct By<'b, 'a> {
+    order: &'b ConvertOrder<'a>,
+    /// The text of the list of names.
+    list: &'b [u8],
+}
+
+/// The conversions of files by these names in the first round.
+fn converted_first<F: Files>(
+    rt: &F,
+    alloc: Global,
+    read: &ReadFiles,
+    library: &OldNames<'_>,
+    round: Round<'_>,
+) -> Result<Vec<Converted>, Memory> {
+    let shown = Shown::by(alloc, read.compiled.as_slice(), library)?;
+    let lawful = lawful_of(rt, alloc, read, round)?;
+    let options = as_one_dialect(shown.options(round, library));
+    first_round(alloc, read.texts.as_slice(), lawful.as_slice(), options)
+}
+
+/// A file with this text in place of its own.
+fn file_with(alloc: Global, file: &OldFile, text: &[u8]) -> Result<OldFile, Memory> {
+    Ok(OldFile {
+        name: String::from_str(alloc, file.name.as_str())?,
+        beside: String::from_str(alloc, file.beside.as_str())?,
+        source: String::from_str(alloc, file.source.as_str())?,
+        lines_before: 0,
+        text: Vec::from_slice(alloc, text)?,
+    })
+}
+
+/// For each of these conversions whether a second command takes its text for a source.
+fn are_sources(alloc: Global, converted: &[Converted]) -> Result<Vec<bool>, Memory> {
+    let mut found = Vec::new(alloc);
+    for one in converted {
+        found.push(is_source(alloc, one.text())?)?;
+    }
+    Ok(found)
+}
+
+/// Those of these files that are still sources, with the texts of their conversions.
+fn files_up_to_here(
+    alloc: Global,
+    files: &[OldFile],
+    converted: &[Converted],
+    sources: &[bool],
+) -> Result<Vec<OldFile>, Memory> {
+    let mut new = Vec::new(alloc);
+    for ((file, one), is_kept) in files.iter().zip(converted).zip(sources) {
+        if *is_kept {
+            new.push(file_with(alloc, file, one.text())?)?;
+        }
+    }
+    Ok(new)
+}
+
+/// For each file whether it builds as it is, where `read` has those that are still sources. The others stay as they are.
+fn lawful_for_all<F: Files>(
+    rt: &F,
+    alloc: Global,
+    read: &ReadFiles,
+    round: Round<'_>,
+    sources: &[bool],
+) -> Result<Vec<Lawful>, Memory> {
+    let lawful = lawful_of(rt, alloc, read, round)?;
+    let mut all = Vec::new(alloc);
+    let mut number: usize = 0;
+    for is_kept in sources {
+        if *is_kept {
+            all.push(lawful.get(number).copied().unwrap_or(Lawful::No))?;
+            number = number.saturating_add(1);
+        } else {
+            all.push(Lawful::Whole)?;
+        }
+    }
+    Ok(all)
+}
+
+/// The files of a further round as they are read, and which of all files build.
+#[derive(Clone, Copy)]
+struct Further<'f> {
+    read: &'f ReadFiles,
+    lawful: &'f [Lawful],
+}
+
+/// A further round by these names. Returns whether it changes a text.
+fn convert_by(
+    alloc: Global,
+    round: Round<'_>,
+    library: &OldNames<'_>,
+    further: Further<'_>,
+    converted: &mut [Converted],
+) -> Result<bool, Memory> {
+    let shown = Shown::by(alloc, further.read.compiled.as_slice(), library)?;
+    let options = as_one_dialect(shown.options(round, library));
+    further_round(alloc, converted, further.lawful, options)
+}
+
+/// A further round. Returns whether it changes a text.
+fn convert_with(
+    alloc: Global,
+    by: By<'_, '_>,
+    further: Further<'_>,
+    converted: &mut [Converted],
+) -> Result<bool, Memory> {
+    let shared = shared_names(alloc, further.read.files.as_slice())?;
+    let mut names = renamings(alloc, by.list)?;
+    add_shared(&mut names.list, shared.as_slice())?;
+    let round = Round::first(by.order).next();
+    convert_by(alloc, round, &names.list, further, converted)
+}
+
+/// Converts the texts of these files once more. Returns whether that changes one.
+fn convert_again<F: Files>(
+    rt: &F,
+    alloc: Global,
+    by: By<'_, '_>,
+    files: &[OldFile],
+    converted: &mut [Converted],
+) -> Result<bool, Memory> {
+    let round = Round::first(by.order).next();
+    let sources = are_sources(alloc, converted)?;
+    let files = files_up_to_here(alloc, files, converted, sources.as_slice())?;
+    let read = read_files(alloc, round.defines, files)?;
+    let lawful = lawful_for_all(rt, alloc, &read, round, sources.as_slice())?;
+    if !may_change_any(lawful.as_slice()) {
+        return Ok(false);
+    }
+    let further = Further {
+        read: &read,
+        lawful: lawful.as_slice(),
+    };
+    convert_with(alloc, by, further, converted)
+}
+
+/// The conversions of files by these names, in as many rounds as change something.
+fn converted_in_rounds<F: Files>(
+    rt: &F,
+    alloc: Global,
+    by: By<'_, '_>,
+    read: &ReadFiles,
+    library: &OldNames<'_>,
+) -> Result<Vec<Converted>, Memory> {
+    let round = Round::first(by.order);
+    let mut converted = converted_first(rt, alloc, read, library, round)?;
+    if !needs_another_round(round, converted.as_slice()) {
+        return Ok(converted);
+    }
+    let files = read.files.as_slice();
+    for _ in 0..MOST_ROUNDS {
+        if !convert_again(rt, alloc, by, files, converted.as_mut_slice())? {
+            break;
+        }
+    }
+    Ok(converted)
+}
+
 /// Converts these files with these names.
 fn converted<F: Files>(
     rt: &F,
     alloc: Global,
-    order: &ConvertOrder<'_>,
+    by: By<'_, '_>,
     files: Vec<OldFile>,
     library: &OldNames<'_>,
-) -> Result<(Vec<NewFile>, Headers, ShownDialect), Failure> {
-    let texts = texts_of(alloc, files.as_slice(), &[])?;
-    let compiled = compiled_texts(alloc, order, texts.as_slice())?;
-    let headers = headers_of(alloc, files.as_slice(), compiled.as_slice())?;
-    let program = program_of(alloc, compiled.as_slice(), library)?;
-    let shared = shared_by(alloc, compiled.as_slice())?;
-    let options = Options {
-        shared: Some(&shared),
-        ..options_of(order, library, program)
-    };
-    let lawful = match options.system {
-        None => {
-            let aliases = headers.aliases.as_slice();
-            lawful_of(
-                rt,
-                alloc,
-                files.as_slice(),
-                aliases,
-                options.header.is_some(),
-            )?
-        }
-        Some(_) => Vec::new(alloc),
-    };
-    let dialect = dialect_of(alloc, order, compiled.as_slice(), library)?;
-    let options = as_one_dialect(options);
-    let conversions = conversions_of(alloc, files.as_slice(), lawful.as_slice(), options)?;
+) -> Result<(Vec<NewFile>, Headers, ShownDialect), Memory> {
+    let read = read_files(alloc, by.order.defines.as_slice(), files)?;
+    let conversions = converted_in_rounds(rt, alloc, by, &read, library)?;
+    let dialect = dialect_of(alloc, by.order, read.compiled.as_slice(), library)?;
+    let ReadFiles { files, headers, .. } = read;
     let new = new_files(alloc, files, conversions, headers.is_header.as_slice())?;
     Ok((new, headers, dialect))
 }
@@ -500,7 +690,11 @@ pub fn convert_project<F: Files, O: Write + Drop>(
     add_shared(&mut names.list, shared.as_slice())?;
     spare_files(rt, alloc, folder_of(order), files.as_slice())?;
     make_folder(rt, alloc, folder_of(order))?;
-    let (files, headers, dialect) = converted(rt, alloc, order, files, &names.list)?;
+    let by = By {
+        order,
+        list: list.as_slice(),
+    };
+    let (files, headers, dialect) = converted(rt, alloc, by, files, &names.list)?;
     let is_further = needs_further(alloc, files.as_slice())?;
     let project = NewProject {
         files,

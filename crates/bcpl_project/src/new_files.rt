@@ -2,7 +2,7 @@
 
 use crate::files::OldFile;
 use crate::texts::Tokens;
-use bc_convert::Conversion;
+use bc_convert::{Conversion, Replacement};
 use bc_word::Memory;
 use std::alloc::Global;
 
@@ -11,6 +11,8 @@ use std::alloc::Global;
 pub struct NewFile {
     pub old: OldFile,
     pub conversion: Conversion,
+    /// The replacements of each later round of its conversion that changed something.
+    pub later: Vec<Vec<Replacement>>,
     /// Whether another file gets it.
     pub is_header: bool,
     /// Whether it declares the routine START.

@@ -1,7 +1,7 @@
 //! What routines of old libraries did. This is from accounts and manuals of their time, as far as we know.
 
 /// Names of old libraries, in upper case, and what each was.
-const OLD: [(&str, &str); 66] = [
+const OLD: [(&str, &str); 82] = [
     (
         "RDARGS",
         "Tripos: read the command's arguments by a key string; EXTHDR has RDARGS",
@@ -238,6 +238,67 @@ const OLD: [(&str, &str); 66] = [
     (
         "MOVEBLOCK",
         "Alto: MoveBlock(TO, FROM, N) copied N words; write a FOR",
+    ),
+    (
+        "LEVEL",
+        "returned the place on the stack for LONGJUMP; set a flag that each routine checks after a call, or link the text LEVEL of docs/kit.md",
+    ),
+    (
+        "LONGJUMP",
+        "jumped to a label of a routine that was still running; set a flag that each routine checks after a call, or link the text LEVEL of docs/kit.md",
+    ),
+    (
+        "APTOVEC",
+        "called a routine with a vector of any size; declare a vector of the greatest size by VEC, or link the text APTOVEC of docs/kit.md",
+    ),
+    (
+        "CREATECO",
+        "made a coroutine; keep in statics what the routine must remember",
+    ),
+    ("DELETECO", "deleted a coroutine; leave it out"),
+    (
+        "CALLCO",
+        "went on in a coroutine; call a routine that keeps in statics what it must remember",
+    ),
+    (
+        "COWAIT",
+        "went back to the caller of the coroutine; return, and keep in statics what the routine must remember",
+    ),
+    (
+        "RESUMECO",
+        "went on in another coroutine; call a routine that keeps in statics what it must remember",
+    ),
+    (
+        "RETURN.SEVERE",
+        "Tripos: a manifest, the status 20 of a command; declare it by MANIFEST, and STOP drops it",
+    ),
+    (
+        "RETURN.HARD",
+        "Tripos: a manifest, the status 10 of a command; declare it by MANIFEST, and STOP drops it",
+    ),
+    (
+        "RETURN.SOFT",
+        "Tripos: a manifest, the status 5 of a command; declare it by MANIFEST, and STOP drops it",
+    ),
+    (
+        "NUMBARGS",
+        "Alto: the number of arguments of the call, after NUMARGS in the heading; pass it as an argument",
+    ),
+    (
+        "ENDOFS",
+        "Alto: Endofs(S) told whether a stream is at its end; compare what RDCH gives with ENDSTREAMCH",
+    ),
+    (
+        "WNS",
+        "Alto: Wns(S, N, W, RADIX) wrote a number; write WRITED of EXTHDR after SELECTOUTPUT",
+    ),
+    (
+        "DSP",
+        "Alto: a static, the stream of the display; it is the output that a run begins with",
+    ),
+    (
+        "KEYS",
+        "Alto: a static, the stream of the keyboard; it is the input that a run begins with",
     ),
 ];
 

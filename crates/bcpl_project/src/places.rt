@@ -32,6 +32,15 @@ fn line_of(
     Ok((line.number, as_text(alloc, bytes)?))
 }
 
+/// The offset in the new text of an offset in the old one.
+fn offset_after_rounds(file: &NewFile, at: usize) -> usize {
+    let mut offset = new_offset(file.conversion.replacements.as_slice(), at);
+    for later in &file.later {
+        offset = new_offset(later.as_slice(), offset);
+    }
+    offset
+}
+
 /// The place of a complaint.
 fn place_of(
     alloc: Global,
@@ -39,11 +48,10 @@ fn place_of(
     counters: &mut [LineCounter; 2],
     complaint: Complaint,
 ) -> Result<Place, Memory> {
-    let conversion = &file.conversion;
-    let at = new_offset(conversion.replacements.as_slice(), complaint.start);
+    let at = offset_after_rounds(file, complaint.start);
     let old = file.old.text.as_slice();
     let (old_line, before) = line_of(alloc, &mut counters[0], old, complaint.start)?;
-    let new = conversion.text.as_slice();
+    let new = file.text();
     let (new_line, after) = line_of(alloc, &mut counters[1], new, at)?;
     Ok(Place {
         fault: complaint.fault,

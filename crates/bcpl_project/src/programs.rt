@@ -4,6 +4,7 @@ ghost use Rattle.std.specs.Prelude.{◌<◌, All, IfOk};
 
 use crate::headers::Alias;
 use crate::new_files::NewFile;
+use crate::texts::Tokens;
 use bc_build::{BuildError, build};
 use bc_lex::{LexError, Source};
 use bc_library::{BLIB, LIBHDR};
@@ -12,6 +13,7 @@ use bc_word::Memory;
 use bcpl_advice::advised;
 use bcpl_cli::{BuildLine, lean_libraries, without_extension};
 use bcpl_messages::{Named, message_lines, message_of};
+use indexmap::IndexMap;
 use std::alloc::Global;
 
 /// The number of sources of the library.
@@ -26,6 +28,8 @@ pub struct ProjectProgram {
     pub start: Option<usize>,
     /// Whether it is built with the library cut to what it reaches, and so with routines of its own in place of the library's.
     pub is_lean: bool,
+    /// Whether it is built without the files that have no START.
+    pub is_alone: bool,
 }
 
 /// The programs of a project: one for each file with START, or one for all files if none has it.
@@ -41,6 +45,7 @@ pub fn programs_of(alloc: Global, files: &[NewFile]) -> Result<Vec<ProjectProgra
                 name: String::from_str(alloc, without_extension(file.name()))?,
                 start: Some(index),
                 is_lean: false,
+                is_alone: false,
             })?;
         }
     }
@@ -49,17 +54,19 @@ pub fn programs_of(alloc: Global, files: &[NewFile]) -> Result<Vec<ProjectProgra
             name: String::from_str(alloc, "program")?,
             start: None,
             is_lean: false,
+            is_alone: false,
         })?;
     }
     Ok(programs)
 }
 
-/// Whether the file with this index is a main of a program: it is the one with START, or has none and is no header.
+/// Whether the file with this index is a main of a program: it is the one with START, or has none and is no header, unless the
+/// program is built by itself.
 pub fn is_part(program: &ProjectProgram, files: &[NewFile], index: usize) -> bool {
     match files.get(index) {
         Some(file) if file.is_header => false,
         Some(file) if file.has_start => program.start == Some(index),
-        Some(_) => true,
+        Some(_) => !program.is_alone,
         None => false,
     }
 }
@@ -285,13 +292,9 @@ fn builds_lean(
     }
 }
 
-/// Why a program isn't built. If only the linker refuses it, the library is cut to what it reaches; if it builds then, that is
-/// noted.
-///
-/// # Errors
-///
-/// `Memory` if an allocation failed.
-pub fn refusal_of_program(
+/// Why a program isn't built with its parts. If only the linker refuses it, the library is cut to what it reaches; if it builds
+/// then, that is noted.
+fn refusal_with_parts(
     alloc: Global,
     program: &mut ProjectProgram,
     files: &[NewFile],
@@ -309,6 +312,94 @@ pub fn refusal_of_program(
     }
     program.is_lean = true;
     Ok(None)
+}
+
+/// Adds the names of the routines that a text declares.
+fn add_routines(
+    alloc: Global,
+    routines: &mut IndexMap<Vec<u8>, usize>,
+    text: &[u8],
+) -> Result<(), Memory> {
+    let tokens = Tokens::of(alloc, text)?;
+    for index in 1..tokens.count() {
+        let is_declared = tokens.is_word(index - 1, b"LET") || tokens.is_word(index - 1, b"AND");
+        if is_declared && tokens.begins_with(index.saturating_add(1), b"(") {
+            routines.insert(Vec::from_slice(alloc, tokens.bytes(index))?, index)?;
+        }
+    }
+    Ok(())
+}
+
+/// The names of the routines that the files without START declare.
+fn routines_of_parts(alloc: Global, files: &[NewFile]) -> Result<IndexMap<Vec<u8>, usize>, Memory> {
+    let mut routines = IndexMap::new(alloc);
+    for file in files {
+        if !file.is_header && !file.has_start {
+            add_routines(alloc, &mut routines, file.text())?;
+        }
+    }
+    Ok(routines)
+}
+
+/// Whether a text names one of these routines, and declares none of that name.
+fn names_one_of(
+    alloc: Global,
+    text: &[u8],
+    routines: &IndexMap<Vec<u8>, usize>,
+) -> Result<bool, Memory> {
+    let mut own = IndexMap::new(alloc);
+    add_routines(alloc, &mut own, text)?;
+    let tokens = Tokens::of(alloc, text)?;
+    for index in 0..tokens.count() {
+        let name = tokens.bytes(index);
+        if routines.get(name).is_some() && own.get(name).is_none() {
+            return Ok(true);
+        }
+    }
+    Ok(false)
+}
+
+/// Whether there are files without START, and the one with START names no routine of theirs.
+fn needs_no_part(
+    alloc: Global,
+    program: &ProjectProgram,
+    files: &[NewFile],
+) -> Result<bool, Memory> {
+    let routines = routines_of_parts(alloc, files)?;
+    let start = match program.start {
+        Some(index) => files.get(index),
+        None => None,
+    };
+    match start {
+        Some(file) if !routines.is_empty() => { Ok(!names_one_of(alloc, file.text(), &routines)?) }
+        _ => Ok(false),
+    }
+}
+
+/// Why a program isn't built. If it is refused with its parts, and names no routine of theirs, it is built by itself; if it
+/// builds then, that is noted.
+///
+/// # Errors
+///
+/// `Memory` if an allocation failed.
+pub fn refusal_of_program(
+    alloc: Global,
+    program: &mut ProjectProgram,
+    files: &[NewFile],
+    named: Named<'_, '_>,
+    is_further: bool,
+) -> Result<Option<Refusal>, Memory> {
+    let refusal = refusal_with_parts(alloc, program, files, named, is_further)?;
+    if refusal.is_none() || !needs_no_part(alloc, &*program, files)? {
+        return Ok(refusal);
+    }
+    program.is_alone = true;
+    let alone = refusal_with_parts(alloc, program, files, named, is_further)?;
+    if alone.is_none() {
+        return Ok(None);
+    }
+    program.is_alone = false;
+    Ok(refusal)
 }
 
 /// The sources with only the file with this index chosen.

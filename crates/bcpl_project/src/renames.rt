@@ -87,6 +87,52 @@ fn numbered(
     Ok(Vec::from_slice(alloc, spelling)?)
 }
 
+/// The spellings of a project.
+#[derive(Drop)]
+struct Spellings {
+    /// How many names become each spelling with dots.
+    counts: IndexMap<Vec<u8>, usize>,
+    /// Those that a name has.
+    taken: IndexMap<Vec<u8>, usize>,
+}
+
+impl Spellings {
+    /// Adds a spelling that a name has.
+    fn add_taken(&mut self, alloc: Global, spelling: &[u8]) -> Result<(), Memory> {
+        self.taken.insert(Vec::from_slice(alloc, spelling)?, 0)?;
+        Ok(())
+    }
+
+    /// Takes a spelling, with a number if a name has it. Returns it.
+    fn take(&mut self, alloc: Global, spelling: Vec<u8>) -> Result<Vec<u8>, Memory> {
+        let new = if self.taken.get(&spelling).is_some() {
+            numbered(alloc, &self.counts, spelling.as_slice())?
+        } else {
+            spelling
+        };
+        self.add_taken(alloc, new.as_slice())?;
+        if self.counts.get(&new).is_none() {
+            self.counts
+                .insert(Vec::from_slice(alloc, new.as_slice())?, 1)?;
+        }
+        Ok(new)
+    }
+}
+
+/// The new name of a name, if it needs one.
+fn new_name(
+    alloc: Global,
+    spellings: &mut Spellings,
+    name: &[u8],
+) -> Result<Option<Vec<u8>>, Memory> {
+    let spelling = dotted(alloc, name)?;
+    let count = spellings.counts.get(&spelling).copied().unwrap_or(0);
+    if count < 2 || !name.contains(&b'_') {
+        return Ok(None);
+    }
+    Ok(Some(spellings.take(alloc, spelling)?))
+}
+
 /// The new names of those that would become the same: the one without underlines keeps its spelling, or else the first one gets it
 /// with dots; the others get numbers.
 ///
@@ -94,37 +140,27 @@ fn numbered(
 ///
 /// `Memory` if an allocation failed.
 pub fn shared_names(alloc: Global, files: &[OldFile]) -> Result<Vec<Renamed>, Memory> {
-    let all = all_names(alloc, files)?;
     let AllNames {
         names,
-        mut spellings,
-    } = all;
-    let mut plain: IndexMap<Vec<u8>, usize> = IndexMap::new(alloc);
+        spellings: counts,
+    } = all_names(alloc, files)?;
+    let mut spellings = Spellings {
+        counts,
+        taken: IndexMap::new(alloc),
+    };
     for name in &names {
         if !name.as_slice().contains(&b'_') {
-            plain.insert(Vec::from_slice(alloc, name.as_slice())?, 0)?;
+            spellings.add_taken(alloc, name.as_slice())?;
         }
     }
     let mut shared = Vec::new(alloc);
     for name in &names {
-        let spelling = dotted(alloc, name.as_slice())?;
-        let count = spellings.get(&spelling).copied().unwrap_or(0);
-        if count < 2 || !name.as_slice().contains(&b'_') {
-            continue;
+        if let Some(new) = new_name(alloc, &mut spellings, name.as_slice())? {
+            shared.push(Renamed {
+                old: Vec::from_slice(alloc, name.as_slice())?,
+                new,
+            })?;
         }
-        let new = if plain.get(&spelling).is_some() {
-            numbered(alloc, &spellings, spelling.as_slice())?
-        } else {
-            spelling
-        };
-        plain.insert(Vec::from_slice(alloc, new.as_slice())?, 0)?;
-        if spellings.get(&new).is_none() {
-            spellings.insert(Vec::from_slice(alloc, new.as_slice())?, 1)?;
-        }
-        shared.push(Renamed {
-            old: Vec::from_slice(alloc, name.as_slice())?,
-            new,
-        })?;
     }
     Ok(shared)
 }

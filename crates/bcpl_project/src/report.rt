@@ -4,7 +4,7 @@ use crate::changes::{KINDS, counts_of};
 use crate::folder::{SCRIPT, TITLE};
 use crate::headers::Missing;
 use crate::new_files::NewFile;
-use crate::page::{Page, Part};
+use crate::page::{Page, Pages, Part};
 use crate::places::{Place, places_of};
 use crate::programs::{ProjectProgram, Refusal};
 use crate::renames::Renamed;
@@ -115,15 +115,15 @@ impl Report<'_> {
 }
 
 /// Adds how many files show something, if one does.
-fn add_shown(page: &mut Page, what: &str, count: usize, files: usize) -> Result<(), Memory> {
+fn add_shown(page: &mut Page, what: &str, count: usize, files: usize) {
     if count == 0 {
-        return Ok(());
+        return;
     }
-    page.row(&[Part::Text(what), Part::Number(count), Part::Number(files)])
+    page.row(&[Part::Text(what), Part::Number(count), Part::Number(files)]);
 }
 
 /// Adds what the files show of their dialect, if they show something.
-fn add_shown_table(page: &mut Page, dialect: &ShownDialect, count: usize) -> Result<(), Memory> {
+fn add_shown_table(page: &mut Page, dialect: &ShownDialect, count: usize) {
     let shown = [
         ("reserved words in lower case", dialect.small_words),
         ("library names in lower case", dialect.small_library),
@@ -131,39 +131,45 @@ fn add_shown_table(page: &mut Page, dialect: &ShownDialect, count: usize) -> Res
         ("strings in single quotes", dialect.quoted_strings),
     ];
     if shown.iter().all(|row| row.1 == 0) {
-        return page.paragraph(&[Part::Text(
+        page.paragraph(&[Part::Text(
             "The files show nothing that is special to an older dialect.",
         )]);
+        return;
     }
-    page.table(&["What shows", "Files", "Of"])?;
+    page.table(&["What shows", "Files", "Of"]);
     for (what, shown) in shown {
-        add_shown(page, what, shown, count)?;
+        add_shown(page, what, shown, count);
     }
-    page.end_table()
+    page.end_table();
 }
 
 /// Adds what is known of the dialect.
-fn add_dialect(page: &mut Page, report: &Report<'_>) -> Result<(), Memory> {
+fn add_dialect(page: &mut Page, report: &Report<'_>) {
     let dialect = report.dialect;
-    page.heading(2, &[Part::Text("Dialect and library")])?;
+    page.heading(2, &[Part::Text("Dialect and library")]);
     match dialect.named {
         Some(named) => page.paragraph(&[
             Part::Text("All files were read in the dialect that was named: "),
             Part::Text(named),
             Part::Text("."),
-        ])?,
+        ]),
         None => page.paragraph(&[Part::Text(
             "No dialect was named, so all files were read in the one that they show together. Name another one by --dialect.",
-        )])?,
+        )]),
     }
-    add_shown_table(page, dialect, report.files.len())?;
+    add_shown_table(page, dialect, report.files.len());
     if dialect.named.is_none() && dialect.stars > 0 {
         page.paragraph(&[
             Part::Text("A file assigns to a subscript with a star, so "),
             Part::Code("*("),
             Part::Text(" is taken for a subscript in all files that don't build as they are."),
-        ])?;
+        ]);
     }
+    add_header(page, report);
+}
+
+/// Adds which header of the library the files get.
+fn add_header(page: &mut Page, report: &Report<'_>) {
     let header = if report.is_further {
         "EXTHDR, so it is built with EXTLIB"
     } else {
@@ -173,7 +179,7 @@ fn add_dialect(page: &mut Page, report: &Report<'_>) -> Result<(), Memory> {
         Part::Text("The library's header in all files is "),
         Part::Text(header),
         Part::Text("."),
-    ])
+    ]);
 }
 
 /// Where a file was in the old sources.
@@ -195,12 +201,7 @@ fn kind_of(file: &NewFile) -> &'static str {
 }
 
 /// Adds the row of a file, which was at this place.
-fn add_file_row<'x>(
-    page: &mut Page,
-    file: &'x NewFile,
-    place: &'x str,
-    builds: &'x str,
-) -> Result<(), Memory> {
+fn add_file_row<'x>(page: &mut Page, file: &'x NewFile, place: &'x str, builds: &'x str) {
     page.row(&[
         Part::Line(file.name(), 1),
         Part::Text(place),
@@ -208,12 +209,12 @@ fn add_file_row<'x>(
         Part::Number(file.conversion.replacements.len()),
         Part::Number(file.conversion.complaints.len()),
         Part::Text(builds),
-    ])
+    ]);
 }
 
 /// Adds the table of files.
 fn add_files(alloc: Global, page: &mut Page, report: &Report<'_>) -> Result<(), Memory> {
-    page.heading(2, &[Part::Text("Files")])?;
+    page.heading(2, &[Part::Text("Files")]);
     page.table(&[
         "File",
         "Old source",
@@ -221,7 +222,7 @@ fn add_files(alloc: Global, page: &mut Page, report: &Report<'_>) -> Result<(), 
         "Changes",
         "Doubtful places",
         "Builds",
-    ])?;
+    ]);
     for (index, file) in report.files.iter().enumerate() {
         let place = old_place(alloc, file)?;
         let builds = if report.refusal(index).is_some() {
@@ -229,29 +230,45 @@ fn add_files(alloc: Global, page: &mut Page, report: &Report<'_>) -> Result<(), 
         } else {
             "yes"
         };
-        add_file_row(page, file, place.as_str(), builds)?;
+        add_file_row(page, file, place.as_str(), builds);
     }
-    page.end_table()?;
+    page.end_table();
     for other in report.others {
         page.paragraph(&[
             Part::Code(other.as_str()),
             Part::Text(" doesn't begin as a source does, and was left out."),
-        ])?;
+        ]);
     }
     Ok(())
 }
 
+/// Whether a program is built, and how.
+fn how_it_builds(is_built: bool, program: &ProjectProgram) -> &'static str {
+    match (is_built, program.is_lean, program.is_alone) {
+        (true, true, true) => {
+            "yes, by itself, and with --lean: its own routines replace the library's"
+        }
+        (true, true, false) => "yes, with --lean: its own routines replace the library's",
+        (true, false, true) => "yes, by itself",
+        (true, false, false) => "yes",
+        (false, _, _) => "no",
+    }
+}
+
 /// Adds the table of programs.
-fn add_programs(page: &mut Page, report: &Report<'_>) -> Result<(), Memory> {
-    page.heading(2, &[Part::Text("Programs")])?;
+fn add_programs(page: &mut Page, report: &Report<'_>) {
+    page.heading(2, &[Part::Text("Programs")]);
     page.paragraph(&[
         Part::Text("The script "),
         Part::Code(SCRIPT),
         Part::Text(
             " builds them. Each file with START is a program, together with all files that have none and are no headers.",
         ),
-    ])?;
-    page.table(&["Text", "START in", "Builds"])?;
+        Part::Text(
+            " A program that can't be built so, and names no routine of these files, is built by itself.",
+        ),
+    ]);
+    page.table(&["Text", "START in", "Builds"]);
     for (index, program) in report.programs.iter().enumerate() {
         let start = match program.start {
             Some(file) => report.name(file),
@@ -260,87 +277,83 @@ fn add_programs(page: &mut Page, report: &Report<'_>) -> Result<(), Memory> {
         page.row(&[
             Part::Code(program.name.as_str()),
             Part::Text(start),
-            Part::Text(match (report.is_built(index), program.is_lean) {
-                (true, true) => "yes, with --lean: its own routines replace the library's",
-                (true, false) => "yes",
-                (false, _) => "no",
-            }),
-        ])?;
+            Part::Text(how_it_builds(report.is_built(index), program)),
+        ]);
     }
-    page.end_table()?;
+    page.end_table();
     for refusal in report.unbuilt {
         if let Some(refusal) = refusal
             && refusal.is_of_linking
         {
-            page.lines(refusal.lines.as_str())?;
+            page.lines(refusal.lines.as_str());
         }
     }
-    Ok(())
 }
 
 /// Adds the headers that weren't found.
-fn add_missing(page: &mut Page, report: &Report<'_>) -> Result<(), Memory> {
+fn add_missing(page: &mut Page, report: &Report<'_>) {
     if report.missing.is_empty() {
-        return Ok(());
+        return;
     }
-    page.heading(3, &[Part::Text("Headers that weren't found")])?;
-    page.table(&["Name after GET", "In"])?;
+    page.heading(3, &[Part::Text("Headers that weren't found")]);
+    page.table(&["Name after GET", "In"]);
     for missing in report.missing {
         page.row(&[
             Part::Code(missing.name.as_str()),
             Part::Text(report.name(missing.file)),
-        ])?;
+        ]);
     }
-    page.end_table()
+    page.end_table();
 }
 
 /// Adds the names that nothing declares.
-fn add_unknown(page: &mut Page, report: &Report<'_>) -> Result<(), Memory> {
+fn add_unknown(page: &mut Page, report: &Report<'_>) {
     if report.unknown.is_empty() {
-        return Ok(());
+        return;
     }
-    page.heading(3, &[Part::Text("Names that nothing declares")])?;
+    page.heading(3, &[Part::Text("Names that nothing declares")]);
     page.paragraph(&[Part::Text(
         "Headers that weren't found may declare some of them. Files that the compiler can't read yet may have further ones.",
-    )])?;
-    page.table(&["Name", "First places", "What it may be"])?;
+    )]);
+    page.table(&["Name", "First places", "What it may be"]);
     for unknown in report.unknown {
         page.row(&[
             Part::Code(unknown.name.as_str()),
             Part::Text(unknown.places.as_str()),
             Part::Text(unknown.meaning.as_str()),
-        ])?;
+        ]);
     }
-    page.end_table()
+    page.end_table();
 }
 
 /// Adds what is left to do by hand.
-fn add_left(page: &mut Page, report: &Report<'_>) -> Result<(), Memory> {
+fn add_left(page: &mut Page, report: &Report<'_>) {
     let left = report.left();
-    page.heading(2, &[Part::Text("Left to do by hand")])?;
+    page.heading(2, &[Part::Text("Left to do by hand")]);
     if left.count() == 0 {
-        return page.paragraph(&[Part::Text("Nothing.")]);
+        page.paragraph(&[Part::Text("Nothing.")]);
+        return;
     }
-    page.table(&["What", "How many"])?;
+    page.table(&["What", "How many"]);
     page.row(&[
         Part::Text("doubtful places, listed with each file below"),
         Part::Number(left.places),
-    ])?;
+    ]);
     page.row(&[
         Part::Text("names that nothing declares"),
         Part::Number(left.names),
-    ])?;
+    ]);
     page.row(&[
         Part::Text("headers that weren't found"),
         Part::Number(left.headers),
-    ])?;
+    ]);
     page.row(&[
         Part::Text("files and programs that don't build for other reasons"),
         Part::Number(left.refused),
-    ])?;
-    page.end_table()?;
-    add_missing(page, report)?;
-    add_unknown(page, report)
+    ]);
+    page.end_table();
+    add_missing(page, report);
+    add_unknown(page, report);
 }
 
 /// Adds the names that were renamed in all files alike.
@@ -348,33 +361,36 @@ fn add_renamed(alloc: Global, page: &mut Page, report: &Report<'_>) -> Result<()
     if report.shared.is_empty() {
         return Ok(());
     }
-    page.heading(2, &[Part::Text("Names that would have become the same")])?;
+    page.heading(2, &[Part::Text("Names that would have become the same")]);
     page.paragraph(&[Part::Text(
         "Underlines become dots. These names differ only in that, and have in all files the new name that is given here.",
-    )])?;
-    page.table(&["Old name", "New name"])?;
+    )]);
+    page.table(&["Old name", "New name"]);
     for renamed in report.shared {
         let old = as_text(alloc, renamed.old.as_slice())?;
         let new = as_text(alloc, renamed.new.as_slice())?;
-        page.row(&[Part::Code(old.as_str()), Part::Code(new.as_str())])?;
+        page.row(&[Part::Code(old.as_str()), Part::Code(new.as_str())]);
     }
-    page.end_table()
+    page.end_table();
+    Ok(())
 }
 
 /// Adds what was changed in a file, by kind.
 fn add_changes(alloc: Global, page: &mut Page, file: &NewFile) -> Result<(), Memory> {
     let replacements = file.conversion.replacements.as_slice();
     if replacements.is_empty() {
-        return page.paragraph(&[Part::Text("Unchanged, byte for byte.")]);
+        page.paragraph(&[Part::Text("Unchanged, byte for byte.")]);
+        return Ok(());
     }
-    page.table(&["Changes", "How many"])?;
+    page.table(&["Changes", "How many"]);
     let counts = counts_of(alloc, file.old.text.as_slice(), replacements)?;
     for (kind, count) in KINDS.iter().zip(&counts) {
         if *count > 0 {
-            page.row(&[Part::Text(kind), Part::Number(*count)])?;
+            page.row(&[Part::Text(kind), Part::Number(*count)]);
         }
     }
-    page.end_table()
+    page.end_table();
+    Ok(())
 }
 
 /// Adds a doubtful place.
@@ -384,7 +400,7 @@ fn add_place(alloc: Global, page: &mut Page, file: &NewFile, place: &Place) -> R
     page.paragraph(&[
         Part::Line(file.name(), place.new_line),
         Part::Text(fault.as_str()),
-    ])?;
+    ]);
     let old_line = place.old_line;
     let before = place.before.as_str();
     let after = place.after.as_str();
@@ -392,7 +408,8 @@ fn add_place(alloc: Global, page: &mut Page, file: &NewFile, place: &Place) -> R
     let lines = format!(in alloc;
         "line {old_line} was: {before}\nis now: {after}\nhelp: {help}\n"
     )?;
-    page.lines(lines.as_str())
+    page.lines(lines.as_str());
+    Ok(())
 }
 
 /// Adds the section of a file.
@@ -403,14 +420,14 @@ fn add_file(
     index: usize,
     file: &NewFile,
 ) -> Result<(), Memory> {
-    page.heading(2, &[Part::Text(file.name())])?;
+    page.heading(2, &[Part::Text(file.name())]);
     add_changes(alloc, page, file)?;
     for place in &places_of(alloc, file)? {
         add_place(alloc, page, file, place)?;
     }
     if let Some(refusal) = report.refusal(index) {
-        page.paragraph(&[Part::Text("It doesn't build yet:")])?;
-        page.lines(refusal.lines.as_str())?;
+        page.paragraph(&[Part::Text("It doesn't build yet:")]);
+        page.lines(refusal.lines.as_str());
     }
     Ok(())
 }
@@ -420,18 +437,18 @@ fn add_file(
 /// # Errors
 ///
 /// `Memory` if an allocation failed.
-pub fn page_of(alloc: Global, report: &Report<'_>) -> Result<Page, Memory> {
-    let mut page = Page::new(alloc, TITLE)?;
+pub fn page_of(alloc: Global, report: &Report<'_>) -> Result<Pages, Memory> {
+    let mut page = Page::new(alloc, TITLE);
     page.paragraph(&[Part::Text(
         "What bcpl convert --project made of old sources. Line numbers of links are those of the new files.",
-    )])?;
+    )]);
     add_files(alloc, &mut page, report)?;
-    add_programs(&mut page, report)?;
-    add_dialect(&mut page, report)?;
-    add_left(&mut page, report)?;
+    add_programs(&mut page, report);
+    add_dialect(&mut page, report);
+    add_left(&mut page, report);
     add_renamed(alloc, &mut page, report)?;
     for (index, file) in report.files.iter().enumerate() {
         add_file(alloc, &mut page, report, index, file)?;
     }
-    Ok(page)
+    page.finish()
 }

@@ -64,6 +64,41 @@ fn add_gets(
     Ok(())
 }
 
+/// What the programs of a project are built from.
+#[derive(Clone, Copy)]
+pub struct Parts<'p> {
+    pub files: &'p [NewFile],
+    pub aliases: &'p [Alias],
+    /// Whether they are built with EXTLIB.
+    pub is_further: bool,
+}
+
+/// Adds the line that builds a program.
+fn add_build(
+    alloc: Global,
+    script: &mut String,
+    program: &ProjectProgram,
+    parts: Parts<'_>,
+) -> Result<(), Memory> {
+    let name = program.name.as_str();
+    let text = format!(in alloc; "{name}.int")?;
+    let library = if parts.is_further {
+        " --library ext"
+    } else {
+        ""
+    };
+    let lean = if program.is_lean { " --lean" } else { "" };
+    write!(script, "\"${{BCPL:-bcpl}}\" build{library}{lean} --out")?;
+    add_path(alloc, script, text.as_str())?;
+    add_gets(alloc, script, parts.files, parts.aliases)?;
+    for (index, file) in parts.files.iter().enumerate() {
+        if is_part(program, parts.files, index) {
+            add_path(alloc, script, file.name())?;
+        }
+    }
+    Ok(script.push('\n')?)
+}
+
 /// The script that builds these programs.
 ///
 /// # Errors
@@ -72,30 +107,11 @@ fn add_gets(
 pub fn script_of(
     alloc: Global,
     programs: &[ProjectProgram],
-    files: &[NewFile],
-    aliases: &[Alias],
-    is_further: bool,
+    parts: Parts<'_>,
 ) -> Result<String, Memory> {
     let mut script = String::from_str(alloc, HEAD)?;
     for program in programs {
-        let name = program.name.as_str();
-        let text = format!(in alloc; "{name}.int")?;
-        script.push_str("\"${BCPL:-bcpl}\" build")?;
-        if is_further {
-            script.push_str(" --library ext")?;
-        }
-        if program.is_lean {
-            script.push_str(" --lean")?;
-        }
-        script.push_str(" --out")?;
-        add_path(alloc, &mut script, text.as_str())?;
-        add_gets(alloc, &mut script, files, aliases)?;
-        for (index, file) in files.iter().enumerate() {
-            if is_part(program, files, index) {
-                add_path(alloc, &mut script, file.name())?;
-            }
-        }
-        script.push('\n')?;
+        add_build(alloc, &mut script, program, parts)?;
     }
     Ok(script)
 }

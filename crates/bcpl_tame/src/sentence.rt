@@ -19,6 +19,8 @@ pub fn number_of(cause: Cause) -> (u32, &'static str) {
         Cause::Size => (12, "Size"),
         Cause::Sections => (13, "Sections"),
         Cause::RoutineGlobal => (14, "RoutineGlobal"),
+        Cause::Index => (15, "Index"),
+        Cause::Unset => (16, "Unset"),
     }
 }
 
@@ -27,7 +29,7 @@ pub(crate) fn sentence(cause: Cause) -> &'static str {
     match cause {
         Cause::Indirection => { "not known to be tame: this reads or writes a cell by its address" }
         Cause::Address => {
-            "not known to be tame: this uses a table, a routine or the address of a static as a value"
+            "not known to be tame: this uses a routine or the address of a static as a value"
         }
         Cause::Call => { "not known to be tame: this calls a routine that the check doesn't know" }
         Cause::Arguments => {
@@ -57,6 +59,10 @@ pub(crate) fn sentence(cause: Cause) -> &'static str {
         Cause::RoutineGlobal => {
             "not known to be tame: this assigns a global that holds a routine of the program"
         }
+        Cause::Index => {
+            "not known to be tame: this index isn't bounded by numbers and FORs, or may be outside of its vector or table"
+        }
+        Cause::Unset => "not known to be tame: this cell of a vector may not be set yet",
     }
 }
 
@@ -64,10 +70,10 @@ pub(crate) fn sentence(cause: Cause) -> &'static str {
 pub(crate) fn help(cause: Cause) -> &'static str {
     match cause {
         Cause::Indirection => {
-            "the check follows variables, statics and globals, but no index; `bcpl interpret` says whether one run is wild"
+            "the check follows V!I for a VEC or TABLE that this routine declares and never assigns; `bcpl interpret` says whether one run is wild"
         }
         Cause::Address => {
-            "the check follows numbers and strings only; a routine can be called by its name or its global"
+            "the check follows numbers, strings, vectors and tables; a routine can be called by its name or its global"
         }
         Cause::Call => {
             "the check accepts the program's routines by name or global, and of the library those for streams and for writing"
@@ -81,9 +87,15 @@ pub(crate) fn help(cause: Cause) -> &'static str {
         }
         Cause::LibraryGlobal | Cause::RoutineGlobal => "use a variable or another global",
         Cause::OwnGlobal => "give the routine another global",
-        Cause::Table => "the check follows variables, statics and globals, but no table",
+        Cause::Table => "use variables",
         Cause::NoStart => "define START() in a file that begins with GET \"LIBHDR\"",
         Cause::Stack | Cause::Size => { "use fewer variables, or fewer calls inside calls" }
         Cause::Sections => "the check takes BLIB and the files, without --library",
+        Cause::Index => {
+            "make the index of numbers and of the variables of FORs between numbers, which nothing assigns, by +, - and *"
+        }
+        Cause::Unset => {
+            "earlier in this list, set the cell by an index that is a number, or all cells by FOR I = 0 TO N DO V!I := E, which nothing leaves early"
+        }
     }
 }

@@ -1,6 +1,7 @@
--- The position stays within the text.
-use Rattle.std.proofs.Common.{◌≤◌, length}
+-- The bytes up to the position are a gap.
+use Rattle.std.proofs.Common.{◌≤◌, length, drop}
+use Rattle.bc_convert.specs.Gaps.{GapThen}
 use Rattle.bc_convert.proofs.lexeme.gap.Given as goal
 
 abbrev pub invariant-loop : goal.invariant-loop
-invariant-loop l = l.at ≤ length l.bytes
+invariant-loop l = (l.at ≤ length l.bytes) × GapThen l.bytes (drop l.at l.bytes)

@@ -1,10 +1,12 @@
--- The tokens read up to here end at the position or before it, and the position stays within the text.
-use Rattle.std.proofs.Common.{◌≤◌, length}
-use Rattle.bc_convert.specs.Spans.{TokensWithin}
+-- The tokens read up to here, with tokens and gaps from the position on, make up the text. Each iteration reads a byte or more.
+use Rattle.std.proofs.Common.{◌≤◌, List, ◌++◌, length}
+use Rattle.bc_convert.specs.declared.source.Token.{Token}
+use Rattle.bc_convert.specs.Spans.{TokensFrom}
 use Rattle.bc_convert.proofs.lexing.lex.Given as goal
 
 abbrev pub invariant-loop : goal.invariant-loop
 invariant-loop l = record {
   within : l.at ≤ length l.text;
-  rise : TokensWithin 0 l.at l.tokens.items;
+  moves : l.counter ≤ l.at;
+  before : (ts : List Token) → TokensFrom l.text l.at ts → TokensFrom l.text 0 (l.tokens.items ++ ts);
 }
