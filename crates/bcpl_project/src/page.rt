@@ -72,7 +72,7 @@ const HEAD: &str = "<!DOCTYPE html>
 <style>
 :root { color-scheme: light dark; }
 body { font: 16px/1.5 sans-serif; max-width: 60em; margin: 1em auto; padding: 0 1em; }
-table { border-collapse: collapse; margin: 1em 0; }
+table { display: block; overflow-x: auto; border-collapse: collapse; margin: 1em 0; }
 th, td { text-align: left; vertical-align: top; padding: 0.2em 0.8em 0.2em 0; border-bottom: 1px solid #8886; }
 pre { overflow-x: auto; padding: 0.5em; border-left: 3px solid #8888; }
 </style>

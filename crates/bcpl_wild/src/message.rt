@@ -255,9 +255,20 @@ impl Lacking<'_> {
         )
     }
 
+    /// The note on the place of the call of a routine with one parameter.
+    fn said_of_only(&self, draft: &mut Draft) -> String {
+        draft.filled(
+            "{} was called here, and {} is its only parameter",
+            &[Fill::Shown(self.routine), Fill::Shown(self.name)],
+        )
+    }
+
     /// The note on the place of the call.
     fn said(&self, draft: &mut Draft) -> String {
         let number = self.parameter.number;
+        if self.parameter.count == 1 {
+            return self.said_of_only(draft);
+        }
         draft.filled(
             "{} was called here, and {} is the {}{} of its {} {}",
             &[
