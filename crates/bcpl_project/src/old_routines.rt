@@ -1,7 +1,9 @@
 //! What routines of old libraries did. This is from accounts and manuals of their time, as far as we know.
+//!
+//! The names are in four tables, since the prover runs out of memory over a long one.
 
-/// Names of old libraries, in upper case, and what each was.
-const OLD: [(&str, &str); 82] = [
+/// Names of Tripos that have to do with commands and tasks, in upper case, and what each was.
+const TASKS: [(&str, &str); 30] = [
     (
         "RDARGS",
         "Tripos: read the command's arguments by a key string; EXTHDR has RDARGS",
@@ -66,6 +68,55 @@ const OLD: [(&str, &str); 82] = [
         "Tripos: loaded a file and called its START; link the file, and call a routine of it",
     ),
     (
+        "RESULT2",
+        "Tripos: a global with a second result, mostly the reason of a failure; declare it by GLOBAL, and expect 0",
+    ),
+    (
+        "RETURNCODE",
+        "Tripos: a global of commands, the status at the end; STOP(N) of EXTHDR drops it",
+    ),
+    (
+        "ROOTNODE",
+        "Tripos: the address of the system's data, a manifest; there is no system here",
+    ),
+    (
+        "COPYDIR",
+        "Tripos: copied the lock on a folder; there are no folders here",
+    ),
+    (
+        "CLI",
+        "Tripos: CLI.INIT and others are globals of the command interpreter",
+    ),
+    (
+        "TESTFLAGS",
+        "Tripos: tested and cleared the flags by which a user breaks a program; EXTHDR has TESTFLAGS",
+    ),
+    ("SETFLAGS", "Tripos: set flags of a task; leave it out"),
+    (
+        "FAULT",
+        "Tripos: wrote what the number of a failure means; write a message",
+    ),
+    (
+        "ABORT",
+        "stopped the program with a number, for the debugger; write a message, then STOP(20) or FINISH",
+    ),
+    (
+        "RETURN.SEVERE",
+        "Tripos: a manifest, the status 20 of a command; declare it by MANIFEST, and STOP drops it",
+    ),
+    (
+        "RETURN.HARD",
+        "Tripos: a manifest, the status 10 of a command; declare it by MANIFEST, and STOP drops it",
+    ),
+    (
+        "RETURN.SOFT",
+        "Tripos: a manifest, the status 5 of a command; declare it by MANIFEST, and STOP drops it",
+    ),
+];
+
+/// Names of Tripos that have to do with files, and what each was.
+const FILES: [(&str, &str); 14] = [
+    (
         "LOCATEOBJ",
         "Tripos: found a file or folder and took a lock on it; streams are found by FINDINPUT",
     ),
@@ -103,39 +154,6 @@ const OLD: [(&str, &str); 82] = [
         "Tripos: put the date and the time as strings into a vector; read them from an input",
     ),
     (
-        "RESULT2",
-        "Tripos: a global with a second result, mostly the reason of a failure; declare it by GLOBAL, and expect 0",
-    ),
-    (
-        "RETURNCODE",
-        "Tripos: a global of commands, the status at the end; STOP(N) of EXTHDR drops it",
-    ),
-    (
-        "ROOTNODE",
-        "Tripos: the address of the system's data, a manifest; there is no system here",
-    ),
-    (
-        "COPYDIR",
-        "Tripos: copied the lock on a folder; there are no folders here",
-    ),
-    (
-        "CLI",
-        "Tripos: CLI.INIT and others are globals of the command interpreter",
-    ),
-    (
-        "TESTFLAGS",
-        "Tripos: tested and cleared the flags by which a user breaks a program; EXTHDR has TESTFLAGS",
-    ),
-    ("SETFLAGS", "Tripos: set flags of a task; leave it out"),
-    (
-        "FAULT",
-        "Tripos: wrote what the number of a failure means; write a message",
-    ),
-    (
-        "ABORT",
-        "stopped the program with a number, for the debugger; write a message, then STOP(20) or FINISH",
-    ),
-    (
         "ENDSTREAM",
         "Tripos: closed a stream; ENDREAD and ENDWRITE close the selected one",
     ),
@@ -151,6 +169,10 @@ const OLD: [(&str, &str); 82] = [
         "NOTE",
         "Tripos: returned the position in a file; streams are read from beginning to end here",
     ),
+];
+
+/// Names of several systems, and what each was.
+const SEVERAL: [(&str, &str); 20] = [
     (
         "GETBYTES",
         "read bytes of a stream into a vector; write a loop with RDCH",
@@ -196,6 +218,39 @@ const OLD: [(&str, &str); 82] = [
         "SYS",
         "a call of the system below; write the routine that the number means",
     ),
+    (
+        "LEVEL",
+        "returned the place on the stack for LONGJUMP; set a flag that each routine checks after a call, or link the text LEVEL of docs/kit.md",
+    ),
+    (
+        "LONGJUMP",
+        "jumped to a label of a routine that was still running; set a flag that each routine checks after a call, or link the text LEVEL of docs/kit.md",
+    ),
+    (
+        "APTOVEC",
+        "called a routine with a vector of any size; declare a vector of the greatest size by VEC, or link the text APTOVEC of docs/kit.md",
+    ),
+    (
+        "CREATECO",
+        "made a coroutine; keep in statics what the routine must remember",
+    ),
+    ("DELETECO", "deleted a coroutine; leave it out"),
+    (
+        "CALLCO",
+        "went on in a coroutine; call a routine that keeps in statics what it must remember",
+    ),
+    (
+        "COWAIT",
+        "went back to the caller of the coroutine; return, and keep in statics what the routine must remember",
+    ),
+    (
+        "RESUMECO",
+        "went on in another coroutine; call a routine that keeps in statics what it must remember",
+    ),
+];
+
+/// Names of the BBC Microcomputer and of the Alto, and what each was.
+const BBC_AND_ALTO: [(&str, &str); 18] = [
     ("CALLBYTE", "BBC: called machine code; write what it did"),
     (
         "VDU",
@@ -240,47 +295,6 @@ const OLD: [(&str, &str); 82] = [
         "Alto: MoveBlock(TO, FROM, N) copied N words; write a FOR",
     ),
     (
-        "LEVEL",
-        "returned the place on the stack for LONGJUMP; set a flag that each routine checks after a call, or link the text LEVEL of docs/kit.md",
-    ),
-    (
-        "LONGJUMP",
-        "jumped to a label of a routine that was still running; set a flag that each routine checks after a call, or link the text LEVEL of docs/kit.md",
-    ),
-    (
-        "APTOVEC",
-        "called a routine with a vector of any size; declare a vector of the greatest size by VEC, or link the text APTOVEC of docs/kit.md",
-    ),
-    (
-        "CREATECO",
-        "made a coroutine; keep in statics what the routine must remember",
-    ),
-    ("DELETECO", "deleted a coroutine; leave it out"),
-    (
-        "CALLCO",
-        "went on in a coroutine; call a routine that keeps in statics what it must remember",
-    ),
-    (
-        "COWAIT",
-        "went back to the caller of the coroutine; return, and keep in statics what the routine must remember",
-    ),
-    (
-        "RESUMECO",
-        "went on in another coroutine; call a routine that keeps in statics what it must remember",
-    ),
-    (
-        "RETURN.SEVERE",
-        "Tripos: a manifest, the status 20 of a command; declare it by MANIFEST, and STOP drops it",
-    ),
-    (
-        "RETURN.HARD",
-        "Tripos: a manifest, the status 10 of a command; declare it by MANIFEST, and STOP drops it",
-    ),
-    (
-        "RETURN.SOFT",
-        "Tripos: a manifest, the status 5 of a command; declare it by MANIFEST, and STOP drops it",
-    ),
-    (
         "NUMBARGS",
         "Alto: the number of arguments of the call, after NUMARGS in the heading; pass it as an argument",
     ),
@@ -302,12 +316,46 @@ const OLD: [(&str, &str); 82] = [
     ),
 ];
 
-/// What a routine of an old library did, by its name in either case.
-pub fn old_routine(name: &[u8]) -> Option<&'static str> {
-    for (known, meaning) in OLD {
+/// What a name was by a table.
+fn found_in(table: &[(&str, &'static str)], name: &[u8]) -> Option<&'static str> {
+    for (known, meaning) in table {
         if name.eq_ignore_ascii_case(known.as_bytes()) {
-            return Some(meaning);
+            return Some(*meaning);
         }
     }
     None
+}
+
+/// What a name of Tripos was that has to do with commands or tasks.
+fn of_tasks(name: &[u8]) -> Option<&'static str> {
+    found_in(&TASKS, name)
+}
+
+/// What a name of Tripos was that has to do with files.
+fn of_files(name: &[u8]) -> Option<&'static str> {
+    found_in(&FILES, name)
+}
+
+/// What a name of several systems was.
+fn of_several(name: &[u8]) -> Option<&'static str> {
+    found_in(&SEVERAL, name)
+}
+
+/// What a name of the BBC Microcomputer or of the Alto was.
+fn of_bbc_or_alto(name: &[u8]) -> Option<&'static str> {
+    found_in(&BBC_AND_ALTO, name)
+}
+
+/// What a routine of an old library did, by its name in either case.
+pub fn old_routine(name: &[u8]) -> Option<&'static str> {
+    if let Some(meaning) = of_tasks(name) {
+        return Some(meaning);
+    }
+    if let Some(meaning) = of_files(name) {
+        return Some(meaning);
+    }
+    match of_several(name) {
+        Some(meaning) => Some(meaning),
+        None => of_bbc_or_alto(name),
+    }
 }
