@@ -1,6 +1,9 @@
+pub mod Confined
 pub mod Converted
 pub mod Examples
 pub mod GapExamples
 pub mod Gaps
+pub mod Plain
 pub mod Settled
 pub mod Spans
+pub mod Tokens
