@@ -1,7 +1,7 @@
 //! Spans that meet at most one token.
 
-ghost use Rattle.std.specs.Prelude.{◌≡◌, ℕ, ◌≤◌, true, IfOk};
-ghost use Rattle.std.specs.List.{filter};
+ghost use Rattle.std.specs.Prelude.{◌≡◌, ℕ, ◌≤◌, nat_le, length, true, IfOk};
+ghost use Rattle.std.specs.List.{filter, prefix_len};
 ghost use Rattle.bc_convert.specs.Confined.{tokens_after, second_begins_after, is_confined, AreConfined};
 ghost use Rattle.bc_convert.specs.Plain.{is_plain as is_plain_of};
 
@@ -12,12 +12,19 @@ use crate::source::Token;
 use bc_word::Memory;
 use std::alloc::Global;
 
+/// The number of tokens at the start that end at this position or before it.
+fn count_until(tokens: &[Token], at: usize) -> usize
+    ensures value { result ≡ prefix_len (λ t. nat_le t.end at) tokens.now }
+    ensures within { result ≤ length tokens.now }
+{
+    tokens.iter().take_while(|token| token.end <= at).count()
+}
+
 /// The tokens without those at the start that end at this position or before it.
 fn skipped(tokens: &[Token], at: usize) -> &[Token]
     ensures { result.now ≡ tokens_after at tokens.now }
 {
-    let count = tokens.iter().take_while(|token| token.end <= at).count();
-    tokens.split_at(count).1
+    tokens.split_at(count_until(tokens, at)).1
 }
 
 /// The same, where those that end at `last` or before it may have been skipped already.
