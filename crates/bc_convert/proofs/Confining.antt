@@ -1,6 +1,6 @@
 -- Spans that meet at most one token: the code skips tokens, and counts none that it skips.
 use Rattle.std.proofs.Common.{◌≡◌, ◌∙◌, refl, sym, ap, subst, arith, ℕ, zero, suc, ◌+◌, ◌<◌, ◌≤◌, Bool, true, false, ◌&&◌, cond, List, [], ◌∷◌, length, drop}
-use Rattle.std.specs.Prelude.{nat_le, nat_lt, All, IfOk}
+use Rattle.std.specs.Prelude.{nat_le, nat_lt, All, IfOk, Result, Ok, Err}
 use Rattle.std.specs.List.{prefix_len, filter}
 use Rattle.std.proofs.lemmas.Bool.{leb-true, le-leb, le-ltb}
 use Rattle.std.proofs.Math.Bool.{and-false}
@@ -89,3 +89,8 @@ sublist_all P rs all (left_out r qs others s) h = sublist_all P qs others s (All
 -- some of them are so too
 pub some_confined : (text : List ℕ) (rs all : List Replacement) → IsSublist rs all → AreConfined text all → AreConfined text rs
 some_confined text rs all s confined = (confined.0, confined.1, sublist_all (MeetsAtMostOne confined.0) rs all s confined.2)
+
+-- what holds of an answer, if something else does
+pub if_ok : {T E : Type 0} (r : Result T E) (P Q : T → Type 0) → ((x : T) → P x → Q x) → IfOk r P → IfOk r Q
+if_ok (Ok x) P Q f h = f x h
+if_ok (Err e) P Q f h = h
