@@ -6,4 +6,5 @@ pub mod Gaps
 pub mod Plain
 pub mod Settled
 pub mod Spans
+pub mod TokenExamples
 pub mod Tokens
