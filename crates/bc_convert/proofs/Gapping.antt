@@ -4,7 +4,8 @@ use Rattle.std.proofs.lemmas.Bool.{and_parts, or_cases, eqb-true}
 use Rattle.std.proofs.lemmas.List.{drop_all}
 use Rattle.bc_convert.specs.declared.source.Token.{Token}
 use Rattle.bc_convert.specs.Gaps.{is_space, opens_line, line_of, after_line, begins, begins_line, begins_space, ends_comment, after_comment, GapThen, Nothing, Space, Line, Block}
-use Rattle.bc_convert.specs.Spans.{TokensFrom}
+use Rattle.bc_convert.specs.Spans.{IsTokenAt, TokensFrom}
+use Rattle.bc_convert.specs.Tokens.{HasNoGap, IsToken}
 
 -- a gap that is followed by a gap is one
 pub gap_then : (a b c : List ℕ) → GapThen a b → GapThen b c → GapThen a c
@@ -90,9 +91,24 @@ closes_later at bytes read h e r =
     let e' : ends_comment (get_or bytes at 0 ∷ drop (suc at) bytes) ≡ false = rw cut at e in
     rw add-one (rw e' at (rw cut at r))
 
+-- no gap begins at the end of the text
+pub no_gap_end : (at : ℕ) (text : List ℕ) → length text ≤ at → HasNoGap (drop at text)
+no_gap_end at text h = rw (drop_all at text h) (refl, refl, λ e. let n : false ≡ true = e in cc)
+
+-- the token of m bytes after n bytes of a gap
+token_at : (text : List ℕ) (at n m : ℕ) (t : Token) → t.start ≡ at + n → t.end ≡ at + n + m → 0 < m → at + n + m ≤ length text → HasNoGap (drop n (drop at text)) → IsToken (drop (at + n) text) m → IsTokenAt text t
+token_at text at n m t s e some within begins token =
+    let same : m ≡ at + n + m - (at + n) = omega arith in
+    let here : HasNoGap (drop (at + n) text) = subst (λ (zs : List ℕ). HasNoGap zs) (drop-drop n at text) begins in
+    let long : IsToken (drop (at + n) text) (at + n + m - (at + n)) = subst (λ (k : ℕ). IsToken (drop (at + n) text) k) same token in
+    rw (s, e) (omega arith, within, here, long)
+
 -- the tokens up to here and one more
-pub token_more : (text : List ℕ) (at : ℕ) (tokens : List Token) (t : Token) → ((ts : List Token) → TokensFrom text at ts → TokensFrom text 0 (tokens ++ ts)) → at ≤ t.start → t.start < t.end → t.end ≤ length text → GapThen (drop at text) (drop t.start text) → (ts : List Token) → TokensFrom text t.end ts → TokensFrom text 0 ((tokens ++ t ∷ []) ++ ts)
-token_more text at tokens t before starts grows ends gap ts h = rw append_assoc (before (t ∷ ts) (starts, grows, ends, gap, h))
+pub token_more : (text : List ℕ) (at n m : ℕ) (tokens new : List Token) (t : Token) → new ≡ tokens ++ (t ∷ []) → t.start ≡ at + n → t.end ≡ at + n + m → ((ts : List Token) → TokensFrom text at ts → TokensFrom text 0 (tokens ++ ts)) → GapThen (drop at text) (drop n (drop at text)) → 0 < m → at + n + m ≤ length text → HasNoGap (drop n (drop at text)) → IsToken (drop (at + n) text) m → (ts : List Token) → TokensFrom text (at + n + m) ts → TokensFrom text 0 (new ++ ts)
+token_more text at n m tokens new t added s e before gap some within begins token ts h =
+    let here : GapThen (drop at text) (drop t.start text) = subst (λ (zs : List ℕ). GapThen (drop at text) zs) (drop-drop n at text ∙ ap (λ k. drop k text) (sym s)) gap in
+    let after : TokensFrom text t.end ts = subst (λ (k : ℕ). TokensFrom text k ts) (sym e) h in
+    rw (added, append_assoc) (before (t ∷ ts) (omega arith, here, token_at text at n m t s e some within begins token, after))
 
 -- the tokens up to here are all
 pub token_last : (text : List ℕ) (at : ℕ) (tokens : List Token) → ((ts : List Token) → TokensFrom text at ts → TokensFrom text 0 (tokens ++ ts)) → GapThen (drop at text) [] → TokensFrom text 0 tokens

@@ -1,2 +1,4 @@
 mod Settling
 mod Gapping
+mod Solid
+mod Confining

@@ -1,9 +1,10 @@
 -- Worked examples of gaps, and of tokens with gaps between them.
 use Rattle.std.specs.Prelude.{◌≡◌, ℕ, false, true, List, [], ◌∷◌, ◌++◌, Option, Some, None, codes}
-use Rattle.std.proofs.Common.{refl, arith}
+use Rattle.std.proofs.Common.{refl, arith, inl, inr}
 use Rattle.bc_convert.specs.declared.source.Token.{Token}
 use Rattle.bc_convert.specs.Gaps.{after_line, after_comment, GapThen, Nothing, Space, Line, Block}
 use Rattle.bc_convert.specs.Spans.{TokensFrom}
+use Rattle.bc_convert.specs.Tokens.{HasNoGap, IsToken}
 
 -- a line comment ends before its line break
 line : after_line (codes " a" ++ (10 ∷ codes "B")) ≡ 10 ∷ codes "B"
@@ -60,9 +61,22 @@ unclosed_in text rest (Block bs after r s g) e f = let is : bs ≡ 66 ∷ [] = c
 unclosed : GapThen (codes "/*B") [] → ⊥
 unclosed gap = unclosed_in (codes "/*B") [] gap refl refl
 
+not_one : IsToken (codes "A B") 3 → ⊥
+not_one (inl solid) = omega (arith, solid.0)
+not_one (inr (inl constant)) = let no : false ≡ true = constant.0 in cc
+not_one (inr (inr comment)) = let no : false ≡ true = comment.0 in cc
+
 -- a blank and one token
 one_token : (t : Token) → t.start ≡ 1 → t.end ≡ 3 → TokensFrom (codes " AB") 0 (t ∷ [])
-one_token t start end = rw (start, end) (omega arith, omega arith, omega arith, Space 32 (codes "AB") (codes "AB") refl (Nothing (codes "AB")), Nothing [])
+one_token t start end =
+    let begins : HasNoGap (codes "AB") = (refl, refl, λ e. let no : false ≡ true = e in cc) in
+    let token : IsToken (codes "AB") 2 = inl (omega arith, omega arith) in
+    let gap : GapThen (codes " AB") (codes "AB") = Space 32 (codes "AB") (codes "AB") refl (Nothing (codes "AB")) in
+    rw (start, end) (omega arith, gap, (omega arith, omega arith, begins, token), Nothing [])
+
+-- two names with a blank between them aren't one token
+not_one_token : (t : Token) → t.start ≡ 0 → t.end ≡ 3 → TokensFrom (codes "A B") 0 (t ∷ []) → ⊥
+not_one_token t start end tokens = let token = rw (start, end) at tokens.2.3 in not_one token
 
 -- a text with a letter has a token
 no_tokens : TokensFrom (codes "B") 0 [] → ⊥
@@ -70,8 +84,8 @@ no_tokens = letter
 
 -- a token has a byte or more
 empty_token : (t : Token) → t.start ≡ t.end → TokensFrom (codes "B") 0 (t ∷ []) → ⊥
-empty_token t e tokens = omega (arith, tokens.1)
+empty_token t e tokens = omega (arith, tokens.2.0)
 
 -- tokens don't overlap
 overlapping : (t u : Token) → t.end ≡ 2 → u.start ≡ 1 → TokensFrom (codes "AB") 0 (t ∷ u ∷ []) → ⊥
-overlapping t u e f tokens = omega (arith, tokens.4.0)
+overlapping t u e f tokens = omega (arith, tokens.3.0)

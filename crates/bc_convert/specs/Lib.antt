@@ -1,6 +1,10 @@
+pub mod Confined
 pub mod Converted
 pub mod Examples
 pub mod GapExamples
 pub mod Gaps
+pub mod Plain
 pub mod Settled
 pub mod Spans
+pub mod TokenExamples
+pub mod Tokens

@@ -1,8 +1,10 @@
 //! Bytes of a text: slices, and counts of the leading bytes of a kind.
 
-ghost use Rattle.std.specs.Prelude.{◌≡◌, ◌+◌, ◌≤◌, ◌==◌, not, length, drop};
+ghost use Rattle.std.specs.Prelude.{◌≡◌, ◌+◌, ◌≤◌, ◌==◌, ◌||◌, not, length, drop};
+ghost use Rattle.std.specs.Char.{is_ascii_digit, is_ascii_hexdigit};
 ghost use Rattle.std.specs.List.{prefix_len};
 ghost use Rattle.bc_convert.specs.Gaps.{is_space as is_space_of};
+ghost use Rattle.bc_convert.specs.Tokens.{is_name, names_of};
 
 /// The bytes from `at` on.
 pub fn following(bytes: &[u8], at: usize) -> &[u8]
@@ -23,7 +25,9 @@ pub fn span(bytes: &[u8], start: usize, end: usize) -> &[u8] {
 }
 
 /// Whether a byte may be part of a name or a tag, in any dialect.
-pub fn is_name_byte(byte: u8) -> bool {
+pub fn is_name_byte(byte: u8) -> bool
+    ensures { result ≡ is_name byte }
+{
     byte.is_ascii_alphanumeric() || byte == b'.' || byte == b'_'
 }
 
@@ -36,14 +40,16 @@ pub fn is_space(byte: u8) -> bool
 
 /// The number of leading bytes that may be part of a name.
 pub fn name_bytes(bytes: &[u8]) -> usize
-    ensures { result ≤ length bytes.now }
+    ensures value { result ≡ names_of bytes.now }
+    ensures within { result ≤ length bytes.now }
 {
     bytes.iter().take_while(|byte| is_name_byte(**byte)).count()
 }
 
 /// The number of leading digits and underlines.
 pub fn digit_bytes(bytes: &[u8]) -> usize
-    ensures { result ≤ length bytes.now }
+    ensures value { result ≡ prefix_len (λ b. is_ascii_digit b || (b == 95)) bytes.now }
+    ensures within { result ≤ length bytes.now }
 {
     bytes
         .iter()
@@ -53,7 +59,8 @@ pub fn digit_bytes(bytes: &[u8]) -> usize
 
 /// The number of leading hexadecimal digits and underlines.
 pub fn hexadecimal_bytes(bytes: &[u8]) -> usize
-    ensures { result ≤ length bytes.now }
+    ensures value { result ≡ prefix_len (λ b. is_ascii_hexdigit b || (b == 95)) bytes.now }
+    ensures within { result ≤ length bytes.now }
 {
     bytes
         .iter()

@@ -1,11 +1,14 @@
 //! The public call `convert`.
 
-ghost use Rattle.std.specs.Prelude.{◌≡◌, [], length, IfOk};
+ghost use Rattle.std.specs.Prelude.{◌≡◌, [], length, true, IfOk};
+ghost use Rattle.bc_convert.specs.Confined.{AreConfined};
 ghost use Rattle.bc_convert.specs.Converted.{converted, RiseWithin, ChangesText};
+ghost use Rattle.bc_convert.specs.Plain.{is_plain};
 
 use crate::applied::apply;
 use crate::complaint::{Complaint, Fault};
 use crate::conditions::{Compiled, without_others};
+use crate::confined::confine_if_plain;
 use crate::constants::{find_tables, find_variables};
 use crate::dialect::Dialect;
 use crate::doubts::{find_doubts, find_formats, find_old_meanings, find_stars};
@@ -326,6 +329,20 @@ fn candidates(
     }
 }
 
+/// The candidates that are carried out. In a plain text each meets at most one token.
+fn chosen(
+    alloc: Global,
+    text: &[u8],
+    candidates: Vec<Replacement>,
+) -> Result<Vec<Replacement>, Memory>
+    ensures rise { IfOk result (λ taken. RiseWithin 0 (length text.now) taken.items) }
+    ensures change { IfOk result (λ taken. ChangesText text.now taken.items) }
+    ensures confined { IfOk result (λ taken. is_plain text.now ≡ true → AreConfined text.now taken.items) }
+{
+    let confined = confine_if_plain(alloc, text, candidates)?;
+    settle(alloc, text, confined)
+}
+
 /// Two lists of complaints as one, in the order of the text.
 fn in_order(tags: Vec<Complaint>, further: Vec<Complaint>) -> Result<Vec<Complaint>, Memory> {
     let mut complaints = tags;
@@ -338,7 +355,8 @@ fn in_order(tags: Vec<Complaint>, further: Vec<Complaint>) -> Result<Vec<Complai
 ///
 /// The new text is the old one with some spans replaced, exactly those listed in `replacements`. They rise, don't
 /// overlap and lie within the old text, and each changes its span. If the list is empty, the text is the old one byte
-/// for byte. Which spans are replaced is tested, not proved.
+/// for byte. If the text is plain, it has tokens of which each span meets at most one. Which spans are replaced is tested,
+/// not proved.
 ///
 /// # Errors
 ///
@@ -348,6 +366,7 @@ pub fn convert(alloc: Global, text: &[u8], options: Options<'_, '_>) -> Result<C
     ensures change { IfOk result (λ c. ChangesText text.now c.replacements.items) }
     ensures whole { IfOk result (λ c. c.text.items ≡ converted text.now c.replacements.items) }
     ensures kept { IfOk result (λ c. c.replacements.items ≡ [] → c.text.items ≡ text.now) }
+    ensures confined { IfOk result (λ c. is_plain text.now ≡ true → AreConfined text.now c.replacements.items) }
 {
     let prepared = prepared(alloc, text)?;
     let Compiled {
@@ -359,7 +378,7 @@ pub fn convert(alloc: Global, text: &[u8], options: Options<'_, '_>) -> Result<C
     let complaints = in_order(tags, further)?;
     let changes = (changes, found);
     let candidates = candidates(alloc, text, prepared.as_slice(), options, changes)?;
-    let replacements = settle(alloc, text, candidates)?;
+    let replacements = chosen(alloc, text, candidates)?;
     Ok(Conversion {
         text: apply(alloc, text, replacements.as_slice())?,
         replacements,

@@ -1,12 +1,14 @@
 //! One token or one gap at the start of a text, with the number of its bytes.
 
-ghost use Rattle.std.specs.Prelude.{◌≡◌, ◌+◌, ◌<◌, ◌≤◌, length, drop, true, Some, IfSome};
+ghost use Rattle.std.specs.Prelude.{◌≡◌, ◌+◌, ◌<◌, ◌≤◌, length, drop, true, Some, None, IfSome, MatchOption, slice_index};
 ghost use Rattle.bc_convert.specs.Gaps.{begins as begins_of, begins_line as begins_line_of, begins_space as begins_space_of, ends_comment, after_comment, GapThen};
+ghost use Rattle.bc_convert.specs.Tokens.{is_quote, names_of, solid_of, HasNoGap, IsSolid, IsConstant, IsToken};
 
 use crate::bytes::{
     digit_bytes, following, hexadecimal_bytes, is_name_byte, is_space, line_bytes, name_bytes, span,
 };
 use crate::kind::Kind;
+use crate::quotes::closing_quote;
 
 /// Whether the text begins with these two bytes.
 fn begins(bytes: &[u8], first: u8, second: u8) -> bool
@@ -43,7 +45,7 @@ fn closes(bytes: &[u8]) -> bool
 /// closed.
 fn closing(bytes: &[u8]) -> Option<usize>
     ensures within { IfSome result (λ n. n ≤ length bytes.now) }
-    ensures rest { IfSome result (λ n. after_comment bytes.now ≡ Some (drop n bytes.now)) }
+    ensures rest { MatchOption result (after_comment bytes.now ≡ None) (λ n. after_comment bytes.now ≡ Some (drop n bytes.now)) }
 {
     for at in 0..bytes.len() {
         if closes(following(bytes, at)) {
@@ -58,6 +60,7 @@ fn closing(bytes: &[u8]) -> Option<usize>
 fn blank(bytes: &[u8]) -> usize
     ensures within { result ≤ length bytes.now }
     ensures gap { GapThen bytes.now (drop result bytes.now) }
+    ensures none { result ≡ 0 → HasNoGap bytes.now }
 {
     if begins_line(bytes) {
         2 + line_bytes(following(bytes, 2))
@@ -77,6 +80,7 @@ fn blank(bytes: &[u8]) -> usize
 pub fn gap(bytes: &[u8]) -> usize
     ensures within { result ≤ length bytes.now }
     ensures gap { GapThen bytes.now (drop result bytes.now) }
+    ensures longest { HasNoGap (drop result bytes.now) }
 {
     let mut at = 0;
     for _ in 0..bytes.len() {
@@ -103,70 +107,76 @@ pub fn next_old_comment(gap: &[u8], from: usize) -> Option<(usize, usize)> {
     None
 }
 
-/// The length of the string or character constant at the start, with its quotes, or `None` if it isn't closed. It
-/// continues over a line break only after a `*`.
-fn quoted(bytes: &[u8], close: u8) -> Option<usize>
-    ensures nonempty { IfSome result (λ n. 0 < n) }
-    ensures within { IfSome result (λ n. n ≤ length bytes.now) }
+/// The first `head` bytes of a token and the bytes of a name after them.
+fn with_name(bytes: &[u8], head: usize) -> usize
+    requires solid { IsSolid bytes.now head }
+    requires within { head ≤ length bytes.now }
+    ensures longer { head ≤ result }
+    ensures within { result ≤ length bytes.now }
+    ensures solid { IsSolid bytes.now result }
 {
-    let mut is_escaped = false;
-    let mut goes_on = false;
-    for (at, byte) in bytes.iter().enumerate() {
-        if at == 0 {
-            continue;
-        }
-        if is_escaped {
-            is_escaped = false;
-            goes_on = *byte == b'\n' || *byte == b'\r';
-        } else if goes_on && is_space(*byte) {
-            goes_on = true;
-        } else if goes_on && *byte == b'*' {
-            goes_on = false;
-        } else if *byte == b'*' {
-            is_escaped = true;
-        } else if *byte == close {
-            return Some(at + 1);
-        } else if *byte == b'\n' {
-            return None;
-        } else {
-            goes_on = false;
-        }
+    head + name_bytes(following(bytes, head))
+}
+
+/// The first `head` bytes of a token and the digits and underlines after them.
+fn with_digits(bytes: &[u8], head: usize) -> usize
+    requires solid { IsSolid bytes.now head }
+    requires within { head ≤ length bytes.now }
+    ensures longer { head ≤ result }
+    ensures within { result ≤ length bytes.now }
+    ensures solid { IsSolid bytes.now result }
+{
+    head + digit_bytes(following(bytes, head))
+}
+
+/// The first `head` bytes of a token and the hexadecimal digits and underlines after them.
+fn with_hexadecimals(bytes: &[u8], head: usize) -> usize
+    requires solid { IsSolid bytes.now head }
+    requires within { head ≤ length bytes.now }
+    ensures longer { head ≤ result }
+    ensures within { result ≤ length bytes.now }
+    ensures solid { IsSolid bytes.now result }
+{
+    head + hexadecimal_bytes(following(bytes, head))
+}
+
+/// Whether the text begins with a dot and a digit.
+fn begins_fraction(bytes: &[u8]) -> bool
+    ensures long { result ≡ true → 2 ≤ length bytes.now }
+    ensures name { result ≡ true → 1 ≤ names_of bytes.now }
+{
+    match bytes {
+        [b'.', digit, ..] => digit.is_ascii_digit(),
+        _ => false,
     }
-    None
 }
 
 /// The number at the start of a text that begins with a digit.
 fn number(bytes: &[u8]) -> (Kind, usize)
-    requires { 0 < length bytes.now }
+    requires { 1 ≤ solid_of bytes.now }
     ensures nonempty { 0 < result.1 }
     ensures within { result.1 ≤ length bytes.now }
+    ensures solid { IsSolid bytes.now result.1 }
 {
-    let whole = 1 + digit_bytes(following(bytes, 1));
-    match following(bytes, whole) {
-        [b'.', digit, ..] if digit.is_ascii_digit() => {
-            let fraction = digit_bytes(following(bytes, whole + 1));
-            (Kind::Floating, whole + 1 + fraction)
-        }
-        _ => (Kind::Number, whole),
+    let whole = with_digits(bytes, 1);
+    if begins_fraction(following(bytes, whole)) {
+        (Kind::Floating, with_digits(bytes, whole + 1))
+    } else {
+        (Kind::Number, whole)
     }
 }
 
 /// The number with a base at the start.
 fn based(bytes: &[u8]) -> (Kind, usize)
-    requires { 0 < length bytes.now }
+    requires { 1 ≤ solid_of bytes.now }
     ensures nonempty { 0 < result.1 }
     ensures within { result.1 ≤ length bytes.now }
+    ensures solid { IsSolid bytes.now result.1 }
 {
     match bytes {
-        [b'#', b'X' | b'x', ..] => (Kind::Number, 2 + hexadecimal_bytes(following(bytes, 2))),
-        [b'#', b'B' | b'b' | b'O' | b'o', ..] => (
-            Kind::Number,
-            2 + digit_bytes(following(bytes, 2)),
-        ),
-        [b'#', digit, ..] if digit.is_ascii_digit() => (
-            Kind::Number,
-            1 + digit_bytes(following(bytes, 1)),
-        ),
+        [b'#', b'X' | b'x', ..] => (Kind::Number, with_hexadecimals(bytes, 2)),
+        [b'#', b'B' | b'b' | b'O' | b'o', ..] => (Kind::Number, with_digits(bytes, 2)),
+        [b'#', digit, ..] if digit.is_ascii_digit() => (Kind::Number, with_digits(bytes, 1)),
         [
             b'#',
             b'+' | b'-' | b'*' | b'/' | b'=' | b'<' | b'>' | b'(',
@@ -178,7 +188,8 @@ fn based(bytes: &[u8]) -> (Kind, usize)
 
 /// The sign of two bytes at the start.
 fn long_sign(bytes: &[u8]) -> Option<Kind>
-    ensures { IfSome result (λ _. 2 ≤ length bytes.now) }
+    ensures long { IfSome result (λ _. 2 ≤ length bytes.now) }
+    ensures solid { IfSome result (λ _. 2 ≤ solid_of bytes.now) }
 {
     match bytes {
         [b':', b'=', ..] => Some(Kind::Assign),
@@ -224,9 +235,11 @@ fn short_sign(byte: u8) -> Kind {
 
 /// The length of the character at the start, which is over 1 for a character of UTF-8 outside ASCII.
 fn character_bytes(bytes: &[u8]) -> usize
-    requires { 0 < length bytes.now }
+    requires { 1 ≤ solid_of bytes.now }
     ensures nonempty { 0 < result }
+    ensures few { result ≤ 4 }
     ensures within { result ≤ length bytes.now }
+    ensures solid { result ≤ solid_of bytes.now }
 {
     match bytes {
         [0xc2..=0xdf, 0x80..=0xbf, ..] => 2,
@@ -237,9 +250,31 @@ fn character_bytes(bytes: &[u8]) -> usize
 }
 
 /// Whether a `$` is followed by one letter, digit or sign, which is a character constant in the dialect of the Alto.
-fn is_dollar_character(bytes: &[u8]) -> bool {
+fn is_dollar_character(bytes: &[u8]) -> bool
+    ensures long { result ≡ true → 2 ≤ length bytes.now }
+    ensures solid { result ≡ true → 2 ≤ solid_of bytes.now }
+{
     match bytes {
-        [b'$', sign, ..] if b".,:;!?+-=&%#/@^|".contains(sign) => true,
+        [
+            b'$',
+            b'.'
+            | b','
+            | b':'
+            | b';'
+            | b'!'
+            | b'?'
+            | b'+'
+            | b'-'
+            | b'='
+            | b'&'
+            | b'%'
+            | b'#'
+            | b'/'
+            | b'@'
+            | b'^'
+            | b'|',
+            ..
+        ] => true,
         [b'$', letter, next, ..] => letter.is_ascii_alphanumeric() && !is_name_byte(*next),
         [b'$', letter] => letter.is_ascii_alphanumeric(),
         _ => false,
@@ -248,16 +283,17 @@ fn is_dollar_character(bytes: &[u8]) -> bool {
 
 /// The sign at the start. A section bracket includes its whole tag, and so does a sign of conditional compilation.
 fn sign(bytes: &[u8]) -> (Kind, usize)
-    requires { 0 < length bytes.now }
+    requires { 1 ≤ solid_of bytes.now }
     ensures nonempty { 0 < result.1 }
     ensures within { result.1 ≤ length bytes.now }
+    ensures solid { IsSolid bytes.now result.1 }
 {
     match bytes {
-        [b'$', b'(', ..] => (Kind::OpenSection, 2 + name_bytes(following(bytes, 2))),
-        [b'$', b')', ..] => (Kind::CloseSection, 2 + name_bytes(following(bytes, 2))),
+        [b'$', b'(', ..] => (Kind::OpenSection, with_name(bytes, 2)),
+        [b'$', b')', ..] => (Kind::CloseSection, with_name(bytes, 2)),
         [b'$', b'$' | b'<' | b'>' | b'~', letter, ..] if letter.is_ascii_alphanumeric() => (
             Kind::Condition,
-            2 + name_bytes(following(bytes, 2)),
+            with_name(bytes, 2),
         ),
         [0xc2, 0xac, b'=', ..] => (Kind::Relation, 3),
         [0xc2, 0xac, ..] => (Kind::Not, 2),
@@ -266,7 +302,6 @@ fn sign(bytes: &[u8]) -> (Kind, usize)
         [0xe2, 0x86, 0x92, ..] => (Kind::Arrow, 3),
         [0xe2, 0x88, 0xa7, ..] => (Kind::Conjunction, 3),
         [0xe2, 0x88, 0xa8, ..] => (Kind::Disjunction, 3),
-        [b'/', b'*', ..] => (Kind::Unclosed, bytes.len()),
         [b'$', b'*', letter, ..] if letter.is_ascii_alphabetic() => (Kind::Character, 3),
         [b'$', _, ..] if is_dollar_character(bytes) => (Kind::Character, 2),
         _ => match long_sign(bytes) {
@@ -276,36 +311,53 @@ fn sign(bytes: &[u8]) -> (Kind, usize)
     }
 }
 
-/// The string or character constant at the start of a text that begins with a quote. An unclosed one ends with its line.
-fn quoted_token(bytes: &[u8], close: u8, kind: Kind) -> (Kind, usize)
-    requires { 0 < length bytes.now }
+/// The token at the start of a text that begins with neither a gap nor a quote.
+fn solid(bytes: &[u8]) -> (Kind, usize)
+    requires { 1 ≤ solid_of bytes.now }
     ensures nonempty { 0 < result.1 }
     ensures within { result.1 ≤ length bytes.now }
-{
-    match quoted(bytes, close) {
-        Some(count) => (kind, count),
-        None => (Kind::Unclosed, 1 + line_bytes(following(bytes, 1))),
-    }
-}
-
-/// The token at the start of a text that begins with neither a blank nor a comment.
-pub fn lexeme(bytes: &[u8]) -> (Kind, usize)
-    requires { 0 < length bytes.now }
-    ensures nonempty { 0 < result.1 }
-    ensures within { result.1 ≤ length bytes.now }
+    ensures solid { IsSolid bytes.now result.1 }
 {
     let first = bytes[0];
     if first.is_ascii_alphabetic() {
-        (Kind::Word, 1 + name_bytes(following(bytes, 1)))
+        (Kind::Word, with_name(bytes, 1))
     } else if first.is_ascii_digit() {
         number(bytes)
     } else if first == b'#' {
         based(bytes)
-    } else if first == b'"' {
-        quoted_token(bytes, b'"', Kind::Text)
-    } else if first == b'\'' {
-        quoted_token(bytes, b'\'', Kind::Character)
     } else {
         sign(bytes)
+    }
+}
+
+/// The string or character constant at the start of a text that begins with this quote. An unclosed one ends with its line.
+fn quoted_token(bytes: &[u8], quote: u8, kind: Kind) -> (Kind, usize)
+    requires is_quote { is_quote quote ≡ true }
+    requires begins { 0 < length bytes.now }
+    requires first { slice_index bytes.now 0 ≡ quote }
+    ensures nonempty { 0 < result.1 }
+    ensures within { result.1 ≤ length bytes.now }
+    ensures constant { IsConstant bytes.now result.1 }
+{
+    let rest = following(bytes, 1);
+    match closing_quote(rest, quote) {
+        Some(count) => (kind, 1 + count),
+        None => (Kind::Unclosed, 1 + line_bytes(rest)),
+    }
+}
+
+/// The token at the start of a text that begins with no gap.
+pub fn lexeme(bytes: &[u8]) -> (Kind, usize)
+    requires begins { 0 < length bytes.now }
+    requires no_gap { HasNoGap bytes.now }
+    ensures nonempty { 0 < result.1 }
+    ensures within { result.1 ≤ length bytes.now }
+    ensures token { IsToken bytes.now result.1 }
+{
+    match bytes[0] {
+        b'"' => quoted_token(bytes, b'"', Kind::Text),
+        b'\'' => quoted_token(bytes, b'\'', Kind::Character),
+        b'/' if begins(bytes, b'/', b'*') => (Kind::Unclosed, bytes.len()),
+        _ => solid(bytes),
     }
 }
