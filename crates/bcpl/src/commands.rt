@@ -16,8 +16,8 @@ use bcpl_running::{
     Ran, assemble, debug, go, interpret_files, print_high, print_lost, run, run_input,
 };
 use bcpl_sources::{
-    Console, RunStreams, Standard, Terminals, compile, explain, explains_at, print_lines,
-    print_messages, tame,
+    Console, RunOutput, RunStreams, Standard, Terminals, compile, explain, explains_at,
+    print_lines, print_messages, tame,
 };
 use std::alloc::Global;
 use std::io::{Read, Write};
@@ -31,6 +31,19 @@ fn explains_answer(done: &Result<(), Failure>, places: Places, is_terminal: bool
         Err(failure) => failure.is_always_explained(),
     };
     explains_at(places, is_terminal || is_answer)
+}
+
+/// The exit status of a command whose explanation may be half of the answer. Prints its failure.
+fn answer_status<E: Write + Drop>(
+    done: Result<(), Failure>,
+    places: Places,
+    is_terminal: bool,
+    err: &mut Clean<E>,
+) -> u8
+    ensures { result ≤ 3 }
+{
+    let explains = explains_answer(&done, places, is_terminal);
+    status(done, explains, err)
 }
 
 /// The exit status of a command on files. Prints its failure, and hints about the files.
@@ -102,6 +115,20 @@ fn with_reports<E: Write + Drop>(
     done
 }
 
+/// The result of a run, with hints on the files of its command. Prints the reports on the run, after its last line.
+fn reported<F: Files, O: Write + Drop, E: Write + Drop>(
+    rt: &F,
+    alloc: Global,
+    ran: Result<Ran, Failure>,
+    files: ExpectedFiles<'_>,
+    streams: (&RunOutput<O>, &mut Clean<E>),
+) -> Result<(), Failure> {
+    let (out, err) = streams;
+    out.end_line(has_message(&ran), err);
+    let done = with_reports(alloc, ran, err);
+    with_hints(rt, alloc, done, files)
+}
+
 /// Runs `run`.
 fn run_command<F: Files, R: Read + Drop, O: Write + Drop, E: Write + Drop>(
     rt: &F,
@@ -122,9 +149,8 @@ fn run_command<F: Files, R: Read + Drop, O: Write + Drop, E: Write + Drop>(
         explains,
     };
     let ran = run(rt, alloc, order, streams);
-    out.end_line(has_message(&ran), &mut err);
-    let done = with_reports(alloc, ran, &mut err);
-    status(with_hints(rt, alloc, done, files), files.explains, &mut err)
+    let done = reported(rt, alloc, ran, files, (&out, &mut err));
+    status(done, files.explains, &mut err)
 }
 
 /// Runs `go`.
@@ -148,11 +174,9 @@ fn go_command<F: Files, R: Read + Drop, O: Write + Drop, E: Write + Drop>(
         explains,
     };
     let ran = go(rt, alloc, order, streams, &mut err);
-    out.end_line(has_message(&ran), &mut err);
-    let done = with_reports(alloc, ran, &mut err);
-    let done = with_hints(rt, alloc, done, files);
-    let explains = explains_answer(&done, order.program.places, err.is_terminal());
-    status(done, explains, &mut err)
+    let done = reported(rt, alloc, ran, files, (&out, &mut err));
+    let is_terminal = err.is_terminal();
+    answer_status(done, order.program.places, is_terminal, &mut err)
 }
 
 /// Runs `interpret`.
@@ -176,11 +200,9 @@ fn interpret_command<F: Files, R: Read + Drop, O: Write + Drop, E: Write + Drop>
         explains,
     };
     let ran = interpret_files(rt, alloc, order, streams, &mut err);
-    out.end_line(has_message(&ran), &mut err);
-    let done = with_reports(alloc, ran, &mut err);
-    let done = with_hints(rt, alloc, done, files);
-    let explains = explains_answer(&done, order.program.places, err.is_terminal());
-    status(done, explains, &mut err)
+    let done = reported(rt, alloc, ran, files, (&out, &mut err));
+    let is_terminal = err.is_terminal();
+    answer_status(done, order.program.places, is_terminal, &mut err)
 }
 
 /// Runs `debug`. The page is written to a file only.
@@ -275,9 +297,8 @@ fn build_command<F: Files, R: Read + Drop, O: Write + Drop, E: Write + Drop>(
             0
         }
         Err(failure) => {
-            let done = Err(failure);
-            let explains = explains_answer(&done, order.places, console.terminals.err);
-            status(done, explains, &mut console.err)
+            let is_terminal = console.terminals.err;
+            answer_status(Err(failure), order.places, is_terminal, &mut console.err)
         }
     }
 }
@@ -296,8 +317,8 @@ fn convert_command<F: Files, R: Read + Drop, O: Write + Drop, E: Write + Drop>(
     } else {
         convert_file(rt, alloc, order, &mut console.out)
     };
-    let explains = explains_answer(&done, order.places, console.terminals.err);
-    status(done, explains, &mut console.err)
+    let is_terminal = console.terminals.err;
+    answer_status(done, order.places, is_terminal, &mut console.err)
 }
 
 /// Runs `format`.
@@ -400,8 +421,8 @@ fn tame_command<F: Files, R: Read + Drop, O: Write + Drop, E: Write + Drop>(
     let files = ExpectedFiles::new(Expected::Source, sources, console.explains);
     let done = tame(rt, alloc, order, files.explains, &mut console.out);
     let done = with_hints(rt, alloc, done, files);
-    let explains = explains_answer(&done, order.places, console.terminals.err);
-    status(done, explains, &mut console.err)
+    let is_terminal = console.terminals.err;
+    answer_status(done, order.places, is_terminal, &mut console.err)
 }
 
 /// Runs the command of this order.

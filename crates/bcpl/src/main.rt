@@ -36,24 +36,36 @@ fn has_colours(rt: &HostRuntime) -> bool {
     takes_colours && variable(rt, "NO_COLOR").is_none()
 }
 
-/// Runs the command that the arguments ask for and returns the exit status. Fails if the arguments can't be read.
-fn status(rt: &HostRuntime) -> io::Result<u8> {
-    // If a standard stream is closed, the system gives its number to the next file that is opened. These folders take
-    // the numbers, so that no file of the program is used as a standard stream: they can be neither read nor written.
-    let _held = [fs::open(rt, "/"), fs::open(rt, "/"), fs::open(rt, "/")];
-    let words: Vec<String> = env::args(rt)?.skip(1).collect(rt.alloc())?;
-    let mut texts = Vec::new(rt.alloc());
-    for word in &words {
-        texts.push(word.as_str())?;
-    }
-    let setting = setting(rt);
+/// Which of the standard streams are terminals.
+fn terminals_of(rt: &HostRuntime) -> Terminals {
     let is_terminal = rt.stderr().is_terminal();
-    let terminals = Terminals {
+    Terminals {
         input: rt.stdin().is_terminal(),
         out: rt.stdout().is_terminal(),
         err: is_terminal,
         colours: is_terminal && has_colours(rt),
-    };
+    }
+}
+
+/// The arguments, without the program's name. Fails if they can't be read.
+fn arguments(rt: &HostRuntime) -> io::Result<Vec<String>> {
+    let words: Vec<String> = env::args(rt)?.skip(1).collect(rt.alloc())?;
+    Ok(words)
+}
+
+/// These arguments as `command_on` takes them.
+fn texts_of<'w>(rt: &HostRuntime, words: &'w [String]) -> io::Result<Vec<&'w str>> {
+    let mut texts = Vec::new(rt.alloc());
+    for word in words {
+        texts.push(word.as_str())?;
+    }
+    Ok(texts)
+}
+
+/// Runs the command that these arguments ask for and returns the exit status. Fails if memory runs out before it begins.
+fn status_of(rt: &HostRuntime, words: &[&str]) -> io::Result<u8> {
+    let setting = setting(rt);
+    let terminals = terminals_of(rt);
     let standard = Standard {
         input: rt.stdin().lock(),
         out: rt.stdout().lock(),
@@ -61,7 +73,17 @@ fn status(rt: &HostRuntime) -> io::Result<u8> {
         terminals,
         setting: setting.as_ref().map(|value| value.as_str()),
     };
-    Ok(command_on(rt, rt.alloc(), texts.as_slice(), standard))
+    Ok(command_on(rt, rt.alloc(), words, standard))
+}
+
+/// Runs the command that the arguments ask for and returns the exit status. Fails if the arguments can't be read.
+fn status(rt: &HostRuntime) -> io::Result<u8> {
+    // If a standard stream is closed, the system gives its number to the next file that is opened. These folders take
+    // the numbers, so that no file of the program is used as a standard stream: they can be neither read nor written.
+    let _held = [fs::open(rt, "/"), fs::open(rt, "/"), fs::open(rt, "/")];
+    let words = arguments(rt)?;
+    let texts = texts_of(rt, words.as_slice())?;
+    status_of(rt, texts.as_slice())
 }
 
 /// The exit status if the arguments can't be read, because memory ran out or one is not valid UTF-8.

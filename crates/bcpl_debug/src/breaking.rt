@@ -1,13 +1,27 @@
 //! The commands that add and delete breakpoints and watches.
 
+use crate::asking::add_error;
 use crate::breakpoints::{Breakpoint, Target};
-use crate::commands::say;
+use crate::evaluate::value_of;
+use crate::printout::Printout;
 use crate::session::Session;
 use bc_word::Memory;
+use bcpl_messages::Fill;
 use bcpl_places::line_at;
 
 /// How many lines after the asked one are tried.
 const MOST_LINES: usize = 20;
+
+/// The place and the condition that an argument of `break` names. The place is empty if it names none.
+fn parts_of(argument: &str) -> (&str, &str) {
+    if let Some(condition) = argument.strip_prefix("if ") {
+        return ("", condition.trim());
+    }
+    match argument.split_once(" if ") {
+        Some((text, condition)) => (text.trim(), condition.trim()),
+        None => (argument, ""),
+    }
+}
 
 impl Session<'_, '_> {
     /// The file that a path names.
@@ -77,96 +91,194 @@ impl Session<'_, '_> {
         found
     }
 
-    /// What a breakpoint stops at, given its text.
-    fn target(&self, text: &str, out: &mut String) -> Result<Option<Target>, Memory> {
+    /// What a breakpoint on a line stops at. Says so if neither the line nor those after it have a command.
+    fn line_target(&self, file: usize, line: usize, out: &mut Printout) -> Option<Target> {
+        match self.line_with_command(file, line) {
+            Ok(Some(target)) => Some(target),
+            Ok(None) => {
+                out.fill(
+                    "no command is on line {} or the lines after it\n",
+                    &[Fill::Number(line as u64)],
+                );
+                None
+            }
+            Err(_) => {
+                out.refuse();
+                None
+            }
+        }
+    }
+
+    /// What a breakpoint stops at that names no place: the current line, in whatever file it is.
+    fn target_here(&self, out: &mut Printout) -> Option<Target> {
+        match self.current_line() {
+            Some((file, line)) => self.line_target(file, line, out),
+            None => {
+                out.say("a line or a routine is expected, as in: break 12");
+                None
+            }
+        }
+    }
+
+    /// What a breakpoint on a line of a file stops at, if there is such a file.
+    fn file_target(&self, file: Option<usize>, line: usize, out: &mut Printout) -> Option<Target> {
+        match file {
+            Some(file) => self.line_target(file, line, out),
+            None => {
+                out.say("no source has this name");
+                None
+            }
+        }
+    }
+
+    /// What a breakpoint on the routine with this name stops at.
+    fn routine_target(&self, name: &str, out: &mut Printout) -> Option<Target> {
+        match self.routine_named(name) {
+            Some(address) => Some(Target::Routine(address)),
+            None => {
+                out.fill(
+                    "no routine is {}; break takes a line, FILE:LINE or a routine\n",
+                    &[Fill::Text(name)],
+                );
+                None
+            }
+        }
+    }
+
+    /// What a breakpoint stops at, given its place.
+    fn target(&self, text: &str, out: &mut Printout) -> Option<Target> {
+        if text.is_empty() {
+            return self.target_here(out);
+        }
         let (file, line) = match text.rsplit_once(':') {
             Some((path, line)) => (self.file_named(path), line),
             None => (Some(self.file_here()), text),
         };
-        if let Ok(line) = line.parse::<usize>() {
-            let Some(file) = file else {
-                say(out, "no source has this name")?;
-                return Ok(None);
-            };
-            let target = self.line_with_command(file, line)?;
-            if target.is_none() {
-                writeln!(out, "no command is on line {line} or the lines after it")?;
-            }
-            return Ok(target);
+        match line.parse::<usize>() {
+            Ok(line) => self.file_target(file, line, out),
+            Err(_) => self.routine_target(text, out),
         }
-        match self.routine_named(text) {
-            Some(address) => Ok(Some(Target::Routine(address))),
-            None => {
-                writeln!(
-                    out,
-                    "no routine is {text}; break takes a line, FILE:LINE or a routine"
-                )?;
-                Ok(None)
+    }
+
+    /// Whether a condition is an expression that the debugger can compute. If it isn't, says why. Whether its names are in scope, and its
+    /// cells set, is seen only where the breakpoint is reached.
+    fn is_condition(&self, condition: &str, out: &mut Printout) -> bool {
+        if condition.is_empty() {
+            return true;
+        }
+        match value_of(self.alloc, &self.scope_of(0), condition) {
+            Ok(_) => true,
+            Err(error) => {
+                let is_lasting = error.is_lasting();
+                if is_lasting {
+                    add_error(out, &error);
+                }
+                !is_lasting
             }
         }
     }
 
-    /// Adds a breakpoint. It says so if `tells`.
-    pub(crate) fn add_breakpoint(
-        &mut self,
-        argument: &str,
-        out: &mut String,
-        tells: bool,
-    ) -> Result<(), Memory> {
-        let (text, condition) = match argument.split_once(" if ") {
-            Some((text, condition)) => (text.trim(), condition.trim()),
-            None => (argument, ""),
-        };
-        if text.is_empty() {
-            return say(out, "a line or a routine is expected, as in: break 12");
+    /// Appends why a condition has no value here, if it has none: a breakpoint stops then, too.
+    pub(crate) fn add_condition_error(&self, out: &mut Printout, condition: &str) {
+        if condition.is_empty() {
+            return;
         }
-        let Some(target) = self.target(text, out)? else {
-            return Ok(());
-        };
-        let number = self.next_number;
-        if tells {
-            write!(out, "breakpoint {number}: {argument}")?;
-            if let Target::Line { file, line, .. } = &target {
-                let path = self.program.path(*file);
-                write!(out, " at {path}:{line}")?;
+        match value_of(self.alloc, &self.scope_of(0), condition) {
+            Ok(_) => {}
+            Err(error) => {
+                out.text("its condition has no value here: ");
+                add_error(out, &error);
             }
-            out.push_str("\n")?;
         }
-        self.keep(target, argument, condition)
+    }
+
+    /// How a breakpoint is shown: as it was asked for, or by its line if nothing was named.
+    fn text_of(&self, argument: &str, target: &Target) -> Result<String, Memory> {
+        let alloc = self.alloc;
+        match target {
+            Target::Line { line, .. } if argument.is_empty() => Ok(format!(in alloc; "{line}")?),
+            _ => Ok(String::from_str(alloc, argument)?),
+        }
+    }
+
+    /// Appends a breakpoint that is added.
+    fn add_added(&self, out: &mut Printout, text: &str, target: &Target) {
+        out.fill(
+            "breakpoint {}: {}",
+            &[Fill::Number(self.next_number as u64), Fill::Text(text)],
+        );
+        if let Target::Line { file, line, .. } = target {
+            self.add_file_line(out, " at ", *file, *line);
+        }
+        out.text("\n");
+    }
+
+    /// Adds a breakpoint: on the current line if the argument names no place. It says so if `tells`.
+    pub(crate) fn add_breakpoint(&mut self, argument: &str, out: &mut Printout, tells: bool) {
+        let (place, condition) = parts_of(argument);
+        if !self.is_condition(condition, out) {
+            return;
+        }
+        let Some(target) = self.target(place, out) else {
+            return;
+        };
+        let Ok(text) = self.text_of(argument, &target) else {
+            return out.refuse();
+        };
+        if tells {
+            self.add_added(out, text.as_str(), &target);
+        }
+        self.keep(target, text.as_str(), condition, out);
     }
 
     /// Keeps a breakpoint.
-    fn keep(&mut self, target: Target, text: &str, condition: &str) -> Result<(), Memory> {
+    fn keep(&mut self, target: Target, text: &str, condition: &str, out: &mut Printout) {
         let number = self.next_number;
-        self.breakpoints.push(Breakpoint {
-            number,
-            target,
-            text: String::from_str(self.alloc, text)?,
-            condition: String::from_str(self.alloc, condition)?,
-        })?;
-        self.next_number = number.saturating_add(1);
-        Ok(())
+        match self.kept(target, text, condition) {
+            Ok(()) => self.next_number = number.saturating_add(1),
+            Err(_) => out.refuse(),
+        }
+    }
+
+    /// Adds a breakpoint to the list.
+    fn kept(&mut self, target: Target, text: &str, condition: &str) -> Result<(), Memory> {
+        let text = String::from_str(self.alloc, text)?;
+        let condition = String::from_str(self.alloc, condition)?;
+        Ok(
+            self.breakpoints.push(Breakpoint {
+                number: self.next_number,
+                target,
+                text,
+                condition,
+            })?,
+        )
     }
 
     /// Adds a watch.
-    pub(crate) fn watch(&mut self, argument: &str, out: &mut String) -> Result<(), Memory> {
-        let Some(address) = self.address(argument, out)? else {
-            return Ok(());
+    pub(crate) fn watch(&mut self, argument: &str, out: &mut Printout) {
+        let Some(address) = self.address(argument, out) else {
+            return;
         };
-        let number = self.next_number;
-        writeln!(out, "watch {number}: {argument}, the cell at {address}")?;
+        out.fill(
+            "watch {}: {}, the cell at {}\n",
+            &[
+                Fill::Number(self.next_number as u64),
+                Fill::Text(argument),
+                Fill::Number(u64::from(address)),
+            ],
+        );
         let owner = match self.scope().local(argument.as_bytes()) {
             Some(_) => self.frame(self.selected),
             None => None,
         };
-        self.keep(Target::Cell { address, owner }, argument, "")
+        self.keep(Target::Cell { address, owner }, argument, "", out);
     }
 
     /// Deletes a breakpoint, or all of them.
-    pub(crate) fn delete(&mut self, argument: &str, out: &mut String) -> Result<(), Memory> {
+    pub(crate) fn delete(&mut self, argument: &str, out: &mut Printout) {
         if argument.is_empty() {
             self.breakpoints.clear();
-            return say(out, "all breakpoints are deleted");
+            return out.say("all breakpoints are deleted");
         }
         let number = argument.parse::<usize>().ok();
         let index = self
@@ -178,12 +290,8 @@ impl Session<'_, '_> {
                 if index < self.breakpoints.len() {
                     let _deleted = self.breakpoints.remove(index);
                 }
-                Ok(())
             }
-            None => say(
-                out,
-                "there is no such breakpoint; info breakpoints lists them",
-            ),
+            None => out.say("there is no such breakpoint; info breakpoints lists them"),
         }
     }
 }

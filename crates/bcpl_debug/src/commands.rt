@@ -2,9 +2,12 @@
 
 use crate::breakpoints::Target;
 use crate::moving::{Aim, Halt, Way};
+use crate::printout::Printout;
 use crate::session::{Session, SessionError};
-use crate::words::{WORDS, Word, word_like, word_of};
+use crate::words::{WORDS, Word, WordSpec, word_like, word_of};
 use bc_word::Memory;
+use bcpl_messages::Fill;
+use std::alloc::Global;
 
 /// What follows a command.
 #[derive(Clone, Copy, Debug, PartialEq, Eq)]
@@ -15,18 +18,38 @@ pub enum Flow {
     Quit,
 }
 
-/// Appends a line.
-pub(crate) fn say(out: &mut String, line: &str) -> Result<(), Memory> {
-    out.push_str(line)?;
-    Ok(out.push_str("\n")?)
-}
-
 /// The number that an argument is; `otherwise` if there is none.
 pub(crate) fn number_or(argument: &str, otherwise: usize) -> Option<usize> {
     if argument.is_empty() {
         return Some(otherwise);
     }
     argument.parse::<usize>().ok()
+}
+
+/// Appends a command with its short forms and what follows it, and from column 32 on what it does: in the next line if the command is too
+/// long.
+fn add_help(alloc: Global, out: &mut Printout, spec: &WordSpec) {
+    let mut names = Printout::new(alloc);
+    let mut follows = false;
+    for name in spec.names {
+        names.text(if follows { ", " } else { "" });
+        names.text(*name);
+        follows = true;
+    }
+    if !spec.arguments.is_empty() {
+        names.text(" ");
+        names.text(spec.arguments);
+    }
+    let Ok(names) = names.finish() else {
+        return out.refuse();
+    };
+    if names.len() < 32 {
+        out.column(names.as_str());
+    } else {
+        out.say(names.as_str());
+        out.column("");
+    }
+    out.say(spec.help);
 }
 
 /// A command and what follows it: its argument, or its format and its argument.
@@ -41,79 +64,121 @@ fn split(line: &str) -> (&str, &str) {
     }
 }
 
+/// Whether a command goes on in the run, which nothing can at its end.
+fn goes_on(word: Word) -> bool {
+    matches!(
+        word,
+        Word::Continue | Word::Step | Word::Next | Word::Finish | Word::Until
+    )
+}
+
 impl Session<'_, '_> {
     /// The amount of output at the stop.
     fn written(&self) -> usize {
         self.stop().map_or(0, |stop| stop.output)
     }
 
-    /// Appends which breakpoint ended a move.
-    fn add_hit(&self, out: &mut String, index: usize, way: Way) -> Result<(), Memory> {
-        let Some(breakpoint) = self.breakpoints.get(index) else {
-            return Ok(());
+    /// Appends how a watched cell changed, where a watch ended a move.
+    fn add_watched(&self, out: &mut Printout, address: u16, way: Way) {
+        let at = match way {
+            Way::Forward => self.moment.at,
+            Way::Back => self.moment.at.saturating_add(1),
         };
-        let number = breakpoint.number;
-        let text = breakpoint.text.as_str();
+        out.text(" ");
+        self.add_change(out, at, address);
+        out.text("\n");
+    }
+
+    /// Appends which breakpoint ended a move.
+    fn add_hit(&self, out: &mut Printout, index: usize, way: Way) {
+        let Some(breakpoint) = self.breakpoints.get(index) else {
+            return;
+        };
+        let kind = match &breakpoint.target {
+            Target::Cell { .. } => "watch",
+            _ => "breakpoint",
+        };
+        out.fill(
+            "{} {}: {}",
+            &[
+                Fill::Text(kind),
+                Fill::Number(breakpoint.number as u64),
+                Fill::Text(breakpoint.text.as_str()),
+            ],
+        );
         match &breakpoint.target {
-            Target::Cell { address, .. } => {
-                write!(out, "watch {number}: {text} ")?;
-                let at = match way {
-                    Way::Forward => self.moment.at,
-                    Way::Back => self.moment.at.saturating_add(1),
-                };
-                self.add_change(out, at, *address)?;
-                Ok(out.push_str("\n")?)
-            }
+            Target::Cell { address, .. } => self.add_watched(out, *address, way),
             _ => {
-                writeln!(out, "breakpoint {number}: {text}")?;
-                Ok(())
+                out.text("\n");
+                self.add_condition_error(out, breakpoint.condition.as_str());
+            }
+        }
+    }
+
+    /// Moves until the aim or a breakpoint is reached.
+    fn travelled(&mut self, way: Way, aim: Aim, out: &mut Printout) -> Halt {
+        match self.travel(way, aim) {
+            Ok(halt) => halt,
+            Err(_) => {
+                out.refuse();
+                Halt::Edge
             }
         }
     }
 
     /// Moves, and says where the session is then.
-    fn moved(&mut self, way: Way, aim: Aim, out: &mut String) -> Result<(), Memory> {
+    fn moved(&mut self, way: Way, aim: Aim, out: &mut Printout) {
         let before = self.written();
-        let halt = self.travel(way, aim)?;
+        let halt = self.travelled(way, aim, out);
+        self.arrive(halt, way, before, out);
+    }
+
+    /// Says what ended a move, and where the session is. `before` is the amount of output before the move.
+    fn arrive(&mut self, halt: Halt, way: Way, before: usize, out: &mut Printout) {
         self.listed = 0;
         match halt {
-            Halt::Breakpoint(index) => self.add_hit(out, index, way)?,
-            Halt::Edge => {
-                if way == Way::Back {
-                    self.add_edge(out)?;
-                }
-            }
-            Halt::Aim => {}
+            Halt::Breakpoint(index) => self.add_hit(out, index, way),
+            Halt::Edge if way == Way::Back => self.add_edge(out),
+            Halt::Edge | Halt::Aim => {}
         }
         let written = match way {
             Way::Forward => before,
             Way::Back => self.written(),
         };
-        self.show(out, written)
+        self.show(out, written);
+    }
+
+    /// Goes on this way to a breakpoint, as often as the argument says.
+    fn went_on(&mut self, way: Way, argument: &str, out: &mut Printout) {
+        let Some(count) = number_or(argument, 1) else {
+            return out.say("a number is expected, as in: continue 3");
+        };
+        let before = self.written();
+        let mut last = Halt::Aim;
+        for _each in 0..count {
+            last = self.travelled(way, Aim::Breakpoint, out);
+            if matches!(last, Halt::Edge) {
+                break;
+            }
+        }
+        self.arrive(last, way, before, out);
     }
 
     /// Appends that the recording begins here.
-    fn add_edge(&self, out: &mut String) -> Result<(), Memory> {
+    fn add_edge(&self, out: &mut Printout) {
         let dropped = self.run.recording.dropped;
         if dropped == 0 {
-            say(out, "this is the start of the run")
+            out.say("this is the start of the run");
         } else {
-            writeln!(
-                out,
-                "the recording begins here: {dropped} stops before it were dropped"
-            )?;
-            Ok(())
+            out.fill(
+                "the recording begins here: {} stops before it were dropped\n",
+                &[Fill::Number(dropped as u64)],
+            );
         }
     }
 
     /// Moves `count` times; a breakpoint ends it.
-    fn move_times(
-        &mut self,
-        way: Way,
-        is_over: bool,
-        count: usize,
-        out: &mut String,
-    ) -> Result<(), Memory> {
+    fn move_times(&mut self, way: Way, is_over: bool, count: usize, out: &mut Printout) {
         let before = self.written();
         let mut last = Halt::Aim;
         for _each in 0..count {
@@ -122,36 +187,19 @@ impl Session<'_, '_> {
             } else {
                 Aim::Any
             };
-            last = self.travel(way, aim)?;
+            last = self.travelled(way, aim, out);
             if !matches!(last, Halt::Aim) {
                 break;
             }
         }
-        self.listed = 0;
-        if let Halt::Breakpoint(index) = last {
-            self.add_hit(out, index, way)?;
-        }
-        if matches!(last, Halt::Edge) && way == Way::Back {
-            self.add_edge(out)?;
-        }
-        let written = match way {
-            Way::Forward => before,
-            Way::Back => self.written(),
-        };
-        self.show(out, written)
+        self.arrive(last, way, before, out);
     }
 
     /// Moves as a stepping command says.
-    fn stepped(&mut self, word: Word, argument: &str, out: &mut String) -> Result<(), Memory> {
+    fn stepped(&mut self, word: Word, argument: &str, out: &mut Printout) {
         let Some(count) = number_or(argument, 1) else {
-            return say(out, "a number is expected, as in: step 3");
+            return out.say("a number is expected, as in: step 3");
         };
-        if self.is_at_end() && matches!(word, Word::Step | Word::Next) {
-            return say(
-                out,
-                "this is the end of the run; reverse-step goes back, run starts again",
-            );
-        }
         match word {
             Word::Step => self.move_times(Way::Forward, false, count, out),
             Word::Next => self.move_times(Way::Forward, true, count, out),
@@ -161,82 +209,96 @@ impl Session<'_, '_> {
     }
 
     /// Moves until the current call is left.
-    fn left(&mut self, way: Way, out: &mut String) -> Result<(), Memory> {
+    fn left(&mut self, way: Way, out: &mut Printout) {
         let within = self.depth().saturating_sub(self.selected).saturating_sub(1);
-        self.moved(way, Aim::Within(within), out)
+        self.moved(way, Aim::Within(within), out);
     }
 
     /// Starts again, and says if that fails.
-    fn started(&mut self, out: &mut String) -> Result<bool, Memory> {
+    fn started(&mut self, out: &mut Printout) -> bool {
         match self.restart() {
             Ok(()) => {
                 self.listed = 0;
-                Ok(true)
+                true
             }
-            Err(SessionError::Memory) => Err(Memory),
+            Err(SessionError::Memory) => {
+                out.refuse();
+                false
+            }
             Err(SessionError::Differs | SessionError::Streams(_)) => {
-                say(
-                    out,
-                    "the run can't be recorded: two runs differ, which is a mistake in bcpl",
-                )?;
-                Ok(false)
+                out.say("the run can't be recorded: two runs differ, which is a mistake in bcpl");
+                false
             }
         }
     }
 
-    /// Runs from the start.
-    fn ran(&mut self, goes_on: bool, out: &mut String) -> Result<(), Memory> {
-        if !self.started(out)? {
-            return Ok(());
+    /// Runs from the start to the first breakpoint or the end.
+    fn ran(&mut self, out: &mut Printout) {
+        if !self.started(out) {
+            return;
+        }
+        match self.hit(Way::Forward) {
+            Some(index) => {
+                self.add_hit(out, index, Way::Forward);
+                self.show(out, 0);
+            }
+            None => self.moved(Way::Forward, Aim::Breakpoint, out),
+        }
+    }
+
+    /// Goes to the first command.
+    fn begun(&mut self, out: &mut Printout) {
+        if !self.started(out) {
+            return;
         }
         let is_shown = match self.stop() {
             Some(stop) => self.is_shown(stop.site, self.enters_library),
             None => false,
         };
-        if goes_on {
-            return match self.hit(Way::Forward) {
-                Some(index) => {
-                    self.add_hit(out, index, Way::Forward)?;
-                    self.show(out, 0)
-                }
-                None => self.moved(Way::Forward, Aim::Breakpoint, out),
-            };
-        }
         if is_shown || self.is_at_end() {
-            return self.show(out, 0);
+            self.show(out, 0);
+        } else {
+            self.moved(Way::Forward, Aim::Any, out);
         }
-        self.moved(Way::Forward, Aim::Any, out)
     }
 
-    /// Goes to the stop with this number.
-    fn went_to(&mut self, argument: &str, out: &mut String) -> Result<(), Memory> {
+    /// Goes to the stop with this number, if there is one.
+    fn went_to_number(&mut self, number: usize, out: &mut Printout) {
         let dropped = self.run.recording.dropped;
-        let Some(number) = argument
-            .strip_prefix('#')
-            .unwrap_or(argument)
-            .parse::<usize>()
-            .ok()
-        else {
-            return say(out, "the number of a stop is expected, as in: goto 12");
-        };
         let first = dropped.saturating_add(1);
         let last = dropped.saturating_add(self.run.recording.stops.len());
         if number < first || number > last {
-            writeln!(out, "the stops are {first} to {last}")?;
-            return Ok(());
+            return out.fill(
+                "the stops are {} to {}\n",
+                &[Fill::Number(first as u64), Fill::Number(last as u64)],
+            );
         }
-        self.go_to(number.saturating_sub(first))?;
+        if self.go_to(number.saturating_sub(first)).is_err() {
+            out.refuse();
+        }
         let written = self.written();
-        self.show(out, written)
+        self.show(out, written);
+    }
+
+    /// Goes to the stop with the number that an argument is.
+    fn went_to(&mut self, argument: &str, out: &mut Printout) {
+        let digits = argument.strip_prefix('#').unwrap_or(argument);
+        match digits.parse::<usize>() {
+            Ok(number) => self.went_to_number(number, out),
+            Err(_) => out.say("the number of a stop is expected, as in: goto 12"),
+        }
     }
 
     /// Runs a command that moves.
-    fn move_as(&mut self, word: Word, argument: &str, out: &mut String) -> Result<(), Memory> {
+    fn move_as(&mut self, word: Word, argument: &str, out: &mut Printout) {
+        if goes_on(word) && self.is_at_end() {
+            return out.say("this is the end of the run; reverse-step goes back, run starts again");
+        }
         match word {
-            Word::Run => self.ran(true, out),
-            Word::Start => self.ran(false, out),
-            Word::Continue => self.moved(Way::Forward, Aim::Breakpoint, out),
-            Word::ReverseContinue => self.moved(Way::Back, Aim::Breakpoint, out),
+            Word::Run => self.ran(out),
+            Word::Start => self.begun(out),
+            Word::Continue => self.went_on(Way::Forward, argument, out),
+            Word::ReverseContinue => self.went_on(Way::Back, argument, out),
             Word::Finish => self.left(Way::Forward, out),
             Word::ReverseFinish => self.left(Way::Back, out),
             Word::Until => self.ran_until(argument, out),
@@ -246,64 +308,79 @@ impl Session<'_, '_> {
     }
 
     /// Goes on to a line.
-    fn ran_until(&mut self, argument: &str, out: &mut String) -> Result<(), Memory> {
+    fn ran_until(&mut self, argument: &str, out: &mut Printout) {
+        if argument.is_empty() {
+            return out.say("a line is expected, as in: until 12");
+        }
         let count = self.breakpoints.len();
-        self.add_breakpoint(argument, out, false)?;
+        self.add_breakpoint(argument, out, false);
         if self.breakpoints.len() == count {
-            return Ok(());
+            return;
         }
         let before = self.written();
-        let _halt = self.travel(Way::Forward, Aim::Site(count))?;
+        let halt = match self.travelled(Way::Forward, Aim::Site(count), out) {
+            Halt::Breakpoint(index) if index >= count => Halt::Aim,
+            halt => halt,
+        };
         let _removed = self.breakpoints.pop();
         self.next_number = self.next_number.saturating_sub(1);
-        self.listed = 0;
-        self.show(out, before)
+        self.arrive(halt, Way::Forward, before, out);
     }
 
     /// Appends the commands.
-    fn help(&self, out: &mut String) -> Result<(), Memory> {
+    fn help(&self, out: &mut Printout) {
         for spec in &WORDS {
-            let mut names = String::new(self.alloc);
-            for name in spec.names {
-                if !names.is_empty() {
-                    names.push_str(", ")?;
-                }
-                names.push_str(*name)?;
-            }
-            if !spec.arguments.is_empty() {
-                names.push_str(" ")?;
-                names.push_str(spec.arguments)?;
-            }
-            let help = spec.help;
-            writeln!(out, "{names:<48} {help}")?;
+            add_help(self.alloc, out, spec);
         }
-        say(out, "An empty line repeats the command before.")
+        out.say("An empty line repeats the command before.");
+    }
+
+    /// Appends how long the recorded run is.
+    fn add_length(&self, out: &mut Printout) {
+        let dropped = self.run.recording.dropped;
+        let count = self.run.recording.stops.len();
+        let all = dropped.saturating_add(count);
+        out.fill("The run has {} stops", &[Fill::Number(all as u64)]);
+        if dropped > 0 {
+            out.fill("; the last {} are recorded", &[Fill::Number(count as u64)]);
+        }
+        out.say(". Type run or start to begin, help for the commands.");
+    }
+
+    /// Says how long the recorded run is. It is printed when a session begins at a terminal.
+    ///
+    /// `Memory` if an allocation fails.
+    pub fn greet(&self, out: &mut String) -> Result<(), Memory> {
+        let mut printout = Printout::new(self.alloc);
+        self.add_length(&mut printout);
+        let text = printout.finish()?;
+        Ok(out.push_str(text.as_str())?)
     }
 
     /// Runs a command.
-    fn obey(&mut self, word: Word, argument: &str, out: &mut String) -> Result<Flow, Memory> {
+    fn obey(&mut self, word: Word, argument: &str, out: &mut Printout) -> Flow {
         match word {
-            Word::Quit => return Ok(Flow::Quit),
-            Word::Help => self.help(out)?,
-            Word::Break => self.add_breakpoint(argument, out, true)?,
-            Word::Watch => self.watch(argument, out)?,
-            Word::Delete => self.delete(argument, out)?,
-            Word::Info => self.info(argument, out)?,
-            Word::Print => self.print(argument, out)?,
-            Word::Backtrace => self.backtrace(out)?,
-            Word::Frame | Word::Up | Word::Down => self.select(word, argument, out)?,
-            Word::List => self.list(argument, out)?,
-            Word::Output => self.output(out)?,
-            Word::Last => self.last(argument, out)?,
-            Word::Input => self.add_input(argument, out)?,
-            Word::Library => self.set_library(argument, out)?,
-            _ => self.move_as(word, argument, out)?,
+            Word::Quit => return Flow::Quit,
+            Word::Help => self.help(out),
+            Word::Break => self.add_breakpoint(argument, out, true),
+            Word::Watch => self.watch(argument, out),
+            Word::Delete => self.delete(argument, out),
+            Word::Info => self.info(argument, out),
+            Word::Print => self.print(argument, out),
+            Word::Backtrace => self.backtrace(out),
+            Word::Frame | Word::Up | Word::Down => self.select(word, argument, out),
+            Word::List => self.list(argument, out),
+            Word::Output => self.output(out),
+            Word::Last => self.last(argument, out),
+            Word::Input => self.add_input(argument, out),
+            Word::Library => self.set_library(argument, out),
+            _ => self.move_as(word, argument, out),
         }
-        Ok(Flow::On)
+        Flow::On
     }
 
     /// Runs a line that has a command.
-    fn obey_line(&mut self, line: &str, out: &mut String) -> Result<Flow, Memory> {
+    fn obey_line(&mut self, line: &str, out: &mut Printout) -> Flow {
         let (name, argument) = split(line);
         let word = match word_of(name) {
             Some(word) => Some(word),
@@ -312,10 +389,22 @@ impl Session<'_, '_> {
         match word {
             Some(word) => self.obey(word, argument, out),
             None => {
-                writeln!(out, "there is no command {name}; help lists the commands")?;
-                Ok(Flow::On)
+                out.fill(
+                    "there is no command {}; help lists the commands\n",
+                    &[Fill::Text(name)],
+                );
+                Flow::On
             }
         }
+    }
+
+    /// Runs a line that has a command, and appends what it prints.
+    fn answer(&mut self, line: &str, out: &mut String) -> Result<Flow, Memory> {
+        let mut printout = Printout::new(self.alloc);
+        let flow = self.obey_line(line, &mut printout);
+        let text = printout.finish()?;
+        out.push_str(text.as_str())?;
+        Ok(flow)
     }
 
     /// Runs a command, and appends what it prints. An empty line repeats the command before; a line that begins with `#` is a comment.
@@ -328,12 +417,12 @@ impl Session<'_, '_> {
         }
         if !line.is_empty() {
             self.repeated = String::from_str(self.alloc, line)?;
-            return self.obey_line(line, out);
+            return self.answer(line, out);
         }
         let again = String::from_str(self.alloc, self.repeated.as_str())?;
         if again.is_empty() {
             return Ok(Flow::On);
         }
-        self.obey_line(again.as_str(), out)
+        self.answer(again.as_str(), out)
     }
 }

@@ -4,6 +4,7 @@ use crate::manifests::{Manifest, Part};
 use crate::scope::{DebugScope, Meaning};
 use bc_interpret_record::Cell;
 use bc_lex::{Source, lex};
+use bc_lex_tokens::Token;
 use bc_parse::parse;
 use bc_parse_tree::{BinaryOp, Declaration, Definition, Exp, UnaryOp};
 use bc_word::{Memory, Op, Word, apply};
@@ -16,6 +17,8 @@ pub enum EvaluationError {
     Syntax,
     /// No name in scope is this one.
     NoName(String),
+    /// No name in scope is the first one, but the second one is, which is the same in capital letters.
+    NoSmallName(String, String),
     /// The cell at this address was never set.
     Unset(u16),
     /// No cell is at this address.
@@ -28,6 +31,16 @@ pub enum EvaluationError {
     NoCell,
     /// An allocation failed.
     Memory,
+}
+
+impl EvaluationError {
+    /// Whether the expression has no value anywhere, whatever the names mean and the cells hold.
+    pub fn is_lasting(&self) -> bool {
+        matches!(
+            self,
+            EvaluationError::Syntax | EvaluationError::Calls | EvaluationError::Memory
+        )
+    }
 }
 
 impl From<Memory> for EvaluationError {
@@ -81,8 +94,21 @@ impl Evaluation<'_, '_> {
     fn name(&self, name: &[u8]) -> Result<Meaning, EvaluationError> {
         match self.scope.meaning(name) {
             Some(meaning) => Ok(meaning),
-            None => Err(EvaluationError::NoName(bcpl_messages::shown(self.alloc, name)?)),
+            None => Err(self.unknown(name)?),
         }
+    }
+
+    /// The error for a name that isn't in scope.
+    fn unknown(&self, name: &[u8]) -> Result<EvaluationError, Memory> {
+        let shown = bcpl_messages::shown(self.alloc, name)?;
+        let capitals = shown.as_str().to_ascii_uppercase(self.alloc)?;
+        let is_small = capitals.as_bytes() != name
+            && self.scope.meaning(capitals.as_bytes()).is_some();
+        Ok(if is_small {
+            EvaluationError::NoSmallName(shown, capitals)
+        } else {
+            EvaluationError::NoName(shown)
+        })
     }
 
     /// The value of an expression.
@@ -225,6 +251,26 @@ fn of_section(
     }
 }
 
+/// A section with an expression as its only definition.
+fn section_of(alloc: Global, text: &str) -> Result<Vec<u8>, Memory> {
+    let mut section = Vec::new(alloc);
+    section.extend_from_slice(b"LET START()=")?;
+    section.extend_from_slice(text.as_bytes())?;
+    Ok(section)
+}
+
+/// Reads the expression of a section, and computes its value or its address.
+fn of_tokens(
+    evaluation: Evaluation<'_, '_>,
+    tokens: &[Token<'_>],
+    wanted: Wanted,
+) -> Result<u16, EvaluationError> {
+    match parse(evaluation.alloc, tokens) {
+        Ok(tree) => of_section(evaluation, &tree.declarations, wanted),
+        Err(_) => Err(EvaluationError::Syntax),
+    }
+}
+
 /// Reads an expression, and computes its value or its address.
 fn computed(
     alloc: Global,
@@ -232,25 +278,15 @@ fn computed(
     text: &str,
     wanted: Wanted,
 ) -> Result<u16, EvaluationError> {
-    let mut section = Vec::new(alloc);
-    section
-        .extend_from_slice(b"LET START()=")
-        .map_err(|_| EvaluationError::Memory)?;
-    section
-        .extend_from_slice(text.as_bytes())
-        .map_err(|_| EvaluationError::Memory)?;
-    let source = Source {
+    let section = section_of(alloc, text)?;
+    let sources = [Source {
         name: b"",
         text: section.as_slice(),
-    };
-    let sources = [source];
-    let Ok(tokens) = lex(alloc, &sources, 0) else {
-        return Err(EvaluationError::Syntax);
-    };
-    let Ok(tree) = parse(alloc, tokens.as_slice()) else {
-        return Err(EvaluationError::Syntax);
-    };
-    of_section(Evaluation { alloc, scope }, &tree.declarations, wanted)
+    }];
+    match lex(alloc, &sources, 0) {
+        Ok(tokens) => of_tokens(Evaluation { alloc, scope }, tokens.as_slice(), wanted),
+        Err(_) => Err(EvaluationError::Syntax),
+    }
 }
 
 /// The value of an expression over the names in scope.

@@ -15,6 +15,7 @@ mod names;
 mod page;
 mod parts;
 mod places;
+mod printout;
 mod program;
 mod scope;
 mod session;

@@ -114,6 +114,14 @@ pub struct Names<'s> {
     pub manifests: Vec<Manifest<'s>>,
 }
 
+/// What a label of a section names.
+#[derive(Clone, Copy)]
+struct NamedLabel<'s> {
+    name: &'s [u8],
+    address: u16,
+    span: Option<Span>,
+}
+
 /// A section, for gathering its names.
 #[derive(Clone, Copy)]
 struct Gathering<'g, 's> {
@@ -140,6 +148,16 @@ impl<'s> Gathering<'_, 's> {
     /// The address of a label; 0 if there is none.
     fn address(&self, label: u64) -> u16 {
         self.addresses.get(label as usize).copied().unwrap_or(0)
+    }
+
+    /// What a label names, if its name is known.
+    fn named_label(&self, label: u64) -> Option<NamedLabel<'s>> {
+        let leaf = self.read.sites.label(label)?;
+        Some(NamedLabel {
+            name: self.text(leaf),
+            address: self.address(label),
+            span: self.span(leaf),
+        })
     }
 
     /// The variables of the routine with this label and this number of parameters.
@@ -181,6 +199,66 @@ impl<'s> Names<'s> {
         }
     }
 
+    /// Adds a string or a table of this number of words.
+    fn add_datum(
+        &mut self,
+        is_string: bool,
+        cells: usize,
+        at: NamedLabel<'s>,
+    ) -> Result<(), Memory> {
+        let NamedLabel { address, span, .. } = at;
+        Ok(
+            self.data.push(Datum {
+                is_string,
+                address,
+                cells,
+                span,
+            })?,
+        )
+    }
+
+    /// Adds a static.
+    fn add_static(&mut self, section: usize, at: NamedLabel<'s>) -> Result<(), Memory> {
+        let NamedLabel {
+            name,
+            address,
+            span,
+        } = at;
+        Ok(
+            self.statics.push(StaticName {
+                name,
+                address,
+                span,
+                section,
+            })?,
+        )
+    }
+
+    /// Adds a routine with these variables.
+    fn add_routine(
+        &mut self,
+        section: usize,
+        at: NamedLabel<'s>,
+        global: Option<u16>,
+        variables: Vec<Variable<'s>>,
+    ) -> Result<(), Memory> {
+        let NamedLabel {
+            name,
+            address,
+            span,
+        } = at;
+        Ok(
+            self.routines.push(Routine {
+                name,
+                section,
+                address,
+                span,
+                global,
+                variables,
+            })?,
+        )
+    }
+
     /// Adds the place with this label.
     fn add_place(
         &mut self,
@@ -189,50 +267,22 @@ impl<'s> Names<'s> {
         label: u64,
         place: &Place,
     ) -> Result<(), Memory> {
-        let Some(leaf) = from.read.sites.label(label) else {
+        let Some(at) = from.named_label(label) else {
             return Ok(());
         };
-        let (name, span) = (from.text(leaf), from.span(leaf));
-        let address = from.address(label);
-        let section = from.section;
         match place {
-            Place::Routine(routine) => self.routines.push(Routine {
-                name,
-                section,
-                address,
-                span,
-                global: routine.global,
-                variables: from.variables(alloc, label, routine.parameters)?,
-            })?,
-            Place::Static(_) => self.statics.push(StaticName {
-                name,
-                address,
-                span,
-                section,
-            })?,
-            Place::Table(words) => self.data.push(Datum {
-                is_string: false,
-                address,
-                cells: words.len(),
-                span,
-            })?,
-            Place::Text(bytes) => self.data.push(Datum {
-                is_string: true,
-                address,
-                cells: (bytes.len() / 2).saturating_add(1),
-                span,
-            })?,
+            Place::Routine(routine) => {
+                let variables = from.variables(alloc, label, routine.parameters)?;
+                self.add_routine(from.section, at, routine.global, variables)
+            }
+            Place::Static(_) => self.add_static(from.section, at),
+            Place::Table(words) => self.add_datum(false, words.len(), at),
+            Place::Text(bytes) => self.add_datum(true, (bytes.len() / 2).saturating_add(1), at),
         }
-        Ok(())
     }
 
-    /// Adds the names of a section.
-    fn add_section(&mut self, alloc: Alloc, from: &Gathering<'_, 's>) -> Result<(), Memory> {
-        let mut label = 1u64;
-        for place in from.core.places() {
-            self.add_place(alloc, from, label, place)?;
-            label = label.saturating_add(1);
-        }
+    /// Adds the names of globals of a section.
+    fn add_globals(&mut self, from: &Gathering<'_, 's>) -> Result<(), Memory> {
         for site in &from.read.sites.globals {
             self.globals.push(GlobalName {
                 number: site.number,
@@ -244,16 +294,23 @@ impl<'s> Names<'s> {
         Ok(())
     }
 
-    /// The names of a program, and the places of these sites. `Memory` if an allocation fails.
-    pub fn new(
+    /// Adds the names of a section.
+    fn add_section(&mut self, alloc: Alloc, from: &Gathering<'_, 's>) -> Result<(), Memory> {
+        let mut label = 1u64;
+        for place in from.core.places() {
+            self.add_place(alloc, from, label, place)?;
+            label = label.saturating_add(1);
+        }
+        self.add_globals(from)
+    }
+
+    /// Adds the names of all sections. `reads` has their mains.
+    fn add_sections(
+        &mut self,
         alloc: Alloc,
         program: &DebugProgram<'_, 's>,
-        sites: &[StopSite],
-    ) -> Result<Names<'s>, Memory> {
-        let mut names = Names::none(alloc);
-        let Some(reads) = read_all(alloc, program)? else {
-            return Ok(names);
-        };
+        reads: &[ReadMain<'s>],
+    ) -> Result<(), Memory> {
         let addresses = all_addresses(alloc, after_first(program.image.places.as_slice()))?;
         for (section, read) in reads.iter().enumerate() {
             if let Some(core) = program.cores.get(section)
@@ -266,12 +323,36 @@ impl<'s> Names<'s> {
                     addresses: labels.as_slice(),
                     section,
                 };
-                names.add_section(alloc, &from)?;
+                self.add_section(alloc, &from)?;
             }
         }
-        names.manifests = manifests_of(alloc, reads.as_slice())?;
-        names.places = places_of(alloc, reads.as_slice(), sites)?;
+        Ok(())
+    }
+
+    /// The names of a program with these mains, and the places of these sites.
+    fn of_mains(
+        alloc: Alloc,
+        program: &DebugProgram<'_, 's>,
+        reads: &[ReadMain<'s>],
+        sites: &[StopSite],
+    ) -> Result<Names<'s>, Memory> {
+        let mut names = Names::none(alloc);
+        names.add_sections(alloc, program, reads)?;
+        names.manifests = manifests_of(alloc, reads)?;
+        names.places = places_of(alloc, reads, sites)?;
         Ok(names)
+    }
+
+    /// The names of a program, and the places of these sites. `Memory` if an allocation fails.
+    pub fn new(
+        alloc: Alloc,
+        program: &DebugProgram<'_, 's>,
+        sites: &[StopSite],
+    ) -> Result<Names<'s>, Memory> {
+        match read_all(alloc, program)? {
+            Some(reads) => Names::of_mains(alloc, program, reads.as_slice(), sites),
+            None => Ok(Names::none(alloc)),
+        }
     }
 
     /// The index of the routine at this address.

@@ -49,43 +49,43 @@ fn kind_of(kind: StopKind) -> &'static str {
 }
 
 /// Appends a file, a start and an end of a span, or -1, 0 and 0.
-fn add_span(json: &mut Json, span: Option<Span>) -> Result<(), Memory> {
+fn add_span(json: &mut Json, span: Option<Span>) {
     match span {
         Some(span) => {
-            json.number(span.file as u64)?;
-            json.number(span.start as u64)?;
+            json.number(span.file as u64);
+            json.number(span.start as u64);
             json.number(span.end as u64)
         }
         None => {
-            json.word("-1")?;
-            json.number(0)?;
+            json.word("-1");
+            json.number(0);
             json.number(0)
         }
     }
 }
 
 /// Appends a place.
-fn add_place(json: &mut Json, place: &SitePlace) -> Result<(), Memory> {
-    json.open("[")?;
-    add_span(json, place.span)?;
-    json.ascii(kind_of(place.kind))?;
+fn add_place(json: &mut Json, place: &SitePlace) {
+    json.open("[");
+    add_span(json, place.span);
+    json.ascii(kind_of(place.kind));
     if place.root == usize::MAX {
-        json.word("-1")?;
+        json.word("-1");
     } else {
-        json.number(place.root as u64)?;
+        json.number(place.root as u64);
     }
-    json.close("]")
+    json.close("]");
 }
 
 /// Appends the fields of a span.
-fn add_span_fields(json: &mut Json, span: Option<Span>) -> Result<(), Memory> {
-    json.key("file")?;
+fn add_span_fields(json: &mut Json, span: Option<Span>) {
+    json.key("file");
     match span {
-        Some(span) => json.number(span.file as u64)?,
-        None => json.word("-1")?,
+        Some(span) => json.number(span.file as u64),
+        None => json.word("-1"),
     }
-    json.field("start", span.map_or(0, |span| span.start as u64))?;
-    json.field("end", span.map_or(0, |span| span.end as u64))
+    json.field("start", span.map_or(0, |span| span.start as u64));
+    json.field("end", span.map_or(0, |span| span.end as u64));
 }
 
 impl PageOf<'_, '_> {
@@ -100,30 +100,25 @@ impl PageOf<'_, '_> {
     }
 
     /// Appends the sources.
-    fn add_files(&self, json: &mut Json) -> Result<(), Memory> {
-        json.key("files")?;
-        json.open("[")?;
+    fn add_files(&self, json: &mut Json) {
+        json.open_field("files", "[");
         let program = self.program;
         let sources = program.named.sources;
         for (index, source) in sources.iter().enumerate() {
-            json.open("{")?;
-            json.key("name")?;
-            json.ascii(program.path(index))?;
-            json.key("text")?;
-            json.bytes(source.text)?;
-            json.key("library")?;
-            json.truth(index < program.library)?;
-            json.close("}")?;
+            json.open("{");
+            json.ascii_field("name", program.path(index));
+            json.bytes_field("text", source.text);
+            json.truth_field("library", index < program.library);
+            json.close("}");
         }
-        json.close("]")
+        json.close("]");
     }
 
     /// Appends the places; the one that isn't known comes last.
-    fn add_places(&self, json: &mut Json) -> Result<(), Memory> {
-        json.key("places")?;
-        json.open("[")?;
+    fn add_places(&self, json: &mut Json) {
+        json.open_field("places", "[");
         for place in &self.names().places {
-            add_place(json, place)?;
+            add_place(json, place);
         }
         let unknown = SitePlace {
             span: None,
@@ -131,132 +126,117 @@ impl PageOf<'_, '_> {
             section: 0,
             root: usize::MAX,
         };
-        add_place(json, &unknown)?;
-        json.close("]")
+        add_place(json, &unknown);
+        json.close("]");
     }
 
     /// Appends a variable of a routine.
-    fn add_variable(&self, json: &mut Json, variable: &Variable<'_>) -> Result<(), Memory> {
-        json.open("{")?;
-        json.key("name")?;
-        json.bytes(variable.name)?;
-        json.field("offset", variable.offset)?;
-        json.field("cells", variable.cells)?;
-        json.key("parameter")?;
-        json.truth(variable.is_parameter)?;
+    fn add_variable(&self, json: &mut Json, variable: &Variable<'_>) {
+        json.open("{");
+        json.bytes_field("name", variable.name);
+        json.field("offset", variable.offset);
+        json.field("cells", variable.cells);
+        json.truth_field("parameter", variable.is_parameter);
         let (start, end) = match variable.span {
             Some(span) => (span.start, span.end),
             None => (0, 0),
         };
-        json.field("start", start as u64)?;
-        json.field("end", end as u64)?;
-        json.field("from", variable.from as u64)?;
-        json.field("to", variable.to as u64)?;
-        json.close("}")
+        json.field("start", start as u64);
+        json.field("end", end as u64);
+        json.field("from", variable.from as u64);
+        json.field("to", variable.to as u64);
+        json.close("}");
     }
 
     /// Appends a routine.
-    fn add_routine(&self, json: &mut Json, routine: &Routine<'_>) -> Result<(), Memory> {
-        json.open("{")?;
-        json.key("name")?;
-        json.bytes(routine.name)?;
-        add_span_fields(json, routine.span)?;
-        json.field("address", u64::from(routine.address))?;
-        json.key("global")?;
-        match routine.global {
-            Some(number) => json.number(u64::from(number))?,
-            None => json.word("null")?,
-        }
-        json.key("library")?;
-        json.truth(self.program.is_library(routine.section))?;
-        json.key("variables")?;
-        json.open("[")?;
+    fn add_routine(&self, json: &mut Json, routine: &Routine<'_>) {
+        json.open("{");
+        json.bytes_field("name", routine.name);
+        add_span_fields(json, routine.span);
+        json.field("address", u64::from(routine.address));
+        json.known_field("global", routine.global.map(|number| u64::from(number)));
+        json.truth_field("library", self.program.is_library(routine.section));
+        json.open_field("variables", "[");
         for variable in &routine.variables {
-            self.add_variable(json, variable)?;
+            self.add_variable(json, variable);
         }
-        json.close("]")?;
-        json.close("}")
+        json.close("]");
+        json.close("}");
     }
 
     /// Appends the routines.
-    fn add_routines(&self, json: &mut Json) -> Result<(), Memory> {
-        json.key("routines")?;
-        json.open("[")?;
+    fn add_routines(&self, json: &mut Json) {
+        json.open_field("routines", "[");
         for routine in &self.names().routines {
-            self.add_routine(json, routine)?;
+            self.add_routine(json, routine);
         }
-        json.close("]")
+        json.close("]");
     }
 
-    /// Appends globals, statics and data.
-    fn add_outside(&self, json: &mut Json) -> Result<(), Memory> {
-        json.key("globals")?;
-        json.open("[")?;
+    /// Appends the globals.
+    fn add_globals(&self, json: &mut Json) {
+        json.open_field("globals", "[");
         for global in &self.names().globals {
-            json.open("{")?;
-            json.field("number", u64::from(global.number))?;
-            json.key("name")?;
-            json.bytes(global.name)?;
-            json.key("library")?;
-            json.truth(!global.is_own(self.program))?;
-            json.close("}")?;
+            json.open("{");
+            json.field("number", u64::from(global.number));
+            json.bytes_field("name", global.name);
+            json.truth_field("library", !global.is_own(self.program));
+            json.close("}");
         }
-        json.close("]")?;
-        json.key("statics")?;
-        json.open("[")?;
+        json.close("]");
+    }
+
+    /// Appends the statics.
+    fn add_statics(&self, json: &mut Json) {
+        json.open_field("statics", "[");
         for found in &self.names().statics {
-            json.open("{")?;
-            json.key("name")?;
-            json.bytes(found.name)?;
-            json.field("address", u64::from(found.address))?;
-            add_span_fields(json, found.span)?;
-            json.key("library")?;
-            json.truth(self.program.is_library(found.section))?;
-            json.close("}")?;
+            json.open("{");
+            json.bytes_field("name", found.name);
+            json.field("address", u64::from(found.address));
+            add_span_fields(json, found.span);
+            json.truth_field("library", self.program.is_library(found.section));
+            json.close("}");
         }
-        json.close("]")
+        json.close("]");
     }
 
     /// Appends strings and tables.
-    fn add_data(&self, json: &mut Json) -> Result<(), Memory> {
-        json.key("data")?;
-        json.open("[")?;
+    fn add_data(&self, json: &mut Json) {
+        json.open_field("data", "[");
         for datum in &self.names().data {
-            json.open("{")?;
-            json.key("kind")?;
-            json.ascii(if datum.is_string { "string" } else { "table" })?;
-            json.field("address", u64::from(datum.address))?;
-            json.field("cells", datum.cells as u64)?;
-            add_span_fields(json, datum.span)?;
-            json.close("}")?;
+            json.open("{");
+            json.ascii_field("kind", if datum.is_string { "string" } else { "table" });
+            json.field("address", u64::from(datum.address));
+            json.field("cells", datum.cells as u64);
+            add_span_fields(json, datum.span);
+            json.close("}");
         }
-        json.close("]")
+        json.close("]");
     }
 
     /// Appends the cells at the first stop, in runs.
-    fn add_cells(&self, json: &mut Json) -> Result<(), Memory> {
-        json.key("cells")?;
-        json.open("[")?;
+    fn add_cells(&self, json: &mut Json) {
+        json.open_field("cells", "[");
         let mut is_open = false;
         for (address, cell) in self.recording().first.iter().enumerate() {
             if *cell == Cell::Dead {
                 if is_open {
-                    json.close("]")?;
+                    json.close("]");
                 }
                 is_open = false;
             } else {
                 if !is_open {
-                    json.open("[")?;
-                    json.number(address as u64)?;
+                    json.open("[");
+                    json.number(address as u64);
                 }
                 is_open = true;
-                json.number(state_of(*cell))?;
+                json.number(state_of(*cell));
             }
         }
         if is_open {
-            json.close("]")?;
+            json.close("]");
         }
-        json.close("]")
+        json.close("]");
     }
 
     /// The number of the place of a site.
@@ -273,31 +253,36 @@ impl PageOf<'_, '_> {
         u32::try_from(self.names().places.len()).unwrap_or(0)
     }
 
-    /// Appends the state at the first stop.
-    fn add_before(&self, json: &mut Json) -> Result<(), Memory> {
-        json.field("dropped", self.recording().dropped as u64)?;
-        json.key("before")?;
-        json.open("{")?;
-        self.add_cells(json)?;
-        json.key("frames")?;
-        json.open("[")?;
+    /// Appends the frames at the first stop.
+    fn add_frames(&self, json: &mut Json) {
+        json.open_field("frames", "[");
         for frame in &self.recording().frames {
-            json.open("[")?;
+            json.open("[");
             let routine = self.names().routine_at(frame.routine).unwrap_or(0);
-            json.number(routine as u64)?;
-            json.number(u64::from(frame.base))?;
-            json.number(u64::from(self.place_number(frame.caller)))?;
-            json.close("]")?;
+            json.number(routine as u64);
+            json.number(u64::from(frame.base));
+            json.number(u64::from(self.place_number(frame.caller)));
+            json.close("]");
         }
-        json.close("]")?;
+        json.close("]");
+    }
+
+    /// Appends the state at the first stop.
+    fn add_before(&self, json: &mut Json) {
+        json.field("dropped", self.recording().dropped as u64);
+        json.open_field("before", "{");
+        self.add_cells(json);
+        self.add_frames(json);
         let (output, taken) = match self.recording().stops.first() {
             Some(stop) => (stop.output, stop.taken),
             None => (0, 0),
         };
-        json.key("output")?;
-        json.bytes(self.recording().output.get(..output).unwrap_or(&[]))?;
-        json.field("taken", taken as u64)?;
-        json.close("}")
+        json.bytes_field(
+            "output",
+            self.recording().output.get(..output).unwrap_or(&[]),
+        );
+        json.field("taken", taken as u64);
+        json.close("}");
     }
 
     /// For each address the number of the routine there, plus 1.
@@ -316,93 +301,104 @@ impl PageOf<'_, '_> {
 
     /// Appends the stops.
     fn add_stops(&self, alloc: Global, json: &mut Json) -> Result<(), Memory> {
-        json.field("count", self.recording().stops.len() as u64)?;
+        json.field("count", self.recording().stops.len() as u64);
         let routines = self.routine_numbers(alloc)?;
         let bytes = bytes_of(alloc, self.recording(), routines.as_slice(), self.unknown())?;
         let text = STANDARD.encode(alloc, bytes.as_slice())?;
-        json.key("stops")?;
-        json.plain(text.as_str())
+        json.plain_field("stops", text.as_str());
+        Ok(())
     }
 
     /// Appends how the run ended.
-    fn add_end(&self, json: &mut Json) -> Result<(), Memory> {
+    fn add_end(&self, json: &mut Json) {
         let outcome = self.run.interpreted.outcome;
-        let (kind, text) = match outcome {
-            Outcome::Ended(Ending::Finished) => ("finished", ""),
-            Outcome::Ended(Ending::ZeroDivide) => ("zero", "The run divided by 0."),
-            Outcome::Going => ("turns", "The run used up its turns."),
-            Outcome::Wild(_) => ("wild", "The run met a wild access."),
-            Outcome::Device => ("device", "The run wrote more than the debugger keeps."),
+        let (kind, text) = ending_of(outcome);
+        json.open_field("end", "{");
+        json.ascii_field("kind", kind);
+        json.ascii_field("text", text);
+        json.ascii_field("lines", self.run.end_lines.as_str());
+        let place = match self.recording().stops.last() {
+            Some(stop) => Some(u64::from(self.place_number(stop.site))),
+            None => None,
         };
-        json.key("end")?;
-        json.open("{")?;
-        json.key("kind")?;
-        json.ascii(kind)?;
-        json.key("text")?;
-        json.ascii(text)?;
-        json.key("lines")?;
-        json.ascii(self.run.end_lines.as_str())?;
-        json.key("place")?;
-        match self.recording().stops.last() {
-            Some(stop) => json.number(u64::from(self.place_number(stop.site)))?,
-            None => json.word("null")?,
-        }
-        json.key("address")?;
-        match address_of(outcome) {
-            Some(address) => json.number(u64::from(address))?,
-            None => json.word("null")?,
-        }
-        json.close("}")
+        json.known_field("place", place);
+        json.known_field("address", address_of(outcome));
+        json.close("}");
     }
 
-    /// Appends the names of the mains, and whether the program is known to be tame.
-    fn add_program(&self, alloc: Global, json: &mut Json) -> Result<(), Memory> {
-        let mut names = String::new(alloc);
+    /// The names of the files of the mains, without their folders.
+    fn title(&self, alloc: Global) -> Result<String, Memory> {
+        let mut title = String::new(alloc);
         for main in self.program.mains {
             if *main >= self.program.library {
-                if !names.is_empty() {
-                    names.push_str(" ")?;
+                if !title.is_empty() {
+                    title.push_str(" ")?;
                 }
-                names.push_str(self.program.path(*main))?;
+                title.push_str(file_name(self.program.path(*main)))?;
             }
         }
-        json.key("program")?;
-        json.ascii(names.as_str())?;
-        json.key("tame")?;
-        json.truth(self.program.is_tame)
+        Ok(title)
+    }
+}
+
+/// The name of a file without its folder.
+fn file_name(path: &str) -> &str {
+    match path.rsplit_once('/') {
+        Some((_, name)) => name,
+        None => path,
+    }
+}
+
+/// A word and a sentence on how a run ended.
+fn ending_of(outcome: Outcome) -> (&'static str, &'static str) {
+    match outcome {
+        Outcome::Ended(Ending::Finished) => ("finished", ""),
+        Outcome::Ended(Ending::ZeroDivide) => ("zero", "The run divided by 0."),
+        Outcome::Going => ("turns", "The run used up its turns."),
+        Outcome::Wild(_) => ("wild", "The run met a wild access."),
+        Outcome::Device => ("device", "The run wrote more than the debugger keeps."),
     }
 }
 
 /// The address of a wild access.
-fn address_of(outcome: Outcome) -> Option<u16> {
+fn address_of(outcome: Outcome) -> Option<u64> {
     match outcome {
         Outcome::Wild(Cause::Unset(address) | Cause::Dead(address) | Cause::NoCell(address)) => {
-            Some(address)
+            Some(u64::from(address))
         }
         _ => None,
+    }
+}
+
+impl PageOf<'_, '_> {
+    /// Appends all parts of the recording.
+    fn add_parts(&self, alloc: Global, json: &mut Json) -> Result<(), Memory> {
+        let title = self.title(alloc)?;
+        json.ascii_field("program", title.as_str());
+        json.truth_field("tame", self.program.is_tame);
+        self.add_files(json);
+        self.add_places(json);
+        self.add_routines(json);
+        self.add_globals(json);
+        self.add_statics(json);
+        self.add_data(json);
+        json.field("stack", u64::from(self.program.image.stack_base.get()));
+        json.bytes_field("input", self.input);
+        self.add_before(json);
+        self.add_stops(alloc, json)?;
+        self.add_end(json);
+        Ok(())
     }
 }
 
 /// The recording of a run as JSON. `Memory` if an allocation fails.
 pub fn recording_of(alloc: Global, page: &PageOf<'_, '_>) -> Result<String, Memory> {
     let mut json = Json::new(alloc);
-    json.open("{")?;
-    json.field("version", 2)?;
-    page.add_program(alloc, &mut json)?;
-    page.add_files(&mut json)?;
-    page.add_places(&mut json)?;
-    page.add_routines(&mut json)?;
-    page.add_outside(&mut json)?;
-    page.add_data(&mut json)?;
-    json.field("stack", u64::from(page.program.image.stack_base.get()))?;
-    json.key("input")?;
-    json.bytes(page.input)?;
-    page.add_before(&mut json)?;
-    page.add_stops(alloc, &mut json)?;
-    page.add_end(&mut json)?;
-    json.close("}")?;
-    let Json { text, .. } = json;
-    Ok(text)
+    json.open("{");
+    json.field("version", 2);
+    page.add_parts(alloc, &mut json)?;
+    json.close("}");
+    json.finish()
 }
 
 /// The page of a run. `Memory` if an allocation fails.

@@ -8,10 +8,10 @@ use crate::program::DebugProgram;
 use crate::scope::DebugScope;
 use crate::streams::{RunInput, further_outputs, streams_of};
 use bc_interpret_record::{
-    Bounds, Frame, Interpreted, Moment, RecordError, RecordLimits, Recordable, Recording, Stop,
-    record_run,
+    Bounds, Frame, Interpreted, Moment, RecordError, RecordLimits, Recordable, Recorded, Recording,
+    Stop, record_run,
 };
-use bc_machine::StreamsError;
+use bc_machine::{MemoryStreams, StreamsError};
 use bc_word::Memory;
 use std::alloc::Global;
 
@@ -74,17 +74,13 @@ impl From<RecordError> for SessionError {
     }
 }
 
-/// Runs a program with this input, and records the run.
-///
-/// `Memory` if an allocation fails, `Streams` if two streams have one name or a name is too long, and `Differs` if the recorder made a mistake.
-pub fn recorded<'s>(
+/// Two runs of a program by its meaning, the second of which is recorded.
+fn run_twice(
     alloc: Global,
-    program: &DebugProgram<'_, 's>,
-    input: &RunInput,
+    program: &DebugProgram<'_, '_>,
+    streams: (&mut MemoryStreams, &mut MemoryStreams),
     limits: SessionLimits,
-) -> Result<RecordedRun<'s>, SessionError> {
-    let mut streams = streams_of(alloc, input)?;
-    let mut again = streams_of(alloc, input)?;
+) -> Result<Recorded, RecordError> {
     let recordable = Recordable {
         cores: program.cores,
         image: program.image,
@@ -96,7 +92,17 @@ pub fn recorded<'s>(
             changes: limits.stops.saturating_mul(4),
         },
     };
-    let recorded = record_run(alloc, recordable, &mut streams, &mut again, limits)?;
+    let (first, second) = streams;
+    record_run(alloc, recordable, first, second, limits)
+}
+
+/// A recorded run with the names of its program and its end.
+fn with_names<'s>(
+    alloc: Global,
+    program: &DebugProgram<'_, 's>,
+    recorded: Recorded,
+    outputs: Vec<Vec<u8>>,
+) -> Result<RecordedRun<'s>, Memory> {
     let names = Names::new(alloc, program, &recorded.recording.sites)?;
     let end_lines = end_lines(alloc, program, &recorded.interpreted)?;
     Ok(RecordedRun {
@@ -104,8 +110,24 @@ pub fn recorded<'s>(
         recording: recorded.recording,
         names,
         end_lines,
-        outputs: further_outputs(alloc, input, &streams)?,
+        outputs,
     })
+}
+
+/// Runs a program with this input, and records the run.
+///
+/// `Memory` if an allocation fails, `Streams` if two streams have one name or a name is too long, and `Differs` if the recorder made a mistake.
+pub fn recorded<'s>(
+    alloc: Global,
+    program: &DebugProgram<'_, 's>,
+    input: &RunInput,
+    limits: SessionLimits,
+) -> Result<RecordedRun<'s>, SessionError> {
+    let mut streams = streams_of(alloc, input)?;
+    let mut again = streams_of(alloc, input)?;
+    let recorded = run_twice(alloc, program, (&mut streams, &mut again), limits)?;
+    let outputs = further_outputs(alloc, input, &streams)?;
+    Ok(with_names(alloc, program, recorded, outputs)?)
 }
 
 /// A debugging session.
@@ -124,6 +146,8 @@ pub struct Session<'p, 's> {
     pub(crate) repeated: String,
     /// The line after the last one that was listed; 0 if none was.
     pub(crate) listed: usize,
+    /// The file of that line.
+    pub(crate) listed_file: usize,
     /// What the program reads.
     pub(crate) input: RunInput,
     pub(crate) limits: SessionLimits,
@@ -155,6 +179,7 @@ impl<'p, 's> Session<'p, 's> {
             selected: 0,
             repeated: String::new(alloc),
             listed: 0,
+            listed_file: 0,
             input,
             limits,
             is_stale: false,

@@ -25,6 +25,8 @@ struct Stream<'r> {
     calls: Vec<OpenCall>,
     /// The number of the place of the last stop.
     place: u64,
+    /// Whether an allocation failed. Then the rest is void.
+    is_refused: bool,
 }
 
 /// The state of a cell as a number.
@@ -46,18 +48,24 @@ fn signed(from: u64, to: u64) -> u64 {
 }
 
 impl Stream<'_> {
+    /// Appends a byte.
+    fn byte(&mut self, byte: u8) {
+        if self.bytes.push(byte).is_err() {
+            self.is_refused = true;
+        }
+    }
+
     /// Appends a number.
-    fn number(&mut self, number: u64) -> Result<(), Memory> {
+    fn number(&mut self, number: u64) {
         let mut left = number;
         for _each in 0..10u8 {
             let low = (left % 128) as u8;
             left /= 128;
             if left == 0 {
-                return Ok(self.bytes.push(low)?);
+                return self.byte(low);
             }
-            self.bytes.push(low + 128)?;
+            self.byte(low + 128);
         }
-        Ok(())
     }
 
     /// The number of the place of this site.
@@ -75,26 +83,32 @@ impl Stream<'_> {
         u64::from(number.saturating_sub(1))
     }
 
-    /// Enters a call that was made at the place with this number.
-    fn enter(&mut self, base: u32, place: u64) -> Result<(), Memory> {
-        if let Some(caller) = self.calls.last_mut() {
-            caller.place = place;
+    /// Moves the newest call to the place with this number.
+    fn move_call(&mut self, place: u64) {
+        if let Some(call) = self.calls.last_mut() {
+            call.place = place;
         }
-        self.calls.push(OpenCall {
+    }
+
+    /// Enters a call that was made at the place with this number.
+    fn enter(&mut self, base: u32, place: u64) {
+        self.move_call(place);
+        let call = OpenCall {
             base: u64::from(base),
             place,
-        })?;
-        Ok(())
+        };
+        if self.calls.push(call).is_err() {
+            self.is_refused = true;
+        }
     }
 
     /// Enters the calls of the first stop.
-    fn begin(&mut self) -> Result<(), Memory> {
+    fn begin(&mut self) {
         let recording = self.recording;
         for frame in &recording.frames {
             let place = self.place_of(frame.caller);
-            self.enter(frame.base, place)?;
+            self.enter(frame.base, place);
         }
-        Ok(())
     }
 
     /// The newest call.
@@ -106,7 +120,7 @@ impl Stream<'_> {
     }
 
     /// Appends which calls were left and entered. A call that was entered and left in between isn't mentioned.
-    fn moves(&mut self, moves: &[Move]) -> Result<(), Memory> {
+    fn moves(&mut self, moves: &[Move]) {
         let mut left = 0usize;
         let mut entered = 0usize;
         for step in moves {
@@ -123,37 +137,27 @@ impl Stream<'_> {
             }
         }
         let (left, count) = (left as u64, entered as u64);
-        self.number(left.saturating_mul(4).saturating_add(count.min(3)))?;
+        self.number(left.saturating_mul(4).saturating_add(count.min(3)));
         if let Some(more) = count.checked_sub(3) {
-            self.number(more)?;
+            self.number(more);
         }
-        self.entered(moves, entered)
+        self.entered(moves, entered);
     }
 
     /// Appends the last `count` calls that were entered and not left.
-    fn entered(&mut self, moves: &[Move], count: usize) -> Result<(), Memory> {
-        let mut depth = 0usize;
-        let mut wanted = Vec::new(self.alloc);
-        for step in moves.iter().rev() {
-            match step {
-                Move::Leave(_) => depth = depth.saturating_add(1),
-                Move::Enter(frame) => {
-                    if depth > 0 {
-                        depth -= 1;
-                    } else if wanted.len() < count {
-                        wanted.push(*frame)?;
-                    }
+    fn entered(&mut self, moves: &[Move], count: usize) {
+        match last_entered(self.alloc, moves, count) {
+            Ok(frames) => {
+                for frame in frames.iter().rev() {
+                    self.call(*frame);
                 }
             }
+            Err(_) => self.is_refused = true,
         }
-        for frame in wanted.iter().rev() {
-            self.call(*frame)?;
-        }
-        Ok(())
     }
 
     /// Appends a call that was entered.
-    fn call(&mut self, frame: Frame) -> Result<(), Memory> {
+    fn call(&mut self, frame: Frame) {
         let caller = self.newest();
         let place = self.place_of(frame.caller);
         let is_elsewhere = place != caller.place;
@@ -162,16 +166,16 @@ impl Stream<'_> {
             routine
                 .saturating_mul(2)
                 .saturating_add(flag(is_elsewhere, 1)),
-        )?;
-        self.number(signed(caller.base, u64::from(frame.base)))?;
+        );
+        self.number(signed(caller.base, u64::from(frame.base)));
         if is_elsewhere {
-            self.number(place)?;
+            self.number(place);
         }
-        self.enter(frame.base, place)
+        self.enter(frame.base, place);
     }
 
     /// Appends changes of cells; neighbours with the same new state are one change.
-    fn changes(&mut self, changes: &[Change]) -> Result<(), Memory> {
+    fn changes(&mut self, changes: &[Change]) {
         let mut last = self.newest().base;
         let mut skipped = 0usize;
         for (index, first) in changes.iter().enumerate() {
@@ -180,14 +184,13 @@ impl Stream<'_> {
             } else {
                 let following = changes.get(index.saturating_add(1)..).unwrap_or(&[]);
                 skipped = run_of(*first, following);
-                last = self.change(last, *first, following.get(..skipped).unwrap_or(&[]))?;
+                last = self.change(last, *first, following.get(..skipped).unwrap_or(&[]));
             }
         }
-        Ok(())
     }
 
     /// Appends a change of a cell and of its neighbours, after one whose last address is `last`. Returns its own last address.
-    fn change(&mut self, last: u64, first: Change, others: &[Change]) -> Result<u64, Memory> {
+    fn change(&mut self, last: u64, first: Change, others: &[Change]) -> u64 {
         let is_run = !others.is_empty();
         let is_dead = first.new == Cell::Dead;
         self.number(
@@ -195,27 +198,67 @@ impl Stream<'_> {
                 .saturating_mul(4)
                 .saturating_add(flag(is_run, 1))
                 .saturating_add(flag(is_dead, 2)),
-        )?;
+        );
         if is_run {
-            self.number((others.len() as u64).saturating_sub(1))?;
+            self.number((others.len() as u64).saturating_sub(1));
         }
         if !is_dead {
-            self.number(state_of(first.new))?;
+            self.number(state_of(first.new));
         }
         let end = others.last().map_or(first.address, |end| end.address);
-        Ok(u64::from(end))
+        u64::from(end)
     }
 
     /// Appends how many bytes the program wrote, these bytes, and how many it took.
-    fn streams(&mut self, output: &[u8], taken: usize) -> Result<(), Memory> {
-        self.number(output.len() as u64)?;
-        self.bytes.extend_from_slice(output)?;
-        self.number(taken as u64)
+    fn streams(&mut self, output: &[u8], taken: usize) {
+        self.number(output.len() as u64);
+        if self.bytes.extend_from_slice(output).is_err() {
+            self.is_refused = true;
+        }
+        self.number(taken as u64);
+    }
+
+    /// Appends the place of a stop, and flags.
+    fn head(&mut self, place: u64, flags: u64) {
+        self.number(
+            signed(self.place, place)
+                .saturating_mul(16)
+                .saturating_add(flags),
+        );
+        self.place = place;
+    }
+
+    /// Appends a stop at which the run is at this place, after these moves and changes. It wrote this output since the stop before it, and
+    /// took this number of bytes.
+    fn parts(&mut self, place: u64, moves: &[Move], changes: &[Change], streams: (&[u8], usize)) {
+        let (output, taken) = streams;
+        let has_streams = !output.is_empty() || taken > 0;
+        let runs = count_runs(changes);
+        let flags = flag(!moves.is_empty(), 1)
+            .saturating_add(runs.min(3).saturating_mul(2))
+            .saturating_add(flag(has_streams, 8));
+        self.head(place, flags);
+        if !moves.is_empty() {
+            self.moves(moves);
+        }
+        if let Some(more) = runs.checked_sub(3) {
+            self.number(more);
+        }
+        self.changes(changes);
+        if has_streams {
+            self.streams(output, taken);
+        }
+        self.move_call(place);
     }
 
     /// Appends a stop; the one before it is `before`.
-    fn stop(&mut self, index: usize, before: Stop, stop: Stop) -> Result<(), Memory> {
+    fn stop(&mut self, index: usize, before: Stop, stop: Stop) {
         let recording = self.recording;
+        let output = recording
+            .output
+            .get(before.output..stop.output)
+            .unwrap_or(&[]);
+        let streams = (output, stop.taken.saturating_sub(before.taken));
         let is_first = index == 0;
         let moves: &[Move] = if is_first {
             &[]
@@ -227,38 +270,38 @@ impl Stream<'_> {
         } else {
             recording.changes_of(index)
         };
-        let output = recording
-            .output
-            .get(before.output..stop.output)
-            .unwrap_or(&[]);
-        let taken = stop.taken.saturating_sub(before.taken);
-        let has_streams = !output.is_empty() || taken > 0;
-        let runs = count_runs(changes);
-        let flags = flag(!moves.is_empty(), 1)
-            .saturating_add(runs.min(3).saturating_mul(2))
-            .saturating_add(flag(has_streams, 8));
         let place = self.place_of(stop.site);
-        self.number(
-            signed(self.place, place)
-                .saturating_mul(16)
-                .saturating_add(flags),
-        )?;
-        self.place = place;
-        if !moves.is_empty() {
-            self.moves(moves)?;
-        }
-        if let Some(more) = runs.checked_sub(3) {
-            self.number(more)?;
-        }
-        self.changes(changes)?;
-        if has_streams {
-            self.streams(output, taken)?;
-        }
-        if let Some(call) = self.calls.last_mut() {
-            call.place = place;
-        }
-        Ok(())
+        self.parts(place, moves, changes, streams);
     }
+
+    /// Appends all stops.
+    fn stops(&mut self) {
+        let recording = self.recording;
+        let mut before = None;
+        for (index, stop) in recording.stops.iter().enumerate() {
+            self.stop(index, before.unwrap_or(*stop), *stop);
+            before = Some(*stop);
+        }
+    }
+}
+
+/// The last `count` calls that these moves enter and don't leave, the newest one first.
+fn last_entered(alloc: Global, moves: &[Move], count: usize) -> Result<Vec<Frame>, Memory> {
+    let mut depth = 0usize;
+    let mut frames = Vec::new(alloc);
+    for step in moves.iter().rev() {
+        match step {
+            Move::Leave(_) => depth = depth.saturating_add(1),
+            Move::Enter(frame) => {
+                if depth > 0 {
+                    depth -= 1;
+                } else if frames.len() < count {
+                    frames.push(*frame)?;
+                }
+            }
+        }
+    }
+    Ok(frames)
 }
 
 /// This value if `is`, else 0.
@@ -300,6 +343,8 @@ fn run_of(first: Change, following: &[Change]) -> usize {
 
 /// The stops of a recording as bytes. `routines` has for each address the number of the routine there, plus 1; `unknown` is the number of a
 /// place that isn't known.
+///
+/// `Memory` if an allocation fails.
 pub fn bytes_of(
     alloc: Global,
     recording: &Recording,
@@ -314,16 +359,14 @@ pub fn bytes_of(
         unknown,
         calls: Vec::new(alloc),
         place: 0,
+        is_refused: false,
     };
-    stream.begin()?;
-    let Some(first) = recording.stops.first().copied() else {
-        return Ok(Vec::new(alloc));
-    };
-    let mut before = first;
-    for (index, stop) in recording.stops.iter().enumerate() {
-        stream.stop(index, before, *stop)?;
-        before = *stop;
-    }
-    let Stream { bytes, .. } = stream;
-    Ok(bytes)
+    stream.begin();
+    stream.stops();
+    let Stream {
+        bytes,
+        is_refused,
+        ..
+    } = stream;
+    if is_refused { Err(Memory) } else { Ok(bytes) }
 }

@@ -28,18 +28,19 @@ fn copied(alloc: Global, bytes: &[u8]) -> Result<Vec<u8>, Memory> {
     Ok(copy)
 }
 
+/// An input with copies of this name and these bytes.
+fn input_of(alloc: Global, name: &[u8], bytes: &[u8]) -> Result<Named<Vec<u8>>, Memory> {
+    let name = copied(alloc, name)?;
+    let device = copied(alloc, bytes)?;
+    Ok(Named { name, device })
+}
+
 /// The inputs, SYSIN first.
 fn inputs_of(alloc: Global, given: &RunInput) -> Result<Vec<Named<Vec<u8>>>, Memory> {
     let mut inputs = Vec::new(alloc);
-    inputs.push(Named {
-        name: copied(alloc, b"SYSIN")?,
-        device: copied(alloc, given.standard.as_slice())?,
-    })?;
+    inputs.push(input_of(alloc, b"SYSIN", given.standard.as_slice())?)?;
     for input in &given.inputs {
-        inputs.push(Named {
-            name: copied(alloc, input.name.as_slice())?,
-            device: copied(alloc, input.device.as_slice())?,
-        })?;
+        inputs.push(input_of(alloc, input.name.as_slice(), input.device.as_slice())?)?;
     }
     Ok(inputs)
 }

@@ -1,9 +1,10 @@
 //! Values as text: numbers, characters, strings and vectors.
 
 use crate::names::Variable;
+use crate::printout::Printout;
 use crate::scope::{DebugScope, Element};
 use bc_interpret_record::{Cell, Moment};
-use bc_word::Memory;
+use bcpl_messages::Fill;
 
 /// The greatest number of elements of a vector that are shown.
 const MOST_ELEMENTS: u64 = 16;
@@ -50,29 +51,32 @@ pub fn format_of(letter: &str) -> Option<Format> {
 }
 
 /// Appends a byte as BCPL spells it in a string.
-fn add_byte(text: &mut String, byte: u8) -> Result<(), Memory> {
+fn add_byte(out: &mut Printout, byte: u8) {
     match byte {
-        b'\n' => text.push_str("*N")?,
-        b'\t' => text.push_str("*T")?,
-        b'"' => text.push_str("*\"")?,
-        b'*' => text.push_str("**")?,
-        32..=126 => write!(text, "{}", char::from(byte))?,
-        _ => write!(text, "*#{byte:02x}")?,
+        b'\n' => out.text("*N"),
+        b'\t' => out.text("*T"),
+        b'"' => out.text("*\""),
+        b'*' => out.text("**"),
+        32..=126 => out.character(byte),
+        _ => out.escape(byte),
     }
-    Ok(())
+}
+
+/// Appends the end of a string that has this number of bytes, of which at most 60 are shown.
+fn add_quote(out: &mut Printout, length: usize) {
+    out.text("\"");
+    if length > usize::from(MOST_CHARACTERS) {
+        out.text("..");
+    }
 }
 
 /// Appends these bytes as a string of BCPL, at most 60 of them.
-pub fn add_bytes(text: &mut String, bytes: &[u8]) -> Result<(), Memory> {
-    text.push_str("\"")?;
+pub fn add_bytes(out: &mut Printout, bytes: &[u8]) {
+    out.text("\"");
     for byte in bytes.iter().take(usize::from(MOST_CHARACTERS)) {
-        add_byte(text, *byte)?;
+        add_byte(out, *byte);
     }
-    text.push_str("\"")?;
-    if bytes.len() > usize::from(MOST_CHARACTERS) {
-        text.push_str("..")?;
-    }
-    Ok(())
+    add_quote(out, bytes.len());
 }
 
 /// Byte `index` of the string at this address, of which byte 0 is the length.
@@ -87,101 +91,97 @@ fn byte_at(moment: &Moment, address: u16, index: u16) -> Option<u8> {
     }
 }
 
-/// Appends the string at this address; returns false, and appends nothing, if its cells aren't all set.
-fn add_string(text: &mut String, moment: &Moment, address: u16) -> Result<bool, Memory> {
-    let Some(length) = byte_at(moment, address, 0) else {
-        return Ok(false);
-    };
-    for index in 1..=u16::from(length) {
-        if byte_at(moment, address, index).is_none() {
-            return Ok(false);
-        }
+/// The length of the string at this address; `None` if its cells aren't all set.
+fn string_length(moment: &Moment, address: u16) -> Option<u16> {
+    let length = u16::from(byte_at(moment, address, 0)?);
+    for index in 1..=length {
+        let _byte = byte_at(moment, address, index)?;
     }
-    text.push_str("\"")?;
-    for index in 1..=u16::from(length).min(MOST_CHARACTERS) {
-        add_byte(text, byte_at(moment, address, index).unwrap_or(b'?'))?;
-    }
-    text.push_str("\"")?;
-    if u16::from(length) > MOST_CHARACTERS {
-        text.push_str("..")?;
-    }
-    Ok(true)
+    Some(length)
 }
 
-/// Appends a word as a signed number.
-pub fn add_number(text: &mut String, word: u16) -> Result<(), Memory> {
-    let signed = word.cast_signed();
-    write!(text, "{signed}")?;
-    Ok(())
+/// Appends the string at this address; returns false, and appends nothing, if its cells aren't all set.
+fn add_string(out: &mut Printout, moment: &Moment, address: u16) -> bool {
+    let Some(length) = string_length(moment, address) else {
+        return false;
+    };
+    out.text("\"");
+    for index in 1..=length.min(MOST_CHARACTERS) {
+        add_byte(out, byte_at(moment, address, index).unwrap_or(b'?'));
+    }
+    add_quote(out, usize::from(length));
+    true
 }
 
 /// Appends a cell: `?` if it isn't set, and `-` if it is dead.
-pub fn add_cell(text: &mut String, cell: Cell) -> Result<(), Memory> {
+pub fn add_cell(out: &mut Printout, cell: Cell) {
     match cell {
-        Cell::Set(word) => add_number(text, word),
-        Cell::Unset => Ok(text.push_str("?")?),
-        Cell::Dead => Ok(text.push_str("-")?),
+        Cell::Set(word) => out.signed(word),
+        Cell::Unset => out.text("?"),
+        Cell::Dead => out.text("-"),
     }
 }
 
 /// Appends which element of a vector is at an address.
-fn add_element(text: &mut String, element: &Element<'_>) -> Result<(), Memory> {
-    text.push_str(" -> ")?;
-    add_name(text, element.vector)?;
-    let index = element.index;
-    write!(text, "!{index} of ")?;
-    add_name(text, element.routine)
+fn add_element(out: &mut Printout, element: &Element<'_>) {
+    out.text(" -> ");
+    out.characters(element.vector);
+    out.text("!");
+    out.number(element.index);
+    out.text(" of ");
+    out.characters(element.routine);
+}
+
+/// Whether a string of the program is at this address.
+fn is_string_at(scope: &DebugScope<'_, '_>, address: u16) -> bool {
+    scope
+        .names
+        .data
+        .iter()
+        .any(|datum| datum.address == address && datum.is_string)
+}
+
+/// Appends the routine at this address, if there is one.
+fn add_routine_at(out: &mut Printout, scope: &DebugScope<'_, '_>, address: u16) {
+    for routine in &scope.names.routines {
+        if routine.address == address {
+            out.text(" the routine ");
+            out.characters(routine.name);
+            return;
+        }
+    }
 }
 
 /// Appends what else a word may be: a character, or the address of something.
-fn add_guess(text: &mut String, scope: &DebugScope<'_, '_>, word: u16) -> Result<(), Memory> {
+fn add_guess(out: &mut Printout, scope: &DebugScope<'_, '_>, word: u16) {
     if let Ok(byte) = u8::try_from(word)
         && (32..=126).contains(&byte)
     {
-        let character = char::from(byte);
-        write!(text, " '{character}'")?;
+        out.text(" '");
+        out.character(byte);
+        out.text("'");
     }
-    for datum in &scope.names.data {
-        if datum.address == word && datum.is_string {
-            text.push_str(" ")?;
-            let _is_string = add_string(text, scope.moment, word)?;
-            return Ok(());
-        }
+    if is_string_at(scope, word) {
+        out.text(" ");
+        let _is_string = add_string(out, scope.moment, word);
+        return;
     }
-    if let Some(element) = scope.element_at(word) {
-        return add_element(text, &element);
+    match scope.element_at(word) {
+        Some(element) => add_element(out, &element),
+        None => add_routine_at(out, scope, word),
     }
-    for routine in &scope.names.routines {
-        if routine.address == word {
-            text.push_str(" the routine ")?;
-            return add_name(text, routine.name);
-        }
-    }
-    Ok(())
-}
-
-/// Appends a name. Bytes that aren't printable ASCII become `?`.
-pub fn add_name(text: &mut String, name: &[u8]) -> Result<(), Memory> {
-    for byte in name {
-        match *byte {
-            33..=126 => write!(text, "{}", char::from(*byte))?,
-            _ => text.push_str("?")?,
-        }
-    }
-    Ok(())
 }
 
 /// Appends the first elements at this address, up to `count`.
-fn add_elements(text: &mut String, moment: &Moment, from: u16, count: u64) -> Result<(), Memory> {
+fn add_elements(out: &mut Printout, moment: &Moment, from: u16, count: u64) {
     for index in 0..count.min(MOST_ELEMENTS) {
-        text.push_str(" ")?;
+        out.text(" ");
         let offset = u16::try_from(index).unwrap_or(0);
-        add_cell(text, moment.cell(from.wrapping_add(offset)))?;
+        add_cell(out, moment.cell(from.wrapping_add(offset)));
     }
     if count > MOST_ELEMENTS {
-        text.push_str(" ..")?;
+        out.text(" ..");
     }
-    Ok(())
 }
 
 /// The number of words of the string or table at this address; as many elements as are shown if there is none.
@@ -194,73 +194,94 @@ fn cells_at(scope: &DebugScope<'_, '_>, address: u16) -> u64 {
     MOST_ELEMENTS
 }
 
+/// Appends the bound of a vector.
+fn add_bound(out: &mut Printout, bound: u64) {
+    out.fill("VEC {} ", &[Fill::Number(bound)]);
+}
+
+/// Appends the elements at this address, with the address.
+fn add_elements_at(out: &mut Printout, moment: &Moment, from: u16, count: u64) {
+    out.fill("at {}:", &[Fill::Number(u64::from(from))]);
+    add_elements(out, moment, from, count);
+}
+
 /// Appends the elements at this address: those of a vector to its end.
-fn add_vector(text: &mut String, scope: &DebugScope<'_, '_>, word: u16) -> Result<(), Memory> {
+fn add_vector(out: &mut Printout, scope: &DebugScope<'_, '_>, word: u16) {
     let cells = match scope.element_at(word) {
         Some(element) => {
             if element.index == 0 {
-                let bound = element.rest.saturating_sub(1);
-                write!(text, "VEC {bound} ")?;
+                add_bound(out, element.rest.saturating_sub(1));
             }
             element.rest
         }
         None => cells_at(scope, word),
     };
-    write!(text, "at {word}:")?;
-    add_elements(text, scope.moment, word, cells)
+    add_elements_at(out, scope.moment, word, cells);
+}
+
+/// Appends the string at the address that a word is, or that there is none.
+fn add_string_at(out: &mut Printout, moment: &Moment, word: u16) {
+    if !add_string(out, moment, word) {
+        out.text("no string is at ");
+        out.signed(word);
+    }
+}
+
+/// Appends a word as a character.
+fn add_character(out: &mut Printout, word: u16) {
+    out.text("'");
+    add_byte(out, (word % 256) as u8);
+    out.text("'");
+}
+
+/// Appends a word as what it looks like.
+fn add_any(out: &mut Printout, scope: &DebugScope<'_, '_>, word: u16) {
+    out.signed(word);
+    add_guess(out, scope, word);
 }
 
 /// Appends a word in this format.
-pub fn add_value(
-    text: &mut String,
-    scope: &DebugScope<'_, '_>,
-    word: u16,
-    format: Format,
-) -> Result<(), Memory> {
+pub fn add_value(out: &mut Printout, scope: &DebugScope<'_, '_>, word: u16, format: Format) {
     match format {
-        Format::Any => {
-            add_number(text, word)?;
-            add_guess(text, scope, word)
+        Format::Any => add_any(out, scope, word),
+        Format::Number => out.signed(word),
+        Format::Unsigned => out.number(u64::from(word)),
+        Format::Hexadecimal => out.hexadecimal(word),
+        Format::Octal => out.octal(word),
+        Format::Truth => out.text(if word == 0 { "FALSE" } else { "TRUE" }),
+        Format::Character => add_character(out, word),
+        Format::String => add_string_at(out, scope.moment, word),
+        Format::Vector => add_vector(out, scope, word),
+    }
+}
+
+/// Appends the value of a variable that has this value and whose cell is at this address.
+fn add_set(
+    out: &mut Printout,
+    scope: &DebugScope<'_, '_>,
+    variable: &Variable<'_>,
+    address: u16,
+    word: u16,
+) {
+    match variable.cells.checked_sub(2) {
+        Some(bound) if word == address.wrapping_add(1) => {
+            add_bound(out, bound);
+            add_elements_at(out, scope.moment, word, bound.saturating_add(1));
         }
-        Format::Number => add_number(text, word),
-        Format::Unsigned => Ok(write!(text, "{word}")?),
-        Format::Hexadecimal => Ok(write!(text, "#X{word:04x}")?),
-        Format::Octal => Ok(write!(text, "#{word:o}")?),
-        Format::Truth => Ok(text.push_str(if word == 0 { "FALSE" } else { "TRUE" })?),
-        Format::Character => {
-            text.push_str("'")?;
-            add_byte(text, (word % 256) as u8)?;
-            Ok(text.push_str("'")?)
-        }
-        Format::String => {
-            if !add_string(text, scope.moment, word)? {
-                text.push_str("no string is at ")?;
-                add_number(text, word)?;
-            }
-            Ok(())
-        }
-        Format::Vector => add_vector(text, scope, word),
+        _ => add_any(out, scope, word),
     }
 }
 
 /// Appends the value of a variable whose cell is at this address. A vector is shown with its bound and its elements.
 pub fn add_variable(
-    text: &mut String,
+    out: &mut Printout,
     scope: &DebugScope<'_, '_>,
     variable: &Variable<'_>,
     address: u16,
-) -> Result<(), Memory> {
+) {
     match scope.cell(address) {
-        Cell::Set(word) => {
-            if let Some(bound) = variable.cells.checked_sub(2) {
-                if word == address.wrapping_add(1) {
-                    write!(text, "VEC {bound} at {word}:")?;
-                    return add_elements(text, scope.moment, word, variable.cells.saturating_sub(1));
-                }
-            }
-            add_value(text, scope, word, Format::Any)
-        }
-        Cell::Unset => Ok(text.push_str("not set")?),
-        Cell::Dead => Ok(text.push_str("no cell")?),
+        Cell::Set(word) => add_set(out, scope, variable, address, word),
+        Cell::Unset => out.text("not set"),
+        Cell::Dead => out.text("no cell"),
     }
 }

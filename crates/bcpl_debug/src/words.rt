@@ -51,19 +51,19 @@ pub static WORDS: [WordSpec; 28] = [
         word: Word::Run,
         names: &["run", "r"],
         arguments: "",
-        help: "runs from the start to the first breakpoint or the end",
+        help: "goes from the start to a breakpoint or the end",
     },
     WordSpec {
         word: Word::Start,
         names: &["start"],
         arguments: "",
-        help: "goes to the first command of the program",
+        help: "goes to the first command",
     },
     WordSpec {
         word: Word::Continue,
         names: &["continue", "c"],
-        arguments: "",
-        help: "goes on to the next breakpoint or the end",
+        arguments: "[N]",
+        help: "goes on to a breakpoint or the end",
     },
     WordSpec {
         word: Word::Step,
@@ -75,7 +75,7 @@ pub static WORDS: [WordSpec; 28] = [
         word: Word::Next,
         names: &["next", "n"],
         arguments: "[N]",
-        help: "goes to the next command of this call, over calls",
+        help: "goes to the next command, over calls",
     },
     WordSpec {
         word: Word::Finish,
@@ -93,19 +93,19 @@ pub static WORDS: [WordSpec; 28] = [
         word: Word::ReverseStep,
         names: &["reverse-step", "rs"],
         arguments: "[N]",
-        help: "goes back to the command before, into calls",
+        help: "goes a command back, into calls",
     },
     WordSpec {
         word: Word::ReverseNext,
         names: &["reverse-next", "rn"],
         arguments: "[N]",
-        help: "goes back to the command before of this call, over calls",
+        help: "goes a command back, over calls",
     },
     WordSpec {
         word: Word::ReverseContinue,
         names: &["reverse-continue", "rc"],
-        arguments: "",
-        help: "goes back to the breakpoint before or the start",
+        arguments: "[N]",
+        help: "goes back to a breakpoint or the start",
     },
     WordSpec {
         word: Word::ReverseFinish,
@@ -116,8 +116,8 @@ pub static WORDS: [WordSpec; 28] = [
     WordSpec {
         word: Word::Break,
         names: &["break", "b"],
-        arguments: "LINE|FILE:LINE|ROUTINE [if E]",
-        help: "stops there, if E is true",
+        arguments: "[LINE|FILE:LINE|ROUTINE] [if E]",
+        help: "stops there, or on this line, if E is true",
     },
     WordSpec {
         word: Word::Watch,
@@ -141,7 +141,7 @@ pub static WORDS: [WordSpec; 28] = [
         word: Word::Print,
         names: &["print", "p"],
         arguments: "[/F] E",
-        help: "prints the value of an expression without calls; F: d u x o c t s v",
+        help: "prints a value, as d u x o c t s or v",
     },
     WordSpec {
         word: Word::Backtrace,
@@ -153,25 +153,25 @@ pub static WORDS: [WordSpec; 28] = [
         word: Word::Frame,
         names: &["frame", "f"],
         arguments: "[N]",
-        help: "selects call N, whose names print and info then use",
+        help: "selects call N for print and info",
     },
     WordSpec {
         word: Word::Up,
         names: &["up"],
         arguments: "",
-        help: "selects the call that made the selected one",
+        help: "selects the caller of the selected call",
     },
     WordSpec {
         word: Word::Down,
         names: &["down"],
         arguments: "",
-        help: "selects the call that the selected one made",
+        help: "selects what the selected call called",
     },
     WordSpec {
         word: Word::List,
         names: &["list", "l"],
-        arguments: "[LINE]",
-        help: "lists the source around the current line",
+        arguments: "[LINE|ROUTINE]",
+        help: "lists the source there, or around this line",
     },
     WordSpec {
         word: Word::Output,
@@ -195,13 +195,13 @@ pub static WORDS: [WordSpec; 28] = [
         word: Word::Input,
         names: &["input"],
         arguments: "TEXT",
-        help: "adds a line to the program's input, for the next run",
+        help: "adds a line to what the next run reads",
     },
     WordSpec {
         word: Word::Library,
         names: &["library"],
         arguments: "[on|off]",
-        help: "lets step and next go into the library's routines, or over them",
+        help: "lets step and next go into the library",
     },
     WordSpec {
         word: Word::Help,
@@ -217,11 +217,21 @@ pub static WORDS: [WordSpec; 28] = [
     },
 ];
 
-/// The command with this name or short form.
+/// Whether a name of a command begins with these letters, small or capital ones.
+fn begins_with(name: &str, letters: &str) -> bool {
+    letters.len() <= name.len()
+        && letters
+            .as_bytes()
+            .iter()
+            .zip(name.as_bytes().iter())
+            .all(|(letter, wanted)| letter.to_ascii_lowercase() == *wanted)
+}
+
+/// The command with this name or short form, in small or capital letters.
 pub fn word_of(name: &str) -> Option<Word> {
     for spec in &WORDS {
         for spelled in spec.names {
-            if *spelled == name {
+            if spelled.len() == name.len() && begins_with(*spelled, name) {
                 return Some(spec.word);
             }
         }
@@ -234,7 +244,7 @@ pub fn word_like(name: &str) -> Option<Word> {
     let mut found = None;
     for spec in &WORDS {
         if let [full, ..] = spec.names
-            && full.starts_with(name)
+            && begins_with(*full, name)
         {
             if found.is_some() {
                 return None;

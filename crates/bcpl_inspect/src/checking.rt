@@ -5,7 +5,7 @@ use bc_text_items::Segment;
 use bc_word::Memory;
 use bcpl_cli::{Cause, CheckOrder, Failure, shown_path};
 use bcpl_reports::{Text, against_lines, check_lines};
-use bcpl_sources::{explained, of_output, read_texts, readable, segments_of, texts_of};
+use bcpl_sources::{of_output, read_texts, readable, segments_of, texts_of, with_explanation};
 use std::alloc::Global;
 use std::io::{BufReader, Read, Write};
 use std::rt::Files;
@@ -72,7 +72,7 @@ fn refused<F: Files>(
         fault => {
             let failure = Failure::new(Cause::Check(fault));
             if explains {
-                explained(alloc, failure, lines_on(rt, alloc, path, fault))
+                with_explanation(alloc, failure, lines_on(rt, alloc, path, fault))
             } else {
                 failure
             }
@@ -186,7 +186,7 @@ fn judged<F: Files>(
         Err(mismatch) => {
             let failure = Failure::new(Cause::Against(mismatch));
             Err(if explains {
-                explained(
+                with_explanation(
                     alloc,
                     failure,
                     lines_against(rt, alloc, path, compared, mismatch),

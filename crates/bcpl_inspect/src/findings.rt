@@ -8,7 +8,7 @@ use bcpl_lsp::{Cost, Document, Finding, Related, line_starts, range_of, uri_of};
 use bcpl_messages::{Message, Note, message_of, shown};
 use bcpl_places::{Span, way_to};
 use bcpl_show::{CostedSection, root_costs};
-use bcpl_sources::{Gathered, Program, entries_of};
+use bcpl_sources::{Gathered, Program, entries_of_segment};
 use bcpl_warnings::{all_warnings, unknown_names};
 use serde_json::Value;
 use std::alloc::Global;
@@ -102,9 +102,8 @@ impl<'s> Checked<'_, '_, 's> {
         })
     }
 
-    /// The finding of a message. `code` is empty for a warning.
-    fn finding(&self, alloc: Global, code: &str, message: &Message) -> Result<Finding, Memory> {
-        let (start, end) = self.place_here(alloc, message.span)?;
+    /// The related places of a message: its own, if that is in another file, and those of its notes.
+    fn related_places(&self, alloc: Global, message: &Message) -> Result<Vec<Related>, Memory> {
         let mut related = Vec::new(alloc);
         if let Some(span) = message.span
             && span.file != self.main
@@ -113,22 +112,15 @@ impl<'s> Checked<'_, '_, 's> {
             related.push(self.related(alloc, span, "it is here")?)?;
         }
         self.add_notes(alloc, message.notes.as_slice(), &mut related)?;
-        let sentence = message.sentence.as_str();
-        Ok(Finding {
-            start,
-            end,
-            is_error: !code.is_empty(),
-            code: String::from_str(alloc, code)?,
-            sentence: String::from_str(
-                alloc,
-                sentence.strip_prefix("warning: ").unwrap_or(sentence),
-            )?,
-            help: match &message.help {
-                Some(help) => String::from_str(alloc, help.as_str())?,
-                None => String::new(alloc),
-            },
-            related,
-        })
+        Ok(related)
+    }
+
+    /// The finding of a message. `code` is empty for a warning.
+    fn finding(&self, alloc: Global, code: &str, message: &Message) -> Result<Finding, Memory> {
+        let place = self.place_here(alloc, message.span)?;
+        let mut finding = placed_finding(alloc, place, code, message)?;
+        finding.related = self.related_places(alloc, message)?;
+        Ok(finding)
     }
 
     /// The finding on a further name that isn't declared.
@@ -140,18 +132,8 @@ impl<'s> Checked<'_, '_, 's> {
             .unwrap_or(b"");
         let name = shown(alloc, text)?;
         let meaning = likely_meaning(alloc, sources, self.main, text)?;
-        let meaning = meaning.as_str();
-        let (start, end) = self.place_here(alloc, Some(span))?;
-        let name = name.as_str();
-        Ok(Finding {
-            start,
-            end,
-            is_error: true,
-            code: format!(in alloc; "{code} {name}")?,
-            sentence: format!(in alloc; "{name} isn't declared{meaning}")?,
-            help: String::new(alloc),
-            related: Vec::new(alloc),
-        })
+        let place = self.place_here(alloc, Some(span))?;
+        unknown_finding(alloc, place, code, name.as_str(), meaning.as_str())
     }
 
     /// Adds the names that aren't declared, other than the first.
@@ -172,6 +154,13 @@ impl<'s> Checked<'_, '_, 's> {
         Ok(())
     }
 
+    /// The finding of a further fault.
+    fn further(&self, alloc: Global, fault: &FurtherFault) -> Result<Finding, Memory> {
+        let line = BuildLine(&fault.error);
+        let code = format!(in alloc; "{line}")?;
+        self.finding(alloc, code.as_str(), &fault.message)
+    }
+
     /// Adds the further faults of a source that the parser refused.
     fn add_further(
         &self,
@@ -184,13 +173,6 @@ impl<'s> Checked<'_, '_, 's> {
             findings.push(self.further(alloc, fault)?)?;
         }
         Ok(())
-    }
-
-    /// The finding of a further fault.
-    fn further(&self, alloc: Global, fault: &FurtherFault) -> Result<Finding, Memory> {
-        let line = BuildLine(&fault.error);
-        let code = format!(in alloc; "{line}")?;
-        self.finding(alloc, code.as_str(), &fault.message)
     }
 
     /// Adds the further faults of a source whose scopes have one.
@@ -210,29 +192,59 @@ impl<'s> Checked<'_, '_, 's> {
         Ok(())
     }
 
-    /// The errors of a source that was refused.
-    fn errors(&self, alloc: Global, fault: &BuildError) -> Result<Vec<Finding>, Memory> {
-        let sources = self.program.named.sources;
+    /// The finding of a refusal, of which this is the message.
+    fn refusal(
+        &self,
+        alloc: Global,
+        fault: &BuildError,
+        code: &str,
+        message: Message,
+    ) -> Result<Finding, Memory> {
+        let message = advised(alloc, self.program.named.sources, fault, message)?;
+        self.finding(alloc, code, &message)
+    }
+
+    /// Adds the errors of a source after the one that was refused first.
+    fn add_others(
+        &self,
+        alloc: Global,
+        fault: &BuildError,
+        code: &str,
+        findings: &mut Vec<Finding>,
+    ) -> Result<(), Memory> {
+        match fault {
+            BuildError::Parse(main, ParseError::Expected(at)) if *main == self.main => {
+                self.add_further(alloc, *at, findings)
+            }
+            BuildError::Scope(main, fault) if *main == self.main => {
+                self.add_scopes(alloc, fault, code, findings)
+            }
+            _ => Ok(()),
+        }
+    }
+
+    /// The errors of a source that was refused, of which this is the first message.
+    fn errors_after(
+        &self,
+        alloc: Global,
+        fault: &BuildError,
+        message: Message,
+    ) -> Result<Vec<Finding>, Memory> {
         let line = BuildLine(fault);
         let code = format!(in alloc; "{line}")?;
         let mut findings = Vec::new(alloc);
-        let Some(message) = message_of(alloc, sources, self.program.mains, fault)? else {
-            return Ok(findings);
-        };
-        let message = advised(alloc, sources, fault, message)?;
-        findings.push(self.finding(alloc, code.as_str(), &message)?)?;
-        match fault {
-            BuildError::Parse(main, ParseError::Expected(at)) if *main == self.main =>
-                self.add_further(alloc, *at, &mut findings)?,
-            BuildError::Scope(main, fault) if *main == self.main => self.add_scopes(
-                alloc,
-                fault,
-                code.as_str(),
-                &mut findings,
-            )?,
-            _ => {}
-        }
+        findings.push(self.refusal(alloc, fault, code.as_str(), message)?)?;
+        self.add_others(alloc, fault, code.as_str(), &mut findings)?;
         Ok(findings)
+    }
+
+    /// The errors of a source that was refused.
+    fn errors(&self, alloc: Global, fault: &BuildError) -> Result<Vec<Finding>, Memory> {
+        let sources = self.program.named.sources;
+        match message_of(alloc, sources, self.program.mains, fault)? {
+            Some(message) => self.errors_after(alloc, fault, message),
+            None => Ok(Vec::new(alloc)),
+        }
     }
 
     /// The warnings about a source that was accepted, one for each place. `parsed` is what the mains were parsed to.
@@ -251,6 +263,51 @@ impl<'s> Checked<'_, '_, 's> {
         }
         Ok(findings)
     }
+}
+
+/// The finding of a message at this place of the document, without related places. `code` is empty for a warning.
+fn placed_finding(
+    alloc: Global,
+    place: (usize, usize),
+    code: &str,
+    message: &Message,
+) -> Result<Finding, Memory> {
+    let (start, end) = place;
+    let sentence = message.sentence.as_str();
+    let sentence = sentence.strip_prefix("warning: ").unwrap_or(sentence);
+    let help = match &message.help {
+        Some(help) => help.as_str(),
+        None => "",
+    };
+    Ok(Finding {
+        start,
+        end,
+        is_error: !code.is_empty(),
+        code: String::from_str(alloc, code)?,
+        sentence: String::from_str(alloc, sentence)?,
+        help: String::from_str(alloc, help)?,
+        related: Vec::new(alloc),
+    })
+}
+
+/// The finding at this place of the document on a name that isn't declared.
+fn unknown_finding(
+    alloc: Global,
+    place: (usize, usize),
+    code: &str,
+    name: &str,
+    meaning: &str,
+) -> Result<Finding, Memory> {
+    let (start, end) = place;
+    Ok(Finding {
+        start,
+        end,
+        is_error: true,
+        code: format!(in alloc; "{code} {name}")?,
+        sentence: format!(in alloc; "{name} isn't declared{meaning}")?,
+        help: String::new(alloc),
+        related: Vec::new(alloc),
+    })
 }
 
 /// What is wrong with a document, whose source is the last file of this program. Returns `Memory` if an allocation fails.
@@ -290,7 +347,7 @@ fn built_costs(
         main,
         tokens: own.tokens.as_slice(),
         section: &own.section,
-        entries: entries_of(built.entries.as_slice(), libraries),
+        entries: entries_of_segment(built.entries.as_slice(), libraries),
         items: segment.items().len(),
     };
     for cost in &root_costs(alloc, costed)? {

@@ -58,11 +58,34 @@ enum Attempt {
     Failed(FormatError),
 }
 
+/// What comes next in laying out a source.
+#[derive(Drop)]
+enum LayoutStep {
+    /// Nothing: this is its layout.
+    Done(Vec<u8>),
+    /// Another attempt with this source, which it gets.
+    Further(Header),
+    /// Nothing: there is no layout.
+    Failed(FormatError),
+}
+
 /// The folder of a file, with the slash at its end, or an empty text.
 fn folder_of(path: &str) -> &str {
     let name = path.rsplit('/').next().unwrap_or(path);
     path.get(..path.len().saturating_sub(name.len()))
         .unwrap_or("")
+}
+
+/// The content of the plain file with this path; empty if there is none, or if it can't be read.
+fn plain_content<F: Files>(rt: &F, alloc: Global, path: &str) -> Vec<u8> {
+    let found = match fs::metadata(rt, path) {
+        Ok(found) if found.is_file() => contents(rt, alloc, path).ok(),
+        _ => None,
+    };
+    match found {
+        Some(text) => text,
+        None => Vec::new(alloc),
+    }
 }
 
 /// The text of the plain file with this name in the folder of another one; empty if there is none.
@@ -72,22 +95,13 @@ fn text_beside<F: Files>(
     path: &str,
     name: &[u8],
 ) -> Result<Vec<u8>, Memory> {
-    let nothing = Vec::new(alloc);
-    let Ok(name) = str::from_utf8(name) else {
-        return Ok(nothing);
-    };
-    if name.is_empty() || name.contains('/') {
-        return Ok(nothing);
-    }
-    let folder = folder_of(path);
-    let beside = format!(in alloc; "{folder}{name}")?;
-    match fs::metadata(rt, beside.as_str()) {
-        Ok(found) if found.is_file() => {}
-        _ => return Ok(nothing),
-    }
-    match contents(rt, alloc, beside.as_str()) {
-        Ok(text) => Ok(text),
-        Err(_) => Ok(nothing),
+    match str::from_utf8(name) {
+        Ok(name) if !name.is_empty() && !name.contains('/') => {
+            let folder = folder_of(path);
+            let beside = format!(in alloc; "{folder}{name}")?;
+            Ok(plain_content(rt, alloc, beside.as_str()))
+        }
+        _ => Ok(Vec::new(alloc)),
     }
 }
 
@@ -143,6 +157,32 @@ fn attempt_at(alloc: Global, given: &Given<'_>, width: usize) -> Result<Attempt,
     }
 }
 
+/// The failure of a source that the lexer refuses.
+fn lexical_failure(
+    alloc: Global,
+    order: &FormatOrder<'_>,
+    given: &Given<'_>,
+    fault: LexError,
+    explains: bool,
+) -> Result<Failure, Memory> {
+    let sources = sources_for(alloc, given)?;
+    let mut paths = Growing::new(alloc);
+    for source in &sources {
+        paths.add(str::from_utf8(source.name).unwrap_or(given.path));
+    }
+    let paths = paths.whole()?;
+    let program = Program {
+        named: Named {
+            sources: sources.as_slice(),
+            paths: paths.as_slice(),
+        },
+        mains: &[],
+        is_json: matches!(order.places, Places::Json),
+        explains_all: false,
+    };
+    Ok(refused(alloc, &program, BuildError::Lex(MAIN, fault), explains))
+}
+
 /// The failure of a source that has no layout.
 fn failure_of(
     alloc: Global,
@@ -150,28 +190,16 @@ fn failure_of(
     given: &Given<'_>,
     error: FormatError,
     explains: bool,
-) -> Result<Failure, Memory> {
+) -> Failure {
     match error {
         FormatError::Lex(fault) => {
-            let sources = sources_for(alloc, given)?;
-            let mut paths = Growing::new(alloc);
-            for source in &sources {
-                paths.add(str::from_utf8(source.name).unwrap_or(given.path));
+            match lexical_failure(alloc, order, given, fault, explains) {
+                Ok(failure) => failure,
+                Err(_) => Failure::new(Cause::Memory),
             }
-            let paths = paths.whole()?;
-            let program = Program {
-                named: Named {
-                    sources: sources.as_slice(),
-                    paths: paths.as_slice(),
-                },
-                mains: &[],
-                is_json: matches!(order.places, Places::Json),
-                explains_all: false,
-            };
-            Ok(refused(alloc, &program, BuildError::Lex(MAIN, fault), explains))
         }
-        FormatError::Changed => Ok(Failure::file_since(alloc, given.path, CHANGED)),
-        FormatError::Memory => Ok(Failure::new(Cause::Memory)),
+        FormatError::Changed => Failure::file_since(alloc, given.path, CHANGED),
+        FormatError::Memory => Failure::new(Cause::Memory),
     }
 }
 
@@ -182,6 +210,41 @@ fn text_at<'s>(text: &'s [u8], headers: &'s [Header], file: usize) -> &'s [u8] {
         Some(number) => match headers.get(number) {
             Some(header) => header.text.as_slice(),
             None => text,
+        },
+    }
+}
+
+/// The source that the GET at an offset of this source names, from the folder of the one that is laid out; `None` if the GET has
+/// no name that is kept as it is spelled.
+fn header_got<F: Files>(
+    rt: &F,
+    alloc: Global,
+    given: &Given<'_>,
+    file: usize,
+    offset: usize,
+) -> Result<Option<Header>, Memory> {
+    match got_name(text_at(given.text, given.headers, file), offset) {
+        Some(name) => Ok(Some(Header {
+            name: Vec::from_slice(alloc, name)?,
+            text: text_beside(rt, alloc, given.path, name)?,
+        })),
+        None => Ok(None),
+    }
+}
+
+/// Lays out a source in lines of this width, or finds the next source that it gets.
+fn step<F: Files>(
+    rt: &F,
+    alloc: Global,
+    given: &Given<'_>,
+    width: usize,
+) -> Result<LayoutStep, Memory> {
+    match attempt_at(alloc, given, width)? {
+        Attempt::Done(laid) => Ok(LayoutStep::Done(laid)),
+        Attempt::Failed(error) => Ok(LayoutStep::Failed(error)),
+        Attempt::Missing(file, offset) => match header_got(rt, alloc, given, file, offset)? {
+            Some(header) => Ok(LayoutStep::Further(header)),
+            None => Ok(LayoutStep::Failed(FormatError::Lex(LexError::GetMissing(file, offset)))),
         },
     }
 }
@@ -202,23 +265,13 @@ fn layout_of<F: Files>(
             text,
             headers: headers.as_slice(),
         };
-        let error = match attempt_at(alloc, &given, order.width)? {
-            Attempt::Done(laid) => return Ok(laid),
-            Attempt::Failed(error) => error,
-            Attempt::Missing(file, offset) => {
-                let name = got_name(text_at(text, headers.as_slice(), file), offset);
-                if let Some(name) = name {
-                    let header = Header {
-                        name: Vec::from_slice(alloc, name)?,
-                        text: text_beside(rt, alloc, path, name)?,
-                    };
-                    headers.push(header)?;
-                    continue;
-                }
-                FormatError::Lex(LexError::GetMissing(file, offset))
-            }
-        };
-        return Err(failure_of(alloc, order, &given, error, explains)?);
+        match step(rt, alloc, &given, order.width)? {
+            LayoutStep::Done(laid) => return Ok(laid),
+            LayoutStep::Further(header) => headers.push(header)?,
+            LayoutStep::Failed(error) => return Err(failure_of(
+                alloc, order, &given, error, explains,
+            )),
+        }
     }
     Err(Failure::file_since(alloc, path, "this source gets more than 200 others"))
 }
@@ -301,6 +354,41 @@ fn check_jobs<O: Write + Drop>(
     }
 }
 
+/// Refuses to lay out in place what is no plain file, if the sources are laid out in place.
+fn refuse_devices<F: Files>(rt: &F, alloc: Global, order: &FormatOrder<'_>) -> Result<(), Failure> {
+    if order.to == FormatTo::Source {
+        for path in &order.files {
+            refuse_device(rt, alloc, path)?;
+        }
+    }
+    Ok(())
+}
+
+/// Prints the layouts.
+fn print_jobs<O: Write + Drop>(
+    alloc: Global,
+    jobs: &[Job<'_>],
+    out: &mut O,
+) -> Result<(), Failure> {
+    for job in jobs {
+        print(alloc, job.new.as_slice(), out)?;
+    }
+    Ok(())
+}
+
+/// Overwrites the sources with their layouts.
+fn write_sources<F: Files>(
+    rt: &F,
+    alloc: Global,
+    order: &FormatOrder<'_>,
+    jobs: &[Job<'_>],
+) -> Result<(), Failure> {
+    for job in jobs {
+        write_source(rt, alloc, order, job)?;
+    }
+    Ok(())
+}
+
 /// Lays out sources. All are read and laid out before the first one is written.
 ///
 /// # Errors
@@ -314,24 +402,12 @@ pub fn format_files<F: Files, O: Write + Drop>(
     explains: bool,
     out: &mut O,
 ) -> Result<(), Failure> {
-    if order.to == FormatTo::Source {
-        for path in &order.files {
-            refuse_device(rt, alloc, path)?;
-        }
-    }
+    refuse_devices(rt, alloc, order)?;
     let jobs = jobs_of(rt, alloc, order, explains)?;
+    let jobs = jobs.as_slice();
     match order.to {
-        FormatTo::Check => return check_jobs(alloc, jobs.as_slice(), out),
-        FormatTo::Standard => {
-            for job in &jobs {
-                print(alloc, job.new.as_slice(), out)?;
-            }
-        }
-        FormatTo::Source => {
-            for job in &jobs {
-                write_source(rt, alloc, order, job)?;
-            }
-        }
+        FormatTo::Check => check_jobs(alloc, jobs, out),
+        FormatTo::Standard => print_jobs(alloc, jobs, out),
+        FormatTo::Source => write_sources(rt, alloc, order, jobs),
     }
-    Ok(())
 }

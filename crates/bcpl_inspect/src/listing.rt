@@ -9,8 +9,8 @@ use bcpl_cli::{Cause, Failure, ListOrder};
 use bcpl_list::{ListedProgram, Note, image_listing};
 use bcpl_reports::Text;
 use bcpl_sources::{
-    Growing, LinkedProgram, Remark, in_memory, linked, named_routines, of_listing, print_all,
-    read_texts, segments_of, texts_of,
+    Growing, LinkedProgram, Remark, linked_program, named_routines, of_listing, or_memory_failure,
+    print_all, read_texts, segments_of, texts_of,
 };
 use std::alloc::Global;
 use std::io::Write;
@@ -31,7 +31,7 @@ fn names_of<'a>(alloc: Global, texts: &[Text<'a>]) -> Result<Vec<&'a str>, Failu
         let segments = segments_of(alloc, &[*text], false)?;
         add_name(&mut names, text.path, segments.len());
     }
-    in_memory(names.whole())
+    or_memory_failure(names.whole())
 }
 
 /// The note on an entry of a certificate.
@@ -75,7 +75,7 @@ fn certified<F: Files>(
 ) -> Result<Vec<Remark>, Failure> {
     let verdict = verdict_of(rt, alloc, path, explains)?;
     match check_against(&verdict, segments) {
-        Ok(()) => in_memory(remarks_on(alloc, verdict.entries.as_slice())),
+        Ok(()) => or_memory_failure(remarks_on(alloc, verdict.entries.as_slice())),
         Err(mismatch) => Err(Failure::new(Cause::Against(mismatch))),
     }
 }
@@ -140,6 +140,19 @@ fn listing_of<'p>(
     image_listing(alloc, program)
 }
 
+/// The notes on the routines of a program, and those on its entries, as they are ordered.
+fn all_remarks<F: Files>(
+    rt: &F,
+    alloc: Global,
+    order: &ListOrder<'_>,
+    program: &LinkedProgram,
+    explains: bool,
+) -> Result<(Vec<Remark>, Vec<Remark>), Failure> {
+    let entries = remarks_of(rt, alloc, order, program, explains)?;
+    let routines = named_routines(rt, alloc, &order.sources, program, explains)?;
+    Ok((routines, entries))
+}
+
 /// The listing of these texts.
 fn listed_of<F: Files>(
     rt: &F,
@@ -148,12 +161,11 @@ fn listed_of<F: Files>(
     texts: &[Text<'_>],
     explains: bool,
 ) -> Result<String, Failure> {
-    let program = linked(alloc, texts, explains)?;
+    let program = linked_program(alloc, texts, explains)?;
     let names = names_of(alloc, texts)?;
-    let entries = remarks_of(rt, alloc, order, &program, explains)?;
-    let routines = named_routines(rt, alloc, &order.sources, &program, explains)?;
+    let (routines, entries) = all_remarks(rt, alloc, order, &program, explains)?;
     let remarks = (routines.as_slice(), entries.as_slice());
-    in_memory(listing_of(alloc, &program, names.as_slice(), remarks))
+    or_memory_failure(listing_of(alloc, &program, names.as_slice(), remarks))
 }
 
 /// Reads the texts and returns their listing.

@@ -51,6 +51,21 @@ fn loaded(alloc: Global, name: &str, path: &str, text: Vec<u8>) -> Result<Loaded
     })
 }
 
+/// The file with this name in this folder, if there is one.
+fn got_from<F: Files>(
+    rt: &F,
+    alloc: Global,
+    server: &Server,
+    folder: &str,
+    name: &str,
+) -> Result<Option<LoadedSource>, Memory> {
+    let path = format!(in alloc; "{folder}/{name}")?;
+    match content_of(rt, alloc, server, path.as_str())? {
+        Some(text) => Ok(Some(loaded(alloc, name, path.as_str(), text)?)),
+        None => Ok(None),
+    }
+}
+
 /// The file with this name in the first of these folders that has it, if one does.
 fn got<F: Files>(
     rt: &F,
@@ -60,9 +75,9 @@ fn got<F: Files>(
     name: &str,
 ) -> Result<Option<LoadedSource>, Memory> {
     for folder in folders {
-        let path = format!(in alloc; "{folder}/{name}")?;
-        if let Some(text) = content_of(rt, alloc, server, path.as_str())? {
-            return Ok(Some(loaded(alloc, name, path.as_str(), text)?));
+        let found = got_from(rt, alloc, server, folder, name)?;
+        if found.is_some() {
+            return Ok(found);
         }
     }
     Ok(None)
@@ -110,6 +125,27 @@ fn add_all_got<F: Files>(
     Ok(())
 }
 
+/// The folders in which the files that a document gets are: its own, then these.
+fn folders_for<'f>(
+    alloc: Global,
+    document: &'f Document,
+    includes: &[&'f str],
+) -> Result<Vec<&'f str>, Memory> {
+    let mut folders = Vec::new(alloc);
+    folders.push(folder_of(document.path()))?;
+    for folder in includes {
+        folders.push(folder.trim_end_matches('/'))?;
+    }
+    Ok(folders)
+}
+
+/// The source of a document.
+fn own_source(alloc: Global, document: &Document) -> Result<LoadedSource, Memory> {
+    let path = document.path();
+    let text = Vec::from_slice(alloc, document.text())?;
+    loaded(alloc, path, path, text)
+}
+
 /// The source of a document, and the files that it gets from its own folder and from these. Returns `Memory` if an
 /// allocation fails; a file that can't be read is left out.
 pub fn sources_of<F: Files>(
@@ -119,15 +155,9 @@ pub fn sources_of<F: Files>(
     document: &Document,
     includes: &[&str],
 ) -> Result<Vec<LoadedSource>, Memory> {
-    let path = document.path();
-    let mut folders = Vec::new(alloc);
-    folders.push(folder_of(path))?;
-    for folder in includes {
-        folders.push(folder.trim_end_matches('/'))?;
-    }
+    let folders = folders_for(alloc, document, includes)?;
     let mut sources = Vec::new(alloc);
-    let text = Vec::from_slice(alloc, document.text())?;
-    sources.push(loaded(alloc, path, path, text)?)?;
+    sources.push(own_source(alloc, document)?)?;
     add_all_got(rt, alloc, server, folders.as_slice(), &mut sources)?;
     Ok(sources)
 }
@@ -144,6 +174,12 @@ pub fn library_for(alloc: Global, sources: &[LoadedSource]) -> Result<Library, M
     Ok(Library::Basic)
 }
 
+/// A file with a copy of this content.
+fn file_with(alloc: Global, name: &str, path: &str, content: &[u8]) -> Result<File, Memory> {
+    let text = Vec::from_slice(alloc, content)?;
+    File::new(alloc, name, path, text)
+}
+
 /// The files that GETs of the first source can name: the headers of the library, then the other sources. Returns `Memory`
 /// if an allocation fails.
 pub fn headers_of(
@@ -153,13 +189,11 @@ pub fn headers_of(
 ) -> Result<Vec<File>, Memory> {
     let mut files = Vec::new(alloc);
     for (name, text) in headers {
-        let text = Vec::from_slice(alloc, text.as_bytes())?;
-        files.push(File::new(alloc, name, "", text)?)?;
+        files.push(file_with(alloc, name, "", text.as_bytes())?)?;
     }
     for source in sources.iter().skip(1) {
-        let text = Vec::from_slice(alloc, source.text.as_slice())?;
-        let name = source.name.as_str();
-        files.push(File::new(alloc, name, source.path.as_str(), text)?)?;
+        let (name, path) = (source.name.as_str(), source.path.as_str());
+        files.push(file_with(alloc, name, path, source.text.as_slice())?)?;
     }
     Ok(files)
 }

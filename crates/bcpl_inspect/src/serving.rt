@@ -7,7 +7,7 @@ use bc_run::LIBHDR;
 use bc_word::Memory;
 use bcpl_cli::{Cause, Failure, LinkedLibrary, LoadedSource, ServeOrder, Sources};
 use bcpl_lsp::{
-    Answer, Cost, Document, Finding, Job, Received, Server, read_message, write_message,
+    Answer, Cost, Document, File, Finding, Job, Received, Server, read_message, write_message,
 };
 use bcpl_sources::Gathered;
 use std::alloc::Global;
@@ -67,6 +67,19 @@ fn measured(
     costs_of(alloc, &gathered)
 }
 
+/// What is wrong with a document, and the files that its GETs can name.
+fn checked_with_headers<F: Files>(
+    rt: &F,
+    alloc: Global,
+    order: &ServeOrder<'_>,
+    server: &Server,
+    document: &Document,
+) -> Result<(Vec<Finding>, Vec<File>), Memory> {
+    let sources = sources_of(rt, alloc, server, document, order.includes.as_slice())?;
+    let findings = checked(alloc, document, sources.as_slice())?;
+    Ok((findings, headers_of(alloc, &HEADERS, sources.as_slice())?))
+}
+
 /// Checks the document with this index. Returns the message to the client.
 fn check<F: Files>(
     rt: &F,
@@ -76,11 +89,7 @@ fn check<F: Files>(
     index: usize,
 ) -> Result<String, Memory> {
     let (findings, headers) = match server.document(index) {
-        Some(document) => {
-            let sources = sources_of(rt, alloc, server, document, order.includes.as_slice())?;
-            let findings = checked(alloc, document, sources.as_slice())?;
-            (findings, headers_of(alloc, &HEADERS, sources.as_slice())?)
-        }
+        Some(document) => checked_with_headers(rt, alloc, order, server, document)?,
         None => return Ok(String::new(alloc)),
     };
     server.set_headers(index, headers)?;
@@ -164,13 +173,61 @@ fn check_all<F: Files>(
     Ok(texts)
 }
 
-/// How the session ends by a job, if it does.
-fn ended_by(job: Job) -> Option<Served> {
+/// The answer to what was read. The end of the input ends the session.
+fn answer_to_received<F: Files>(
+    rt: &F,
+    alloc: Global,
+    order: &ServeOrder<'_>,
+    server: &mut Server,
+    received: Received,
+) -> Result<Answer, Memory> {
+    match received {
+        Received::Text(text) => answer_to(rt, alloc, order, server, text.as_slice()),
+        Received::BadHeader => server.take_bad_header(),
+        Received::End => Ok(Answer {
+            text: None,
+            job: Job::Exit(false),
+        }),
+    }
+}
+
+/// Sends the answer, if there is one. Returns whether it could be written.
+fn is_answer_sent<W: Write>(text: &Option<String>, out: &mut W) -> bool {
+    match text {
+        Some(text) => is_sent(text.as_str(), out),
+        None => true,
+    }
+}
+
+/// How the session ends by a job, if it does. It ends if the messages to the client couldn't be written.
+fn ended_by(job: Job, is_sent: bool) -> Option<Served> {
     match job {
+        _ if !is_sent => Some(Served::CutOff),
         Job::Exit(true) => Some(Served::Properly),
         Job::Exit(false) => Some(Served::CutOff),
         Job::Nothing | Job::Check(_) | Job::CheckAll | Job::Measure(_) => None,
     }
+}
+
+/// Reads messages and answers each, to the end of the session.
+fn session<F: Files, R: Read + Drop, O: Write + Drop>(
+    rt: &F,
+    alloc: Global,
+    order: &ServeOrder<'_>,
+    input: &mut BufReader<R>,
+    out: &mut BufWriter<O>,
+) -> Result<Served, Memory> {
+    let mut server = Server::new(alloc);
+    for _each in 0..u64::MAX {
+        let received = read_message(alloc, input)?;
+        let answer = answer_to_received(rt, alloc, order, &mut server, received)?;
+        let texts = check_all(rt, alloc, order, &mut server, answer.job)?;
+        let is_sent = is_answer_sent(&answer.text, out) && are_sent(texts.as_slice(), out);
+        if let Some(ended) = ended_by(answer.job, is_sent) {
+            return Ok(ended);
+        }
+    }
+    Ok(Served::CutOff)
 }
 
 /// Runs `lsp`: reads messages and answers each, to the end of the session. Fails if memory runs out.
@@ -187,25 +244,5 @@ pub fn serve<F: Files, R: Read + Drop, O: Write + Drop>(
     let Ok(mut out) = BufWriter::new(alloc, out) else {
         return Err(Failure::new(Cause::Memory));
     };
-    let mut server = Server::new(alloc);
-    for _each in 0..u64::MAX {
-        let Answer { text, job } = match read_message(alloc, &mut input)? {
-            Received::Text(text) => answer_to(rt, alloc, order, &mut server, text.as_slice())?,
-            Received::BadHeader => server.take_bad_header()?,
-            Received::End => return Ok(Served::CutOff),
-        };
-        if let Some(text) = text
-            && !is_sent(text.as_str(), &mut out)
-        {
-            return Ok(Served::CutOff);
-        }
-        if let Some(ended) = ended_by(job) {
-            return Ok(ended);
-        }
-        let texts = check_all(rt, alloc, order, &mut server, job)?;
-        if !are_sent(texts.as_slice(), &mut out) {
-            return Ok(Served::CutOff);
-        }
-    }
-    Ok(Served::CutOff)
+    Ok(session(rt, alloc, order, &mut input, &mut out)?)
 }

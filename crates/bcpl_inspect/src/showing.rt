@@ -17,7 +17,9 @@ use bcpl_show::{
     Files, Scopes, Setter, TreeForm, code_listing, scope_listing, source_listing, syntax_listing,
     token_listing,
 };
-use bcpl_sources::{Gathered, Program, entries_of, in_memory, of_listing, print_all, refused};
+use bcpl_sources::{
+    Gathered, Program, entries_of_segment, of_listing, or_memory_failure, print_all, refused,
+};
 use std::alloc::Global;
 use std::io::Write;
 use std::mem::forget;
@@ -83,7 +85,7 @@ impl<'a, 's> Shown<'a, 's> {
     /// The listing `tokens`.
     fn token_listing(&self, alloc: Global) -> Result<Vec<u8>, Failure> {
         let tokens = self.tokens(alloc)?;
-        in_memory(token_listing(alloc, self.files, self.main, tokens.as_slice()))
+        or_memory_failure(token_listing(alloc, self.files, self.main, tokens.as_slice()))
     }
 
     /// The listing `source`, or `tree` in this form.
@@ -111,7 +113,7 @@ impl<'a, 's> Shown<'a, 's> {
         section: &Section<'s>,
     ) -> Result<Vec<u8>, Failure> {
         let kinds = spell(alloc, section)?;
-        in_memory(source_listing(alloc, self.files, self.main, tokens, kinds.as_slice()))
+        or_memory_failure(source_listing(alloc, self.files, self.main, tokens, kinds.as_slice()))
     }
 
     /// The listing `tree` of a parsed section, in this form.
@@ -123,7 +125,7 @@ impl<'a, 's> Shown<'a, 's> {
         form: TreeForm,
     ) -> Result<Vec<u8>, Failure> {
         let source = (self.main, tokens);
-        in_memory(syntax_listing(alloc, self.files, source, section, form))
+        or_memory_failure(syntax_listing(alloc, self.files, source, section, form))
     }
 
     /// Builds the program of the library and the source.
@@ -211,7 +213,7 @@ impl<'a, 's> Shown<'a, 's> {
             items: own_items(resolved.built),
             setters: &setters,
         };
-        in_memory(scope_listing(alloc, scopes))
+        or_memory_failure(scope_listing(alloc, scopes))
     }
 
     /// The listing `code` of a resolved source.
@@ -227,10 +229,10 @@ impl<'a, 's> Shown<'a, 's> {
             section: resolved.section,
             core: resolved.core,
             items: segment.items(),
-            entries: entries_of(built.entries.as_slice(), libraries(built).len()),
+            entries: entries_of_segment(built.entries.as_slice(), libraries(built).len()),
             first: first_of(built),
         };
-        in_memory(code_listing(alloc, program))
+        or_memory_failure(code_listing(alloc, program))
     }
 }
 

@@ -194,7 +194,12 @@ fn run_input<R: Read + Drop, O: Write + Drop>(
         }
         line.clear();
         match reader.read_line(&mut line) {
-            Ok(0) | Err(_) => return Ok(()),
+            Ok(0) | Err(_) => {
+                if terminals.input {
+                    print_lines("\n", out);
+                }
+                return Ok(());
+            }
             Ok(_) => {}
         }
         let flow = run_line(alloc, session, line.as_str(), !terminals.input, out)?;
@@ -217,6 +222,11 @@ fn run_session<F: Files, R: Read + Drop, O: Write + Drop>(
     let flow = run_script_file(rt, alloc, session, order, out)?;
     if flow == Flow::Quit {
         return Ok(());
+    }
+    if terminals.input && order.script.is_none() {
+        let mut greeting = String::new(alloc);
+        session.greet(&mut greeting)?;
+        print_lines(greeting.as_str(), out);
     }
     run_input(alloc, session, input, terminals, out)
 }

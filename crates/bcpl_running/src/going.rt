@@ -1,12 +1,11 @@
 //! The command `go`.
 
 use crate::interpret_line::with_interpret_line;
-use crate::interpreting::{print_warnings, program_streams};
+use crate::interpreting::{built_with_warnings, program_streams};
 use crate::running::{Ran, closed, lost_in};
-use bc_build::build_keeping;
 use bc_machine_defs::{End, Image};
 use bcpl_cli::{Clean, Failure, GoOrder, load_sources};
-use bcpl_sources::{Accepted, Gathered, RunStreams, refused, unfinished};
+use bcpl_sources::{Gathered, RunStreams, unfinished};
 use bcpl_trace::run_image;
 use std::alloc::Global;
 use std::io::{Read, Write};
@@ -49,18 +48,7 @@ pub fn go<F: Files, R: Read + Drop, O: Write + Drop, E: Write + Drop>(
     order.program.protect_files(rt, alloc, files.as_slice())?;
     let gathered = Gathered::new(alloc, given, files.as_slice())?;
     let program = gathered.program();
-    let mut parsed = Vec::new(alloc);
-    let built = match build_keeping(alloc, program.named.sources, program.mains, &mut parsed) {
-        Ok(built) => built,
-        Err(fault) => return Err(refused(alloc, &program, fault, streams.explains)),
-    };
-    if streams.explains {
-        let accepted = Accepted {
-            segments: built.segments.as_slice(),
-            parsed: parsed.as_slice(),
-        };
-        print_warnings(alloc, &order.program, &gathered, &accepted, err)?;
-    }
-    drop(parsed);
+    let shown = (err, streams.explains);
+    let built = built_with_warnings(alloc, &program, &gathered, &order.program, shown)?;
     run_built(rt, alloc, order, &built.image, streams)
 }

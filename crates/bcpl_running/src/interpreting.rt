@@ -1,5 +1,9 @@
 //! The command `interpret`.
 
+ghost use Rattle.std.specs.Prelude.{◌<◌, length, All, IfOk};
+ghost use Rattle.bc_lex.specs.Files.{files_of};
+ghost use Rattle.bc_interpret_sources.specs.Programs.{IsImageOf};
+
 use crate::running::{Ran, Streams, lost_in, streams_of};
 use crate::strict::interpret_strictly;
 use bc_build::{Built, build_keeping};
@@ -7,6 +11,7 @@ use bc_interpret_sources::{
     BuiltProgram as Sections, Cause as Access, Ending, Interpreted, Outcome, interpret,
     interpret_observed,
 };
+use bc_machine::Streams as MachineStreams;
 use bc_machine_defs::End;
 use bc_word::Memory;
 use bcpl_cli::{Cause, Clean, Failure, InterpretOrder, ProgramOrder, Wild, load_sources};
@@ -47,7 +52,7 @@ pub fn interpret_files<F: Files, R: Read + Drop, O: Write + Drop, E: Write + Dro
 }
 
 /// Prints the warnings about a program that was built to this, unless they are suppressed.
-pub fn print_warnings<'s, E: Write + Drop>(
+fn print_warnings<'s, E: Write + Drop>(
     alloc: Global,
     order: &ProgramOrder<'_>,
     gathered: &Gathered<'_, 's>,
@@ -71,6 +76,56 @@ pub struct Interpretation {
     pub is_closed: bool,
 }
 
+/// Builds a program of these files, and prints its warnings. The second part of the console says whether a refusal is explained.
+#[tactic(auto, using(bc_interpret_sources::proofs::Resolved::built_is_image))]
+pub fn built_with_warnings<'s, E: Write + Drop>(
+    alloc: Global,
+    program: &Program<'_, 's>,
+    gathered: &Gathered<'_, 's>,
+    order: &ProgramOrder<'_>,
+    console: (&mut Clean<E>, bool),
+) -> Result<Built, Failure>
+    requires mains { All (λ main. main < length program.now.named.sources.now) program.now.mains.now }
+    ensures image { IfOk result (λ built. IsImageOf (files_of program.now.named.sources.now) program.now.mains.now built.image) }
+{
+    let (err, explains) = console;
+    let mut parsed = Vec::new(alloc);
+    let built = match build_keeping(alloc, program.named.sources, program.mains, &mut parsed) {
+        Ok(built) => built,
+        Err(fault) => return Err(refused(alloc, program, fault, explains)),
+    };
+    if explains {
+        let accepted = Accepted {
+            segments: built.segments.as_slice(),
+            parsed: parsed.as_slice(),
+        };
+        print_warnings(alloc, order, gathered, &accepted, err)?;
+    }
+    Ok(built)
+}
+
+/// Runs a program by its meaning. On a terminal that shows messages a line shows how far it is; `is_shared` says that the program
+/// writes to that terminal too.
+fn interpreted_on<S: MachineStreams, E: Write + Drop>(
+    alloc: Global,
+    run: &Sections<'_>,
+    streams: &mut S,
+    turns: u64,
+    terminal: (&mut Clean<E>, bool),
+) -> Result<Interpreted, Memory>
+    requires mains { All (λ main. main < length run.now.sources.now) run.now.mains.now }
+    requires built { IsImageOf (files_of run.now.sources.now) run.now.mains.now run.now.image.now }
+{
+    let (err, is_shared) = terminal;
+    if !err.is_terminal() {
+        return interpret(alloc, run, streams, turns);
+    }
+    let mut line = ProgressLine::new(err.inner(), is_shared);
+    let interpreted = interpret_observed(alloc, run, streams, turns, &mut line);
+    line.remove();
+    interpreted
+}
+
 /// Builds a program, prints its warnings, and runs it by its meaning. Also gives what the run lost, as lines.
 fn interpretation_of<F: Files, R: Read + Drop, O: Write + Drop, E: Write + Drop>(
     rt: &F,
@@ -81,37 +136,17 @@ fn interpretation_of<F: Files, R: Read + Drop, O: Write + Drop, E: Write + Drop>
 ) -> Result<(Interpretation, String), Failure> {
     let RunConsole { streams, err } = console;
     let warns = streams.explains && order.program.warns;
-    let program = gathered.program();
-    let sources = program.named.sources;
-    let mains = program.mains;
-    let mut parsed = Vec::new(alloc);
-    let built = match build_keeping(alloc, sources, mains, &mut parsed) {
-        Ok(built) => built,
-        Err(fault) => return Err(refused(alloc, &program, fault, streams.explains)),
-    };
-    if streams.explains {
-        let accepted = Accepted {
-            segments: built.segments.as_slice(),
-            parsed: parsed.as_slice(),
-        };
-        print_warnings(alloc, &order.program, gathered, &accepted, err)?;
-    }
-    drop(parsed);
     let is_shared = streams.is_terminal;
+    let program = gathered.program();
+    let shown = (&mut *err, streams.explains);
+    let built = built_with_warnings(alloc, &program, gathered, &order.program, shown)?;
     let mut streams = program_streams(rt, alloc, &order.program, streams)?;
     let run = Sections {
-        sources,
-        mains,
+        sources: program.named.sources,
+        mains: program.mains,
         image: &built.image,
     };
-    let interpreted = if err.is_terminal() {
-        let mut line = ProgressLine::new(err.inner(), is_shared);
-        let interpreted = interpret_observed(alloc, &run, &mut streams, order.turns, &mut line);
-        line.remove();
-        interpreted?
-    } else {
-        interpret(alloc, &run, &mut streams, order.turns)?
-    };
+    let interpreted = interpreted_on(alloc, &run, &mut streams, order.turns, (err, is_shared))?;
     let is_closed = streams.close().is_ok();
     let lost = lost_in(alloc, &streams, warns);
     let run = Interpretation {

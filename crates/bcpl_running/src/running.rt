@@ -12,8 +12,9 @@ use bc_word::{Memory, Word};
 use bcpl_cli::{AtomicFile, Binding, Cause, Failure, RunOrder, WatchOrder};
 use bcpl_reports::{Stop, Text, ended_lines, stream_lines};
 use bcpl_sources::{
-    LinkedProgram, Remark, RunStreams, Sink, Source, TextFile, add, explained, linked,
+    LinkedProgram, Remark, RunStreams, Sink, Source, TextFile, add_unless_failed, linked_program,
     named_routines, program_of, read_texts, routines_at, standard_text, texts_of, unfinished,
+    with_explanation,
 };
 use bcpl_streams::NotedStreams;
 use bcpl_trace::{High, Nowhere, ProfiledProgram, Watch, profile, run_image, run_watched};
@@ -65,12 +66,12 @@ fn inputs<F: Files, R: Read + Drop>(
     bindings: &[Binding<'_>],
 ) -> Result<Vec<Input<R, F::File>>, Failure> {
     let mut inputs = Vec::new(alloc);
-    add(
+    add_unless_failed(
         &mut inputs,
         named(alloc, "SYSIN", first.buffered(alloc, "SYSIN")),
     )?;
     for binding in bindings {
-        add(&mut inputs, file_input(rt, alloc, binding))?;
+        add_unless_failed(&mut inputs, file_input(rt, alloc, binding))?;
     }
     Ok(inputs)
 }
@@ -114,9 +115,9 @@ fn outputs<F: Files, O: Write + Drop>(
     bindings: &[Binding<'_>],
 ) -> Result<Vec<Output<O, F::File>>, Failure> {
     let mut outputs = Vec::new(alloc);
-    add(&mut outputs, standard_output(alloc, out, is_terminal))?;
+    add_unless_failed(&mut outputs, standard_output(alloc, out, is_terminal))?;
     for binding in bindings {
-        add(&mut outputs, file_output(rt, alloc, binding))?;
+        add_unless_failed(&mut outputs, file_output(rt, alloc, binding))?;
     }
     Ok(outputs)
 }
@@ -168,7 +169,7 @@ fn explain_stop(alloc: Global, setup: &RunSetup<'_, '_>, stop: &Stop, failure: F
         &setup.program.image,
         stop,
     );
-    explained(alloc, failure, lines)
+    with_explanation(alloc, failure, lines)
 }
 
 /// Explains the end of a run, or the failure of its outputs after it, if explanations are printed.
@@ -411,7 +412,7 @@ pub fn run_input<F: Files, R: Read + Drop, O: Write + Drop>(
         path: "SYSIN",
         bytes: bytes.as_slice(),
     }];
-    let program = linked(alloc, &texts, explains)?;
+    let program = linked_program(alloc, &texts, explains)?;
     let setup = RunSetup {
         texts: &texts,
         program: &program,
@@ -455,7 +456,7 @@ fn explain_streams(
         _ => false,
     };
     if explains && is_name {
-        explained(alloc, failure, lines_of_streams(alloc, order))
+        with_explanation(alloc, failure, lines_of_streams(alloc, order))
     } else {
         failure
     }

@@ -1,16 +1,16 @@
 //! The command `interpret --strict`: a run by the meaning that also stops at lawful accesses that are nearly always mistakes.
 
 use crate::interpreting::{
-    Interpretation, explained_failure, print_warnings, program_streams, result_of,
+    Interpretation, built_with_warnings, explained_failure, program_streams, result_of,
 };
 use crate::running::{Ran, lost_in};
-use bc_build::{Built, build_keeping};
+use bc_build::Built;
 use bc_interpret_sources::Interpreted;
 use bc_interpret_strict::{Mistake, StrictProgram, StrictRun, strict_run};
 use bc_machine::Streams;
 use bcpl_cli::{Cause, Failure, InterpretOrder, Strict};
 use bcpl_debug::all_resolved;
-use bcpl_sources::{Accepted, Gathered, RunConsole, RunStreams, refused};
+use bcpl_sources::{Gathered, RunConsole};
 use bcpl_wild::{Stand, WildProgram, named_globals, strict_message};
 use std::alloc::Global;
 use std::io::{Read, Write};
@@ -72,6 +72,26 @@ fn run_built<S: Streams>(
     Ok(strict_run(alloc, &strict, streams, turns)?)
 }
 
+/// The result of a strict run as the result of the command. `is_closed` says whether its streams were closed without error.
+fn strict_result(
+    alloc: Global,
+    gathered: &Gathered<'_, '_>,
+    built: Built,
+    run: StrictRun,
+    is_closed: bool,
+) -> Result<(), Failure> {
+    if let Some(mistake) = run.mistake {
+        return Err(strict_failure(alloc, gathered, &built, &run, mistake));
+    }
+    let StrictRun { outcome, trail, .. } = run;
+    let whole = Interpretation {
+        built,
+        interpreted: Interpreted { outcome, trail },
+        is_closed,
+    };
+    result_of(alloc, &gathered.program(), &whole, gathered.library)
+}
+
 /// Builds a program, prints its warnings, and runs it strictly. Fails if nothing was run.
 pub fn interpret_strictly<F: Files, R: Read + Drop, O: Write + Drop, E: Write + Drop>(
     rt: &F,
@@ -83,39 +103,14 @@ pub fn interpret_strictly<F: Files, R: Read + Drop, O: Write + Drop, E: Write + 
     let RunConsole { streams, err } = console;
     let warns = streams.explains && order.program.warns;
     let program = gathered.program();
-    let mut parsed = Vec::new(alloc);
-    let built = match build_keeping(alloc, program.named.sources, program.mains, &mut parsed) {
-        Ok(built) => built,
-        Err(fault) => return Err(refused(alloc, &program, fault, streams.explains)),
-    };
-    if streams.explains {
-        let accepted = Accepted {
-            segments: built.segments.as_slice(),
-            parsed: parsed.as_slice(),
-        };
-        print_warnings(alloc, &order.program, gathered, &accepted, err)?;
-    }
-    drop(parsed);
+    let shown = (err, streams.explains);
+    let built = built_with_warnings(alloc, &program, gathered, &order.program, shown)?;
     let mut streams = program_streams(rt, alloc, &order.program, streams)?;
     let run = run_built(alloc, gathered, &built, &mut streams, order.turns)?;
     let is_closed = streams.close().is_ok();
     let lost = lost_in(alloc, &streams, warns);
-    if let Some(mistake) = run.mistake {
-        let done = Err(strict_failure(alloc, gathered, &built, &run, mistake));
-        return Ok(Ran {
-            done,
-            high: None,
-            lost,
-        });
-    }
-    let StrictRun { outcome, trail, .. } = run;
-    let whole = Interpretation {
-        built,
-        interpreted: Interpreted { outcome, trail },
-        is_closed,
-    };
     Ok(Ran {
-        done: result_of(alloc, &program, &whole, gathered.library),
+        done: strict_result(alloc, gathered, built, run, is_closed),
         high: None,
         lost,
     })

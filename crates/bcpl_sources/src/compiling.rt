@@ -18,8 +18,8 @@ use bc_text::{TextError, print};
 use bc_text_items::Segment;
 use bc_word::Memory;
 use bcpl_cli::{
-    AtomicFile, BuildOrder, Cause, Failure, FilePair, LinkedLibrary, Links, Sources, is_regular,
-    is_standard_output, load_sources,
+    AtomicFile, BuildOrder, Cause, Failure, FilePair, LinkedLibrary, Links, LoadedSource, Sources,
+    is_regular, is_standard_output, load_sources,
 };
 use std::alloc::{AllocError, Global};
 use std::io;
@@ -64,6 +64,21 @@ fn build_and_keep<'s>(
     }
 }
 
+/// The warnings about the sources of a program that was built to this. Without the library they are a part of a program.
+fn source_warnings<'s>(
+    alloc: Global,
+    given: &Sources<'_>,
+    gathered: &Gathered<'_, 's>,
+    accepted: &Accepted<'_, 's>,
+) -> Result<String, Memory> {
+    let program = gathered.program();
+    if given.linked == LinkedLibrary::Nothing {
+        part_warnings(alloc, gathered.library, &program, accepted.parsed)
+    } else {
+        warnings_of(alloc, gathered.library, &program, accepted)
+    }
+}
+
 /// The warnings about a program that was built to this.
 pub fn warnings_on<'s>(
     alloc: Global,
@@ -72,12 +87,7 @@ pub fn warnings_on<'s>(
     accepted: &Accepted<'_, 's>,
 ) -> Result<String, Memory> {
     let mut warnings = ignored_gets(alloc, given)?;
-    let program = gathered.program();
-    let further = if given.linked == LinkedLibrary::Nothing {
-        part_warnings(alloc, gathered.library, &program, accepted.parsed)?
-    } else {
-        warnings_of(alloc, gathered.library, &program, accepted)?
-    };
+    let further = source_warnings(alloc, given, gathered, accepted)?;
     warnings.push_str(further.as_str())?;
     Ok(warnings)
 }
@@ -127,6 +137,47 @@ fn built_of(
     }
 }
 
+/// Fails unless the program is tame, if that is ordered.
+fn check_tame(
+    alloc: Global,
+    order: &BuildOrder<'_>,
+    gathered: &Gathered<'_, '_>,
+    built: &Built,
+) -> Result<(), Failure> {
+    if order.only_tame {
+        let _room = room_of_built(alloc, gathered, built)?;
+    }
+    Ok(())
+}
+
+/// Like `built_of`. If that is ordered, fails unless the program is tame.
+fn built_as_ordered(
+    alloc: Global,
+    order: &BuildOrder<'_>,
+    gathered: &Gathered<'_, '_>,
+    explains: bool,
+) -> Result<(Built, String), Failure>
+    ensures { IfOk result (λ found. AllZip WorkedOut (map entry_view found.0.entries.items) found.0.workings.items) }
+{
+    let (built, warnings) = built_of(alloc, order, gathered, explains)?;
+    check_tame(alloc, order, gathered, &built)?;
+    Ok((built, warnings))
+}
+
+/// Builds the program of the library and these files, and collects its warnings.
+fn built_from(
+    alloc: Global,
+    order: &BuildOrder<'_>,
+    files: &[LoadedSource],
+    explains: bool,
+) -> Result<(Built, String), Failure>
+    ensures { IfOk result (λ found. AllZip WorkedOut (map entry_view found.0.entries.items) found.0.workings.items) }
+{
+    let lean = lean_texts(alloc, &order.sources, files)?;
+    let gathered = Gathered::with_lean_library(alloc, &order.sources, files, lean.as_slice())?;
+    built_as_ordered(alloc, order, &gathered, explains)
+}
+
 /// Reads the files, builds the program of the library and the files, and collects its warnings. If that is ordered, fails
 /// unless the program is tame.
 fn built<F: Files>(
@@ -137,16 +188,9 @@ fn built<F: Files>(
 ) -> Result<(Built, String), Failure>
     ensures { IfOk result (λ found. AllZip WorkedOut (map entry_view found.0.entries.items) found.0.workings.items) }
 {
-    let given = &order.sources;
-    let files = load_sources(rt, alloc, given)?;
+    let files = load_sources(rt, alloc, &order.sources)?;
     order.protect_files(rt, alloc, files.as_slice())?;
-    let lean = lean_texts(alloc, given, files.as_slice())?;
-    let gathered = Gathered::with_lean_library(alloc, given, files.as_slice(), lean.as_slice())?;
-    let (built, warnings) = built_of(alloc, order, &gathered, explains)?;
-    if order.only_tame {
-        let _room = room_of_built(alloc, &gathered, &built)?;
-    }
-    Ok((built, warnings))
+    built_from(alloc, order, files.as_slice(), explains)
 }
 
 /// Prints these segments as INTCODE text.

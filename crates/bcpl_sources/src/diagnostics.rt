@@ -30,6 +30,7 @@ const START: u16 = 1;
 /// The sources of a program, and which of them are mains.
 #[derive(Clone, Copy)]
 pub struct Program<'a, 's> {
+    /// The sources with the paths to print for them.
     pub named: Named<'a, 's>,
     /// The indexes of the mains.
     pub mains: &'a [usize],
@@ -86,12 +87,36 @@ fn text_at<'s>(program: &Program<'_, 's>, span: Span) -> &'s [u8] {
     }
 }
 
-/// The end of the sentence on the last name that is listed, if `left` further names aren't.
-fn unlisted_names(alloc: Global, left: usize) -> Result<String, Memory> {
-    if left == 0 {
-        return Ok(String::new(alloc));
+/// The end of the sentence on a name that isn't declared: what is probably meant, and that `left` further names aren't
+/// listed.
+fn unknown_ending(
+    alloc: Global,
+    program: &Program<'_, '_>,
+    main: usize,
+    name: &[u8],
+    left: usize,
+) -> Result<String, Memory> {
+    let mut ending = likely_meaning(alloc, program.named.sources, main, name)?;
+    if left > 0 {
+        write!(ending, "; --errors all lists {left} more")?;
     }
-    Ok(format!(in alloc; "; --errors all lists {left} more")?)
+    Ok(ending)
+}
+
+/// The note on a further name that isn't declared. It says that `left` names after it aren't listed.
+fn unknown_note(
+    alloc: Global,
+    program: &Program<'_, '_>,
+    main: usize,
+    span: Span,
+    left: usize,
+) -> Result<Note, Memory> {
+    let text = text_at(program, span);
+    let name = shown(alloc, text)?;
+    let ending = unknown_ending(alloc, program, main, text, left)?;
+    let ending = ending.as_str();
+    let sentence = format!(in alloc; "{name} isn't declared either{ending}")?;
+    Ok(Note { span, sentence })
 }
 
 /// Adds to a message on a name that isn't declared the places of the others, and what is probably meant by each.
@@ -101,23 +126,14 @@ fn add_unknown(
     main: usize,
     message: &mut Message,
 ) -> Result<(), Memory> {
-    let sources = program.named.sources;
-    let names = unknown_names(alloc, sources, main)?;
+    let names = unknown_names(alloc, program.named.sources, main)?;
     let most = program.most(MOST_ERRORS).saturating_sub(1);
     let listed = names.len().saturating_sub(1).min(most);
     let left = names.len().saturating_sub(1).saturating_sub(listed);
-    let more = unlisted_names(alloc, left)?;
     for (number, span) in names.iter().enumerate().skip(1).take(most) {
-        let more = if number == listed { more.as_str() } else { "" };
-        let text = text_at(program, *span);
-        let name = shown(alloc, text)?;
-        let meaning = likely_meaning(alloc, sources, main, text)?;
-        let meaning = meaning.as_str();
-        let sentence = format!(in alloc; "{name} isn't declared either{meaning}{more}")?;
-        message.notes.push(Note {
-            span: *span,
-            sentence,
-        })?;
+        let left = if number == listed { left } else { 0 };
+        let note = unknown_note(alloc, program, main, *span, left)?;
+        message.notes.push(note)?;
     }
     Ok(())
 }
@@ -154,6 +170,20 @@ fn faults_after(
     }
 }
 
+/// Adds the explanation of a further fault of a main.
+fn add_fault(
+    text: &mut String,
+    alloc: Global,
+    program: &Program<'_, '_>,
+    fault: FurtherFault,
+) -> Result<(), Memory> {
+    let FurtherFault { error, message } = fault;
+    let line = BuildLine(&error);
+    let code = format!(in alloc; "{line}")?;
+    let lines = error_lines(alloc, program, code.as_str(), message)?;
+    Ok(text.push_str(lines.as_str())?)
+}
+
 /// Adds the explanations of the further faults of a main that was refused.
 fn add_further(
     text: &mut String,
@@ -165,16 +195,25 @@ fn add_further(
     let faults = faults_after(alloc, program, fault, most)?;
     let is_cut = faults.len() >= most;
     for fault in faults {
-        let FurtherFault { error, message } = fault;
-        let line = BuildLine(&error);
-        let code = format!(in alloc; "{line}")?;
-        let lines = error_lines(alloc, program, code.as_str(), message)?;
-        text.push_str(lines.as_str())?;
+        add_fault(text, alloc, program, fault)?;
     }
     if is_cut && !program.is_json {
         text.push_str(MORE)?;
     }
     Ok(())
+}
+
+/// The explanation of one refusal, of which this is the message.
+fn first_lines(
+    alloc: Global,
+    program: &Program<'_, '_>,
+    fault: &BuildError,
+    message: Message,
+) -> Result<String, Memory> {
+    let line = BuildLine(fault);
+    let code = format!(in alloc; "{line}")?;
+    let message = completed(alloc, program, fault, message)?;
+    error_lines(alloc, program, code.as_str(), message)
 }
 
 /// The explanation of one refusal and of further ones of the same main, or an empty text.
@@ -183,12 +222,9 @@ fn lines_of(
     program: &Program<'_, '_>,
     fault: &BuildError,
 ) -> Result<String, Memory> {
-    let line = BuildLine(fault);
-    let code = format!(in alloc; "{line}")?;
     match message_of(alloc, program.named.sources, program.mains, fault)? {
         Some(message) => {
-            let message = completed(alloc, program, fault, message)?;
-            let mut text = error_lines(alloc, program, code.as_str(), message)?;
+            let mut text = first_lines(alloc, program, fault, message)?;
             add_further(&mut text, alloc, program, fault)?;
             Ok(text)
         }
@@ -325,7 +361,18 @@ fn lines_of_warnings(
     }
 }
 
-/// That warning, with the routines that were probably meant to set it.
+/// The warnings about routines that were probably meant to set the global that a run calls.
+fn likely_start_warnings(
+    alloc: Global,
+    library: usize,
+    program: &Program<'_, '_>,
+    parsed: &[Parsed<'_>],
+) -> Result<String, Memory> {
+    let starts = likely_starts(alloc, library, program.mains, parsed)?;
+    lines_of_warnings(alloc, program, starts.as_slice())
+}
+
+/// The warning that no routine sets it, with the routines that were probably meant to.
 fn no_start(
     alloc: Global,
     library: usize,
@@ -333,8 +380,7 @@ fn no_start(
     parsed: &[Parsed<'_>],
 ) -> Result<String, Memory> {
     let mut text = plain_warning(alloc, program.is_json, NO_START)?;
-    let starts = likely_starts(alloc, library, program.mains, parsed)?;
-    let lines = lines_of_warnings(alloc, program, starts.as_slice())?;
+    let lines = likely_start_warnings(alloc, library, program, parsed)?;
     text.push_str(lines.as_str())?;
     Ok(text)
 }

@@ -6,7 +6,7 @@ ghost use Rattle.bc_lex_tokens.specs.Token.{lexemes_of};
 use crate::compiling::refused;
 use crate::output::{of_listing, print_all};
 use crate::source_files::Gathered;
-use crate::texts::in_memory;
+use crate::texts::or_memory_failure;
 use bc_build::{Built, build};
 use bc_cert::{check_sums, write_cert};
 use bc_lex::{Source, Token, lex};
@@ -27,9 +27,13 @@ use std::rt::Files as Access;
 #[derive(Drop)]
 pub struct Front<'s> {
     main: usize,
+    /// The index of its segment.
     pub segment: usize,
+    /// Its tokens.
     pub tokens: Vec<Token<'s>>,
+    /// Its syntax tree.
     pub section: Section<'s>,
+    /// Its core form.
     pub core: Core,
 }
 
@@ -92,7 +96,7 @@ fn add_front<'s>(
 }
 
 /// The entries of the segment with this index. `entries` is sorted by segment.
-pub fn entries_of(entries: &[Entry], segment: usize) -> &[Entry] {
+pub fn entries_of_segment(entries: &[Entry], segment: usize) -> &[Entry] {
     let wanted = segment as u64;
     let from = entries.partition_point(|entry| entry.segment < wanted);
     let to = entries.partition_point(|entry| entry.segment <= wanted);
@@ -131,7 +135,7 @@ fn program_of<'p, 's>(
         section: &front.section,
         core: &front.core,
         items,
-        entries: entries_of(built.entries.as_slice(), front.segment),
+        entries: entries_of_segment(built.entries.as_slice(), front.segment),
         first: [0, 0, 0],
     }
 }
@@ -175,7 +179,7 @@ fn report_of<'p, 's>(
 ) -> Result<Vec<u8>, Failure> {
     let programs = programs_of(alloc, files, fronts, built)?;
     let checked = judged(alloc, built)?;
-    in_memory(explanation(alloc, programs.as_slice(), checked))
+    or_memory_failure(explanation(alloc, programs.as_slice(), checked))
 }
 
 /// The report on a program that was built from these sources.

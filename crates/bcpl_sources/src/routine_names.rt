@@ -4,7 +4,7 @@ use crate::compiling::refused;
 use crate::explaining::{Front, add_fronts};
 use crate::growing_list::Growing;
 use crate::source_files::Gathered;
-use crate::texts::{LinkedProgram, in_memory};
+use crate::texts::{LinkedProgram, or_memory_failure};
 use bc_build::build;
 use bc_core::Place;
 use bc_lex::Token;
@@ -20,8 +20,11 @@ use std::rt::Files as Access;
 /// A note on an entry of a certificate or on a routine, and the item where it begins.
 #[derive(Drop)]
 pub struct Remark {
+    /// The index of the segment; 0 is the primitives.
     pub segment: usize,
+    /// The index of the item in that segment.
     pub item: usize,
+    /// What is said.
     pub text: String,
 }
 
@@ -175,12 +178,38 @@ fn routines_of_program(
     };
     let mut fronts = Vec::new(alloc);
     let found = match add_fronts(alloc, &mut fronts, files.sources, program.mains, 0) {
-        Ok(()) => in_memory(routines_in(alloc, files, fronts.as_slice(), segments, skipped)),
+        Ok(()) => or_memory_failure(routines_in(
+            alloc,
+            files,
+            fronts.as_slice(),
+            segments,
+            skipped,
+        )),
         Err(failure) => Err(failure),
     };
     // The process is about to end, and the system frees all its memory at once.
     forget(fronts);
     found
+}
+
+/// The routines of the listed segments, if these sources were built to segments that end with them.
+fn routines_of_listed(
+    alloc: Global,
+    gathered: &Gathered<'_, '_>,
+    given: &Sources<'_>,
+    built: &[Segment],
+    listed: &[Segment],
+) -> Result<Vec<Remark>, Failure> {
+    match listed_part(built, listed) {
+        Some(part) => {
+            let skipped = built.len().saturating_sub(part.len());
+            routines_of_program(alloc, gathered, part, skipped)
+        }
+        None => {
+            let path = given.files.last().copied().unwrap_or("");
+            Err(Failure::file_since(alloc, path, OTHERS))
+        }
+    }
 }
 
 /// The routines of the listed segments by name, from the sources that they were built from. Refuses sources that give
@@ -195,16 +224,13 @@ fn routine_names<F: Access>(
     let loaded = load_sources(rt, alloc, given)?;
     let gathered = Gathered::new(alloc, given, loaded.as_slice())?;
     let program = gathered.program();
-    let built = match build(alloc, program.named.sources, program.mains) {
-        Ok(built) => built,
-        Err(fault) => return Err(refused(alloc, &program, fault, explains)),
-    };
-    let Some(part) = listed_part(built.segments.as_slice(), listed) else {
-        let path = given.files.last().copied().unwrap_or("");
-        return Err(Failure::file_since(alloc, path, OTHERS));
-    };
-    let skipped = built.segments.len().saturating_sub(part.len());
-    routines_of_program(alloc, &gathered, part, skipped)
+    match build(alloc, program.named.sources, program.mains) {
+        Ok(built) => {
+            let segments = built.segments.as_slice();
+            routines_of_listed(alloc, &gathered, given, segments, listed)
+        }
+        Err(fault) => Err(refused(alloc, &program, fault, explains)),
+    }
 }
 
 /// The notes on the routines of a program, from the sources that its texts were built from. Without sources there are

@@ -9,8 +9,11 @@ use std::io::{Read, Write};
 /// Which of the standard streams are terminals.
 #[derive(Clone, Copy)]
 pub struct Terminals {
+    /// Whether standard input is one.
     pub input: bool,
+    /// Whether standard output is one.
     pub out: bool,
+    /// Whether standard error is one.
     pub err: bool,
     /// Whether messages on standard error are in colours.
     pub colours: bool,
@@ -18,9 +21,13 @@ pub struct Terminals {
 
 /// The standard streams, and what the program's surroundings say about them.
 pub struct Standard<'a, R: Read + Drop, O: Write + Drop, E: Write + Drop> {
+    /// Standard input.
     pub input: R,
+    /// Standard output.
     pub out: O,
+    /// Standard error.
     pub err: E,
+    /// Which of them are terminals.
     pub terminals: Terminals,
     /// The value of the environment variable `BCPL_PLACES`, if it is set.
     pub setting: Option<&'a str>,
@@ -29,9 +36,13 @@ pub struct Standard<'a, R: Read + Drop, O: Write + Drop, E: Write + Drop> {
 /// The standard streams of a command.
 #[derive(Drop)]
 pub struct Console<R: Read + Drop, O: Write + Drop, E: Write + Drop> {
+    /// Standard input.
     pub input: R,
+    /// Standard output.
     pub out: O,
+    /// Standard error, without control characters if it is a terminal.
     pub err: Clean<E>,
+    /// Which of them are terminals.
     pub terminals: Terminals,
     /// Whether refusals are explained after their first line.
     pub explains: bool,
@@ -40,16 +51,22 @@ pub struct Console<R: Read + Drop, O: Write + Drop, E: Write + Drop> {
 /// Standard input and output for a run, whether the output is a terminal, and whether refusals are explained.
 #[derive(Drop)]
 pub struct RunStreams<R: Read + Drop, O: Write + Drop> {
+    /// Standard input.
     pub input: R,
+    /// Standard output.
     pub out: O,
+    /// Whether the output is a terminal.
     pub is_terminal: bool,
+    /// Whether refusals are explained after their first line.
     pub explains: bool,
 }
 
 /// The standard streams of a run from sources, and the stream for warnings.
 #[derive(Drop)]
 pub struct RunConsole<'e, R: Read + Drop, O: Write + Drop, E: Write + Drop> {
+    /// Standard input and output.
     pub streams: RunStreams<R, O>,
+    /// The stream for warnings.
     pub err: &'e mut Clean<E>,
 }
 

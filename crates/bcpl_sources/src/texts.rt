@@ -17,12 +17,15 @@ use std::io::{ErrorKind, Read};
 use std::rt::Files;
 
 /// Adds a value, unless it is a failure.
-pub fn add<T: Drop>(all: &mut Vec<T>, found: Result<T, Failure>) -> Result<(), Failure> {
+pub fn add_unless_failed<T: Drop>(
+    all: &mut Vec<T>,
+    found: Result<T, Failure>,
+) -> Result<(), Failure> {
     Ok(all.push(found?)?)
 }
 
 /// Turns `Memory` into a failure.
-pub fn in_memory<T: Drop>(found: Result<T, Memory>) -> Result<T, Failure> {
+pub fn or_memory_failure<T: Drop>(found: Result<T, Memory>) -> Result<T, Failure> {
     match found {
         Ok(found) => Ok(found),
         Err(_) => Err(Failure::new(Cause::Memory)),
@@ -34,6 +37,7 @@ pub fn in_memory<T: Drop>(found: Result<T, Memory>) -> Result<T, Failure> {
 pub struct TextFile {
     /// The path as messages show it.
     shown: String,
+    /// Its content.
     bytes: Vec<u8>,
 }
 
@@ -52,7 +56,7 @@ pub fn read_texts<F: Files>(
 ) -> Result<Vec<TextFile>, Failure> {
     let mut all = Vec::new(alloc);
     for path in paths {
-        add(&mut all, text_file(rt, alloc, path))?;
+        add_unless_failed(&mut all, text_file(rt, alloc, path))?;
     }
     Ok(all)
 }
@@ -142,7 +146,7 @@ fn as_error(alloc: Global, lines: String) -> Result<String, Memory> {
 }
 
 /// A failure with this explanation, if there was memory for it.
-pub fn explained(alloc: Global, failure: Failure, lines: Result<String, Memory>) -> Failure
+pub fn with_explanation(alloc: Global, failure: Failure, lines: Result<String, Memory>) -> Failure
     ensures { result.cause ≡ failure.cause }
 {
     let Ok(lines) = lines else {
@@ -170,7 +174,7 @@ fn explain_text(alloc: Global, failure: Failure, text: Text<'_>) -> Failure {
         Cause::Text(fault) => text_lines(alloc, text, *fault),
         _ => return failure,
     };
-    explained(alloc, failure, lines)
+    with_explanation(alloc, failure, lines)
 }
 
 /// The segments of these texts, in order. If `explains`, explains a refusal.
@@ -195,7 +199,9 @@ pub fn segments_of(
 /// A linked program: its segments, beginning with the primitives, and its image.
 #[derive(Drop)]
 pub struct LinkedProgram {
+    /// The segments; the first one is the primitives.
     pub segments: Vec<Segment>,
+    /// What they were linked to.
     pub image: Image,
 }
 
@@ -209,14 +215,18 @@ fn unlinked(
 ) -> Failure {
     let failure = Failure::from(*fault);
     if explains {
-        explained(alloc, failure, link_lines(alloc, texts, segments, *fault))
+        with_explanation(alloc, failure, link_lines(alloc, texts, segments, *fault))
     } else {
         failure
     }
 }
 
 /// Links these texts after the primitives. If `explains`, explains a refusal.
-pub fn linked(alloc: Global, texts: &[Text<'_>], explains: bool) -> Result<LinkedProgram, Failure> {
+pub fn linked_program(
+    alloc: Global,
+    texts: &[Text<'_>],
+    explains: bool,
+) -> Result<LinkedProgram, Failure> {
     let segments = after_primitives(alloc, segments_of(alloc, texts, explains)?)?;
     match link(alloc, segments.as_slice()) {
         Ok(image) => Ok(LinkedProgram { segments, image }),
@@ -231,5 +241,5 @@ pub fn program_of(
     explains: bool,
 ) -> Result<LinkedProgram, Failure> {
     let texts = texts_of(alloc, files)?;
-    linked(alloc, texts.as_slice(), explains)
+    linked_program(alloc, texts.as_slice(), explains)
 }
