@@ -80,8 +80,9 @@ fn own_mains(mains: &[usize]) -> Option<&[usize]>
     None
 }
 
-/// Decides whether a program is tame that was built from LIBHDR, BLIB and further files, with these mains. If it is, no run of the image
-/// meets a wild cell. Returns the number of cells that a run takes above the stack's base and its two cells.
+/// Decides whether a program is tame that was built from these sources with these mains. If it is, and sources 0 and 1 are LIBHDR and
+/// BLIB and `image` is the one that `build` returns, then on all inputs of bytes each run of the image has the output and the ending that
+/// the sources mean, so it meets no wild cell. Returns the number of cells that a run takes above the stack's base and its two cells.
 ///
 /// An error says what the check can't accept; the program may be harmless nevertheless. `Memory` if an allocation fails.
 pub fn tame_room(

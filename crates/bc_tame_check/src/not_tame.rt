@@ -60,13 +60,13 @@ pub enum Cause {
     Stack,
     /// The routines need more cells than the store has, or the text nests too deep.
     Size,
-    /// The first main isn't BLIB, or there is no other. `tame_rooms` never returns this.
+    /// There is no main, or the first one isn't source 1, BLIB. `tame_rooms` never returns this.
     Sections,
     /// A global that holds a routine of the program is assigned.
     RoutineGlobal,
     /// An index of a vector or table may be outside of it.
     Index,
-    /// A cell of a vector is read that may be unset.
+    /// A cell of a vector is used that may be unset, or one is assigned that holds a string.
     Unset,
 }
 

@@ -23,11 +23,11 @@ pub(crate) fn add_error(out: &mut Printout, error: &EvaluationError) {
     match error {
         EvaluationError::Syntax => out.say("this isn't an expression"),
         EvaluationError::NoName(name) => out.fill(
-            "no name in scope is {}\n",
+            "{} isn't in scope\n",
             &[Fill::Text(name.as_str())],
         ),
         EvaluationError::NoSmallName(name, capitals) => out.fill(
-            "no name in scope is {}; {} is one\n",
+            "{} isn't in scope; {} is\n",
             &[Fill::Text(name.as_str()), Fill::Text(capitals.as_str())],
         ),
         EvaluationError::Unset(address) => {
@@ -36,9 +36,9 @@ pub(crate) fn add_error(out: &mut Printout, error: &EvaluationError) {
         EvaluationError::Dead(address) => say_cell(out, "no cell is at {}\n", *address),
         EvaluationError::ZeroDivide => out.say("this divides by 0"),
         EvaluationError::Calls => out.say(
-            "calls, VALOF, TABLE and strings can't be printed: the program would have to run",
+            "calls, VALOF, TABLE and strings have no value here: the program would have to run",
         ),
-        EvaluationError::NoCell => out.say("@ needs a name or an expression that has a cell"),
+        EvaluationError::NoCell => out.say("@, watch and last need a name or an expression that has a cell"),
         EvaluationError::Memory => out.refuse(),
     }
 }
@@ -148,6 +148,9 @@ impl Session<'_, '_> {
 
     /// Selects a call.
     pub(crate) fn select(&mut self, word: Word, argument: &str, out: &mut Printout) {
+        if word == Word::Down && self.selected == 0 {
+            return out.say("this is the innermost call");
+        }
         let wanted = match word {
             Word::Up => Some(self.selected.saturating_add(1)),
             Word::Down => Some(self.selected.saturating_sub(1)),
@@ -159,6 +162,7 @@ impl Session<'_, '_> {
                 self.listed = 0;
                 self.add_call(out, number);
             }
+            _ if word == Word::Up => out.say("this is the outermost call"),
             _ => out.say("there is no such call; backtrace lists the calls"),
         }
     }
@@ -300,17 +304,10 @@ impl Session<'_, '_> {
         Some((span.file, self.line_of(span)))
     }
 
-    /// The file and the line of the program's own routine with this name.
+    /// The file and the line of the routine with this name.
     fn routine_line(&self, name: &str) -> Option<(usize, usize)> {
-        for routine in &self.run.names.routines {
-            if routine.name == name.as_bytes()
-                && !self.program.is_library(routine.section)
-                && let Some(span) = routine.span
-            {
-                return Some((span.file, self.line_of(span)));
-            }
-        }
-        None
+        let span = self.run.names.routines.get(self.routine_named(name)?)?.span?;
+        Some((span.file, self.line_of(span)))
     }
 
     /// The file and the first line that `list` with this argument prints. Without one it goes on where it ended.
@@ -332,8 +329,15 @@ impl Session<'_, '_> {
     /// Prints lines of the source around a line.
     pub(crate) fn list(&mut self, argument: &str, out: &mut Printout) {
         let Some((file, first)) = self.lines_to_list(argument) else {
-            return out.say("a line or a routine is expected, as in: list 12");
+            return out.fill(
+                "there is no routine {}; list takes a line or a routine\n",
+                &[Fill::Text(argument)],
+            );
         };
+        let count = lines_in(self.program.text(file));
+        if first > count {
+            return out.fill("there are {} lines\n", &[Fill::Number(count as u64)]);
+        }
         let current = match self.current_line() {
             Some((here, current)) if here == file => current,
             _ => 0,
@@ -456,6 +460,20 @@ impl Session<'_, '_> {
         }
         self.is_stale = true;
         out.say("the next run reads it; run starts again");
+    }
+}
+
+/// The number of lines of a text.
+fn lines_in(text: &[u8]) -> usize {
+    let mut count: usize = 0;
+    for byte in text {
+        if *byte == b'\n' {
+            count = count.saturating_add(1);
+        }
+    }
+    match text.last() {
+        Some(b'\n') | None => count,
+        Some(_) => count.saturating_add(1),
     }
 }
 

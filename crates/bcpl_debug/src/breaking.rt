@@ -2,6 +2,7 @@
 
 use crate::asking::add_error;
 use crate::breakpoints::{Breakpoint, Target};
+use crate::commands::split_at_blank;
 use crate::evaluate::value_of;
 use crate::printout::Printout;
 use crate::session::Session;
@@ -12,20 +13,36 @@ use bcpl_places::line_at;
 /// How many lines after the asked one are tried.
 const MOST_LINES: usize = 20;
 
-/// The place and the condition that an argument of `break` names. The place is empty if it names none.
-fn parts_of(argument: &str) -> (&str, &str) {
-    if let Some(condition) = argument.strip_prefix("if ") {
-        return ("", condition.trim());
+/// Whether a word is `if`, in small or capital letters.
+fn is_if(word: &str) -> bool {
+    matches!(word, "if" | "IF" | "If")
+}
+
+/// The place and the condition that an argument of `break` names. The place is empty if it names none. No condition if none follows `if`.
+fn parts_of(argument: &str) -> (&str, Option<&str>) {
+    let (place, rest) = split_at_blank(argument);
+    let (word, condition) = split_at_blank(rest.trim());
+    if is_if(place) {
+        return ("", some_text(rest));
     }
-    match argument.split_once(" if ") {
-        Some((text, condition)) => (text.trim(), condition.trim()),
-        None => (argument, ""),
+    if is_if(word) {
+        return (place, some_text(condition));
     }
+    (argument, Some(""))
+}
+
+/// A text without the blanks around it, unless it is empty.
+fn some_text(text: &str) -> Option<&str> {
+    let text = text.trim();
+    if text.is_empty() { None } else { Some(text) }
 }
 
 impl Session<'_, '_> {
-    /// The file that a path names.
+    /// The file that a path names, or the end of one.
     fn file_named(&self, path: &str) -> Option<usize> {
+        if path.is_empty() {
+            return None;
+        }
         for (index, known) in self.program.named.paths.iter().enumerate() {
             if *known == path || known.ends_with(path) {
                 return Some(index);
@@ -77,18 +94,58 @@ impl Session<'_, '_> {
         Ok(None)
     }
 
-    /// The address of the routine with this name.
-    fn routine_named(&self, name: &str) -> Option<u16> {
-        let mut found = None;
-        for routine in &self.run.names.routines {
+    /// The index of the routine with this name: of several that of the selected call's section, or else the first one that isn't the
+    /// library's.
+    pub(crate) fn routine_named(&self, name: &str) -> Option<usize> {
+        let here = self.scope().section();
+        let mut own = None;
+        let mut other = None;
+        for (index, routine) in self.run.names.routines.iter().enumerate() {
             if routine.name == name.as_bytes() {
-                if !self.program.is_library(routine.section) {
-                    return Some(routine.address);
+                if Some(routine.section) == here {
+                    return Some(index);
                 }
-                found = Some(routine.address);
+                if self.program.is_library(routine.section) {
+                    other = Some(index);
+                } else if own.is_none() {
+                    own = Some(index);
+                }
             }
         }
-        found
+        match own {
+            Some(index) => Some(index),
+            None => other,
+        }
+    }
+
+    /// The index of the routine with this name that is declared in this file.
+    fn routine_in(&self, file: usize, name: &str) -> Option<usize> {
+        for (index, routine) in self.run.names.routines.iter().enumerate() {
+            if let Some(span) = routine.span
+                && span.file == file
+                && routine.name == name.as_bytes()
+            {
+                return Some(index);
+            }
+        }
+        None
+    }
+
+    /// Whether several routines of the program's own have the name of this one.
+    fn is_shared(&self, index: usize) -> bool {
+        let routines = self.run.names.routines.as_slice();
+        let Some(this) = routines.get(index) else {
+            return false;
+        };
+        for (other, routine) in routines.iter().enumerate() {
+            if other != index
+                && routine.name == this.name
+                && !self.program.is_library(routine.section)
+            {
+                return true;
+            }
+        }
+        false
     }
 
     /// What a breakpoint on a line stops at. Says so if neither the line nor those after it have a command.
@@ -131,13 +188,13 @@ impl Session<'_, '_> {
         }
     }
 
-    /// What a breakpoint on the routine with this name stops at.
-    fn routine_target(&self, name: &str, out: &mut Printout) -> Option<Target> {
-        match self.routine_named(name) {
-            Some(address) => Some(Target::Routine(address)),
+    /// What a breakpoint on this routine stops at; `name` is what was asked for.
+    fn routine_target(&self, index: Option<usize>, name: &str, out: &mut Printout) -> Option<Target> {
+        match index.and_then(|index| self.run.names.routines.get(index)) {
+            Some(routine) => Some(Target::Routine(routine.address)),
             None => {
                 out.fill(
-                    "no routine is {}; break takes a line, FILE:LINE or a routine\n",
+                    "there is no routine {}; break takes a line, FILE:LINE or a routine\n",
                     &[Fill::Text(name)],
                 );
                 None
@@ -154,10 +211,14 @@ impl Session<'_, '_> {
             Some((path, line)) => (self.file_named(path), line),
             None => (Some(self.file_here()), text),
         };
-        match line.parse::<usize>() {
-            Ok(line) => self.file_target(file, line, out),
-            Err(_) => self.routine_target(text, out),
+        if let Ok(line) = line.parse::<usize>() {
+            return self.file_target(file, line, out);
         }
+        let index = match file {
+            Some(file) if line.len() < text.len() => self.routine_in(file, line),
+            _ => self.routine_named(text),
+        };
+        self.routine_target(index, text, out)
     }
 
     /// Whether a condition is an expression that the debugger can compute. If it isn't, says why. Whether its names are in scope, and its
@@ -201,14 +262,29 @@ impl Session<'_, '_> {
         }
     }
 
+    /// Appends where a routine is declared, if others have its name.
+    fn add_shared(&self, out: &mut Printout, address: u16) {
+        let Some(index) = self.run.names.routine_at(address) else {
+            return;
+        };
+        if self.is_shared(index)
+            && let Some(routine) = self.run.names.routines.get(index)
+            && let Some(span) = routine.span
+        {
+            self.add_file_line(out, " at ", span.file, self.line_of(span));
+        }
+    }
+
     /// Appends a breakpoint that is added.
     fn add_added(&self, out: &mut Printout, text: &str, target: &Target) {
         out.fill(
             "breakpoint {}: {}",
             &[Fill::Number(self.next_number as u64), Fill::Text(text)],
         );
-        if let Target::Line { file, line, .. } = target {
-            self.add_file_line(out, " at ", *file, *line);
+        match target {
+            Target::Line { file, line, .. } => self.add_file_line(out, " at ", *file, *line),
+            Target::Routine(address) => self.add_shared(out, *address),
+            Target::Cell { .. } => {}
         }
         out.text("\n");
     }
@@ -216,6 +292,9 @@ impl Session<'_, '_> {
     /// Adds a breakpoint: on the current line if the argument names no place. It says so if `tells`.
     pub(crate) fn add_breakpoint(&mut self, argument: &str, out: &mut Printout, tells: bool) {
         let (place, condition) = parts_of(argument);
+        let Some(condition) = condition else {
+            return out.say("an expression is expected after if, as in: break 12 if N > 3");
+        };
         if !self.is_condition(condition, out) {
             return;
         }
@@ -274,13 +353,9 @@ impl Session<'_, '_> {
         self.keep(Target::Cell { address, owner }, argument, "", out);
     }
 
-    /// Deletes a breakpoint, or all of them.
-    pub(crate) fn delete(&mut self, argument: &str, out: &mut Printout) {
-        if argument.is_empty() {
-            self.breakpoints.clear();
-            return out.say("all breakpoints are deleted");
-        }
-        let number = argument.parse::<usize>().ok();
+    /// Deletes the breakpoint with the number that a word is.
+    fn delete_one(&mut self, word: &str, out: &mut Printout) {
+        let number = word.parse::<usize>().ok();
         let index = self
             .breakpoints
             .iter()
@@ -291,7 +366,32 @@ impl Session<'_, '_> {
                     let _deleted = self.breakpoints.remove(index);
                 }
             }
-            None => out.say("there is no such breakpoint; info breakpoints lists them"),
+            None => out.fill(
+                "there is no breakpoint {}; info breakpoints lists them\n",
+                &[Fill::Text(word)],
+            ),
+        }
+    }
+
+    /// Deletes breakpoints by their numbers, or all of them.
+    pub(crate) fn delete(&mut self, argument: &str, out: &mut Printout) {
+        if argument.is_empty() {
+            let had_none = self.breakpoints.is_empty();
+            self.breakpoints.clear();
+            return out.say(if had_none {
+                "there are no breakpoints"
+            } else {
+                "all breakpoints are deleted"
+            });
+        }
+        let mut rest = argument;
+        for _each in 0..argument.len() {
+            if rest.is_empty() {
+                return;
+            }
+            let (word, following) = split_at_blank(rest);
+            self.delete_one(word, out);
+            rest = following.trim();
         }
     }
 }

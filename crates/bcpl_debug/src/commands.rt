@@ -26,6 +26,14 @@ pub(crate) fn number_or(argument: &str, otherwise: usize) -> Option<usize> {
     argument.parse::<usize>().ok()
 }
 
+/// How often a command is to move: the number that its argument is, at least 1, or once if there is none.
+fn count_of(argument: &str) -> Option<usize> {
+    match number_or(argument, 1) {
+        Some(count) if count > 0 => Some(count),
+        _ => None,
+    }
+}
+
 /// Appends a command with its short forms and what follows it, and from column 32 on what it does: in the next line if the command is too
 /// long.
 fn add_help(alloc: Global, out: &mut Printout, spec: &WordSpec) {
@@ -52,15 +60,44 @@ fn add_help(alloc: Global, out: &mut Printout, spec: &WordSpec) {
     out.say(spec.help);
 }
 
+/// The text before the first blank or tab, and the text after it.
+pub(crate) fn split_at_blank(line: &str) -> (&str, &str) {
+    match (line.split_once(' '), line.split_once('\t')) {
+        (Some(blank), Some(tab)) if tab.0.len() < blank.0.len() => tab,
+        (Some(parts), _) => parts,
+        (None, Some(parts)) => parts,
+        (None, None) => (line, ""),
+    }
+}
+
 /// A command and what follows it: its argument, or its format and its argument.
 fn split(line: &str) -> (&str, &str) {
-    let (head, argument) = match line.split_once(' ') {
-        Some((head, rest)) => (head, rest.trim()),
-        None => (line, ""),
-    };
+    let (head, rest) = split_at_blank(line);
+    let argument = rest.trim();
     match head.split_once('/') {
         Some((word, _)) => (word, line.strip_prefix(word).unwrap_or("")),
         None => (head, argument),
+    }
+}
+
+/// Appends which commands a cut off name may be, or that it is none.
+fn add_unknown(out: &mut Printout, name: &str) {
+    let mut follows = false;
+    for spec in &WORDS {
+        if let Some(full) = spec.name_like(name) {
+            out.text(if follows { ", " } else { name });
+            out.text(if follows { "" } else { " is ambiguous: " });
+            out.text(full);
+            follows = true;
+        }
+    }
+    if follows {
+        out.text("\n");
+    } else {
+        out.fill(
+            "there is no command {}; help lists the commands\n",
+            &[Fill::Text(name)],
+        );
     }
 }
 
@@ -150,8 +187,8 @@ impl Session<'_, '_> {
 
     /// Goes on this way to a breakpoint, as often as the argument says.
     fn went_on(&mut self, way: Way, argument: &str, out: &mut Printout) {
-        let Some(count) = number_or(argument, 1) else {
-            return out.say("a number is expected, as in: continue 3");
+        let Some(count) = count_of(argument) else {
+            return out.say("a number from 1 on is expected, as in: continue 3");
         };
         let before = self.written();
         let mut last = Halt::Aim;
@@ -164,16 +201,26 @@ impl Session<'_, '_> {
         self.arrive(last, way, before, out);
     }
 
+    /// Appends how many stops before the recording were dropped, if any were.
+    fn add_dropped(&self, out: &mut Printout) {
+        let dropped = self.run.recording.dropped;
+        if dropped > 0 {
+            out.fill(
+                "the recording begins at #{}: {} stops before it were dropped\n",
+                &[
+                    Fill::Number(dropped.saturating_add(1) as u64),
+                    Fill::Number(dropped as u64),
+                ],
+            );
+        }
+    }
+
     /// Appends that the recording begins here.
     fn add_edge(&self, out: &mut Printout) {
-        let dropped = self.run.recording.dropped;
-        if dropped == 0 {
+        if self.run.recording.dropped == 0 {
             out.say("this is the start of the run");
         } else {
-            out.fill(
-                "the recording begins here: {} stops before it were dropped\n",
-                &[Fill::Number(dropped as u64)],
-            );
+            self.add_dropped(out);
         }
     }
 
@@ -197,8 +244,8 @@ impl Session<'_, '_> {
 
     /// Moves as a stepping command says.
     fn stepped(&mut self, word: Word, argument: &str, out: &mut Printout) {
-        let Some(count) = number_or(argument, 1) else {
-            return out.say("a number is expected, as in: step 3");
+        let Some(count) = count_of(argument) else {
+            return out.say("a number from 1 on is expected, as in: step 3");
         };
         match word {
             Word::Step => self.move_times(Way::Forward, false, count, out),
@@ -219,6 +266,7 @@ impl Session<'_, '_> {
         match self.restart() {
             Ok(()) => {
                 self.listed = 0;
+                self.add_dropped(out);
                 true
             }
             Err(SessionError::Memory) => {
@@ -389,10 +437,7 @@ impl Session<'_, '_> {
         match word {
             Some(word) => self.obey(word, argument, out),
             None => {
-                out.fill(
-                    "there is no command {}; help lists the commands\n",
-                    &[Fill::Text(name)],
-                );
+                add_unknown(out, name);
                 Flow::On
             }
         }

@@ -49,6 +49,9 @@ impl Session<'_, '_> {
     /// The call that was entered right before the stop with this index, if one was.
     fn entered(&self, at: usize) -> Option<Frame> {
         let recording = &self.run.recording;
+        if at == 0 && recording.dropped > 0 {
+            return None;
+        }
         if at == 0 {
             return recording.frames.last().copied();
         }

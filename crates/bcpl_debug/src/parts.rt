@@ -6,7 +6,7 @@ pub(crate) const BEFORE: &str = r#"<!DOCTYPE html>
 <head>
 <meta charset="utf-8">
 <meta name="viewport" content="width=device-width, initial-scale=1">
-<meta http-equiv="Content-Security-Policy" content="default-src 'none'; script-src 'sha256-jMmzyJbnY3qEiJTpP5iIiBMmDRtsqlGtfMf6PKiBUYs=';
+<meta http-equiv="Content-Security-Policy" content="default-src 'none'; script-src 'sha256-dRPm+DQ+XjChlnkSW7vQiAlK8Y2qguxifIL4SqUfU5k=';
   style-src 'unsafe-inline'; img-src data:; base-uri 'none'; form-action 'none'">
 <meta name="referrer" content="no-referrer">
 <title>A run, step by step</title>
@@ -581,6 +581,8 @@ h1 { font-size: 1.1rem; margin: 0; }
   const FAULTS = ["wild", "zero", "device"];
   /** The kinds of commands that set cells themselves. */
   const WRITES = ["assign", "let", "for", "call"];
+  /** The kinds of commands without a root of their own. */
+  const PLAIN = ["break", "loop", "endcase", "return", "finish", "goto"];
 
   const KEYS = {
     s: (it) => it.step(1), S: (it) => it.step(-1), ArrowRight: (it) => it.step(1), ArrowLeft: (it) => it.step(-1),
@@ -1223,15 +1225,18 @@ h1 { font-size: 1.1rem; margin: 0; }
     // ---- Variables
 
     /**
-     * The variables of a frame that have a cell and whose scope has its place. Of several with one name the last one counts. A FOR has two
-     * roots, its first value and its limit, before the scope of its variable.
+     * The variables of a frame that have a cell, are declared before the end of its place, and whose scope has its place. Of several with
+     * one name the last one counts. A FOR has two roots, its first value and its limit, before the scope of its variable; the root of a
+     * command without one is that before it, and a vector may be declared in between.
      */
     inScope(frame) {
       const { recording: run } = this;
-      const { root = -1, kind } = this.placeOf(run.openAt(this.at).indexOf(frame)) ?? {};
-      const ahead = kind === "for" ? 2 : 1;
+      const { root = -1, kind, file, end } = this.placeOf(run.openAt(this.at).indexOf(frame)) ?? {};
+      const routine = run.routines[frame.routine];
+      const ahead = kind === "for" ? 2 : PLAIN.includes(kind) ? 1 : 0;
+      const isBefore = ({ start }) => routine.file !== file || start < end;
       const isIn = ({ from, to, parameter }) => (root < 0 ? parameter : from <= root + ahead && root < to);
-      const found = run.routines[frame.routine].variables.filter((it) => isIn(it) && run.cells[frame.base + it.offset] !== DEAD);
+      const found = routine.variables.filter((it) => isIn(it) && isBefore(it) && run.cells[frame.base + it.offset] !== DEAD);
       return found.filter(({ name }, k) => !found.slice(k + 1).some((other) => other.name === name));
     }
 

@@ -52,18 +52,39 @@ pub fn cell_in(base: u32, offset: u64) -> u16 {
     u16::try_from(address).unwrap_or(0)
 }
 
+/// Whether a name is declared after the end of a place, in the same file.
+fn is_declared_after(place: SitePlace, variable: &Variable<'_>) -> bool {
+    match (place.span, variable.span) {
+        (Some(text), Some(name)) => name.file == text.file && name.start >= text.end,
+        _ => false,
+    }
+}
+
+/// How many roots after that of a place the scope of a name may begin that is declared there or before it.
+fn roots_ahead(kind: StopKind) -> usize {
+    match kind {
+        // A FOR has two roots before its body: the first value and the limit. If one of them has a VALOF, there are more, and the FOR's
+        // variable counts only in the body.
+        StopKind::For => 2,
+        // The root of these is the one before them, and a vector may be declared in between.
+        StopKind::Break
+        | StopKind::Loop
+        | StopKind::EndCase
+        | StopKind::Return
+        | StopKind::Finish
+        | StopKind::Goto => 1,
+        _ => 0,
+    }
+}
+
 /// Whether a variable is in scope at a place. A LET and a FOR count what they declare, which has a cell only after it is declared.
 fn is_in_scope_at(place: SitePlace, variable: &Variable<'_>) -> bool {
     if place.root == usize::MAX {
         return variable.is_parameter;
     }
-    // A FOR has two roots before its body: the first value and the limit. If one of them has a VALOF, there are more, and the FOR's variable
-    // counts only in the body.
-    let ahead: usize = match place.kind {
-        StopKind::For => 2,
-        _ => 1,
-    };
-    variable.from <= place.root.saturating_add(ahead) && place.root < variable.to
+    variable.from <= place.root.saturating_add(roots_ahead(place.kind))
+        && place.root < variable.to
+        && !is_declared_after(place, variable)
 }
 
 impl<'v, 's> DebugScope<'v, 's> {

@@ -28,6 +28,27 @@ fn add_line(out: &mut Printout, bytes: &[u8]) {
     }
 }
 
+/// The last byte before an offset that isn't a blank.
+fn sign_before(text: &[u8], offset: usize) -> Option<u8> {
+    let before = text.get(..offset)?;
+    for byte in before.iter().rev() {
+        if *byte != b' ' {
+            return Some(*byte);
+        }
+    }
+    None
+}
+
+/// The first byte from an offset on that isn't a blank.
+fn sign_from(text: &[u8], offset: usize) -> Option<u8> {
+    for byte in text.get(offset..)? {
+        if *byte != b' ' {
+            return Some(*byte);
+        }
+    }
+    None
+}
+
 impl Session<'_, '_> {
     /// The number of the line at which a span begins.
     pub(crate) fn line_of(&self, span: Span) -> usize {
@@ -73,9 +94,13 @@ impl Session<'_, '_> {
             return out.text("at an unknown place");
         };
         self.add_position(out, span);
-        out.text("  ");
         let text = self.program.text(span.file);
+        let is_later = sign_before(text, span.start) == Some(b',');
+        out.text(if is_later { "  .., " } else { "  " });
         add_line(out, text.get(span.start..span.end).unwrap_or(b""));
+        if sign_from(text, span.end) == Some(b',') {
+            out.text(", ..");
+        }
     }
 
     /// Appends the number of the stop with this index.

@@ -45,6 +45,16 @@ pub struct WordSpec {
     pub help: &'static str,
 }
 
+impl WordSpec {
+    /// The command's whole name, if it begins with these letters.
+    pub fn name_like(&self, letters: &str) -> Option<&'static str> {
+        match self.names {
+            [full, ..] if begins_with(*full, letters) => Some(*full),
+            _ => None,
+        }
+    }
+}
+
 /// All commands.
 pub static WORDS: [WordSpec; 28] = [
     WordSpec {
@@ -128,8 +138,8 @@ pub static WORDS: [WordSpec; 28] = [
     WordSpec {
         word: Word::Delete,
         names: &["delete", "d"],
-        arguments: "[N]",
-        help: "deletes breakpoint N, or all of them",
+        arguments: "[N ..]",
+        help: "deletes these breakpoints, or all of them",
     },
     WordSpec {
         word: Word::Info,
@@ -243,9 +253,7 @@ pub fn word_of(name: &str) -> Option<Word> {
 pub fn word_like(name: &str) -> Option<Word> {
     let mut found = None;
     for spec in &WORDS {
-        if let [full, ..] = spec.names
-            && begins_with(*full, name)
-        {
+        if spec.name_like(name).is_some() {
             if found.is_some() {
                 return None;
             }
