@@ -315,7 +315,7 @@ pub fn explanation_of(
 
 /// The warning if no routine sets the global that a run calls.
 const NO_START: &str =
-    "no routine sets global 1, so a run does nothing; after GET \"LIBHDR\", LET START() BE .. sets it";
+    "no routine sets global 1, so a run can't begin; after GET \"LIBHDR\", LET START() BE .. sets it";
 
 /// A warning that concerns no place, as text or as an object.
 pub fn plain_warning(alloc: Global, is_json: bool, sentence: &str) -> Result<String, Memory> {

@@ -15,7 +15,7 @@ const OUTSIDE: &str =
 
 /// The help for an index that leaves its table or string.
 const OUTSIDE_CONSTANT: &str =
-    "TABLE 1, 2, 3 has the cells 0 to 2; character I of the string S is GETBYTE(S, I)";
+    "the characters of a string S are GETBYTE(S, 1) to GETBYTE(S, GETBYTE(S, 0)); TABLE 1, 2, 3 has the cells 0 to 2";
 
 /// The help for a global that no source names.
 const NO_GLOBAL: &str =
