@@ -148,6 +148,9 @@ impl Session<'_, '_> {
 
     /// Selects a call.
     pub(crate) fn select(&mut self, word: Word, argument: &str, out: &mut Printout) {
+        if self.depth() == 0 {
+            return out.say("the run is in no call");
+        }
         if word == Word::Down && self.selected == 0 {
             return out.say("this is the innermost call");
         }
