@@ -38,7 +38,9 @@ pub(crate) fn add_error(out: &mut Printout, error: &EvaluationError) {
         EvaluationError::Calls => out.say(
             "calls, VALOF, TABLE and strings have no value here: the program would have to run",
         ),
-        EvaluationError::NoCell => out.say("@, watch and last need a name or an expression that has a cell"),
+        EvaluationError::NoCell => out.say(
+            "@, watch and last need a name or an expression that has a cell",
+        ),
         EvaluationError::Memory => out.refuse(),
     }
 }
@@ -309,7 +311,12 @@ impl Session<'_, '_> {
 
     /// The file and the line of the routine with this name.
     fn routine_line(&self, name: &str) -> Option<(usize, usize)> {
-        let span = self.run.names.routines.get(self.routine_named(name)?)?.span?;
+        let span = self
+            .run
+            .names
+            .routines
+            .get(self.routine_named(name)?)?
+            .span?;
         Some((span.file, self.line_of(span)))
     }
 

@@ -189,7 +189,12 @@ impl Session<'_, '_> {
     }
 
     /// What a breakpoint on this routine stops at; `name` is what was asked for.
-    fn routine_target(&self, index: Option<usize>, name: &str, out: &mut Printout) -> Option<Target> {
+    fn routine_target(
+        &self,
+        index: Option<usize>,
+        name: &str,
+        out: &mut Printout,
+    ) -> Option<Target> {
         match index.and_then(|index| self.run.names.routines.get(index)) {
             Some(routine) => Some(Target::Routine(routine.address)),
             None => {

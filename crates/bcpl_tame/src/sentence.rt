@@ -72,7 +72,7 @@ pub(crate) fn sentence(cause: Cause) -> &'static str {
 pub(crate) fn help(cause: Cause) -> &'static str {
     match cause {
         Cause::Indirection => {
-            "the check follows V!I for a VEC or TABLE of this routine, in a block that assigns none of its vectors and tables; `bcpl interpret` says whether one run is wild"
+            "the check follows V!I for a VEC or TABLE of a block that assigns none of its vectors and tables; `bcpl interpret` checks one run"
         }
         Cause::Address => {
             "the check follows numbers, strings, vectors and tables; a routine can be called by its name or its global"
@@ -97,7 +97,7 @@ pub(crate) fn help(cause: Cause) -> &'static str {
             "make the index of numbers and of the variables of FORs between numbers, which nothing assigns, by +, - and *"
         }
         Cause::Unset => {
-            "earlier in this list, set the cell by an index that is a number, or all cells by FOR I = 0 TO N DO V!I := E, which nothing leaves early; a cell that holds a string can't be set again"
+            "set the cell before, in this list, by a number as index, or all cells by FOR I = 0 TO N DO V!I := E; assign no string's cell again"
         }
     }
 }

@@ -223,7 +223,7 @@ pub fn help(met: &Met<'_>, known: WildContext<'_>) -> Option<&'static str> {
             Some(if known.has_pool {
                 "there is no vector at this address; was the address set, and did GETVEC have a pool?"
             } else {
-                "there is no vector at this address; was it set, as in LET V = VEC 10? --strict reports an index past another vector's end, which may have changed it"
+                "there is no vector at this address; was it set, as in LET V = VEC 10, or changed by an index that is too large, as --strict reports it?"
             })
         }
         Cause::Dead(_) | Cause::NoCell(_) if known.bytes != ByteAccess::None => known.bytes.help(),
