@@ -17,6 +17,7 @@ use Rattle.bc_select_defs.specs.Least.{first_rule, AreLeastWords}
 use Rattle.bc_rules_defs.specs.Names.{rule_number}
 use Rattle.bc_select_defs.specs.Folds.{Within, Reaches, of_rule}
 use Rattle.bc_select_defs.specs.Makes.{Makes, AllMade}
+use Rattle.bc_select_defs.proofs.Rules.{same_rule}
 use Rattle.bc_select.specs.Rows.{AreCosts}
 use Rattle.bc_candidates.specs.declared.candidate.Beginning.{Beginning}
 use Rattle.bc_candidates.specs.Beginnings.{IsAmong, rises_from, or_fewer, least_words, AreBeginnings}
@@ -26,7 +27,6 @@ use Rattle.bc_candidates.specs.Below.{Adds}
 use Rattle.bc_candidates.specs.Lists.{list_for, lists, beginnings, applying, candidates_at}
 use Rattle.bc_candidates.proofs.Lower.{starts}
 use Rattle.bc_candidates.proofs.Made.{made}
-use Rattle.bc_candidates.proofs.Rules.{same_rule}
 
 -- a rule with the least words of the things that begin with it
 abbrev Least : (X : Type 0) (c : X → ℕ) (rule : X → Rule) → Beginning → Type 0

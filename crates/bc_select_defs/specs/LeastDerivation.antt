@@ -1,5 +1,6 @@
 -- The least derivation of a root, and the least words of an expression. The types say what they are, by the relation of the rule
--- table; the bodies, which say how they are found, matter only for proofs.
+-- table; the bodies, which say how they are found, matter only for proofs. The laws `one_least_derivation` and `one_least_words`
+-- say that there is only one of each.
 use Rattle.std.specs.Prelude.{ℕ, Option}
 use Rattle.bc_core.specs.Tree.{Exp, Root}
 use Rattle.bc_rules_defs.specs.declared.rule.Table.{Table}

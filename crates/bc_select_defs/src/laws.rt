@@ -1,6 +1,6 @@
 //! Laws about derivations with the fewest words. Each is the contract of a function with an empty body.
 
-ghost use Rattle.bc_select_defs.specs.Laws.{NothingBeatsTheChosen, ChosenAtEachStep, ChoicesAreLeast};
+ghost use Rattle.bc_select_defs.specs.Laws.{NothingBeatsTheChosen, ChosenAtEachStep, ChoicesAreLeast, OneLeastDerivation, OneLeastWords};
 
 /// No derivation of a root has fewer words than the chosen one. Of those with as few words, none begins with a rule of a lower
 /// number.
@@ -17,4 +17,14 @@ pub fn chosen_at_each_step()
 /// lowest number with which a derivation of these words begins. If there is no choice, there is no derivation.
 pub fn choices_are_least()
     ensures { ChoicesAreLeast }
+{}
+
+/// A root has only one least derivation: any two have the same rules, the same words and the same code.
+pub fn one_least_derivation()
+    ensures { OneLeastDerivation }
+{}
+
+/// An expression has only one least number of words for an aim and a level: any two are equal.
+pub fn one_least_words()
+    ensures { OneLeastWords }
 {}
