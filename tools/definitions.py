@@ -1,5 +1,6 @@
 """Reads the definitions of specs/ and the contracts of src/ as text: which definition names which.
 
+A definition after the line "Its type determines it: law `NAME`." counts with its type alone: what that law says leaves nothing else to know.
 It goes by names and knows no types. A name is followed to the import that brings it, or to the definition of the same file; a local variable
 with the name of a definition counts as that definition. So a count is never too low, and may be a little too high.
 """
@@ -12,7 +13,22 @@ TOP = os.path.join(os.path.dirname(os.path.abspath(__file__)), os.pardir)
 IMPORT = re.compile(r"^\s*(?:ghost )?(?:pub )?use Rattle\.(\w+)\.specs\.([\w.]+?)(?:\.\{(.*)\}| as (\S+?))?;?$")
 NAME = re.compile(r"[^\s(){}\[\],;:=.λ→×]+(?:\.[^\s(){}\[\],;:=.λ→×]+)*")
 HEAD = re.compile(r"^\s*(?:abbrev|unfoldable|mutual|pub|data|record)\b")
+DETERMINED = re.compile(r"^-- Its type determines it: law `(\w+)`\.$")
 DEFINED = re.compile(r"^\s*(?:(?:abbrev|unfoldable) )?(?:pub )?(?:data |record )?([^\s:(]+)\s*(?:\(.*)?:")
+
+
+class NoDefinition(Exception):
+    """Nothing has the name that was asked for."""
+
+
+@functools.lru_cache(None)
+def laws_of(crate):
+    """The names of a crate's laws."""
+    path = os.path.join(TOP, "crates", crate, "src", "laws.rt")
+    if not os.path.exists(path):
+        return set()
+    with open(path, encoding="utf-8") as file:
+        return set(re.findall(r"^pub fn (\w+)\(\)$", file.read(), re.MULTILINE))
 
 
 class Unit:
@@ -37,8 +53,10 @@ class File:
         self.crate, self.name = crate, name
         self.is_for_proofs = text.startswith("-- For proofs:")
         self.imports, self.aliases, units = {}, {}, []
-        is_example_line, in_mutual, self.examples = False, False, 0
+        is_example_line, in_mutual, self.examples, by_type = False, False, 0, {}
         for line in text.split("\n"):
+            if DETERMINED.match(line):
+                by_type[len(units)] = DETERMINED.match(line)[1]
             is_example_line = is_example_line or line.startswith("-- ---- Worked examples")
             if not line.strip() or line.lstrip().startswith("--"):
                 continue
@@ -54,6 +72,11 @@ class File:
                 in_mutual = "mutual" in line.split()
             if not (in_mutual and "mutual" in line.split() and len(line.split()) <= 2):
                 units[-1].append(line)
+        for at, law in by_type.items():
+            # What is known of such a definition is its type; the law says that nothing else matters.
+            units[at] = [line for line in units[at] if HEAD.match(line)]
+            if law not in laws_of(crate):
+                raise NoDefinition(f"{crate}.{name}: there is no law {law}")
         self.units = [Unit(crate, name, lines) for lines in units if lines]
         self.by_name = {name: unit for unit in self.units for name in unit.names}
 
@@ -220,10 +243,6 @@ STATEMENTS = [
         "bc_rules::is_derivation", "bc_select::select", "bc_gen::generate", "bc_cert::check", "bc_cert_against::check_against", "bc_link::link",
         "bc_run::run_text", "bc_text::read_all", "bc_convert::convert")),
 ]
-
-
-class NoDefinition(Exception):
-    """Nothing has the name that was asked for."""
 
 
 def units_of(name):

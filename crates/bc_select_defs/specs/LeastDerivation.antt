@@ -1,6 +1,5 @@
 -- The least derivation of a root, and the least words of an expression. The types say what they are, by the relation of the rule
--- table; the bodies, which say how they are found, matter only for proofs. The laws `one_least_derivation` and `one_least_words`
--- say that there is only one of each.
+-- table; the bodies, which say how they are found, matter only for proofs.
 use Rattle.std.specs.Prelude.{ℕ, Option}
 use Rattle.bc_core.specs.Tree.{Exp, Root}
 use Rattle.bc_rules_defs.specs.declared.rule.Table.{Table}
@@ -16,7 +15,8 @@ pub record LeastDerivation (T : Table) (r : Root) : Type 0 where
   pub least : RootIsLeast derivation
   pub parts : RootHasLeastParts derivation
 
--- every root has one
+-- Every root has one.
+-- Its type determines it: law `one_least_derivation`.
 abbrev pub least_of_root : (T : Table) (r : Root) → LeastDerivation T r
 least_of_root T r = record { derivation = chosen T r; least = chosen_is_least T r; parts = chosen_has_least_parts T r }
 
@@ -28,7 +28,8 @@ pub record LeastWords (T : Table) (e : Exp) (aim : Aim) (s : ℕ) : Type 0 where
   pub words : Option ℕ
   pub are_least : AreLeastWords T e aim s words
 
--- every expression has them at every level
+-- Every expression has them at every level.
+-- Its type determines it: law `one_least_words`.
 abbrev pub least_of_expression : (T : Table) (e : Exp) (aim : Aim) (s : ℕ) → LeastWords T e aim s
 least_of_expression T e aim s = record { words = words_for aim (choices T e s); are_least = words_are_least T e aim s }
 
