@@ -248,23 +248,30 @@ fn global_number(tokens: &[Token<'_>], index: usize) -> Option<u16> {
 impl<'s> Declarations<'s> {
     /// The declarations among these tokens. Returns `Memory` if an allocation fails.
     pub fn of(alloc: Global, tokens: &[Token<'s>]) -> Result<Declarations<'s>, Memory> {
+        let interned = Interned::new(alloc, tokens.len())?;
         let mut declarations = Declarations {
             all: Vec::new(alloc),
-            interned: Interned::new(alloc, tokens.len())?,
+            interned,
             known: Vec::new(alloc),
             numbers: IndexMap::new(alloc),
         };
+        declarations.add_all(tokens)?;
+        Ok(declarations)
+    }
+
+    /// Adds the declarations among these tokens.
+    fn add_all(&mut self, tokens: &[Token<'s>]) -> Result<(), Memory> {
         let mut around = Around::default();
         for (index, token) in tokens.iter().enumerate() {
             if let TokenKind::Name(name) = token.kind {
-                declarations.add_name(tokens, &around, name, index)?;
+                self.add_name(tokens, &around, name, index)?;
                 around.pass_name(tokens, index);
             } else {
-                declarations.interned.add_other(token.kind, index)?;
+                self.interned.add_other(token.kind, index)?;
                 around.pass_symbol(tokens, index, token.kind);
             }
         }
-        Ok(declarations)
+        Ok(())
     }
 
     /// Adds the name at this index.

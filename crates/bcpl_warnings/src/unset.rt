@@ -39,7 +39,14 @@ impl<'s> Settings<'s> {
         mains: &[usize],
         parsed: &[Parsed<'s>],
     ) -> Result<Settings<'s>, Memory> {
-        let mut settings = Settings {
+        let mut settings = Settings::new(alloc);
+        settings.add_mains(alloc, library, mains, parsed)?;
+        Ok(settings)
+    }
+
+    /// No globals.
+    fn new(alloc: Global) -> Settings<'s> {
+        Settings {
             declarations: Vec::new(alloc),
             numbers: IndexSet::new(alloc),
             is_open: false,
@@ -47,18 +54,47 @@ impl<'s> Settings<'s> {
             own: IndexSet::new(alloc),
             is_own_open: false,
             names: IndexMap::new(alloc),
-        };
-        for (main, read) in mains.iter().zip(parsed) {
-            let declarations = Declarations::of(alloc, read.tokens.as_slice())?;
-            if *main >= library {
-                settings.add_own(&declarations)?;
-            } else {
-                settings.add_names(&declarations)?;
-            }
-            settings.add_main(&declarations, *main >= library)?;
-            settings.declarations.push(declarations)?;
         }
-        Ok(settings)
+    }
+
+    /// Adds the globals that these mains may set.
+    fn add_mains(
+        &mut self,
+        alloc: Global,
+        library: usize,
+        mains: &[usize],
+        parsed: &[Parsed<'s>],
+    ) -> Result<(), Memory> {
+        for (main, read) in mains.iter().zip(parsed) {
+            self.add_tokens(alloc, read.tokens.as_slice(), *main >= library)?;
+        }
+        Ok(())
+    }
+
+    /// Adds the declarations of a main with these tokens, and the globals that it may set. It is the library's unless `is_own`.
+    fn add_tokens(
+        &mut self,
+        alloc: Global,
+        tokens: &[Token<'s>],
+        is_own: bool,
+    ) -> Result<(), Memory> {
+        let declarations = Declarations::of(alloc, tokens)?;
+        self.add_declared(&declarations, is_own)?;
+        Ok(self.declarations.push(declarations)?)
+    }
+
+    /// Adds the globals that a main with these declarations may set, or the names that the library's main has for globals.
+    fn add_declared(
+        &mut self,
+        declarations: &Declarations<'s>,
+        is_own: bool,
+    ) -> Result<(), Memory> {
+        if is_own {
+            self.add_own(declarations)?;
+        } else {
+            self.add_names(declarations)?;
+        }
+        self.add_main(declarations, is_own)
     }
 
     /// Adds the names of the globals of the library's main with these declarations.

@@ -565,6 +565,20 @@ impl<'p, 's> WarningList<'p, 's> {
         self.add_draft(draft)
     }
 
+    /// Adds the warnings on how values are used in a main of which this is known.
+    fn add_known(&mut self, main: usize, known: &Known<'_, '_>) -> Result<(), Memory> {
+        let mut draft = Draft::new(self.alloc, main);
+        for (at, node) in known.tree.nodes().iter().enumerate() {
+            if may_be_warned_of(node.form) {
+                warn_of_use(&mut draft, known, at, node.form);
+                if !draft.is_empty() {
+                    draft = self.renewed(main, draft)?;
+                }
+            }
+        }
+        self.add_draft(draft)
+    }
+
     /// Adds the warnings on how values are used in a main that was parsed to this, and whose names are `interned`.
     fn add_uses(
         &mut self,
@@ -582,16 +596,34 @@ impl<'p, 's> WarningList<'p, 's> {
             kinds: &kinds,
             flow: &flow,
         };
-        let mut draft = Draft::new(self.alloc, main);
-        for (at, node) in tree.nodes().iter().enumerate() {
-            if may_be_warned_of(node.form) {
-                warn_of_use(&mut draft, &known, at, node.form);
-                if !draft.is_empty() {
-                    draft = self.renewed(main, draft)?;
-                }
+        self.add_known(main, &known)
+    }
+
+    /// Adds the warnings on a main that was parsed to this, first those that the tokens show.
+    fn add_main(
+        &mut self,
+        settings: &Settings<'s>,
+        declarations: &Declarations<'s>,
+        main: usize,
+        read: &Parsed<'s>,
+    ) -> Result<(), Memory> {
+        self.add_tokens(settings, declarations, main, read.tokens.as_slice())?;
+        self.add_uses(&declarations.interned, main, read)
+    }
+
+    /// Adds the warnings on these mains, which were parsed to `parsed`, but not on the library's.
+    fn add_mains(
+        &mut self,
+        settings: &Settings<'s>,
+        mains: &[usize],
+        parsed: &[Parsed<'s>],
+    ) -> Result<(), Memory> {
+        for ((main, read), declarations) in mains.iter().zip(parsed).zip(&settings.declarations) {
+            if *main >= self.library {
+                self.add_main(settings, declarations, *main, read)?;
             }
         }
-        self.add_draft(draft)
+        Ok(())
     }
 
     /// Adds a warning if the routine at the token with this index is probably meant to be START.
@@ -625,12 +657,7 @@ pub(crate) fn warnings<'s>(
 ) -> Result<Vec<Message>, Memory> {
     let settings = Settings::of(alloc, library, mains, parsed)?;
     let mut warnings = WarningList::new(alloc, sources, library);
-    for ((main, read), declarations) in mains.iter().zip(parsed).zip(&settings.declarations) {
-        if *main >= library {
-            warnings.add_tokens(&settings, declarations, *main, read.tokens.as_slice())?;
-            warnings.add_uses(&declarations.interned, *main, read)?;
-        }
-    }
+    warnings.add_mains(&settings, mains, parsed)?;
     Ok(warnings.messages)
 }
 
