@@ -6,6 +6,7 @@ use Rattle.bc_core.specs.Map.{Map, Placed, placed, standing}
 use Rattle.bc_core.specs.Meaning.{Result, calls, result_of, run_of, entered_at, meaning_over, meaning}
 use Rattle.bc_core.specs.Start.{start_cells}
 use Rattle.bc_interpret_defs.specs.Machine as machine
+use Rattle.bc_interpret_defs.specs.Trails.{Standing}
 use Rattle.bc_interpret_defs.specs.Resume.{meant}
 use Rattle.bc_interpret_defs.specs.Running.{start_at, start_state}
 use Rattle.bc_interpret_defs.proofs.Running.{start_means}
@@ -47,13 +48,13 @@ meaning_is program cores map base turns before after o e b h =
     (subst (λ p. IsResult (meaning_over (start_cells (standing p)) (entered_at p) base before turns) o after) e h)
 
 -- the reported wild access, from the start
-pub run_names : (program : List Placed) (base turns : ℕ) (rests : List Rest) (st : State) (before : Content) (i : Interpreted) (calls : List machine.OpenCall) → st.store ≡ start_cells (standing program) → st.turns ≡ turns
-    → stack rests ≡ machine.Loads ∷ machine.Calls [] (base + 2) ∷ [] → Names program (at_of (works.Number 9) rests) (state_of st before) i.outcome calls → Shows i.trail calls → NamesBy program (start_at base) (start_state program before turns) i
-run_names program base turns rests st before i calls e t r h shown =
-    let begun : state_of st before ≡ start_state program before turns = λ j. record { cells = e j; streams = before; turns = t j } in (
-      calls,
-      subst (λ rs. Names program (record { work = machine.Give (machine.Number 9); rests = rs }) (start_state program before turns) i.outcome calls) r
-          (subst (λ s. Names program (at_of (works.Number 9) rests) s i.outcome calls) begun h),
+pub run_names : (program : List Placed) (base turns : ℕ) (rests : List Rest) (st : State) (before : Content) (i : Interpreted) (trail : List Standing) → st.store ≡ start_cells (standing program) → st.turns ≡ turns
+    → stack rests ≡ machine.Loads ∷ machine.Calls [] (base + 2) ∷ [] → Names program (at_of (works.Number 9) rests) (state_of st before) i.outcome trail → Shows i.trail trail → NamesBy program (start_at base) (start_state program before turns) i
+run_names program base turns rests st before i trail e t r h shown =
+    let started : state_of st before ≡ start_state program before turns = λ j. record { cells = e j; streams = before; turns = t j } in (
+      trail,
+      subst (λ rs. Names program (record { work = machine.Give (machine.Number 9); rests = rs }) (start_state program before turns) i.outcome trail) r
+          (subst (λ s. Names program (at_of (works.Number 9) rests) s i.outcome trail) started h),
       shown,
     )
 

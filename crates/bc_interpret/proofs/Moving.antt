@@ -16,7 +16,7 @@ use Rattle.bc_interpret_defs.specs.Running.{Moves}
 use Rattle.bc_interpret_defs.proofs.Running.{steps_keep, steps_lessen}
 use Rattle.bc_interpret_defs.specs.Causes as met
 use Rattle.bc_interpret_defs.specs.Meeting.{IsWildBy, Meets, ByArgument, after_steps, ComesTo}
-use Rattle.bc_interpret_defs.specs.OpenCalls.{calls_in, AreOpen, Calling}
+use Rattle.bc_interpret_defs.specs.Trails.{Standing, trail_in, begun, IsTrail, Calling}
 use Rattle.bc_interpret_pure.specs.declared.context.Cause.{Cause}
 use Rattle.bc_interpret_pure.specs.Causes.{cause_of}
 use Rattle.bc_interpret_steps.specs.declared.forms.Work.{Work}
@@ -94,8 +94,8 @@ was_wild program n a old c rests1 new streams h l = through program n a old stre
 -- reaching a wild access
 
 -- one that is reached after a step
-pub one_more : (program : List Placed) (from at : machine.At) (start st : outcomes.State) (c : met.Cause) (calls : List machine.OpenCall) → step program from.work from.rests start ≡ outcomes.Done at st → ComesTo program at st c calls → ComesTo program from start c calls
-one_more program from at start st c calls e h = record {
+pub one_more : (program : List Placed) (from at : machine.At) (start st : outcomes.State) (c : met.Cause) (trail : List Standing) → step program from.work from.rests start ≡ outcomes.Done at st → ComesTo program at st c trail → ComesTo program from start c trail
+one_more program from at start st c trail e h = record {
   steps = suc h.steps;
   at = h.at;
   state = h.state;
@@ -106,27 +106,27 @@ one_more program from at start st c calls e h = record {
 }
 
 -- one that this step meets
-pub at_once : (program : List Placed) (from : machine.At) (start : outcomes.State) (c : met.Cause) (calls : List machine.OpenCall) → step program from.work from.rests start ≡ outcomes.Wild → Meets program from.work from.rests start.cells c → AreOpen from.work from.rests calls → ComesTo program from start c calls
-at_once program from start c calls e m a = record { steps = 0; at = from; state = start; comes = refl; wild = e; meets = m; during = a }
+pub at_once : (program : List Placed) (from : machine.At) (start : outcomes.State) (c : met.Cause) (trail : List Standing) → step program from.work from.rests start ≡ outcomes.Wild → Meets program from.work from.rests start.cells c → IsTrail from.work from.rests trail → ComesTo program from start c trail
+at_once program from start c trail e m a = record { steps = 0; at = from; state = start; comes = refl; wild = e; meets = m; during = a }
 
-pub was_met : (program : List Placed) (a : machine.At) (old : State) (c : Cause) (rests1 : List Rest) (new : State) (streams : Content) → StepIs program a old (progress.Wild c) rests1 new → Names program a (state_of old streams) (outs.Wild c) (calls_in (stack rests1))
-was_met program a old c rests1 new streams h = at_once program a (state_of old streams) (cause_of c) (calls_in (stack rests1)) (h.1 streams) h.2 h.3
+pub was_met : (program : List Placed) (a : machine.At) (old : State) (c : Cause) (rests1 : List Rest) (new : State) (streams : Content) → StepIs program a old (progress.Wild c) rests1 new → Names program a (state_of old streams) (outs.Wild c) (trail_in (stack rests1))
+was_met program a old c rests1 new streams h = at_once program a (state_of old streams) (cause_of c) (trail_in (stack rests1)) (h.1 streams) h.2 h.3
 
-served_leads : (program : List Placed) (a : machine.At) (old : State) (q : Primitive) (call : OpenCall) (v : ℕ) (rests1 : List Rest) (mid new : State) (before after : Content) (c : met.Cause) (calls : List machine.OpenCall) → StepIs program a old (progress.Serve q call) rests1 mid → Serves (λ st. left 1 (call.frame + 2) (primitive_work (primitive_of q) call.frame st)) mid before (forms.Number v) new after
-    → ComesTo program (at_of (works.Number v) rests1) (state_of new after) c calls → ComesTo program a (state_of old before) c calls
-served_leads program a old q call v rests1 mid new before after c calls h s g =
-    one_more program a (at_of (works.Number v) rests1) (state_of old before) (state_of new after) c calls
+served_leads : (program : List Placed) (a : machine.At) (old : State) (q : Primitive) (call : OpenCall) (v : ℕ) (rests1 : List Rest) (mid new : State) (before after : Content) (c : met.Cause) (trail : List Standing) → StepIs program a old (progress.Serve q call) rests1 mid → Serves (λ st. left 1 (call.frame + 2) (primitive_work (primitive_of q) call.frame st)) mid before (forms.Number v) new after
+    → ComesTo program (at_of (works.Number v) rests1) (state_of new after) c trail → ComesTo program a (state_of old before) c trail
+served_leads program a old q call v rests1 mid new before after c trail h s g =
+    one_more program a (at_of (works.Number v) rests1) (state_of old before) (state_of new after) c trail
     (h.1.served.comes before ∙ ap (λ o. followed o (λ x. give (machine.Number x) (stack rests1))) s) g
 
 served_met : (program : List Placed) (a : machine.At) (old : State) (q : Primitive) (call : OpenCall) (c : Cause) (rests1 : List Rest) (mid new : State) (before after : Content) → StepIs program a old (progress.Serve q call) rests1 mid → Serves (λ st. left 1 (call.frame + 2) (primitive_work (primitive_of q) call.frame st)) mid before (forms.Wild c) new after
-    → Blames (primitive_work (primitive_of q) call.frame) mid (forms.Wild c) → Names program a (state_of old before) (outs.Wild c) (open_call call ∷ calls_in (stack rests1))
+    → Blames (primitive_work (primitive_of q) call.frame) mid (forms.Wild c) → Names program a (state_of old before) (outs.Wild c) (begun call.routine call.frame ∷ trail_in (stack rests1))
 served_met program a old q call c rests1 mid new before after h s blamed =
     let made = h.1 in
     let there : IsWildBy (primitive_work (primitive_of q) made.frame) mid.store (cause_of c) = subst (λ z. IsWildBy (primitive_work (primitive_of q) z) mid.store (cause_of c)) made.served.frame blamed in
     let passed_on = subst (λ z. IsWildBy (primitive_work (primitive_of q) made.frame) z (cause_of c)) made.served.has_argument there in
-    at_once program a (state_of old before) (cause_of c) (open_call call ∷ calls_in (stack rests1)) (made.served.comes before ∙ ap (λ o. followed o (λ x. give (machine.Number x) (stack rests1))) s)
+    at_once program a (state_of old before) (cause_of c) (begun call.routine call.frame ∷ trail_in (stack rests1)) (made.served.comes before ∙ ap (λ o. followed o (λ x. give (machine.Number x) (stack rests1))) s)
     (ByArgument made.value made.arguments made.frame (primitive_of q) made.calls made.served.is_primitive made.served.fits passed_on)
-    (Calling made.value made.arguments made.frame made.calls (λ i. record { routine = made.named i; frame = made.served.frame i } ∷ made.kept i))
+    (Calling made.value made.arguments made.frame made.calls (λ i. begun (made.named i) (made.served.frame i) ∷ made.kept i))
 
 -- steps that change nothing
 
@@ -143,9 +143,9 @@ passes_lessen program a (m ∷ along) to old h =
     let more = passes_lessen program a along m old h.0 in
     omega (arith, less, more)
 
-passes_lead : (program : List Placed) (a : machine.At) (along : List machine.At) (to : machine.At) (old : State) (streams : Content) (c : met.Cause) (calls : List machine.OpenCall) → Passes program old a along to → ComesTo program to (state_of old streams) c calls → ComesTo program a (state_of old streams) c calls
-passes_lead program a [] to old streams c calls h g = subst (λ z. ComesTo program z (state_of old streams) c calls) (sym h) g
-passes_lead program a (m ∷ along) to old streams c calls h g = passes_lead program a along m old streams c calls h.0 (one_more program m to (state_of old streams) (state_of old streams) c calls (h.2 streams) g)
+passes_lead : (program : List Placed) (a : machine.At) (along : List machine.At) (to : machine.At) (old : State) (streams : Content) (c : met.Cause) (trail : List Standing) → Passes program old a along to → ComesTo program to (state_of old streams) c trail → ComesTo program a (state_of old streams) c trail
+passes_lead program a [] to old streams c trail h g = subst (λ z. ComesTo program z (state_of old streams) c trail) (sym h) g
+passes_lead program a (m ∷ along) to old streams c trail h g = passes_lead program a along m old streams c trail h.0 (one_more program m to (state_of old streams) (state_of old streams) c trail (h.2 streams) g)
 
 pub ran_answered : (program : List Placed) (n : ℕ) (w : Work) (rests : List Rest) (old : State) (rests1 : List Rest) (new : State) (streams : Content) → RanIs program w rests old progress.Answered rests1 new → old.turns < n → left_of program n w rests old streams ≡ meanings.Ended (output_of streams) outcomes.Finished
 ran_answered program n w rests old rests1 new streams h l = passes_keep program n (at_of w rests) h.along h.middle old streams h.passes l ∙ answered program n h.middle old rests1 new streams h.comes
@@ -159,14 +159,14 @@ ran_going program n w rests old rests1 new streams h l = passes_keep program n (
 pub ran_wild : (program : List Placed) (n : ℕ) (w : Work) (rests : List Rest) (old : State) (c : Cause) (rests1 : List Rest) (new : State) (streams : Content) → RanIs program w rests old (progress.Wild c) rests1 new → old.turns < n → left_of program n w rests old streams ≡ meanings.Wild
 ran_wild program n w rests old c rests1 new streams h l = passes_keep program n (at_of w rests) h.along h.middle old streams h.passes l ∙ was_wild program n h.middle old c rests1 new streams h.comes l
 
-pub ran_met : (program : List Placed) (w : Work) (rests : List Rest) (old : State) (c : Cause) (rests1 : List Rest) (new : State) (streams : Content) → RanIs program w rests old (progress.Wild c) rests1 new → Names program (at_of w rests) (state_of old streams) (outs.Wild c) (calls_in (stack rests1))
-ran_met program w rests old c rests1 new streams h = passes_lead program (at_of w rests) h.along h.middle old streams (cause_of c) (calls_in (stack rests1)) h.passes (was_met program h.middle old c rests1 new streams h.comes)
+pub ran_met : (program : List Placed) (w : Work) (rests : List Rest) (old : State) (c : Cause) (rests1 : List Rest) (new : State) (streams : Content) → RanIs program w rests old (progress.Wild c) rests1 new → Names program (at_of w rests) (state_of old streams) (outs.Wild c) (trail_in (stack rests1))
+ran_met program w rests old c rests1 new streams h = passes_lead program (at_of w rests) h.along h.middle old streams (cause_of c) (trail_in (stack rests1)) h.passes (was_met program h.middle old c rests1 new streams h.comes)
 
-leads_from : (program : List Placed) (from from1 : machine.At) (start start1 : outcomes.State) (moved : Moved) (new : Run) (after : Content) → ((c : met.Cause) (calls : List machine.OpenCall) → ComesTo program from1 start1 c calls → ComesTo program from start c calls) → Leads program from1 start1 moved new after → Leads program from start moved new after
-leads_from program from from1 start start1 On new after f h = λ c calls g. f c calls (h c calls g)
+leads_from : (program : List Placed) (from from1 : machine.At) (start start1 : outcomes.State) (moved : Moved) (new : Run) (after : Content) → ((c : met.Cause) (trail : List Standing) → ComesTo program from1 start1 c trail → ComesTo program from start c trail) → Leads program from1 start1 moved new after → Leads program from start moved new after
+leads_from program from from1 start start1 On new after f h = λ c trail g. f c trail (h c trail g)
 leads_from program from from1 start start1 (Over (outs.Ended e)) new after f h = tt
 leads_from program from from1 start start1 (Over outs.Going) new after f h = tt
-leads_from program from from1 start start1 (Over (outs.Wild c)) new after f h = f (cause_of c) (calls_in (stack new.stacks.rests.items)) h
+leads_from program from from1 start start1 (Over (outs.Wild c)) new after f h = f (cause_of c) (trail_in (stack new.stacks.rests.items)) h
 leads_from program from from1 start start1 (Over outs.Device) new after f h = tt
 
 pub tracks_on : (table : List Callable) (w : Work) (start old new : Run) (before middle after : Content) (moved : Moved) → Tracks table w start before On old middle → Tracks table (next_of old) old middle moved new after → Tracks table w start before moved new after
@@ -209,7 +209,7 @@ on_advances table w old new known before failures next p s is = record {
   tracks = λ k program t c calls g. let r = s program t in
       passes_lead program (at_of w old.stacks.rests.items) r.along r.middle old.state before c calls r.passes
       (one_more program r.middle (at_of next new.stacks.rests.items) (state_of old.state before) (state_of new.state before) c calls (r.comes.1 before)
-      (subst (λ x. ComesTo program (at_of x new.stacks.rests.items) (state_of new.state before) c calls) is g));
+      (subst (λ x. ComesTo program (at_of x new.stacks.rests.items) (state_of new.state before) c trail) is g));
   lessened = let r = s p.0 p.1 in
       let k = on_lessens p.0 r.middle old.state next new.stacks.rests.items new.state r.comes in
       let more = passes_lessen p.0 (at_of w old.stacks.rests.items) r.along r.middle old.state r.passes in
@@ -221,7 +221,7 @@ on_advances table w old new known before failures next p s is = record {
 
 pub over_advances : (table : List Callable) (w : Work) (old new : Run) (known : Type 0) (before : Content) (failures : ℕ) (o : outcome.Outcome) → (o ≡ outs.Device → ⊥)
     → ((program : List Placed) → IsTable program table → (n : ℕ) → old.state.turns < n → IsResult (left_of program n w old.stacks.rests.items old.state before) o before)
-    → ((program : List Placed) → IsTable program table → Names program (at_of w old.stacks.rests.items) (state_of old.state before) o (calls_in (stack new.stacks.rests.items)))
+    → ((program : List Placed) → IsTable program table → Names program (at_of w old.stacks.rests.items) (state_of old.state before) o (trail_in (stack new.stacks.rests.items)))
     → Advanced table w old new known known before before failures failures (Over o)
 over_advances table w old new known before failures o other s m = record {
   keeps = λ k program t n l. s program t n l;
@@ -272,7 +272,7 @@ served_advances table w old new q call stacks mid known tells before after failu
           ∙ served_wild program n r.middle old.state q call c stacks.rests.items mid new.state before after r.comes (x.exact k) l;
       tracks = λ k program t. let r = s program t in
           subst (λ calls. Names program (at_of w old.stacks.rests.items) (state_of old.state before) (outs.Wild c) calls) (sym m.1)
-          (passes_lead program (at_of w old.stacks.rests.items) r.along r.middle old.state before (cause_of c) (open_call call ∷ calls_in (stack stacks.rests.items)) r.passes
+          (passes_lead program (at_of w old.stacks.rests.items) r.along r.middle old.state before (cause_of c) (begun call.routine call.frame ∷ trail_in (stack stacks.rests.items)) r.passes
           (served_met program r.middle old.state q call c stacks.rests.items mid new.state before after r.comes (x.exact k) x.blamed));
       lessened = tt;
       kept = x.kept;

@@ -17,14 +17,14 @@ use Rattle.bc_interpret.specs.Results.{IsResult, NamesBy}
 abbrev pub map_of : Image → Map
 map_of image = record { places = map (λ (place : SegmentPlace). label_address place.labels) (drop 1 image.places); stack_base = image.stack_base }
 
--- from the start of the sections' run, the machine reaches a step that is wild with the reported cause; the trail shows the calls that are
--- open during it
+-- from the start of the sections' run, the machine reaches a step that is wild with the reported cause, and the reported trail is that of
+-- the step
 abbrev pub NamesFrom : List Core → Map → Content → (turns : ℕ) → Reported → Type 0
 NamesFrom cores map streams turns i =
     let program = placed cores map.places in NamesBy program (start_at map.stack_base) (start_state program streams turns) i
 
 -- The promise. If the content of the streams is known, it stays known, the outcome and the output are those of the sections' meaning, and
--- a wild run meets the reported cause, in the calls that the trail shows. A device failure is reported only if the count of failures rose or
+-- a wild run meets the reported cause, at the reported trail. A device failure is reported only if the count of failures rose or
 -- is at its greatest value, and that count never falls.
 pub record Interpreted (cores : List Core) (image : Image) (turns : ℕ)
     (known tells : Type 0) (before after : Content) (failures risen : ℕ) (i : Reported) : Type 0 where

@@ -11,7 +11,7 @@ use Rattle.bc_interpret_defs.specs.Resume.{meant}
 use Rattle.bc_interpret_defs.specs.Weight.{weight}
 use Rattle.bc_interpret_defs.specs.Causes.{Cause}
 use Rattle.bc_interpret_defs.specs.Meeting.{ComesTo}
-use Rattle.bc_interpret_defs.specs.OpenCalls.{calls_in}
+use Rattle.bc_interpret_defs.specs.Trails.{Standing, trail_in, begun}
 use Rattle.bc_interpret_defs.specs.Running.{start_at, start_state}
 use Rattle.bc_interpret_steps.specs.declared.forms.Work.{Work}
 use Rattle.bc_interpret_steps.specs.declared.forms.Work.TheVariants as works
@@ -77,7 +77,7 @@ StepsTo table old new =
 abbrev pub MovesBy : Served → OpenCall → Moved → (after : Stacks) → (before : Stacks) → Type 0
 MovesBy (forms.Number v) call moved after before = (moved ≡ On) × (after ≡ record before { next = progress.On (works.Number v) })
 MovesBy (forms.Wild c) call moved after before =
-    (moved ≡ Over (outs.Wild c)) × (calls_in (stack after.rests.items) ≡ open_call call ∷ calls_in (stack before.rests.items))
+    (moved ≡ Over (outs.Wild c)) × (trail_in (stack after.rests.items) ≡ begun call.routine call.frame ∷ trail_in (stack before.rests.items))
 MovesBy forms.Device call moved after before = moved ≡ Over outs.Device
 
 -- this is the result of the remaining run, or the one with which the run is over
@@ -90,13 +90,13 @@ Keeps table w old before moved new after =
     (program : List Placed) → IsTable program table → (n : ℕ) → old.state.turns < n
     → Comes program n (left_of program n w old.stacks.rests.items old.state before) moved new after
 
--- a wild step that the machine reaches from the next work, it also reaches from here; if the run is over, it reaches the reported one, in
--- the calls of the continuations that are left
+-- a wild step that the machine reaches from the next work, it also reaches from here; if the run is over, it reaches the reported one, and
+-- its trail is that of the continuations that are left
 abbrev pub Leads : List Placed → machine.At → outcomes.State → Moved → Run → Content → Type 0
 Leads program from start On run streams =
-    (cause : Cause) (calls : List machine.OpenCall)
-    → ComesTo program (at_of (next_of run) run.stacks.rests.items) (state_of run.state streams) cause calls → ComesTo program from start cause calls
-Leads program from start (Over o) run streams = Names program from start o (calls_in (stack run.stacks.rests.items))
+    (cause : Cause) (trail : List Standing)
+    → ComesTo program (at_of (next_of run) run.stacks.rests.items) (state_of run.state streams) cause trail → ComesTo program from start cause trail
+Leads program from start (Over o) run streams = Names program from start o (trail_in (stack run.stacks.rests.items))
 
 abbrev pub Tracks : List Callable → Work → Run → Content → Moved → Run → Content → Type 0
 Tracks table w old before moved new after =
@@ -138,7 +138,7 @@ pub record Completed (table : List Callable) (w : Work) (old new : Run)
   pub means : known → (program : List Placed) → IsTable program table → (n : ℕ) → old.state.turns < n
       → IsResult (left_of program n w old.stacks.rests.items old.state before) outcome after
   pub names : known → (program : List Placed) → IsTable program table → Names program (at_of w old.stacks.rests.items) (state_of old.state before) outcome
-      (calls_in (stack new.stacks.rests.items))
+      (trail_in (stack new.stacks.rests.items))
   pub kept : known → tells
   pub failed : outcome ≡ outs.Device → Rose failures risen
   pub counted : failures ≤ risen

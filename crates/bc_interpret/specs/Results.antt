@@ -5,7 +5,8 @@ use Rattle.bc_machine_defs.specs.StreamCalls.{output_of}
 use Rattle.bc_core.specs.Meaning.{Result, Ended, Going, Wild}
 use Rattle.bc_core.specs.Map.{Placed}
 use Rattle.bc_core.specs.Outcome.{State}
-use Rattle.bc_interpret_defs.specs.Machine.{OpenCall, At}
+use Rattle.bc_interpret_defs.specs.Machine.{At}
+use Rattle.bc_interpret_defs.specs.Trails.{Standing}
 use Rattle.bc_interpret_defs.specs.Meeting.{ComesTo}
 use Rattle.bc_interpret_pure.specs.Causes.{cause_of}
 use Rattle.bc_interpret_steps.specs.Endings.{ending}
@@ -14,14 +15,14 @@ use Rattle.bc_interpret.specs.declared.run.Interpreted.{Interpreted}
 use Rattle.bc_interpret.specs.declared.run.Outcome.{Outcome}
 use Rattle.bc_interpret.specs.declared.run.Outcome.TheVariants as outcomes
 
--- if a wild access is reported, the machine reaches from here a step that is wild with that cause, during which these calls are open
-abbrev pub Names : List Placed → At → State → Outcome → List OpenCall → Type 0
-Names program from start (outcomes.Wild cause) calls = ComesTo program from start (cause_of cause) calls
-Names program from start outcome calls = Unit {0}
+-- if a wild access is reported, the machine reaches from here a step that is wild with that cause, and this is its trail
+abbrev pub Names : List Placed → At → State → Outcome → List Standing → Type 0
+Names program from start (outcomes.Wild cause) trail = ComesTo program from start (cause_of cause) trail
+Names program from start outcome trail = Unit {0}
 
--- the same of the calls that the trail shows
+-- the same of the trail that is reported
 abbrev pub NamesBy : List Placed → At → State → Interpreted → Type 0
-NamesBy program from start i = (calls : List OpenCall) × Names program from start i.outcome calls × Shows i.trail calls
+NamesBy program from start i = (trail : List Standing) × Names program from start i.outcome trail × Shows i.trail trail
 
 -- the reported outcome, with the output that the streams hold, is this result; after a device failure nothing is said
 abbrev pub IsResult : Result → Outcome → Content → Type 0

@@ -2,9 +2,6 @@
 //! two loops because each has its own measure: the weight decreases within a stretch, and the remaining turns from stretch to stretch.
 
 ghost use Rattle.std.specs.Prelude.{◌≡◌, IfOk};
-ghost use Rattle.bc_interpret_defs.specs.OpenCalls.{calls_in};
-ghost use Rattle.bc_interpret_steps.specs.Code.{stack};
-ghost use Rattle.bc_interpret_trace.specs.Shown.{Shows};
 ghost use Rattle.bc_interpret.specs.Moving.{HasProgram, StepsTo, MovesBy, next_of, AdvancedOn, StretchedOn, CompletedOn};
 
 use crate::observer::Observer;
@@ -13,10 +10,9 @@ use bc_interpret_pure::Cause;
 use bc_interpret_steps::{
     Callable, Ending, OpenCall, Progress, Stacks, State, Work, keep_open, step,
 };
-use bc_interpret_trace::{Trace, Trail};
+use bc_interpret_trace::Trail;
 use bc_machine::Streams;
 use bc_word::Memory;
-use std::alloc::Global;
 
 /// The outcome of a run.
 #[derive(Clone, Copy, Debug, PartialEq, Eq)]
@@ -40,8 +36,6 @@ pub(crate) struct Run<'c> {
     pub stacks: Stacks<'c>,
     /// A buffer for the names of streams.
     pub name: Vec<u8>,
-    /// The branches that the run is in.
-    pub trace: Trace<'c>,
 }
 
 /// The outcome of a run, and where it was then.
@@ -49,19 +43,8 @@ pub(crate) struct Run<'c> {
 pub struct Interpreted {
     /// The outcome.
     pub outcome: Outcome,
-    /// Where the run was. If it is wild, these are the calls that are open then; of the place in each of them no contract speaks.
+    /// Where the run was. If it is wild, these are the calls that are open at the wild step, each with the run's position in it.
     pub trail: Trail,
-}
-
-impl Run<'_> {
-    /// Where the run is.
-    ///
-    /// `Memory` if an allocation fails.
-    pub(crate) fn trail(&self, alloc: Global) -> Result<Trail, Memory>
-        ensures { IfOk result (λ trail. Shows trail (calls_in (stack self.now.stacks.rests.items))) }
-    {
-        self.trace.trail(alloc, self.stacks.rests.as_slice())
-    }
 }
 
 /// Whether a run goes on.
@@ -124,7 +107,6 @@ fn seen_step<'c, O: Observer>(
     ensures { IfOk result (λ unit. StepsTo table.now run.old run.new) }
 {
     see_before(run, observer)?;
-    run.trace.follow(&run.stacks)?;
     step(table, &mut run.stacks, &mut run.state)?;
     see_after(run, observer)?;
     Ok(())

@@ -17,7 +17,7 @@ use bc_core::Core;
 use bc_interpret_pure::Room;
 use bc_interpret_steps::{Called, NumberRest, Progress, Rest, Section, Stacks, State, Work, push};
 use bc_interpret_store::Store;
-use bc_interpret_trace::Trace;
+use bc_interpret_trace::trail_in;
 use bc_machine::{Image, Streams};
 use bc_word::Memory;
 use std::alloc::Global;
@@ -46,7 +46,6 @@ fn run_over<'c>(alloc: Global, store: Store, turns: u64) -> Run<'c>
             arguments: Vec::new(alloc),
         },
         name: Vec::new(alloc),
-        trace: Trace::new(alloc),
     }
 }
 
@@ -81,7 +80,7 @@ pub fn observe<S: Streams, O: Observer>(
     )?;
     push(Rest::Number(NumberRest::Loads), &mut run.stacks.rests)?;
     let outcome = to_end(table.as_slice(), &mut run, streams, observer)?;
-    let trail = run.trail(alloc)?;
+    let trail = trail_in(alloc, run.stacks.rests.as_slice())?;
     observer.over(&mut run.state.store);
     Ok(Interpreted { outcome, trail })
 }
@@ -120,7 +119,7 @@ pub fn interpret_observed<S: Streams, O: Observer>(
 ///
 /// If the content of the streams is known, the outcome and the output are what the sections mean, unless a device failed; and if the run
 /// is wild, the machine of `bc_interpret_defs` reaches a step that is wild with the reported cause, and the trail has the calls that are
-/// open during that step. `Device` comes only if the streams' count of failures rose or is at its greatest value.
+/// open during that step, each with the run's position in it. `Device` comes only if the streams' count of failures rose or is at its greatest value.
 ///
 /// `Memory` if an allocation fails.
 pub fn interpret<S: Streams>(

@@ -47,31 +47,29 @@ for_kept call E start limit by b s rs st =
 
 -- the first command of a list, and then the remaining items
 first_by : (call : Calling) (E : Spot) (v a : Exp) (is : Items) (s : ℕ) (rs : List Rest) (st : State) (t : Bool) → (has_call v || has_call a) ≡ t
-    → ((st1 : State) → meant call (record { work = Listing E is s Beginning; rests = rs }) st1 ≡ followed (list_step E is s Beginning rs st1) (meant call))
-    → meant call (record { work = Listing E (command (commands.Assign v a) is) s Beginning; rests = rs }) st ≡ followed (by_number t (go (Perform E (commands.Assign v a) s) (machine.Follows E is s ∷ rs)) (then_do (assign (quiet E) v a E.frame s) (λ u. list_step E is s Beginning rs)) st) (meant call)
-first_by call E v a is s rs st true h k =
+    → meant call (record { work = Listing E (command (commands.Assign v a) is) s Beginning; rests = rs }) st ≡ followed (by_number t (go (Perform E (commands.Assign v a) s) (machine.Follows E is s ∷ rs)) (then_do (assign (quiet E) v a E.frame s) (λ u. go (Listing E is s Beginning) rs)) st) (meant call)
+first_by call E v a is s rs st true h =
     let C = context_at call E in
     join3 (perform C (commands.Assign v a) E.frame s st) (onward (perform_items C is E.frame s Beginning)) out (resume call rs) out (resume call (machine.Follows E is s ∷ rs)) (λ x st1. refl)
-first_by call E v a is s rs st false h k =
+first_by call E v a is s rs st false h =
     let C = context_at call E in
     let q = assign (quiet E) v a E.frame s in
     let following = onward (perform_items C is E.frame s Beginning) in
-    let next : Unit {0} → Step = λ u. list_step E is s Beginning rs in
+    let next : Unit {0} → Step = λ u. go (Listing E is s Beginning) rs in
     subst (λ z. followed (followed (followed (followed (z st) past) following) out) (resume call rs) ≡ followed (followed (q st) next) (meant call))
     (sym (quiet_assign E.address call (λ r1 vs f. wild) (valofs_from E.address call E.first E.valofs) (λ n p s1. wild) v a h E.frame s))
-    (join4 (q st) past following out (resume call rs) next (meant call) (λ u st1. k st1))
+    (join4 (q st) past following out (resume call rs) next (meant call) (λ u st1. refl))
 
 first_kept : (call : Calling) (E : Spot) (c : Command) (is : Items) (s : ℕ) (rs : List Rest) (st : State)
-    → ((st1 : State) → meant call (record { work = Listing E is s Beginning; rests = rs }) st1 ≡ followed (list_step E is s Beginning rs st1) (meant call))
-    → meant call (record { work = Listing E (command c is) s Beginning; rests = rs }) st ≡ followed (first_command E c is s rs (list_step E is s Beginning rs) st) (meant call)
-first_kept call E (commands.Assign v a) is s rs st k = first_by call E v a is s rs st (has_call v || has_call a) refl k
-first_kept call E c is s rs st k =
+    → meant call (record { work = Listing E (command c is) s Beginning; rests = rs }) st ≡ followed (first_command E c is s rs st) (meant call)
+first_kept call E (commands.Assign v a) is s rs st = first_by call E v a is s rs st (has_call v || has_call a) refl
+first_kept call E c is s rs st =
     let C = context_at call E in
     join3 (perform C c E.frame s st) (onward (perform_items C is E.frame s Beginning)) out (resume call rs) out (resume call (machine.Follows E is s ∷ rs)) (λ x st1. refl)
 
 pub listing_kept : (program : List Placed) (call : Calling) (E : Spot) (is : Items) (s : ℕ) (at : Entry) (rs : List Rest) (st : State) → Kept program call (Listing E is s at) rs st
 listing_kept program call E no_item s at rs st = refl
-listing_kept program call E (command c is) s Beginning rs st = first_kept call E c is s rs st (λ st1. listing_kept program call E is s Beginning rs st1)
+listing_kept program call E (command c is) s Beginning rs st = first_kept call E c is s rs st
 listing_kept program call E (command c is) s (AtCase v) rs st = listing_kept program call E is s (AtCase v) rs st
 listing_kept program call E (command c is) s AtDefault rs st = listing_kept program call E is s AtDefault rs st
 listing_kept program call E (command c is) s (AtLabel l) rs st = listing_kept program call E is s (AtLabel l) rs st
@@ -85,8 +83,7 @@ declare_kept program call t E [] is s level rs st =
     let f = list_round C is E.frame level in
     from_round call rs f Beginning st _ (list_again C (context_alike call t E) is E.frame level Beginning st)
     (join4 (perform_items C is E.frame level Beginning st) (after_list (has_label is)) (next_round (repeated f)) out (resume call rs)
-    out (resume call (machine.Listed E is level ∷ rs)) (λ x st1. refl)
-    ∙ listing_kept program call E is level Beginning (machine.Listed E is level ∷ rs) st)
+    out (resume call (machine.Listed E is level ∷ rs)) (λ x st1. refl))
 declare_kept program call t E (vs ∷ ds) is s level rs st =
     let C = context_at call E in
     let n = cells_of_all vs in

@@ -33,9 +33,9 @@ sides (Going streams) second f g h q k st e = refl
 sides Wild second f g h q k st e = refl
 
 -- the meaning of a VALOF: the body of the first one, or a later one
-valof_kept : (call : Calling) (address : ℕ → ℕ) (p first : ℕ) (v : commands.Valof) (vs : List commands.Valof) (n s : ℕ) (rs : List Rest) (st : State) (t : Bool) → followed (followed (valofs_from address call (first + 1) vs n p s st) number) (resume call rs) ≡ followed (to_valof address p (first + 1) vs n s rs st) (meant call) → followed (followed (by_number t (then_do (perform_block (context address call (valofs_from address call (first + 1) vs)) v.body p s) valof_value) (valofs_from address call (first + 1) vs n p s) st) number) (resume call rs) ≡ followed (by_number t (go (machine.Enter (record { address = address; first = first + 1; valofs = vs; frame = p }) v.body s) (machine.Results ∷ rs)) (to_valof address p (first + 1) vs n s rs) st) (meant call)
+valof_kept : (call : Calling) (address : ℕ → ℕ) (p first : ℕ) (v : commands.Valof) (vs : List commands.Valof) (n s : ℕ) (rs : List Rest) (st : State) (t : Bool) → followed (followed (valofs_from address call (first + 1) vs n p s st) number) (resume call rs) ≡ followed (to_valof address p (first + 1) vs n s rs st) (meant call) → followed (followed (by_number t (then_do (perform_block (context address call (valofs_from address call (first + 1) vs)) v.body p s) valof_value) (valofs_from address call (first + 1) vs n p s) st) number) (resume call rs) ≡ followed (by_number t (go (machine.Enter (record { address = address; first = first + 1; valofs = vs; frame = p }) v.body s) (machine.Results n ∷ rs)) (to_valof address p (first + 1) vs n s rs) st) (meant call)
 valof_kept call address p first v vs n s rs st true h =
-    join3 (perform_block (context address call (valofs_from address call (first + 1) vs)) v.body p s st) valof_value number (resume call rs) out (resume call (machine.Results ∷ rs)) (λ x st1. refl)
+    join3 (perform_block (context address call (valofs_from address call (first + 1) vs)) v.body p s st) valof_value number (resume call rs) out (resume call (machine.Results n ∷ rs)) (λ x st1. refl)
 valof_kept call address p first v vs n s rs st false h = h
 
 to_valof_kept : (call : Calling) (address : ℕ → ℕ) (p first : ℕ) (vs : List commands.Valof) (n s : ℕ) (rs : List Rest) (st : State) → followed (followed (valofs_from address call first vs n p s st) number) (resume call rs) ≡ followed (to_valof address p first vs n s rs st) (meant call)

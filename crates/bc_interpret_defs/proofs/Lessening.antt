@@ -147,7 +147,7 @@ less_turn r m st h = counted st.turns where
 to_valof_less : (address : ℕ → ℕ) (p first : ℕ) (vs : List commands.Valof) (n s : ℕ) (rs : List Rest) (st : State) → Lessens st.turns (weight_of_valof first vs n + weight_of_rests rs + 0) (to_valof address p first vs n s rs st)
 to_valof_less address p first [] n s rs st = tt
 to_valof_less address p first (v ∷ vs) n s rs st = found (n == first) (to_valof_less address p (first + 1) vs n s rs st) where
-  found : (t : Bool) → Lessens st.turns (weight_of_valof (first + 1) vs n + weight_of_rests rs + 0) (to_valof address p (first + 1) vs n s rs st) → Lessens st.turns (by_test t (weight_of_block (weight_of_valof (first + 1) vs) v.body + 2) (weight_of_valof (first + 1) vs n) + weight_of_rests rs + 0) (by_test t (go (Enter (record { address = address; first = first + 1; valofs = vs; frame = p }) v.body s) (machine.Results ∷ rs)) (to_valof address p (first + 1) vs n s rs) st)
+  found : (t : Bool) → Lessens st.turns (weight_of_valof (first + 1) vs n + weight_of_rests rs + 0) (to_valof address p (first + 1) vs n s rs st) → Lessens st.turns (by_test t (weight_of_block (weight_of_valof (first + 1) vs) v.body + 2) (weight_of_valof (first + 1) vs n) + weight_of_rests rs + 0) (by_test t (go (Enter (record { address = address; first = first + 1; valofs = vs; frame = p }) v.body s) (machine.Results n ∷ rs)) (to_valof address p (first + 1) vs n s rs) st)
   found true h = (omega arith, λ le. omega arith)
   found false h = h
 
@@ -264,22 +264,20 @@ store_less program E v a s rs st = store_by E v a s rs st (has_call v || has_cal
 
 -- the first command of a list, and then the remaining items
 first_less_by : (E : Spot) (v a : Exp) (is : Items) (s : ℕ) (rs : List Rest) (st : State) (t : Bool) → (has_call v || has_call a) ≡ t
-    → ((st1 : State) → Lessens st1.turns (weight (Listing E is s Beginning) rs) (machine.list_step E is s Beginning rs st1))
-    → Lessens st.turns (weight (Listing E (command (commands.Assign v a) is) s Beginning) rs) (by_test t (go (Perform E (commands.Assign v a) s) (machine.Follows E is s ∷ rs)) (then_do (assign (quiet E) v a E.frame s) (λ u. machine.list_step E is s Beginning rs)) st)
-first_less_by E v a is s rs st true h k = (omega arith, λ le. omega arith)
-first_less_by E v a is s rs st false h k =
-    after_still (assign (quiet E) v a E.frame s) (λ u. machine.list_step E is s Beginning rs) (weight (Listing E (command (commands.Assign v a) is) s Beginning) rs) st (still_assign E v a s h)
-    (λ u st1. less_more st1.turns (weight (Listing E is s Beginning) rs) (weight (Listing E (command (commands.Assign v a) is) s Beginning) rs) (machine.list_step E is s Beginning rs st1) (omega arith) (k st1))
+    → Lessens st.turns (weight (Listing E (command (commands.Assign v a) is) s Beginning) rs) (by_test t (go (Perform E (commands.Assign v a) s) (machine.Follows E is s ∷ rs)) (then_do (assign (quiet E) v a E.frame s) (λ u. go (Listing E is s Beginning) rs)) st)
+first_less_by E v a is s rs st true h = (omega arith, λ le. omega arith)
+first_less_by E v a is s rs st false h =
+    after_still (assign (quiet E) v a E.frame s) (λ u. go (Listing E is s Beginning) rs) (weight (Listing E (command (commands.Assign v a) is) s Beginning) rs) st (still_assign E v a s h)
+    (λ u st1. (omega arith, λ le. omega arith))
 
 first_less : (E : Spot) (c : Command) (is : Items) (s : ℕ) (rs : List Rest) (st : State)
-    → ((st1 : State) → Lessens st1.turns (weight (Listing E is s Beginning) rs) (machine.list_step E is s Beginning rs st1))
-    → Lessens st.turns (weight (Listing E (command c is) s Beginning) rs) (machine.first_command E c is s rs (machine.list_step E is s Beginning rs) st)
-first_less E (commands.Assign v a) is s rs st k = first_less_by E v a is s rs st (has_call v || has_call a) refl k
-first_less E c is s rs st k = (omega arith, λ le. omega arith)
+    → Lessens st.turns (weight (Listing E (command c is) s Beginning) rs) (machine.first_command E c is s rs st)
+first_less E (commands.Assign v a) is s rs st = first_less_by E v a is s rs st (has_call v || has_call a) refl
+first_less E c is s rs st = (omega arith, λ le. omega arith)
 
 listing_less : (program : List Placed) (E : Spot) (is : Items) (s : ℕ) (at : Entry) (rs : List Rest) (st : State) → Less program (Listing E is s at) rs st
 listing_less program E no_item s at rs st = (omega arith, λ le. omega arith)
-listing_less program E (command c is) s Beginning rs st = first_less E c is s rs st (λ st1. listing_less program E is s Beginning rs st1)
+listing_less program E (command c is) s Beginning rs st = first_less E c is s rs st
 listing_less program E (command c is) s (AtCase v) rs st =
     less_more st.turns (weight (Listing E is s (AtCase v)) rs) (weight (Listing E (command c is) s (AtCase v)) rs) (machine.list_step E is s (AtCase v) rs st) (omega arith) (listing_less program E is s (AtCase v) rs st)
 listing_less program E (command c is) s AtDefault rs st =
@@ -294,9 +292,7 @@ listing_less program E (label l is) s at rs st =
     less_more st.turns (weight (Listing E is s at) rs) (weight (Listing E (label l is) s at) rs) (machine.list_step E is s (met (meets_label l at) at) rs st) (omega arith) (listing_less program E is s (met (meets_label l at) at) rs st)
 
 declare_less : (program : List Placed) (E : Spot) (ds : List (List Variable)) (is : Items) (s level : ℕ) (rs : List Rest) (st : State) → Less program (Declare E ds is s level) rs st
-declare_less program E [] is s level rs st =
-    let within = machine.Listed E is level ∷ rs in
-    less_more st.turns (weight (Listing E is level Beginning) within) (weight (Declare E [] is s level) rs) (machine.list_step E is level Beginning within st) (omega arith) (listing_less program E is level Beginning within st)
+declare_less program E [] is s level rs st = (omega arith, λ le. omega arith)
 declare_less program E (vs ∷ ds) is s level rs st = (omega arith, λ le. omega arith)
 
 enter_less : (program : List Placed) (E : Spot) (b : Block) (s : ℕ) (rs : List Rest) (st : State) → Less program (Enter E b s) rs st
@@ -403,9 +399,7 @@ follow_less E is s (Resulted v) rs st = (omega arith, λ le. omega arith)
 follow_less E is s (Jumped k) rs st = (omega arith, λ le. omega arith)
 
 jump_less : (program : List Placed) (E : Spot) (is : Items) (s l : ℕ) (t : Bool) (rs : List Rest) (st : State) → Lessens st.turns (weight (Give (Left (Jumped l))) (machine.Listed E is s ∷ rs)) (machine.jump E is s l t rs st)
-jump_less program E is s l true rs st =
-    let within = machine.Listed E is s ∷ rs in
-    less_more st.turns (weight (Listing E is s (AtLabel l)) within) (weight (Give (Left (Jumped l))) within) (machine.list_step E is s (AtLabel l) within st) (omega arith) (listing_less program E is s (AtLabel l) within st)
+jump_less program E is s l true rs st = (omega arith, λ le. omega arith)
 jump_less program E is s l false rs st = (omega arith, λ le. omega arith)
 
 listed_less : (program : List Placed) (E : Spot) (is : Items) (s : ℕ) (x : Exit) (rs : List Rest) (st : State) → Lessens st.turns (weight (Give (Left x)) (machine.Listed E is s ∷ rs)) (machine.after_listing E is s x rs st)
@@ -492,10 +486,10 @@ next_less program machine.Returns (Left x) rs st =
     let h = exit_shrinks x machine.Returns rs in
     after_still (routine_value x) (λ w. give (Number w) rs) _ st (still_routine x) (λ w st1. (omega arith, λ le. omega arith))
 next_less program machine.Returns a rs st = tt
-next_less program machine.Results (Left x) rs st =
-    let h = exit_shrinks x machine.Results rs in
+next_less program (machine.Results k) (Left x) rs st =
+    let h = exit_shrinks x (machine.Results k) rs in
     after_still (valof_value x) (λ w. give (Number w) rs) _ st (still_valof x) (λ w st1. (omega arith, λ le. omega arith))
-next_less program machine.Results a rs st = tt
+next_less program (machine.Results k) a rs st = tt
 next_less program machine.Drops (Number v) rs st = (omega arith, λ le. omega arith)
 next_less program machine.Drops a rs st = tt
 next_less program machine.Passes Nothing rs st = (omega arith, λ le. omega arith)
@@ -504,9 +498,11 @@ next_less program (machine.Ifs E sense b s) (Verdict t) rs st =
     let m = weight (Give (Verdict t)) (machine.Ifs E sense b s ∷ rs) in
     less_choose (agrees sense t) (machine.enter E b s rs) (give (Left Past) rs) st.turns m st (entered_less program E b s m rs st (omega arith)) (omega arith, λ le. omega arith)
 next_less program (machine.Ifs E sense b s) a rs st = tt
-next_less program (machine.Chooses E b c s) (Verdict true) rs st = entered_less program E b s _ rs st (omega arith)
+next_less program (machine.Chooses E b c s) (Verdict true) rs st = entered_less program E b s _ (machine.Skips c ∷ rs) st (omega arith)
 next_less program (machine.Chooses E b c s) (Verdict false) rs st = entered_less program E c s _ rs st (omega arith)
 next_less program (machine.Chooses E b c s) a rs st = tt
+next_less program (machine.Skips c) (Left x) rs st = let h = exit_shrinks x (machine.Skips c) rs in (omega arith, λ le. omega arith)
+next_less program (machine.Skips c) a rs st = tt
 next_less program (machine.Whiles E sense e b s) (Verdict t) rs st =
     let m = weight (Give (Verdict t)) (machine.Whiles E sense e b s ∷ rs) in
     let within = machine.WhileBody E sense e b s ∷ rs in

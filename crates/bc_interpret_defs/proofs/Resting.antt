@@ -98,8 +98,7 @@ jump_kept program call t E is s l rs st true =
     let f = list_round C is E.frame s in
     from_round call rs f (AtLabel l) st _ (list_again C (context_alike call t E) is E.frame s (AtLabel l) st)
     (join4 (perform_items C is E.frame s (AtLabel l) st) (after_list (has_label is)) (next_round (repeated f)) out (resume call rs)
-    out (resume call (machine.Listed E is s ∷ rs)) (λ x st1. refl)
-    ∙ listing_kept program call E is s (AtLabel l) (machine.Listed E is s ∷ rs) st)
+    out (resume call (machine.Listed E is s ∷ rs)) (λ x st1. refl))
 jump_kept program call t E is s l rs st false = refl
 
 switch_kept : (call : Calling) → AlikeCall 0 call call → (E : Spot) (is : Items) (s : ℕ) (at : Entry) (rs : List Rest) (st : State) → followed (followed (followed (listed (has_label is) (perform_items (context_at call E) is E.frame s) at st) after_cases) out) (resume call rs) ≡ meant call (record { work = Listing E is s at; rests = machine.Listed E is s ∷ machine.Cases ∷ rs }) st
@@ -180,9 +179,9 @@ next_kept program n (machine.Closes o m b) a rs st l = refl
 next_kept program n machine.Returns (Left x) rs st l =
     join2 (routine_value x st) number (resume (calls program n) rs) (λ w. give (Number w) rs) (meant (calls program n)) (λ v st1. refl)
 next_kept program n machine.Returns a rs st l = refl
-next_kept program n machine.Results (Left x) rs st l =
+next_kept program n (machine.Results k) (Left x) rs st l =
     join2 (valof_value x st) number (resume (calls program n) rs) (λ w. give (Number w) rs) (meant (calls program n)) (λ v st1. refl)
-next_kept program n machine.Results a rs st l = refl
+next_kept program n (machine.Results k) a rs st l = refl
 next_kept program n machine.Drops (Number v) rs st l = refl
 next_kept program n machine.Drops a rs st l = refl
 next_kept program n machine.Passes Nothing rs st l = refl
@@ -191,9 +190,14 @@ next_kept program n (machine.Ifs E sense b s) (Verdict t) rs st l =
     choose2 (agrees sense t) st (perform_block (context_at (calls program n) E) b E.frame s) (Done Past) out (enter E b s rs) (give (Left Past) rs) (resume (calls program n) rs) (meant (calls program n))
     (enter_kept program (calls program n) (alike_calls program 0 n n (omega arith) (omega arith)) E b s rs st) refl
 next_kept program n (machine.Ifs E sense b s) a rs st l = refl
-next_kept program n (machine.Chooses E b c s) (Verdict true) rs st l = enter_kept program (calls program n) (alike_calls program 0 n n (omega arith) (omega arith)) E b s rs st
+next_kept program n (machine.Chooses E b c s) (Verdict true) rs st l =
+    let call = calls program n in
+    join2 (perform_block (context_at call E) b E.frame s st) out (resume call rs) out (resume call (machine.Skips c ∷ rs)) (λ x st1. refl)
+    ∙ enter_kept program call (alike_calls program 0 n n (omega arith) (omega arith)) E b s (machine.Skips c ∷ rs) st
 next_kept program n (machine.Chooses E b c s) (Verdict false) rs st l = enter_kept program (calls program n) (alike_calls program 0 n n (omega arith) (omega arith)) E c s rs st
 next_kept program n (machine.Chooses E b c s) a rs st l = refl
+next_kept program n (machine.Skips c) (Left x) rs st l = refl
+next_kept program n (machine.Skips c) a rs st l = refl
 next_kept program n (machine.Whiles E sense e b s) (Verdict t) rs st l =
     let call = calls program n in
     let C = context_at call E in

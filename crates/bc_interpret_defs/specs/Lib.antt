@@ -3,8 +3,9 @@ pub mod Causes
 pub mod Machine
 pub mod Meeting
 pub mod MeetingExamples
-pub mod OpenCalls
-pub mod OpenCallExamples
+pub mod Called
+pub mod Trails
+pub mod TrailExamples
 pub mod Quiet
 pub mod Resume
 pub mod Running

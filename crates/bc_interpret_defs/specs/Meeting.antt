@@ -8,8 +8,9 @@ use Rattle.bc_core.specs.Primitive.{Primitive, primitive_frame, primitive_work}
 use Rattle.bc_core.specs.Store.{Cell, Set, cell_at}
 use Rattle.bc_core.specs.Store as cells
 use Rattle.bc_interpret_defs.specs.Causes.{Cause, Unset, Dead, NoCell, NotRoutine, FrameTooLarge, Malformed, StandsIn}
-use Rattle.bc_interpret_defs.specs.Machine.{Work, Rest, OpenCall, At, step}
-use Rattle.bc_interpret_defs.specs.OpenCalls.{IsCall, AreOpen}
+use Rattle.bc_interpret_defs.specs.Machine.{Work, Rest, At, step}
+use Rattle.bc_interpret_defs.specs.Called.{IsCall}
+use Rattle.bc_interpret_defs.specs.Trails.{Standing, IsTrail}
 
 -- a state has every word that these cells hold; it may have any others besides
 abbrev pub KeepsWords : List Cell → State → Type 0
@@ -86,12 +87,12 @@ abbrev pub after_steps : List Placed → ℕ → At → State → Outcome At
 after_steps program zero at st = Done at st
 after_steps program (suc k) at st = followed (step program at.work at.rests st) (after_steps program k)
 
--- after some number of steps from here, the next step is wild with this cause, and these calls are open during it
-pub record ComesTo (program : List Placed) (from : At) (start : State) (cause : Cause) (calls : List OpenCall) : Type 0 where
+-- after some number of steps from here, the next step is wild with this cause, and this is its trail
+pub record ComesTo (program : List Placed) (from : At) (start : State) (cause : Cause) (trail : List Standing) : Type 0 where
   pub steps : ℕ
   pub at : At
   pub state : State
   pub comes : after_steps program steps from start ≡ Done at state
   pub wild : step program at.work at.rests state ≡ Wild
   pub meets : Meets program at.work at.rests state.cells cause
-  pub during : AreOpen at.work at.rests calls
+  pub during : IsTrail at.work at.rests trail

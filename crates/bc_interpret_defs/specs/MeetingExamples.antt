@@ -10,7 +10,8 @@ use Rattle.bc_core.specs.Primitive.{Primitive, WriteByte, primitive_work}
 use Rattle.bc_core.specs.Meaning.{OfLibrary, callee, passed}
 use Rattle.bc_interpret_defs.specs.Causes.{Cause, Unset, Dead, NoCell, NotRoutine, FrameTooLarge, Malformed}
 use Rattle.bc_interpret_defs.specs.Machine.{Spot, Number, Work, Evaluate, Give, Loads, StoresAt, Calls, Closes, Nothing, At, give, step}
-use Rattle.bc_interpret_defs.specs.OpenCalls.{IsCall, AreOpen, Within}
+use Rattle.bc_interpret_defs.specs.Called.{IsCall}
+use Rattle.bc_interpret_defs.specs.Trails.{Within}
 use Rattle.bc_interpret_defs.specs.Meeting.{KeepsWords, HasNoWord, IsWildBy, Meets, ByCell, ByArgument, ByCall, ByForm, ComesTo}
 
 -- cell 0 is dead, cell 1 is unset, and cell 2 has a 7

@@ -100,13 +100,14 @@ rest call (machine.Stored w) a = on_number (λ v. then_do (write v w) nothing) a
 rest call (machine.StoresAt address) a = on_number (λ w. then_do (write address w) nothing) a
 rest call (machine.Closes over n address) a = shut n address (Done a)
 rest call machine.Returns a = on_exit (λ x. then_do (routine_value x) number) a
-rest call machine.Results a = on_exit (λ x. then_do (valof_value x) number) a
+rest call (machine.Results n) a = on_exit (λ x. then_do (valof_value x) number) a
 rest call machine.Drops a = on_number (λ v. out Past) a
 rest call machine.Passes a = on_nothing (out Past) a
 rest call (machine.Ifs E sense b s) a =
     on_verdict (λ t. then_do (choose (agrees sense t) (perform_block (context_at call E) b E.frame s) (Done Past)) out) a
 rest call (machine.Chooses E b c s) a =
     on_verdict (λ t. then_do (choose t (perform_block (context_at call E) b E.frame s) (perform_block (context_at call E) c E.frame s)) out) a
+rest call (machine.Skips that) a = on_exit out a
 rest call (machine.Whiles E sense e b s) a =
     on_verdict (λ t. around (while_round (context_at call E) sense e b E.frame s)
     (choose (agrees sense t) (then_do (perform_block (context_at call E) b E.frame s) (after_body back)) leave)) a

@@ -39,7 +39,7 @@ abbrev mutual
   weight_of_command V (commands.Call e) = weight_of V e + 2
   weight_of_command V (commands.Assign v a) = weight_of V v + weight_of V a + 5
   weight_of_command V (commands.If sense e b) = weight_of V e + weight_of_block V b + 4
-  weight_of_command V (commands.Test e b c) = weight_of V e + weight_of_block V b + weight_of_block V c + 4
+  weight_of_command V (commands.Test e b c) = weight_of V e + weight_of_block V b + weight_of_block V c + 5
   weight_of_command V (commands.While sense e b) = weight_of V e + weight_of_block V b + 5
   weight_of_command V (commands.Repeat b) = weight_of_block V b + 2
   weight_of_command V (commands.RepeatWhile b sense e) = weight_of_block V b + weight_of V e + 5
@@ -91,7 +91,7 @@ weight_of_rest (machine.Selects E x y s) = weight_of (valofs_at E) x + weight_of
 weight_of_rest (machine.Argues E vs es level f n s) = weight_of_args (valofs_at E) es + weight_of (valofs_at E) f + 3
 weight_of_rest (machine.Stores E a s) = weight_of (valofs_at E) a + 2
 weight_of_rest (machine.Ifs E sense b s) = weight_of_block (valofs_at E) b + 1
-weight_of_rest (machine.Chooses E b c s) = weight_of_block (valofs_at E) b + weight_of_block (valofs_at E) c + 1
+weight_of_rest (machine.Chooses E b c s) = weight_of_block (valofs_at E) b + weight_of_block (valofs_at E) c + 2
 weight_of_rest (machine.Whiles E sense e b s) = weight_of_block (valofs_at E) b + 2
 weight_of_rest (machine.RepeatWhileBody E b sense e s) = weight_of (valofs_at E) e + 4
 weight_of_rest (machine.Limits E limit by b s) = weight_of (valofs_at E) limit + weight_of_block (valofs_at E) b + 4

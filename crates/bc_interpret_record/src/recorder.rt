@@ -6,9 +6,9 @@ ghost use Rattle.bc_interpret_record.specs.Replay.{IsReplayable};
 
 use crate::recording::{Frame, Move, NO_SITE, Recording, Stop};
 use crate::site::StopKind;
-use crate::tagging::{is_of_body, site_begun, site_next, site_of_first, site_tested};
+use crate::tagging::{site_begun, site_next};
 use bc_interpret::{Observer, Stacks};
-use bc_interpret_steps::{Primitive, Progress, Rest, TruthRest, Work};
+use bc_interpret_steps::{Entry, Primitive, Progress, Rest, TruthRest, Work};
 use bc_interpret_store::{Cell, History, Past, Store};
 use bc_machine_defs::Side;
 use bc_word::Memory;
@@ -61,8 +61,6 @@ pub(crate) struct Recorder {
     taken: usize,
     /// The number of changes when they were last counted.
     changes: usize,
-    /// If the step can enter a body that begins with an assignment: the number of continuations below those of the body.
-    below: Option<usize>,
 }
 
 impl Recorder {
@@ -82,7 +80,6 @@ impl Recorder {
             reads: false,
             taken: 0,
             changes: 0,
-            below: None,
         }
     }
 
@@ -242,9 +239,6 @@ impl Recorder {
         if was_begun {
             return self.stop_again(store);
         }
-        if self.below.is_some() {
-            return self.count(store);
-        }
         Ok(())
     }
 
@@ -254,21 +248,12 @@ impl Recorder {
     {
         match work {
             Work::Perform(_, _) => self.perform(stacks, store),
-            Work::Listing(_, items, _) => match site_next(items) {
+            Work::Listing(_, items, Entry::Beginning) => match site_next(items) {
                 Some(site) => self.reach(stacks.rests.len().saturating_add(1), site, store),
                 None => Ok(()),
             },
-            Work::While(_, _, _) => {
-                self.below = Some(stacks.rests.len());
-                self.stop_again(store)
-            }
-            Work::Round(_, rounds) => {
-                if site_next(&rounds.body.list).is_some() {
-                    self.below = Some(stacks.rests.len());
-                }
-                self.round(store)
-            }
-            Work::Verdict(t) => self.verdict(*t, stacks, store),
+            Work::While(_, _, _) => self.stop_again(store),
+            Work::Round(_, _) => self.round(store),
             Work::Decide(_, _) => match stacks.rests.last() {
                 Some(Rest::Truth(TruthRest::RepeatWhiles(_, _, _))) => self.stop_again(store),
                 _ => Ok(()),
@@ -294,57 +279,8 @@ impl Recorder {
             return Ok(());
         }
         match site_begun(&rests[depth - 1], &rests[depth - 2]) {
-            Some(site) => {
-                self.below = Some(depth);
-                self.reach(depth, site, store)
-            }
+            Some(site) => self.reach(depth, site, store),
             None => Ok(()),
-        }
-    }
-
-    /// Sees that a test is decided, and stops before the assignment with which the body begins that it leads to.
-    fn verdict(&mut self, t: bool, stacks: &Stacks<'_>, store: &mut Store) -> Result<(), Memory>
-        ensures { store.new ≡ store.old }
-    {
-        let Some(test) = stacks.rests.last() else {
-            return Ok(());
-        };
-        // the list of a WHILE's body is above the continuation of the loop
-        let above = match test {
-            Rest::Truth(TruthRest::Whiles(_, _, _)) => 2,
-            _ => 1,
-        };
-        match site_tested(test, t) {
-            Some(site) => self.reach(stacks.rests.len().saturating_add(above), site, store),
-            None => Ok(()),
-        }
-    }
-
-    /// Sees the body that a step entered, given the number of continuations below it, if one was. An assignment with which it begins may have
-    /// been performed; the stop before it is where the changes were counted before the step.
-    fn see_body(
-        &mut self,
-        below: usize,
-        stacks: &Stacks<'_>,
-        store: &mut Store,
-    ) -> Result<(), Memory>
-        ensures { store.new ≡ store.old }
-    {
-        let rests = stacks.rests.as_slice();
-        let at = match rests.get(below) {
-            Some(rest) if is_of_body(rest) => below.saturating_add(1),
-            _ => below,
-        };
-        let Some(listed) = rests.get(at) else {
-            return Ok(());
-        };
-        match site_of_first(listed) {
-            Some(site) if (site as usize) < self.recording.sites.len() => {
-                self.begin(at.saturating_add(2), site)?;
-                self.settle(site);
-                self.add(site, false, store)
-            }
-            _ => Ok(()),
         }
     }
 
@@ -460,7 +396,6 @@ fn with_past(recording: Recording, past: Past) -> Recording
 impl Observer for Recorder {
     fn before(&mut self, stacks: &Stacks<'_>, store: &mut Store) -> Result<(), Memory> {
         let depth = stacks.rests.len();
-        self.below = None;
         if self.least > depth {
             self.leave(depth)?;
         }
@@ -471,9 +406,6 @@ impl Observer for Recorder {
     }
 
     fn after(&mut self, stacks: &Stacks<'_>, store: &mut Store) -> Result<(), Memory> {
-        if let Some(below) = self.below {
-            self.see_body(below, stacks, store)?;
-        }
         match stacks.next {
             Progress::On(_) => {
                 if stacks.called.least == 0 {

@@ -1,11 +1,10 @@
 //! A copy of a section in which each command can be seen as it is begun.
 //!
-//! A step of `bc_interpret_steps` can perform several assignments. In the copy each command, and each LET with initial values, has a label to
-//! which nothing jumps. Its number, the *tag*, says which command it is. The tag of a command follows it in its list; that of the last command
-//! is the first item of its list. So the two innermost continuations show the tag of a command that is begun by a step of its own. An
-//! assignment that can be begun by a step of another command is in a block of its own, except in two places, where its tag precedes it: after
-//! the tag of a command, since a step that goes on with the list begins there; and as the first command of a body, since the step that enters
-//! the body changes no cell before.
+//! In the copy each command, and each LET with initial values, has a label to which nothing jumps. Its number, the *tag*, says which command it
+//! is. The tag of a command follows it in its list; that of the last command is the first item of its list. So the two innermost continuations
+//! show the tag of a command that is begun. A pure assignment is performed by the step that goes on with its list, which pushes no continuation
+//! for it. So its tag precedes it where the items begin with which that step goes on: after the tag of the command before, and at the beginning
+//! of a body. Anywhere else an assignment is in a block of its own.
 //!
 //! The meaning is the same: such a block declares nothing, and a label to which nothing jumps does nothing. `record_run` compares the two runs.
 
@@ -14,7 +13,7 @@ use bc_core::{
     Block, Body, Command, Condition, CoreExp, Declaration, ListItem, Place, Routine, Valof,
     Variable, copy_expression,
 };
-use bc_interpret_steps::{ExitRest, Rest, TruthRest};
+use bc_interpret_steps::{ExitRest, Rest};
 use bc_word::{Memory, Word};
 use std::alloc::Global;
 
@@ -49,36 +48,6 @@ fn site_of_last(rest: &Rest<'_>) -> Option<u32> {
     match items {
         [ListItem::Label(tag), ListItem::Label(own), ..] if tag == own => None,
         [ListItem::Label(tag), ..] => Some(site_of(*tag)),
-        _ => None,
-    }
-}
-
-/// The site of the assignment with which the list of this continuation begins; `None` if it begins otherwise.
-pub(crate) fn site_of_first(rest: &Rest<'_>) -> Option<u32> {
-    match rest {
-        Rest::Exit(ExitRest::Listed(_, items)) => site_next(items),
-        _ => None,
-    }
-}
-
-/// Whether this is the continuation of the body of a loop that tests before it.
-pub(crate) fn is_of_body(rest: &Rest<'_>) -> bool {
-    matches!(
-        rest,
-        Rest::Exit(ExitRest::WhileBody(_, _, _) | ExitRest::ForBody(_, _))
-    )
-}
-
-/// The site of the assignment that comes next if the test of this continuation has the truth `t`; `None` if something else does.
-pub(crate) fn site_tested(rest: &Rest<'_>, t: bool) -> Option<u32> {
-    match rest {
-        Rest::Truth(TruthRest::Ifs(_, sense, body)) if *sense == t => site_next(&body.list),
-        Rest::Truth(TruthRest::Whiles(_, condition, body)) if condition.sense == t => {
-            site_next(&body.list)
-        }
-        Rest::Truth(TruthRest::Chooses(_, this, that)) => {
-            site_next(if t { &this.list } else { &that.list })
-        }
         _ => None,
     }
 }

@@ -7,6 +7,7 @@ use Rattle.bc_core.specs.Commands as commands
 use Rattle.bc_core.specs.Level.{side_level}
 use Rattle.bc_core.specs.Outcome.{Run, ZeroDivide, followed, then_do, both, outweighed, second_side, write}
 use Rattle.bc_core.specs.Value.{has_call, value, assign}
+use Rattle.bc_core.specs.Lists.{Beginning}
 use Rattle.bc_interpret_defs.specs.Machine as machine
 use Rattle.bc_interpret_defs.specs.Machine.{quiet, first_command}
 use Rattle.bc_core.specs.Outcome as outcomes
@@ -142,31 +143,33 @@ assigned_at_once st E v a w x came new plain also_plain is this h =
 
 -- the first command of a list
 pub first_done : (E : machine.Spot) (v a : Exp) (old new : State) (came : Assigned) → (has_call v || has_call a) ≡ false → ((s : ℕ) (streams : Content) → assign (quiet E) v a E.frame s (state_of old streams) ≡ outcome_of came new streams)
-    → (is : Items) (s : ℕ) (rs : List machine.Rest) (onward : machine.Step) (streams : Content) → first_command E (commands.Assign v a) is s rs onward (state_of old streams) ≡ followed (outcome_of came new streams) (λ u. onward)
-first_done E v a old new came plain h is s rs onward streams =
+    → (is : Items) (s : ℕ) (rs : List machine.Rest) (streams : Content) → first_command E (commands.Assign v a) is s rs (state_of old streams) ≡ followed (outcome_of came new streams) (λ u. machine.go (machine.Listing E is s Beginning) rs)
+first_done E v a old new came plain h is s rs streams =
+    let onward = machine.go (machine.Listing E is s Beginning) rs in
     ap (λ t. by_test t (machine.go (machine.Perform E (commands.Assign v a) s) (machine.Follows E is s ∷ rs)) (then_do (assign (quiet E) v a E.frame s) (λ u. onward)) (state_of old streams)) plain
     ∙ ap (λ o. followed {A = Unit {0}} o (λ u. onward)) (h s streams)
 
 pub first_tells : (E : machine.Spot) (v a : Exp) (old new : State) (came : Assigned) → (has_call v || has_call a) ≡ false → ((s : ℕ) → Tells (assign (quiet E) v a E.frame s) came old new)
-    → (is : Items) (s : ℕ) (rs : List machine.Rest) (onward : machine.Step) → TellsFirst (first_command E (commands.Assign v a) is s rs onward) onward came old new
-first_tells E v a old new came plain h is s rs onward = by_case came (h s) where
+    → (is : Items) (s : ℕ) (rs : List machine.Rest) → TellsFirst (first_command E (commands.Assign v a) is s rs) came old
+first_tells E v a old new came plain h is s rs = by_case came (h s) where
+  onward : machine.Step
+  onward = machine.go (machine.Listing E is s Beginning) rs
+
   first : machine.Step
-  first = first_command E (commands.Assign v a) is s rs onward
+  first = first_command E (commands.Assign v a) is s rs
 
   same : (st : outcomes.State) → first st ≡ then_do (assign (quiet E) v a E.frame s) (λ u. onward) st
   same st = ap (λ t. by_test t (machine.go (machine.Perform E (commands.Assign v a) s) (machine.Follows E is s ∷ rs)) (then_do (assign (quiet E) v a E.frame s) (λ u. onward)) st) plain
 
-  by_case : (came : Assigned) → Tells (assign (quiet E) v a E.frame s) came old new → TellsFirst first onward came old new
-  by_case assigned_forms.Done t = λ cause g.
-      wild_same first (then_do (write t.0 t.1) (λ u. onward)) old.store cause (λ st keeps. same st ∙ ap (λ o. followed {A = Unit {0}} o (λ u. onward)) (t.4 st keeps))
-      (wild_after_write t.0 t.1 onward old.store cause t.2 (subst (λ z. IsWildBy onward z cause) t.3 g))
+  by_case : (came : Assigned) → Tells (assign (quiet E) v a E.frame s) came old new → TellsFirst first came old
+  by_case assigned_forms.Done t = tt
   by_case assigned_forms.Divides t = tt
   by_case (assigned_forms.Fails c) t = wild_same first (then_do (assign (quiet E) v a E.frame s) (λ u. onward)) old.store (cause_of c) (λ st keeps. same st) (wild_then (assign (quiet E) v a E.frame s) (λ u. onward) old.store (cause_of c) t)
 
-pub first_left : (E : machine.Spot) (v a : Exp) → (has_call v || has_call a) ≡ true → (is : Items) (s : ℕ) (rs : List machine.Rest) (onward : machine.Step)
-    → first_command E (commands.Assign v a) is s rs onward ≡ machine.go (machine.Perform E (commands.Assign v a) s) (machine.Follows E is s ∷ rs)
-first_left E v a calls is s rs onward =
-    ap (λ t. by_test t (machine.go (machine.Perform E (commands.Assign v a) s) (machine.Follows E is s ∷ rs)) (then_do (assign (quiet E) v a E.frame s) (λ u. onward))) calls
+pub first_left : (E : machine.Spot) (v a : Exp) → (has_call v || has_call a) ≡ true → (is : Items) (s : ℕ) (rs : List machine.Rest)
+    → first_command E (commands.Assign v a) is s rs ≡ machine.go (machine.Perform E (commands.Assign v a) s) (machine.Follows E is s ∷ rs)
+first_left E v a calls is s rs =
+    ap (λ t. by_test t (machine.go (machine.Perform E (commands.Assign v a) s) (machine.Follows E is s ∷ rs)) (then_do (assign (quiet E) v a E.frame s) (λ u. machine.go (machine.Listing E is s Beginning) rs))) calls
 
 pub told_assigned : (E : machine.Spot) (v a : Exp) (old new : State) (told : Option Assigned) (came : Assigned) → IsAssigned E v a old told new → told ≡ Some came → IsAssigned E v a old (Some came) new
 told_assigned E v a old new told came h e = subst (λ z. IsAssigned E v a old z new) e h

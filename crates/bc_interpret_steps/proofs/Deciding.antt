@@ -11,7 +11,7 @@ use Rattle.bc_interpret_defs.specs.Machine as machine
 use Rattle.bc_interpret_defs.specs.Machine.{step, give, quiet, evaluate, evaluate_parts}
 use Rattle.bc_interpret_defs.specs.Quiet as quiet_forms
 use Rattle.bc_interpret_defs.specs.Quiet.{worth, chained}
-use Rattle.bc_interpret_defs.specs.OpenCalls.{calls_in}
+use Rattle.bc_interpret_defs.specs.Trails.{trail_in}
 use Rattle.bc_interpret_pure.specs.declared.context.Cause.{Cause}
 use Rattle.bc_interpret_pure.specs.declared.value.Truth.TheVariants as truths
 use Rattle.bc_interpret_pure.specs.Causes.{cause_of}
@@ -34,11 +34,11 @@ by_calls true f g = f refl
 by_calls false f g = g refl
 
 -- one step into an expression
-pub came_into : (program : List Placed) (old : State) (E : machine.Spot) (e : Exp) (s : ℕ) (rs : List machine.Rest) (p : Progress) (rs1 : List machine.Rest) (vs : List ℕ) → CameOrMalformed (calls_in rs) (evaluate E e s rs) old p rs1 vs old → Ran program (evaluating E e s rs) old p rs1 vs old
+pub came_into : (program : List Placed) (old : State) (E : machine.Spot) (e : Exp) (s : ℕ) (rs : List machine.Rest) (p : Progress) (rs1 : List machine.Rest) (vs : List ℕ) → CameOrMalformed (trail_in rs) (evaluate E e s rs) old p rs1 vs old → Ran program (evaluating E e s rs) old p rs1 vs old
 came_into program old E e s rs p rs1 vs h =
     ran program (machine.Evaluate E e s) rs old p rs1 vs old (stepped_loosely program (machine.Evaluate E e s) rs old p rs1 vs old (λ v vs f k. let w = k.work in cc) tt h)
 
-pub came_exactly : (program : List Placed) (old : State) (E : machine.Spot) (e : Exp) (s : ℕ) (rs : List machine.Rest) (p : Progress) (rs1 : List machine.Rest) (vs : List ℕ) → Came (calls_in rs) (evaluate E e s rs) old p rs1 vs old → Ran program (evaluating E e s rs) old p rs1 vs old
+pub came_exactly : (program : List Placed) (old : State) (E : machine.Spot) (e : Exp) (s : ℕ) (rs : List machine.Rest) (p : Progress) (rs1 : List machine.Rest) (vs : List ℕ) → Came (trail_in rs) (evaluate E e s rs) old p rs1 vs old → Ran program (evaluating E e s rs) old p rs1 vs old
 came_exactly program old E e s rs p rs1 vs h =
     ran program (machine.Evaluate E e s) rs old p rs1 vs old (stepped program (machine.Evaluate E e s) rs old p rs1 vs old (λ v vs f k. let w = k.work in cc) tt h)
 
@@ -122,7 +122,7 @@ fails_into program old E c x y s cause rs vs plain is =
     (λ none. came_false _ (has_call (Cond c x y)) (evaluate_parts E (Cond c x y) s rs) whole old (progress.Wild cause) rs vs old none
     (value_fails old E (Cond c x y) s cause (λ v. give (machine.Number v) rs) rs vs old none (ap (λ o. chained o (λ z. cond z (worth S x).value (worth S y).value)) is) refl)))
 
-pub selects_into : (program : List Placed) (old : State) (E : machine.Spot) (c x y : Exp) (s : ℕ) (rs : List machine.Rest) (p : Progress) (rs1 : List machine.Rest) (vs : List ℕ) → has_call c ≡ true → Came (calls_in rs) (machine.go (machine.Decide E c s) (machine.Selects E x y s ∷ rs)) old p rs1 vs old → Ran program (evaluating E (Cond c x y) s rs) old p rs1 vs old
+pub selects_into : (program : List Placed) (old : State) (E : machine.Spot) (c x y : Exp) (s : ℕ) (rs : List machine.Rest) (p : Progress) (rs1 : List machine.Rest) (vs : List ℕ) → has_call c ≡ true → Came (trail_in rs) (machine.go (machine.Decide E c s) (machine.Selects E x y s ∷ rs)) old p rs1 vs old → Ran program (evaluating E (Cond c x y) s rs) old p rs1 vs old
 selects_into program old E c x y s rs p rs1 vs calls h =
     came_exactly program old E (Cond c x y) s rs p rs1 vs
     (came_true _ (has_call (Cond c x y)) (evaluate_parts E (Cond c x y) s rs) (then_do (value (quiet E) (Cond c x y) E.frame s) (λ v. give (machine.Number v) rs)) old p rs1 vs old

@@ -11,7 +11,7 @@ use Rattle.bc_core.specs.declared.expression.CoreExp.{CoreExp}
 use Rattle.bc_interpret_defs.specs.Machine as machine
 use Rattle.bc_core.specs.Outcome as outcomes
 use Rattle.bc_interpret_defs.specs.Meeting.{KeepsWords}
-use Rattle.bc_interpret_defs.specs.OpenCalls.{calls_in}
+use Rattle.bc_interpret_defs.specs.Trails.{trail_in}
 use Rattle.bc_interpret_defs.specs.Machine.{argue, evaluate_parts}
 use Rattle.bc_interpret_defs.specs.Quiet as quiet_forms
 use Rattle.bc_interpret_pure.specs.declared.value.Worth.{Worth}
@@ -64,13 +64,13 @@ all_given st E ws (v ∷ vs) (argument e es) level f n s rs h st1 keeps =
 
 -- the routine's value is called after them
 pub called_ran : (program : List Placed) (old : State) (E : machine.Spot) (es : Args) (f : Exp) (s frame v : ℕ) (vs : List ℕ) (rs : List machine.Rest) (p : Progress) (rs1 : List machine.Rest) (vs1 : List ℕ) (new : State)
-    → IsWorkedOut (sight old E) es f (Some v) vs → frame ≡ E.frame + s → Lands (calls_in rs) (machine.arrive (callee program v) v vs frame rs) (callee program v) v vs frame old p rs1 vs1 new
+    → IsWorkedOut (sight old E) es f (Some v) vs → frame ≡ E.frame + s → Lands (trail_in rs) (machine.arrive (callee program v) v vs frame rs) (callee program v) v vs frame old p rs1 vs1 new
     → Ran program (evaluating E (Call es f) s rs) old p rs1 vs1 new
 called_ran program old E es f s frame v vs rs p rs1 vs1 new is at h =
     let from = evaluating E (Call es f) s rs in
     let following = machine.Calls vs (E.frame + s) ∷ rs in
     let n = count es in
-    let last : Came (calls_in rs) (argue E vs no_argument (argument_level s) f n s rs) old (progress.On (works.Number v)) following [] old =
+    let last : Came (trail_in rs) (argue E vs no_argument (argument_level s) f n s rs) old (progress.On (works.Number v)) following [] old =
     last_valued old E vs (argument_level s) f n s rs following [] (Some (worths.Is v)) (worths.Is v) (progress.On (works.Number v)) (is.1, is.2) refl refl refl in
     let first : Passes program old from (from ∷ []) (giving v following) =
     (refl, tt, λ streams. all_given old E [] vs es (argument_level s) f n s rs is.0 (state_of old streams) (λ b w i. i) ∙ last streams) in
@@ -78,20 +78,20 @@ called_ran program old E es f s frame v vs rs p rs1 vs1 new is at h =
       middle = giving v following;
       along = from ∷ [];
       passes = first;
-      comes = landed program v vs (E.frame + s) following rs old p rs1 vs1 new refl (subst (λ a. Lands (calls_in rs) (machine.arrive (callee program v) v vs a rs) (callee program v) v vs a old p rs1 vs1 new) at h);
+      comes = landed program v vs (E.frame + s) following rs old p rs1 vs1 new refl (subst (λ a. Lands (trail_in rs) (machine.arrive (callee program v) v vs a rs) (callee program v) v vs a old p rs1 vs1 new) at h);
     }
 
 -- the same with the values in the interpreter's vector
 pub landed_at : (program : List Placed) (old : State) (E : machine.Spot) (es : Args) (f : Exp) (s frame v : ℕ) (us : List ℕ) (before middle : Vec Rest Global) (found : Option ℕ) (p : Progress) (rs1 : List machine.Rest) (vs1 : List ℕ) (new : State)
-    → IsWorkedOut (sight old E) es f found (reverse us) → found ≡ Some v → middle ≡ before → frame ≡ E.frame + s → Lands (calls_in (stack middle.items)) (machine.arrive (callee program v) v (reverse us) frame (stack middle.items)) (callee program v) v (reverse us) frame old p rs1 vs1 new
+    → IsWorkedOut (sight old E) es f found (reverse us) → found ≡ Some v → middle ≡ before → frame ≡ E.frame + s → Lands (trail_in (stack middle.items)) (machine.arrive (callee program v) v (reverse us) frame (stack middle.items)) (callee program v) v (reverse us) frame old p rs1 vs1 new
     → Ran program (evaluating E (Call es f) s (stack before.items)) old p rs1 vs1 new
 landed_at program old E es f s frame v us before middle found p rs1 vs1 new is some same at h =
     let P : Option ℕ → Type 0 = λ o. IsWorkedOut (sight old E) es f o (reverse us) in
     called_ran program old E es f s frame v (reverse us) (stack before.items) p rs1 vs1 new (subst P some is) at
-    (subst (λ m. Lands (calls_in (stack m.items)) (machine.arrive (callee program v) v (reverse us) frame (stack m.items)) (callee program v) v (reverse us) frame old p rs1 vs1 new) same h)
+    (subst (λ m. Lands (trail_in (stack m.items)) (machine.arrive (callee program v) v (reverse us) frame (stack m.items)) (callee program v) v (reverse us) frame old p rs1 vs1 new) same h)
 
 pub called_plainly : (program : List Placed) (old : State) (E : machine.Spot) (es : Args) (f : Exp) (s : ℕ) (before middle : Vec Rest Global) (p : Progress) (rs1 : List machine.Rest) (vs1 : List ℕ) → middle ≡ before
-    → Came (calls_in (stack middle.items)) (evaluate_parts E (Call es f) s (stack middle.items)) old p rs1 vs1 old → Ran program (evaluating E (Call es f) s (stack before.items)) old p rs1 vs1 old
+    → Came (trail_in (stack middle.items)) (evaluate_parts E (Call es f) s (stack middle.items)) old p rs1 vs1 old → Ran program (evaluating E (Call es f) s (stack before.items)) old p rs1 vs1 old
 called_plainly program old E es f s before middle p rs1 vs1 same h =
     came_exactly program old E (Call es f) s (stack before.items) p rs1 vs1
-    (subst (λ m. Came (calls_in (stack m.items)) (evaluate_parts E (Call es f) s (stack m.items)) old p rs1 vs1 old) same h)
+    (subst (λ m. Came (trail_in (stack m.items)) (evaluate_parts E (Call es f) s (stack m.items)) old p rs1 vs1 old) same h)

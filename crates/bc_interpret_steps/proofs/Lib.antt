@@ -5,7 +5,6 @@ pub mod After
 pub mod Deciding
 pub mod Counts
 pub mod Direct
-pub mod Entered
 pub mod Entries
 pub mod Frames
 pub mod Gathers

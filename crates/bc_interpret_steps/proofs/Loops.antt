@@ -11,13 +11,13 @@ use Rattle.bc_core.specs.Outcome as outcomes
 use Rattle.bc_core.specs.Outcome.{Wild, followed, then_do, choose, content_of_cell, read, write, in_turn}
 use Rattle.bc_interpret_defs.specs.Causes as causes
 use Rattle.bc_interpret_defs.specs.Meeting.{IsWildBy}
-use Rattle.bc_interpret_defs.specs.OpenCalls.{calls_in}
+use Rattle.bc_interpret_defs.specs.Trails.{Standing}
 use Rattle.bc_interpret_defs.proofs.Naming.{wild_then, wild_read_dead, wild_read_unset}
 use Rattle.bc_interpret_defs.specs.Machine.{Spot, Rest, Step, cell_of, go, give, enter, Left, ForBody, Round, round_step, following, next}
 use Rattle.bc_interpret_steps.specs.declared.state.State.{State}
 use Rattle.bc_interpret_steps.specs.declared.forms.Progress.{Progress}
-use Rattle.bc_interpret_steps.specs.Came.{Came}
-use Rattle.bc_interpret_steps.proofs.Quiet.{same_came}
+use Rattle.bc_interpret_steps.specs.Came.{Came, Went}
+use Rattle.bc_interpret_steps.proofs.Quiet.{same_came, went}
 
 abbrev tested : Spot → (limit by : ℕ) → Block → ℕ → List Rest → ℕ → Step
 tested E limit by b s rs i = choose (holds (end_relation by) i limit) (give (Left Past) rs) (enter E b (level_in_for s) (ForBody E limit by b s ∷ rs))
@@ -38,9 +38,9 @@ round_on E limit by b s i rs st e t =
     ap (λ c. followed (content_of_cell c st) (tested E limit by b s rs)) (sym e)
     ∙ ap (λ t. choose t (give (Left Past) rs) (enter E b (level_in_for s) (ForBody E limit by b s ∷ rs)) st) t
 
-pub round_goes : (E : Spot) (limit by : ℕ) (b : Block) (s i : ℕ) (rs : List Rest) (old : State) (p : Progress) (rs1 : List Rest) (vs : List ℕ) (new : State) → Set i ≡ cell_at old.store (cell_of E s) → holds (end_relation by) i limit ≡ false → Came (calls_in rs) (enter E b (level_in_for s) (ForBody E limit by b s ∷ rs)) old p rs1 vs new → Came (calls_in rs) (round_step E limit by b s rs) old p rs1 vs new
-round_goes E limit by b s i rs old p rs1 vs new e t h =
-    same_came _ (round_step E limit by b s rs) (enter E b (level_in_for s) (ForBody E limit by b s ∷ rs)) old p rs1 vs new (λ st keeps. round_on E limit by b s i rs st (sym (keeps (cell_of E s) i (sym e))) t) h
+pub round_goes : (trail : List Standing) → (E : Spot) (limit by : ℕ) (b : Block) (s i : ℕ) (rs : List Rest) (old : State) (p : Progress) (rs1 : List Rest) (vs : List ℕ) (new : State) → Set i ≡ cell_at old.store (cell_of E s) → holds (end_relation by) i limit ≡ false → Went (enter E b (level_in_for s) (ForBody E limit by b s ∷ rs)) old p rs1 vs new → Came trail (round_step E limit by b s rs) old p rs1 vs new
+round_goes trail E limit by b s i rs old p rs1 vs new e t h =
+    same_came _ (round_step E limit by b s rs) (enter E b (level_in_for s) (ForBody E limit by b s ∷ rs)) old p rs1 vs new (λ st keeps. round_on E limit by b s i rs st (sym (keeps (cell_of E s) i (sym e))) t) (went trail (enter E b (level_in_for s) (ForBody E limit by b s ∷ rs)) old p rs1 vs new h)
 
 -- after the body
 abbrev added : Spot → (limit by : ℕ) → Block → ℕ → List Rest → ℕ → Step

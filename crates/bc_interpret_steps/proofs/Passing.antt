@@ -3,7 +3,7 @@ use Rattle.std.proofs.Common.{◌≡◌, ◌⊎◌, inl, inr, ℕ, ◌+◌, ◌-
 use Rattle.std.specs.declared.alloc.Global.{Global}
 use Rattle.std.proofs.lemmas.Grind.{common_steps}
 use Rattle.std.proofs.lemmas.Result.{on_ok_weaker}
-use Rattle.bc_core.specs.Commands.{Items, no_item}
+use Rattle.bc_core.specs.Commands.{Items, no_item, Block}
 use Rattle.bc_core.specs.Exit as exits
 use Rattle.bc_core.specs.Lists.{Beginning}
 use Rattle.bc_core.specs.Map.{Placed}
@@ -15,7 +15,7 @@ use Rattle.bc_core.specs.declared.command.ListItem.{ListItem}
 use Rattle.bc_interpret_defs.specs.Machine as machine
 use Rattle.bc_interpret_defs.specs.Machine.{step, give}
 use Rattle.bc_interpret_defs.specs.Running.{Moves}
-use Rattle.bc_interpret_defs.specs.OpenCalls.{calls_in}
+use Rattle.bc_interpret_defs.specs.Trails.{trail_of}
 use Rattle.bc_interpret_steps.specs.declared.state.State.{State}
 use Rattle.bc_interpret_steps.specs.declared.forms.Exit.{Exit}
 use Rattle.bc_interpret_steps.specs.declared.forms.Exit.TheVariants as exit_forms
@@ -34,9 +34,10 @@ use Rattle.bc_interpret_steps.specs.declared.continuations.Rest.{Rest}
 use Rattle.bc_interpret_steps.specs.declared.continuations.Rest.TheVariants as rests
 use Rattle.bc_interpret_steps.specs.declared.sections.Callable.{Callable}
 use Rattle.bc_interpret_steps.specs.Code.{work_of, spot_of, exit_of, stacked, stack, given}
-use Rattle.bc_interpret_steps.specs.Came.{state_of, Came, CameOrMalformed, IsAfterCases}
+use Rattle.bc_interpret_steps.specs.Came.{state_of, Came, CameOrMalformed, IsAfterCases, Went}
 use Rattle.bc_interpret_steps.specs.Stepped.{Stepped, StepsOver}
 use Rattle.bc_interpret_steps.specs.Passing.{work_next, Passes, Ran, RunsOver, evaluating, leaving, PassesOn, IsLeft, IsHandedOn, IsOperator, IsPassed, IsPassedBy}
+use Rattle.bc_interpret_steps.proofs.Quiet.{went}
 use Rattle.bc_interpret_steps.proofs.Handing.{NoCall, stepped, stepped_loosely}
 use Rattle.bc_interpret_steps.proofs.Piles.{stack_more}
 
@@ -102,6 +103,10 @@ left_for_good is x (inr (inr (inl e))) = subst (λ y. IsLeft is (exit_of y) true
 left_for_good is x (inr (inr (inr (inl e)))) = subst (λ y. IsLeft is (exit_of y) true) (sym e) (λ E s rs. follows_out E is s exits.Returned rs (λ n. cc))
 left_for_good is x (inr (inr (inr (inr (inl e))))) = subst (λ y. IsLeft is (exit_of y) true) (sym e.1) (λ E s rs. follows_out E is s (exits.Resulted e.0) rs (λ n. cc))
 left_for_good is x (inr (inr (inr (inr (inr e))))) = subst (λ y. IsLeft is (exit_of y) true) (sym e.1) (λ E s rs. follows_out E is s (exits.Jumped e.0) rs (λ n. cc))
+
+-- the second branch of a TEST is skipped
+pub skipped : (x : exits.Exit) (that : Block) (rs : List machine.Rest) → PassesOn x (machine.Skips that ∷ rs) x rs
+skipped x that rs program old = (leaving x (machine.Skips that ∷ rs) ∷ [], (refl, tt, λ streams. refl))
 
 pub left_list : (E : machine.Spot) (is : Items) (s : ℕ) (rs : List machine.Rest) (x : Exit)
     → (x ≡ exit_forms.Past) ⊎ ((x ≡ exit_forms.Broke) ⊎ ((x ≡ exit_forms.Looped) ⊎ ((x ≡ exit_forms.LeftCases) ⊎ ((x ≡ exit_forms.Returned) ⊎ ((v : ℕ) × (x ≡ exit_forms.Resulted v))))))
@@ -195,13 +200,20 @@ pub ran_next : {A E : Type 0} (table : List Callable) (q : Progress) (w : Work) 
 ran_next table q w before old result p after new is h = subst (λ x. RunsOver table (work_of (given before.items) (work_next x)) before old result p after new) (sym is) h
 
 pub proceeds_next : {A E : Type 0} (table : List Callable) (q : Progress) (w : Work) (before : Vec Rest Global) (old : State) (result : Result A E) (p : Progress) (after : Vec Rest Global) (new : State) → q ≡ progress.On w → NoCall (work_of (given before.items) w) (stack before.items) → Moves (work_of (given before.items) w) (stack before.items)
-    → ((program : List Placed) → OnOk result (Came (calls_in (stack before.items)) (step program (work_of (given before.items) w) (stack before.items)) old p (stack after.items) (given after.items) new)) → RunsOver table (work_of (given before.items) (work_next q)) before old result p after new
+    → ((program : List Placed) → OnOk result (Came (trail_of (work_of (given before.items) w) (stack before.items)) (step program (work_of (given before.items) w) (stack before.items)) old p (stack after.items) (given after.items) new)) → RunsOver table (work_of (given before.items) (work_next q)) before old result p after new
 proceeds_next table q w before old result p after new is n m h =
     ran_next table q w before old result p after new is (ran_once table (work_of (given before.items) w) before old result p after new
     (λ program t. on_ok_weaker result (λ k. stepped program (work_of (given before.items) w) (stack before.items) old p (stack after.items) (given after.items) new n m k) (h program)))
 
+-- the same of a step that isn't wild
+pub proceeds_on : {A E : Type 0} (table : List Callable) (q : Progress) (w : Work) (before : Vec Rest Global) (old : State) (result : Result A E) (p : Progress) (after : Vec Rest Global) (new : State) → q ≡ progress.On w → NoCall (work_of (given before.items) w) (stack before.items) → Moves (work_of (given before.items) w) (stack before.items)
+    → ((program : List Placed) → OnOk result (Went (step program (work_of (given before.items) w) (stack before.items)) old p (stack after.items) (given after.items) new)) → RunsOver table (work_of (given before.items) (work_next q)) before old result p after new
+proceeds_on table q w before old result p after new is n m h =
+    proceeds_next table q w before old result p after new is n m
+    (λ program. on_ok_weaker result (λ k. went (trail_of (work_of (given before.items) w) (stack before.items)) (step program (work_of (given before.items) w) (stack before.items)) old p (stack after.items) (given after.items) new k) (h program))
+
 pub proceeds_loosely : {A E : Type 0} (table : List Callable) (q : Progress) (w : Work) (before : Vec Rest Global) (old : State) (result : Result A E) (p : Progress) (after : Vec Rest Global) (new : State) → q ≡ progress.On w → NoCall (work_of (given before.items) w) (stack before.items) → Moves (work_of (given before.items) w) (stack before.items)
-    → ((program : List Placed) → OnOk result (CameOrMalformed (calls_in (stack before.items)) (step program (work_of (given before.items) w) (stack before.items)) old p (stack after.items) (given after.items) new)) → RunsOver table (work_of (given before.items) (work_next q)) before old result p after new
+    → ((program : List Placed) → OnOk result (CameOrMalformed (trail_of (work_of (given before.items) w) (stack before.items)) (step program (work_of (given before.items) w) (stack before.items)) old p (stack after.items) (given after.items) new)) → RunsOver table (work_of (given before.items) (work_next q)) before old result p after new
 proceeds_loosely table q w before old result p after new is n m h =
     ran_next table q w before old result p after new is (ran_once table (work_of (given before.items) w) before old result p after new
     (λ program t. on_ok_weaker result (λ k. stepped_loosely program (work_of (given before.items) w) (stack before.items) old p (stack after.items) (given after.items) new n m k) (h program)))

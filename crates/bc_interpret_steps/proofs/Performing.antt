@@ -9,7 +9,7 @@ use Rattle.bc_interpret_defs.specs.Causes.{Cause}
 use Rattle.bc_interpret_defs.specs.Machine as machine
 use Rattle.bc_interpret_defs.specs.Machine.{step}
 use Rattle.bc_interpret_defs.specs.Meeting.{Meets, ByCell, ByArgument, ByCall, ByForm}
-use Rattle.bc_interpret_defs.specs.OpenCalls.{AreOpen, Within, Calling}
+use Rattle.bc_interpret_defs.specs.Trails.{Standing, IsTrail, Within, Calling}
 use Rattle.bc_interpret_steps.specs.declared.state.State.{State}
 use Rattle.bc_interpret_steps.specs.declared.forms.Progress.{Progress}
 use Rattle.bc_interpret_steps.specs.declared.forms.Progress.TheVariants as progress
@@ -27,8 +27,8 @@ meets_performing program E e s rs cells cause (ByArgument v xs f q call k fits h
 meets_performing program E e s rs cells cause (ByCall v xs f call h) = let w = call.work in absurd cc
 meets_performing program E e s rs cells cause (ByForm n k h) = ByForm (λ v vs f c. let w = c.work in cc) k h
 
-open_performing : (E : machine.Spot) (e : Exp) (s : ℕ) (rs : List machine.Rest) (calls : List machine.OpenCall)
-    → AreOpen (machine.Evaluate E e s) (machine.Drops ∷ rs) calls → AreOpen (machine.Perform E (commands.Call e) s) rs calls
+open_performing : (E : machine.Spot) (e : Exp) (s : ℕ) (rs : List machine.Rest) (calls : List Standing)
+    → IsTrail (machine.Evaluate E e s) (machine.Drops ∷ rs) calls → IsTrail (machine.Perform E (commands.Call e) s) rs calls
 open_performing E e s rs calls (Within n h) = Within (λ v vs f c. let w = c.work in cc) h
 open_performing E e s rs calls (Calling v xs f call h) = let w = call.work in absurd cc
 

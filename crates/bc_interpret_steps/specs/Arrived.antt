@@ -18,7 +18,7 @@ use Rattle.bc_interpret_defs.specs.Quiet as quiet
 use Rattle.bc_interpret_defs.specs.Quiet.{worth}
 use Rattle.bc_interpret_defs.specs.Machine.{give, arrive}
 use Rattle.bc_interpret_defs.specs.Meeting.{Refused, KeepsWords}
-use Rattle.bc_interpret_defs.specs.OpenCalls.{calls_in}
+use Rattle.bc_interpret_defs.specs.Trails.{Standing, trail_in, begun}
 use Rattle.bc_interpret_pure.specs.Causes.{cause_of}
 use Rattle.bc_interpret_steps.specs.declared.forms.Arguments.{Arguments}
 use Rattle.bc_interpret_steps.specs.declared.continuations.Rest.{Rest}
@@ -64,21 +64,21 @@ pub record IsServed (r : machine.Step) (called : Option Callee) (arguments : Lis
 
 -- the outcome of a step that calls the value, which is the address of this callee, with these arguments in the frame at f
 abbrev pub Lands :
-    List machine.OpenCall → machine.Step → Option Callee → (value : ℕ) → (arguments : List ℕ) → (f : ℕ)
+    List Standing → machine.Step → Option Callee → (value : ℕ) → (arguments : List ℕ) → (f : ℕ)
     → (old : State) → Progress → List machine.Rest → List ℕ → (new : State) → Type 0
-Lands calls r called value arguments f old (progress.Serve q call) rs vs new =
-    IsServed r called arguments f (primitive_of q) call.frame old rs new × (call.routine ≡ value) × (calls_in rs ≡ calls)
-Lands calls r called value arguments f old (progress.Wild c) rs vs new =
+Lands trail r called value arguments f old (progress.Serve q call) rs vs new =
+    IsServed r called arguments f (primitive_of q) call.frame old rs new × (call.routine ≡ value) × (trail_in rs ≡ trail)
+Lands trail r called value arguments f old (progress.Wild c) rs vs new =
     ((streams : Content) → r (state_of old streams) ≡ outcomes.Wild) × Refused called value f (cause_of c)
-    × (calls_in rs ≡ record { routine = value; frame = f } ∷ calls)
-Lands calls r called value arguments f old p rs vs new = Came calls r old p rs vs new
+    × (trail_in rs ≡ begun value f ∷ trail)
+Lands trail r called value arguments f old p rs vs new = Came trail r old p rs vs new
 
 -- the outcome of calling this callee with the gathered arguments
 abbrev pub Enters :
     {A E : Type 0} → Option Callee → (value frame : ℕ) → (before : Stacks) → (old : State) → Result A E → (after : Stacks) → (new : State) → Type 0
 Enters called value f before old result after new =
     let vs = reverse before.arguments.items in
-    OnOk result (Lands (calls_in (stack before.rests.items)) (arrive called value vs f (stack before.rests.items)) called value vs f old after.next
+    OnOk result (Lands (trail_in (stack before.rests.items)) (arrive called value vs f (stack before.rests.items)) called value vs f old after.next
     (stack after.rests.items) (given after.rests.items) new)
 
 -- the outcome of calling a value with the given arguments, or with none if the call is fresh
@@ -89,7 +89,7 @@ abbrev pub Arrives :
 Arrives table value fresh f before old result after new =
     (program : List Placed) → IsTable program table
     → let vs = given_for fresh (given before.rests.items) in
-    OnOk result (Lands (calls_in (stack before.rests.items)) (arrive (callee program value) value vs f (stack before.rests.items)) (callee program value)
+    OnOk result (Lands (trail_in (stack before.rests.items)) (arrive (callee program value) value vs f (stack before.rests.items)) (callee program value)
     value vs f old after.next (stack after.rests.items) (given after.rests.items) new)
 
 -- the same with the arguments that were gathered

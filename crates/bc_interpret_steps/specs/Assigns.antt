@@ -10,20 +10,21 @@ use Rattle.bc_core.specs.Outcome as outcomes
 use Rattle.bc_interpret_pure.specs.Causes.{cause_of}
 use Rattle.bc_core.specs.Outcome.{Run, Outcome, Done, Ended, Wild, ZeroDivide, followed, second_side, write}
 use Rattle.bc_core.specs.Value.{has_call, assign}
-use Rattle.bc_core.specs.View.{command as command_view, items_before}
+use Rattle.bc_core.specs.View.{command as command_view, items, items_before}
 use Rattle.bc_core.specs.declared.command.ListItem.{ListItem}
 use Rattle.bc_interpret_defs.specs.Quiet as quiet_forms
 use Rattle.bc_interpret_defs.specs.Quiet.{settled}
 use Rattle.bc_interpret_defs.specs.Machine as machine
-use Rattle.bc_interpret_defs.specs.Machine.{quiet, first_command, list_step}
+use Rattle.bc_interpret_defs.specs.Machine.{quiet, first_command, next_command}
 use Rattle.bc_interpret_steps.specs.declared.state.State.{State}
 use Rattle.bc_interpret_steps.specs.declared.forms.Entry.{Entry}
 use Rattle.bc_interpret_steps.specs.declared.assign.Assigned.{Assigned}
 use Rattle.bc_interpret_steps.specs.declared.assign.Assigned.TheVariants as forms
+use Rattle.bc_interpret_steps.specs.declared.lists.Found.{Found}
 use Rattle.bc_interpret_steps.specs.declared.lists.Next.{Next}
 use Rattle.bc_interpret_steps.specs.declared.lists.Next.TheVariants as nexts
 use Rattle.bc_interpret_steps.specs.Code.{entry_of}
-use Rattle.bc_interpret_steps.specs.Came.{state_of, Carries}
+use Rattle.bc_interpret_steps.specs.Came.{state_of}
 
 -- the outcome of an assignment
 abbrev pub outcome_of : Assigned → State → Content → Outcome (Unit {0})
@@ -39,11 +40,10 @@ Tells run forms.Done old new =
 Tells run forms.Divides old new = Unit {0}
 Tells run (forms.Fails c) old new = IsWildBy run old.store (cause_of c)
 
--- the same for a command and the step after it
-abbrev pub TellsFirst : (first onward : machine.Step) → Assigned → (old new : State) → Type 0
-TellsFirst first onward forms.Done old new = Carries first onward old new
-TellsFirst first onward forms.Divides old new = Unit {0}
-TellsFirst first onward (forms.Fails c) old new = IsWildBy first old.store (cause_of c)
+-- the step in which it failed is wild because of that cell
+abbrev pub TellsFirst : machine.Step → Assigned → (old : State) → Type 0
+TellsFirst first (forms.Fails c) old = IsWildBy first old.store (cause_of c)
+TellsFirst first _ old = Unit {0}
 
 -- of the worths of the value and of the address, which one fails, or what is written
 abbrev pub Blames : quiet_forms.Worth ℕ → quiet_forms.Worth ℕ → Assigned → (old new : State) → Type 0
@@ -72,18 +72,19 @@ IsAssigned E v a old (Some done) new =
 -- the first command of a list was performed as a pure assignment, or is performed next
 abbrev pub IsDone : machine.Spot → Command → (old : State) → Option Assigned → (new : State) → Type 0
 IsDone E c old None new =
-    ((is : Items) (s : ℕ) (rs : List machine.Rest) (onward : machine.Step) → first_command E c is s rs onward ≡ machine.go (machine.Perform E c s)
-    (machine.Follows E is s ∷ rs)) × (new ≡ old)
+    ((is : Items) (s : ℕ) (rs : List machine.Rest) → first_command E c is s rs ≡ machine.go (machine.Perform E c s) (machine.Follows E is s ∷ rs))
+    × (new ≡ old)
 IsDone E c old (Some done) new =
-    ((is : Items) (s : ℕ) (rs : List machine.Rest) (onward : machine.Step) (streams : Content)
-    → first_command E c is s rs onward (state_of old streams) ≡ followed (outcome_of done new streams) (λ u. onward))
-    × ((is : Items) (s : ℕ) (rs : List machine.Rest) (onward : machine.Step) → TellsFirst (first_command E c is s rs onward) onward done old new)
+    ((is : Items) (s : ℕ) (rs : List machine.Rest) (streams : Content)
+    → first_command E c is s rs (state_of old streams) ≡ followed (outcome_of done new streams) (λ u. machine.go (machine.Listing E is s Beginning) rs))
+    × ((is : Items) (s : ℕ) (rs : List machine.Rest) → TellsFirst (first_command E c is s rs) done old)
 
 -- what comes next in a list that begins with this item and is entered at `at`
 abbrev pub IsNext : Next → ListItem → Entry → Type 0
-IsNext (nexts.Passes next) i at =
-    (E : machine.Spot) (following : Items) (s : ℕ) (rs : List machine.Rest)
-    → list_step E (items_before i following) s (entry_of at) rs ≡ list_step E following s (entry_of next) rs
-IsNext (nexts.Does c) i at =
-    (E : machine.Spot) (following : Items) (s : ℕ) (rs : List machine.Rest)
-    → list_step E (items_before i following) s (entry_of at) rs ≡ first_command E (command_view c.now) following s rs (list_step E following s Beginning rs)
+IsNext (nexts.Passes next) i at = (is : Items) → next_command (items_before i is) (entry_of at) ≡ next_command is (entry_of next)
+IsNext (nexts.Does c) i at = (is : Items) → next_command (items_before i is) (entry_of at) ≡ Some (command_view c.now, is)
+
+-- the command with which a list goes on, and the items after it
+abbrev pub found_of : Option Found → Option (Command × Items)
+found_of None = None
+found_of (Some f) = Some (command_view f.command.now, items f.following.now)

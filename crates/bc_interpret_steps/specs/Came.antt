@@ -1,10 +1,10 @@
 -- For proofs: that the outcome which the code reports is the outcome of the machine's step.
-use Rattle.std.specs.Prelude.{ℕ, ◌≡◌, ◌≢◌, ◌+◌, ◌<◌, ◌≤◌, Bool, true, false, List, Option, Some, None, slice_set}
+use Rattle.std.specs.Prelude.{ℕ, ◌≡◌, ◌≢◌, ◌+◌, ◌<◌, ◌≤◌, Bool, true, false, List, [], Option, Some, None, slice_set}
 use Rattle.bc_machine_defs.specs.Streams.{Content}
 use Rattle.bc_interpret_defs.specs.Causes as defined
 use Rattle.bc_core.specs.Store.{Dead, Set, cell_at}
 use Rattle.bc_interpret_defs.specs.Meeting.{IsWildBy}
-use Rattle.bc_interpret_defs.specs.OpenCalls.{calls_in}
+use Rattle.bc_interpret_defs.specs.Trails.{Standing, trail_in}
 use Rattle.bc_core.specs.Outcome as outcomes
 use Rattle.bc_core.specs.Outcome.{in_turn, write}
 use Rattle.bc_interpret_defs.specs.Quiet as quiet
@@ -51,32 +51,44 @@ abbrev pub at : List ℕ → Work → List machine.Rest → machine.At
 at vs w rs = record { work = work_of vs w; rests = rs }
 
 -- Whatever the streams hold: the code reports the outcome of a step that calls nothing, with the continuations, the given arguments and
--- the state after it. If the step is wild, it is wild because of the cell that the cause names, and the calls that were open still are, by the
--- continuations that it leaves.
-abbrev pub Came : List machine.OpenCall → machine.Step → (old : State) → Progress → List machine.Rest → List ℕ → (new : State) → Type 0
-Came calls r old (progress.On w) rs vs new = (streams : Content) → r (state_of old streams) ≡ outcomes.Done (at vs w rs) (state_of new streams)
-Came calls r old (progress.Serve q call) rs vs new = ⊥
-Came calls r old progress.Answered rs vs new = ⊥
-Came calls r old (progress.Ended e) rs vs new = (streams : Content) → r (state_of old streams) ≡ outcomes.Ended (ending e) streams
-Came calls r old progress.Going rs vs new = (streams : Content) → r (state_of old streams) ≡ outcomes.Going streams
-Came calls r old (progress.Wild c) rs vs new =
-    ((streams : Content) → r (state_of old streams) ≡ outcomes.Wild) × IsWildBy r old.store (cause_of c) × (calls_in rs ≡ calls)
+-- the state after it. If the step is wild, it is wild because of the cell that the cause names, and the continuations that the code leaves have
+-- its trail.
+abbrev pub Came : List Standing → machine.Step → (old : State) → Progress → List machine.Rest → List ℕ → (new : State) → Type 0
+Came trail r old (progress.On w) rs vs new = (streams : Content) → r (state_of old streams) ≡ outcomes.Done (at vs w rs) (state_of new streams)
+Came trail r old (progress.Serve q call) rs vs new = ⊥
+Came trail r old progress.Answered rs vs new = ⊥
+Came trail r old (progress.Ended e) rs vs new = (streams : Content) → r (state_of old streams) ≡ outcomes.Ended (ending e) streams
+Came trail r old progress.Going rs vs new = (streams : Content) → r (state_of old streams) ≡ outcomes.Going streams
+Came trail r old (progress.Wild c) rs vs new =
+    ((streams : Content) → r (state_of old streams) ≡ outcomes.Wild) × IsWildBy r old.store (cause_of c) × (trail_in rs ≡ trail)
 
--- whatever makes one run wild over the new store makes the other wild over the old one
-abbrev pub Carries : (r q : machine.Step) → (old new : State) → Type 0
-Carries r q old new = (cause : defined.Cause) → IsWildBy q new.store cause → IsWildBy r old.store cause
+-- the same of a step that isn't wild, so that it needs no trail
+abbrev pub Went : machine.Step → (old : State) → Progress → List machine.Rest → List ℕ → (new : State) → Type 0
+Went r old (progress.Wild c) rs vs new = ⊥
+Went r old p rs vs new = Came [] r old p rs vs new
 
 -- the same; a step that is reported as malformed is wild whatever the cells hold
-abbrev pub CameOrMalformed : List machine.OpenCall → machine.Step → (old : State) → Progress → List machine.Rest → List ℕ → (new : State) → Type 0
-CameOrMalformed calls r old (progress.Wild causes.Malformed) rs vs new = ((st : outcomes.State) → r st ≡ outcomes.Wild) × (calls_in rs ≡ calls)
-CameOrMalformed calls r old p rs vs new = Came calls r old p rs vs new
+abbrev pub CameOrMalformed : List Standing → machine.Step → (old : State) → Progress → List machine.Rest → List ℕ → (new : State) → Type 0
+CameOrMalformed trail r old (progress.Wild causes.Malformed) rs vs new = ((st : outcomes.State) → r st ≡ outcomes.Wild) × (trail_in rs ≡ trail)
+CameOrMalformed trail r old p rs vs new = Came trail r old p rs vs new
 
--- the same with the continuations as the interpreter keeps them
+-- the same with the continuations as the interpreter keeps them; t says what trail a wild step has
+abbrev pub GoesAt :
+    (List machine.Rest → List Standing) → (List machine.Rest → machine.Step) → (before : List Rest) → (old : State) → Progress → (after : List Rest)
+    → (new : State) → Type 0
+GoesAt t f before old p after new = Came (t (stack before)) (f (stack before)) old p (stack after) (given after) new
+
+abbrev pub GoesAtOrMalformed :
+    (List machine.Rest → List Standing) → (List machine.Rest → machine.Step) → (before : List Rest) → (old : State) → Progress → (after : List Rest)
+    → (new : State) → Type 0
+GoesAtOrMalformed t f before old p after new = CameOrMalformed (t (stack before)) (f (stack before)) old p (stack after) (given after) new
+
+-- the same where the trail is that of these continuations
 abbrev pub Goes : (List machine.Rest → machine.Step) → (before : List Rest) → (old : State) → Progress → (after : List Rest) → (new : State) → Type 0
-Goes f before old p after new = Came (calls_in (stack before)) (f (stack before)) old p (stack after) (given after) new
+Goes f before old p after new = Came (trail_in (stack before)) (f (stack before)) old p (stack after) (given after) new
 
 abbrev pub GoesOrMalformed : (List machine.Rest → machine.Step) → (before : List Rest) → (old : State) → Progress → (after : List Rest) → (new : State) → Type 0
-GoesOrMalformed f before old p after new = CameOrMalformed (calls_in (stack before)) (f (stack before)) old p (stack after) (given after) new
+GoesOrMalformed f before old p after new = CameOrMalformed (trail_in (stack before)) (f (stack before)) old p (stack after) (given after) new
 
 -- what comes next is `next`, and the continuation r takes its answer
 abbrev pub StandsAfter : Rest → Progress → (before : List Rest) → Progress → (after : List Rest) → Type 0

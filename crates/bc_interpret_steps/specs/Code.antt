@@ -118,11 +118,12 @@ nothing_rest (nothing_rests.Initialises E xs k) = machine.Initialises (spot_of E
 
 abbrev pub exit_rest : ExitRest → machine.Rest
 exit_rest exit_rests.Returns = machine.Returns
-exit_rest exit_rests.Results = machine.Results
+exit_rest (exit_rests.Results n) = machine.Results n
 exit_rest (exit_rests.WhileBody E c b) = machine.WhileBody (spot_of E) c.now.sense (exp c.now.test) (block_of b.now) E.level
 exit_rest (exit_rests.RepeatBody E b) = machine.RepeatBody (spot_of E) (block_of b.now) E.level
 exit_rest (exit_rests.RepeatWhileBody E b c) = machine.RepeatWhileBody (spot_of E) (block_of b.now) c.now.sense (exp c.now.test) E.level
 exit_rest (exit_rests.ForBody E r) = machine.ForBody (spot_of E) r.limit r.by (block_of r.body.now) E.level
+exit_rest (exit_rests.Skips that) = machine.Skips (block_of that.now)
 exit_rest exit_rests.Cases = machine.Cases
 exit_rest (exit_rests.Follows E is) = machine.Follows (spot_of E) (items is.now) E.level
 exit_rest (exit_rests.Listed E is) = machine.Listed (spot_of E) (items is.now) E.level

@@ -1,4 +1,3 @@
-pub mod ListItems
 pub mod Arrived
 pub mod Assigns
 pub mod Came

@@ -91,8 +91,8 @@ fn give_argument<'c>(
     }
 }
 
-/// Pushes the continuation that takes the value of the first remaining argument. This is done even if the argument fails:
-/// `bc_interpret_trace` finds the place by it.
+/// Pushes the continuation that takes the value of the first remaining argument. This is done even if the argument
+/// fails: the trail of a run isn't changed by it.
 fn put_argues<'c>(
     arguments: Arguments<'c>,
     following: &'c [CoreExp],

@@ -9,19 +9,18 @@ ghost use Rattle.bc_interpret_defs.specs.Machine as machine;
 ghost use Rattle.bc_core.specs.Level.{level_in_for, cells_of as cells_of_variable, cells_of_all as cells_of_variables, cells_declared as cells_of_declarations};
 ghost use Rattle.bc_core.specs.View.{exp, variable, declarations as declarations_view, command as command_view, items as items_view, block_of};
 ghost use Rattle.bc_core.specs.Commands as commands;
-ghost use Rattle.bc_interpret_defs.specs.OpenCalls.{calls_in};
+ghost use Rattle.bc_interpret_defs.specs.Trails.{trail_in, trail_of};
 ghost use Rattle.bc_interpret_steps.specs.declared.continuations.TruthRest.TheVariants as truth_rests;
 ghost use Rattle.bc_interpret_steps.specs.declared.state.State.{State as StateValue};
 ghost use Rattle.bc_interpret_steps.specs.Code.{spot_of, value_rest, truth_rest};
 ghost use Rattle.bc_interpret_steps.specs.Came.{Came};
-ghost use Rattle.bc_interpret_steps.specs.Stepped.{Proceeds, ProceedsOrMalformed};
+ghost use Rattle.bc_interpret_steps.specs.Stepped.{Proceeds, ProceedsAt, ProceedsAtOrMalformed, ProceedsOn};
 
 use crate::assign::{Assigned, assign_at_once};
 use crate::conditions::agrees;
 use crate::continuations::{ExitRest, NothingRest, Rest, TruthRest, ValueRest, level_above, push};
 use crate::evaluate::{decide, decide_part, evaluate, truth_at};
 use crate::forms::{Ending, Entry, Exit, Progress, Rounds, Site, Work};
-use crate::lists::listing;
 use crate::numbers::side_level;
 use crate::state::{Stacks, State, put_after, put_word, turn};
 use bc_core::{Block, Command, Condition, CoreExp, Declaration, ListItem, Variable};
@@ -48,7 +47,7 @@ fn assign<'c>(
 /// A GOTO to this label, which takes a turn.
 #[inline(always)]
 fn jump<'c>(label: u16, state: &mut State) -> Progress<'c>
-    ensures { (E : machine.Spot) (s : ℕ) (rs : List machine.Rest) (vs : List ℕ) → Came (calls_in rs) (machine.perform_step E (commands.Goto label) s rs)
+    ensures { (E : machine.Spot) (s : ℕ) (rs : List machine.Rest) (vs : List ℕ) → Came (trail_in rs) (machine.perform_step E (commands.Goto label) s rs)
         state.old result rs vs state.new }
 {
     if !turn(state) {
@@ -65,8 +64,8 @@ pub(crate) fn perform<'c>(
     stacks: &mut Stacks<'c>,
     state: &mut State,
 ) -> Result<(), Memory>
-    ensures { ProceedsOrMalformed (machine.perform_step (spot_of site.entry) (command_view command.now) site.entry.level) stacks.old.rests state.old result
-        stacks.new.next stacks.new.rests state.new }
+    ensures { ProceedsAtOrMalformed (trail_of (machine.Perform (spot_of site.entry) (command_view command.now) site.entry.level)) (machine.perform_step
+        (spot_of site.entry) (command_view command.now) site.entry.level) stacks.old.rests state.old result stacks.new.next stacks.new.rests state.new }
 {
     match command {
         Command::Call(call) => after_value(ValueRest::Drops, site, call, stacks, state),
@@ -156,8 +155,8 @@ fn after_value<'c>(
     stacks: &mut Stacks<'c>,
     state: &State,
 ) -> Result<(), Memory>
-    ensures { ProceedsOrMalformed (λ rs. machine.evaluate (spot_of site.entry) (exp e.now) site.entry.level (value_rest rest.entry ∷ rs)) stacks.old.rests
-        state.now result stacks.new.next stacks.new.rests state.now }
+    ensures { ProceedsAtOrMalformed (λ rs. trail_in (value_rest rest.entry ∷ rs)) (λ rs. machine.evaluate (spot_of site.entry) (exp e.now) site.entry.level
+        (value_rest rest.entry ∷ rs)) stacks.old.rests state.now result stacks.new.next stacks.new.rests state.now }
 {
     push(Rest::Value(rest), &mut stacks.rests)?;
     evaluate(site, e, stacks, state)
@@ -171,7 +170,8 @@ fn begin_test<'c>(
     stacks: &mut Stacks<'c>,
     state: &State,
 ) -> Result<(), Memory>
-    ensures { Proceeds (λ rs. machine.decide (spot_of site.entry) (exp test.now) site.entry.level (truth_rest (truth_rests.Chooses site.entry
+    ensures { ProceedsAt (λ rs. trail_in (truth_rest (truth_rests.Chooses site.entry branches.entry.0 branches.entry.1) ∷ rs)) (λ rs. machine.decide (spot_of
+        site.entry) (exp test.now) site.entry.level (truth_rest (truth_rests.Chooses site.entry
         branches.entry.0 branches.entry.1) ∷ rs)) stacks.old.rests state.now result stacks.new.next stacks.new.rests state.now }
 {
     let (this, that) = branches;
@@ -184,7 +184,7 @@ fn begin_test<'c>(
 
 /// Enters the body of an IF or UNLESS if its condition holds, else leaves it.
 #[inline(always)]
-#[tactic(auto, using(crate::proofs::Quiet::came_this, crate::proofs::Quiet::came_that))]
+#[tactic(auto, using(crate::proofs::Quiet::went_this, crate::proofs::Quiet::went_that))]
 pub(crate) fn enter_if<'c>(
     holds: bool,
     site: Site<'c>,
@@ -192,7 +192,7 @@ pub(crate) fn enter_if<'c>(
     stacks: &mut Stacks<'c>,
     state: &mut State,
 ) -> Result<(), Memory>
-    ensures { Proceeds (λ rs. choose holds (machine.enter (spot_of site.entry) (block_of body.now) site.entry.level rs) (machine.give (machine.Left Past)
+    ensures { ProceedsOn (λ rs. choose holds (machine.enter (spot_of site.entry) (block_of body.now) site.entry.level rs) (machine.give (machine.Left Past)
         rs)) stacks.old.rests state.old result stacks.new.next stacks.new.rests state.new }
 {
     if holds {
@@ -202,9 +202,25 @@ pub(crate) fn enter_if<'c>(
     Ok(())
 }
 
-/// Enters the first block if `t` is true, else the second.
+/// Enters the first branch of a TEST, and pushes the continuation that skips the second.
 #[inline(always)]
-#[tactic(auto, using(crate::proofs::Quiet::came_this, crate::proofs::Quiet::came_that))]
+fn enter_first<'c>(
+    site: Site<'c>,
+    branches: (&'c Block, &'c Block),
+    stacks: &mut Stacks<'c>,
+    state: &mut State,
+) -> Result<(), Memory>
+    ensures { ProceedsOn (λ rs. machine.enter (spot_of site.entry) (block_of branches.entry.0.now) site.entry.level (machine.Skips (block_of
+        branches.entry.1.now) ∷ rs)) stacks.old.rests state.old result stacks.new.next stacks.new.rests state.new }
+{
+    let (this, that) = branches;
+    push(Rest::Exit(ExitRest::Skips(that)), &mut stacks.rests)?;
+    enter(site, this, stacks, state)
+}
+
+/// Enters the first block if `t` is true, and pushes the continuation that skips the second; else enters the second.
+#[inline(always)]
+#[tactic(auto, using(crate::proofs::Quiet::went_this, crate::proofs::Quiet::went_that))]
 pub(crate) fn enter_either<'c>(
     t: bool,
     site: Site<'c>,
@@ -212,12 +228,12 @@ pub(crate) fn enter_either<'c>(
     stacks: &mut Stacks<'c>,
     state: &mut State,
 ) -> Result<(), Memory>
-    ensures { Proceeds (λ rs. choose t (machine.enter (spot_of site.entry) (block_of branches.entry.0.now) site.entry.level rs) (machine.enter (spot_of
-        site.entry) (block_of branches.entry.1.now) site.entry.level rs)) stacks.old.rests state.old result stacks.new.next stacks.new.rests state.new }
+    ensures { ProceedsOn (λ rs. choose t (machine.enter (spot_of site.entry) (block_of branches.entry.0.now) site.entry.level (machine.Skips (block_of
+        branches.entry.1.now) ∷ rs)) (machine.enter (spot_of site.entry) (block_of branches.entry.1.now) site.entry.level rs)) stacks.old.rests state.old result stacks.new.next stacks.new.rests state.new }
 {
     let (this, that) = branches;
     if t {
-        return Ok(enter(site, this, stacks, state)?);
+        return Ok(enter_first(site, (this, that), stacks, state)?);
     }
     Ok(enter(site, that, stacks, state)?)
 }
@@ -231,7 +247,7 @@ fn while_body<'c>(
     stacks: &mut Stacks<'c>,
     state: &mut State,
 ) -> Result<(), Memory>
-    ensures { Proceeds (λ rs. machine.enter (spot_of site.entry) (block_of body.now) site.entry.level (machine.WhileBody (spot_of site.entry)
+    ensures { ProceedsOn (λ rs. machine.enter (spot_of site.entry) (block_of body.now) site.entry.level (machine.WhileBody (spot_of site.entry)
         condition.now.sense (exp condition.now.test) (block_of body.now) site.entry.level ∷ rs)) stacks.old.rests state.old result stacks.new.next
         stacks.new.rests state.new }
 {
@@ -244,7 +260,7 @@ fn while_body<'c>(
 
 /// Enters the body of a WHILE or UNTIL if its condition holds, else leaves the loop.
 #[inline(always)]
-#[tactic(auto, using(crate::proofs::Quiet::came_this, crate::proofs::Quiet::came_that))]
+#[tactic(auto, using(crate::proofs::Quiet::went_this, crate::proofs::Quiet::went_that))]
 pub(crate) fn enter_while<'c>(
     holds: bool,
     site: Site<'c>,
@@ -252,7 +268,7 @@ pub(crate) fn enter_while<'c>(
     stacks: &mut Stacks<'c>,
     state: &mut State,
 ) -> Result<(), Memory>
-    ensures { Proceeds (λ rs. choose holds (machine.enter (spot_of site.entry) (block_of parts.entry.1.now) site.entry.level (machine.WhileBody (spot_of
+    ensures { ProceedsOn (λ rs. choose holds (machine.enter (spot_of site.entry) (block_of parts.entry.1.now) site.entry.level (machine.WhileBody (spot_of
         site.entry) parts.entry.0.now.sense (exp parts.entry.0.now.test) (block_of parts.entry.1.now) site.entry.level ∷ rs)) (machine.give (machine.Left
         Past) rs)) stacks.old.rests state.old result stacks.new.next stacks.new.rests state.new }
 {
@@ -264,7 +280,7 @@ pub(crate) fn enter_while<'c>(
 }
 
 /// Begins an IF or UNLESS; a pure condition is decided within this step. If that fails, the continuation of the condition is pushed all the
-/// same: `bc_interpret_trace` finds the place by it.
+/// same: the trail of the run needs it.
 #[inline(always)]
 #[tactic(auto, using(crate::proofs::Tests::if_calls))]
 fn begin_if<'c>(
@@ -274,7 +290,8 @@ fn begin_if<'c>(
     stacks: &mut Stacks<'c>,
     state: &mut State,
 ) -> Result<(), Memory>
-    ensures { Proceeds (machine.perform_step (spot_of site.entry) (commands.If condition.now.sense (exp condition.now.test) (block_of body.now))
+    ensures { ProceedsAt (trail_of (machine.Perform (spot_of site.entry) (commands.If condition.now.sense (exp condition.now.test) (block_of body.now))
+        site.entry.level)) (machine.perform_step (spot_of site.entry) (commands.If condition.now.sense (exp condition.now.test) (block_of body.now))
         site.entry.level) stacks.old.rests state.old result stacks.new.next stacks.new.rests state.new }
 {
     match truth_at(&site, &condition.test, &mut stacks.room, state)? {
@@ -302,7 +319,7 @@ fn begin_if<'c>(
 }
 
 /// Begins a round of a WHILE or UNTIL; a pure condition is decided within this step. If that fails, the continuation of the condition is
-/// pushed all the same: `bc_interpret_trace` finds the place by it.
+/// pushed all the same: the trail of the run needs it.
 #[inline(always)]
 #[tactic(auto, using(crate::proofs::Tests::while_calls))]
 pub(crate) fn while_loop<'c>(
@@ -312,7 +329,8 @@ pub(crate) fn while_loop<'c>(
     stacks: &mut Stacks<'c>,
     state: &mut State,
 ) -> Result<(), Memory>
-    ensures { Proceeds (machine.perform_step (spot_of site.entry) (commands.While condition.now.sense (exp condition.now.test) (block_of body.now))
+    ensures { ProceedsAt (trail_of (machine.Perform (spot_of site.entry) (commands.While condition.now.sense (exp condition.now.test) (block_of body.now))
+        site.entry.level)) (machine.perform_step (spot_of site.entry) (commands.While condition.now.sense (exp condition.now.test) (block_of body.now))
         site.entry.level) stacks.old.rests state.old result stacks.new.next stacks.new.rests state.new }
 {
     match truth_at(&site, &condition.test, &mut stacks.room, state)? {
@@ -454,7 +472,7 @@ pub(crate) fn enter<'c>(
     stacks: &mut Stacks<'c>,
     state: &mut State,
 ) -> Result<(), Memory>
-    ensures { Proceeds (machine.enter (spot_of site.entry) (block_of block.now) site.entry.level) stacks.old.rests state.old result stacks.new.next
+    ensures { ProceedsOn (machine.enter (spot_of site.entry) (block_of block.now) site.entry.level) stacks.old.rests state.old result stacks.new.next
         stacks.new.rests state.new }
 {
     let level = level_above(site.level, cells_declared(&block.declarations)?)?;
@@ -467,7 +485,7 @@ pub(crate) fn enter<'c>(
     )?)
 }
 
-/// Begins the remaining declarations of a block, or its list, at `level`, if no declaration remains. `remaining` has both.
+/// Begins the remaining declarations of a block; if there is none, its list comes next, at `level`. `remaining` has both.
 pub(crate) fn declare<'c>(
     site: Site<'c>,
     remaining: (&'c [Declaration], &'c [ListItem]),
@@ -475,7 +493,7 @@ pub(crate) fn declare<'c>(
     stacks: &mut Stacks<'c>,
     state: &mut State,
 ) -> Result<(), Memory>
-    ensures { Proceeds (machine.declare_step (spot_of site.entry) (declarations_view remaining.entry.0.now) (items_view remaining.entry.1.now)
+    ensures { ProceedsOn (machine.declare_step (spot_of site.entry) (declarations_view remaining.entry.0.now) (items_view remaining.entry.1.now)
         site.entry.level level) stacks.old.rests state.old result stacks.new.next stacks.new.rests state.new }
 {
     let (declarations, items) = remaining;
@@ -486,7 +504,8 @@ pub(crate) fn declare<'c>(
                 Rest::Exit(ExitRest::Listed(within, items)),
                 &mut stacks.rests,
             )?;
-            Ok(listing(within, items, Entry::Beginning, stacks, state)?)
+            stacks.next = Progress::On(Work::Listing(within, items, Entry::Beginning));
+            Ok(())
         }
         [first, left @ ..] => {
             let cells = cells_of_all(&first.variables)?;
@@ -603,7 +622,7 @@ fn for_body<'c>(
     stacks: &mut Stacks<'c>,
     state: &mut State,
 ) -> Result<(), Memory>
-    ensures { Proceeds (λ rs. machine.enter (spot_of site.entry) (block_of rounds.entry.body.now) (level_in_for site.entry.level) (machine.ForBody (spot_of
+    ensures { ProceedsOn (λ rs. machine.enter (spot_of site.entry) (block_of rounds.entry.body.now) (level_in_for site.entry.level) (machine.ForBody (spot_of
         site.entry) rounds.entry.limit rounds.entry.by (block_of rounds.entry.body.now) site.entry.level ∷ rs)) stacks.old.rests state.old result
         stacks.new.next stacks.new.rests state.new }
 {

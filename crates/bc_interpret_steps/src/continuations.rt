@@ -87,8 +87,10 @@ pub enum NothingRest<'c> {
 pub enum ExitRest<'c> {
     /// Returns from a routine whose body is a command.
     Returns,
-    /// Returns the value of a VALOF.
-    Results,
+    /// Returns the value of the VALOF with this number.
+    Results(u32),
+    /// Skips the second branch of a TEST after its first one.
+    Skips(&'c Block),
     /// Goes on with a WHILE or UNTIL after its body.
     WhileBody(Site<'c>, &'c Condition, &'c Block),
     /// Goes on with a REPEAT after its body.

@@ -9,7 +9,7 @@ ghost use Rattle.bc_interpret_steps.specs.Code.{spot_of, number_rest, truth_rest
 ghost use Rattle.bc_interpret_pure.specs.Views.{IsWorth, IsTruth};
 ghost use Rattle.bc_interpret_steps.specs.declared.state.State.{State as StateValue};
 ghost use Rattle.bc_interpret_steps.specs.Came.{progress_of, progress_of_truth, sight};
-ghost use Rattle.bc_interpret_steps.specs.Stepped.{Proceeds, ProceedsOrMalformed};
+ghost use Rattle.bc_interpret_steps.specs.Stepped.{Proceeds, ProceedsOrMalformed, ProceedsOn};
 
 use crate::arguments::evaluate_arguments;
 use crate::conditions::branch_next;
@@ -245,7 +245,7 @@ fn valof<'c>(site: Site<'c>, number: u32, stacks: &mut Stacks<'c>) -> Result<(),
         frame: site.frame,
         level: site.level,
     };
-    push(Rest::Exit(ExitRest::Results), &mut stacks.rests)?;
+    push(Rest::Exit(ExitRest::Results(number)), &mut stacks.rests)?;
     stacks.next = Progress::On(Work::Enter(within, body));
     Ok(())
 }
@@ -279,7 +279,7 @@ pub(crate) fn decide_part<'c>(
     part: &'c CoreExp,
     stacks: &mut Stacks<'c>,
 ) -> Result<(), Memory>
-    ensures { (st : StateValue) → Proceeds (λ rs. machine.go (machine.Decide (spot_of site.entry) (exp part.now) site.entry.level) (truth_rest rest.entry ∷
+    ensures { (st : StateValue) → ProceedsOn (λ rs. machine.go (machine.Decide (spot_of site.entry) (exp part.now) site.entry.level) (truth_rest rest.entry ∷
         rs)) stacks.old.rests st result stacks.new.next stacks.new.rests st }
 {
     push(Rest::Truth(rest), &mut stacks.rests)?;

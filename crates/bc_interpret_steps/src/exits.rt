@@ -6,7 +6,7 @@ ghost use Rattle.bc_core.specs.Exit.{Past};
 ghost use Rattle.bc_core.specs.Outcome.{in_turn};
 ghost use Rattle.bc_core.specs.View.{exp, items as items_view, block_of};
 ghost use Rattle.bc_interpret_defs.specs.Machine as machine;
-ghost use Rattle.bc_interpret_defs.specs.OpenCalls.{calls_in};
+ghost use Rattle.bc_interpret_defs.specs.Trails.{trail_in};
 ghost use Rattle.bc_interpret_steps.specs.declared.state.State.{State as StateValue};
 ghost use Rattle.bc_interpret_steps.specs.Code.{spot_of, exit_of, exit_rest, nothing_rest, work_of, stack};
 ghost use Rattle.bc_interpret_steps.specs.Passing.{IsHandedOn, IsLeft, IsPassed, PassesOn};
@@ -15,7 +15,7 @@ ghost use Rattle.bc_interpret_steps.specs.Stepped.{Takes, TakesOrMalformed, Give
 
 use crate::continuations::{ExitRest, NothingRest, Rest, TruthRest, ValueRest, level_above, push};
 use crate::forms::{Entry, Exit, Progress, Rounds, Site, Work};
-use crate::lists::{has_label, listing};
+use crate::lists::has_label;
 use crate::state::{Stacks, State, put_word, turn};
 use bc_core::{Block, Condition, CoreExp, ListItem};
 use bc_interpret_pure::{Cause, cell_of};
@@ -84,8 +84,8 @@ fn is_left(items: &[ListItem], exit: Exit) -> bool
 }
 
 /// The exit that a continuation passes on without doing anything; `None` if it does something. These do nothing: the continuation after
-/// a command, if no item follows or control doesn't go on there; that of a whole list, unless it is left by a jump; and that of a
-/// SWITCHON.
+/// a command, if no item follows or control doesn't go on there; that of a whole list, unless it is left by a jump; that of a
+/// SWITCHON; and that of the first branch of a TEST.
 #[inline(always)]
 fn exit_passed_on(rest: &ExitRest<'_>, exit: Exit) -> Option<Exit>
     ensures { IsHandedOn (exit_of exit) rest.now result }
@@ -107,9 +107,10 @@ fn exit_passed_on(rest: &ExitRest<'_>, exit: Exit) -> Option<Exit>
             | Exit::Returned
             | Exit::Resulted(_) => Some(exit),
         },
+        ExitRest::Skips(_) => Some(exit),
         ExitRest::Cases => Some(after_cases(exit)),
         ExitRest::Returns
-        | ExitRest::Results
+        | ExitRest::Results(_)
         | ExitRest::WhileBody(_, _, _)
         | ExitRest::RepeatBody(_, _)
         | ExitRest::RepeatWhileBody(_, _, _)
@@ -167,8 +168,12 @@ pub(crate) fn exit_taken<'c>(
             stacks.next = returned(exit);
             Ok(())
         }
-        ExitRest::Results => {
+        ExitRest::Results(_) => {
             stacks.next = resulted(exit);
+            Ok(())
+        }
+        ExitRest::Skips(_) => {
+            stacks.next = Progress::On(Work::Left(exit));
             Ok(())
         }
         ExitRest::WhileBody(site, condition, body) => {
@@ -191,14 +196,14 @@ pub(crate) fn exit_taken<'c>(
             stacks.next = follow(*site, items, exit);
             Ok(())
         }
-        ExitRest::Listed(site, items) => list_left(*site, items, exit, stacks, state),
+        ExitRest::Listed(site, items) => list_left(*site, items, exit, stacks),
     }
 }
 
 /// Continues a WHILE or REPEAT after its body with the work `again`, which takes a turn, or leaves the loop.
 #[inline(always)]
 fn loop_on<'c>(exit: Exit, again: Work<'c>, state: &mut State) -> Progress<'c>
-    ensures { (rs : List machine.Rest) (vs : List ℕ) → CameOrMalformed (calls_in rs) (machine.following (in_turn (machine.go (work_of vs again.entry) rs))
+    ensures { (rs : List machine.Rest) (vs : List ℕ) → CameOrMalformed (trail_in rs) (machine.following (in_turn (machine.go (work_of vs again.entry) rs))
         (exit_of exit) rs) state.old result rs vs state.new }
 {
     match following(exit) {
@@ -288,16 +293,16 @@ fn list_left<'c>(
     items: &'c [ListItem],
     exit: Exit,
     stacks: &mut Stacks<'c>,
-    state: &mut State,
 ) -> Result<(), Memory>
-    ensures { TakesOrMalformed (machine.Listed (spot_of site.entry) (items_view items.now) site.entry.level) (machine.Left (exit_of exit)) stacks.old.rests
-        state.old result stacks.new.next stacks.new.rests state.new }
+    ensures { (st : StateValue) → TakesOrMalformed (machine.Listed (spot_of site.entry) (items_view items.now) site.entry.level) (machine.Left (exit_of
+        exit)) stacks.old.rests st result stacks.new.next stacks.new.rests st }
 {
     match exit {
         Exit::Jumped(label) => {
             if has_label(items, label) {
                 push(Rest::Exit(ExitRest::Listed(site, items)), &mut stacks.rests)?;
-                return Ok(listing(site, items, Entry::AtLabel(label), stacks, state)?);
+                stacks.next = Progress::On(Work::Listing(site, items, Entry::AtLabel(label)));
+                return Ok(());
             }
             stacks.next = Progress::On(Work::Left(exit));
             Ok(())
@@ -327,7 +332,7 @@ fn returned<'c>(exit: Exit) -> Progress<'c>
 
 /// Returns the value of a VALOF: that of RESULTIS, or 0 if control reaches the end of its body. Other exits are wild.
 fn resulted<'c>(exit: Exit) -> Progress<'c>
-    ensures { (st : StateValue) → GivesOrMalformed machine.Results (machine.Left (exit_of exit)) st result st }
+    ensures { (n : ℕ) (st : StateValue) → GivesOrMalformed (machine.Results n) (machine.Left (exit_of exit)) st result st }
 {
     match exit {
         Exit::Past => Progress::On(Work::Number(0)),

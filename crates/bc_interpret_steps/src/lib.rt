@@ -31,7 +31,9 @@ mod steps;
 
 pub use calls::keep_open;
 pub use continuations::{ExitRest, NothingRest, NumberRest, Rest, TruthRest, ValueRest, push};
-pub use forms::{Arguments, Ending, Exit, OpenCall, Primitive, Progress, Rounds, Site, Work};
+pub use forms::{
+    Arguments, Ending, Entry, Exit, OpenCall, Primitive, Progress, Rounds, Site, Work,
+};
 pub use sections::{Callable, Section};
 pub use state::{Called, Stacks, State};
 pub use steps::step;

@@ -1,19 +1,20 @@
 //! Lists of items: commands, and the cases and labels at which control enters the list.
 
-ghost use Rattle.std.specs.Prelude.{◌≡◌, ◌∷◌, ◌||◌, IfOk, OnOk};
+ghost use Rattle.std.specs.Prelude.{◌≡◌, ◌∷◌, ◌||◌};
 ghost use Rattle.bc_core.specs.Commands.{Items};
-ghost use Rattle.bc_core.specs.View.{items as items_view, items_before};
+ghost use Rattle.bc_core.specs.View.{command as command_view, items as items_view, items_before};
 ghost use Rattle.bc_core.specs.Lists.{has_case as has_case_of, has_label as has_label_of};
 ghost use Rattle.bc_interpret_defs.specs.Machine as machine;
-ghost use Rattle.bc_interpret_steps.specs.Code.{spot_of, stack, entry_of};
-ghost use Rattle.bc_interpret_steps.specs.Assigns.{IsNext};
-ghost use Rattle.bc_interpret_steps.specs.ListItems.{IsAlong, IsEntry, IsAfterEntry, IsEntered};
-ghost use Rattle.bc_interpret_steps.specs.Stepped.{Proceeds};
+ghost use Rattle.bc_interpret_defs.specs.Machine.{next_command as next_command_of};
+ghost use Rattle.bc_interpret_defs.specs.Trails.{trail_in, trail_of};
+ghost use Rattle.bc_interpret_steps.specs.Code.{spot_of, entry_of};
+ghost use Rattle.bc_interpret_steps.specs.Assigns.{IsNext, found_of};
+ghost use Rattle.bc_interpret_steps.specs.Stepped.{ProceedsAt};
 
 use crate::assign::{Assigned, command_at_once};
-use crate::continuations::{ExitRest, NothingRest, Rest, push};
+use crate::continuations::{ExitRest, Rest};
 use crate::forms::{Ending, Entry, Exit, Progress, Site, Work};
-use crate::state::{Stacks, State};
+use crate::state::{Stacks, State, put_after};
 use bc_core::{Command, ListItem};
 use bc_word::Memory;
 
@@ -99,111 +100,58 @@ fn next_of(item: &ListItem, at: Entry) -> Next<'_>
     }
 }
 
-/// Whether an item is the case, default or label at which a list is entered.
-#[inline(always)]
-#[tactic(auto, using(crate::proofs::Entered::no_entry))]
-fn is_entry(item: &ListItem, at: Entry) -> bool
-    ensures { IsEntry result item.now at }
-{
-    match item {
-        ListItem::Command(_) => false,
-        ListItem::Case(k) => matches!(at, Entry::AtCase(v) if v == k.get()),
-        ListItem::Default => matches!(at, Entry::AtDefault),
-        ListItem::Label(k) => matches!(at, Entry::AtLabel(l) if l == *k),
-    }
+/// A command of a list, and the items after it.
+#[derive(Clone, Copy)]
+struct Found<'c> {
+    command: &'c Command,
+    following: &'c [ListItem],
 }
 
-/// The items after the case, default or label `at`; none if the list doesn't have it. Promises nothing for `Beginning`.
-fn after_entry<'c>(items: &'c [ListItem], at: Entry) -> &'c [ListItem]
-    ensures { IsAfterEntry result.now items.now at }
+/// The command with which a list goes on that is entered at `entry`; `None` if no command follows there.
+fn next_command<'c>(items: &'c [ListItem], entry: Entry) -> Option<Found<'c>>
+    ensures { found_of result ≡ next_command_of (items_view items.now) (entry_of entry) }
 {
     let mut left = items;
+    let mut at = entry;
     while let [first, following @ ..] = left {
-        if is_entry(first, at) {
-            return following;
+        match next_of(first, at) {
+            Next::Does(command) => return Some(Found { command, following }),
+            Next::Passes(next) => at = next,
         }
         left = following;
     }
-    left
+    None
 }
 
-/// The items that are performed if a list is entered at `at`.
-#[inline(always)]
-#[tactic(auto, using(crate::proofs::Entered::from_beginning, crate::proofs::Entered::from_entry))]
-fn entered<'c>(items: &'c [ListItem], at: Entry) -> &'c [ListItem]
-    ensures { IsEntered result.now items.now at }
-{
-    match at {
-        Entry::Beginning => items,
-        Entry::AtCase(_) | Entry::AtDefault | Entry::AtLabel(_) => after_entry(items, at),
-    }
-}
-
-/// Pushes the continuations that would follow a failed assignment. The run ends there; `bc_interpret_trace` finds the place of the
-/// assignment by them.
-fn stop<'c>(
+/// Begins a command of a list; a pure assignment is performed within this step. If that fails, the continuation that goes on with the list is
+/// pushed all the same: the trail of the run needs it.
+fn begin<'c>(
     site: Site<'c>,
-    following: &'c [ListItem],
-    rests: &mut Vec<Rest<'c>>,
-) -> Result<(), Memory>
-    ensures { OnOk result (stack rests.new.items ≡ machine.Passes ∷ machine.Follows (spot_of site.entry) (items_view following.now) site.entry.level ∷ stack
-        rests.old.items) }
-{
-    push(Rest::Exit(ExitRest::Follows(site, following)), rests)?;
-    push(Rest::Nothing(NothingRest::Passes), rests)?;
-    Ok(())
-}
-
-/// The outcome of the first item of a list.
-#[derive(Clone, Copy)]
-enum Along {
-    /// The step goes on with the items after it, entered here.
-    On(Entry),
-    /// The step is over; its outcome is in `Stacks::next`.
-    Over,
-}
-
-/// Does the first item of a list that is entered at `at`.
-#[inline(always)]
-#[tactic(auto, using(crate::proofs::Listings::along_a_list))]
-fn list_item<'c>(
-    site: Site<'c>,
-    list: (&'c ListItem, &'c [ListItem]),
-    at: Entry,
+    found: Found<'c>,
     stacks: &mut Stacks<'c>,
     state: &mut State,
-) -> Result<Along, Memory>
-    ensures { IfOk result (λ along. IsAlong (spot_of site.entry) list.entry.0.now list.entry.1.now site.entry.level at stacks.old.rests.items state.old
-        along stacks.new.next stacks.new.rests.items state.new) }
+) -> Result<(), Memory>
+    ensures { ProceedsAt (λ rs. trail_in (machine.Follows (spot_of site.entry) (items_view found.entry.following.now) site.entry.level ∷ rs))
+        (machine.first_command (spot_of site.entry) (command_view found.entry.command.now) (items_view found.entry.following.now) site.entry.level)
+        stacks.old.rests state.old result stacks.new.next stacks.new.rests state.new }
 {
-    let (first, following) = list;
-    match next_of(first, at) {
-        Next::Passes(next) => Ok(Along::On(next)),
-        Next::Does(command) => match command_at_once(&site, command, &mut stacks.room, state)? {
-            Some(Assigned::Done) => Ok(Along::On(Entry::Beginning)),
-            Some(Assigned::Divides) => {
-                stop(site, following, &mut stacks.rests)?;
-                stacks.next = Progress::Ended(Ending::ZeroDivide);
-                Ok(Along::Over)
-            }
-            Some(Assigned::Fails(cause)) => {
-                stop(site, following, &mut stacks.rests)?;
-                stacks.next = Progress::Wild(cause);
-                Ok(Along::Over)
-            }
-            None => {
-                push(
-                    Rest::Exit(ExitRest::Follows(site, following)),
-                    &mut stacks.rests,
-                )?;
-                stacks.next = Progress::On(Work::Perform(site, command));
-                Ok(Along::Over)
-            }
-        },
+    let rest = Rest::Exit(ExitRest::Follows(site, found.following));
+    match command_at_once(&site, found.command, &mut stacks.room, state)? {
+        Some(Assigned::Done) => {
+            stacks.next = Progress::On(Work::Listing(site, found.following, Entry::Beginning));
+            Ok(())
+        }
+        Some(Assigned::Divides) => put_after(rest, Progress::Ended(Ending::ZeroDivide), stacks),
+        Some(Assigned::Fails(cause)) => put_after(rest, Progress::Wild(cause), stacks),
+        None => put_after(
+            rest,
+            Progress::On(Work::Perform(site, found.command)),
+            stacks,
+        ),
     }
 }
 
-/// One step along a list that is entered at `entry`: performs its pure assignments, up to the first other command, which comes next.
+/// One step along a list that is entered at `entry`: begins its next command, or leaves the list if there is none.
 pub(crate) fn listing<'c>(
     site: Site<'c>,
     items: &'c [ListItem],
@@ -211,19 +159,14 @@ pub(crate) fn listing<'c>(
     stacks: &mut Stacks<'c>,
     state: &mut State,
 ) -> Result<(), Memory>
-    ensures { Proceeds (machine.list_step (spot_of site.entry) (items_view items.now) site.entry.level (entry_of entry)) stacks.old.rests state.old result
-        stacks.new.next stacks.new.rests state.new }
+    ensures { ProceedsAt (trail_of (machine.Listing (spot_of site.entry) (items_view items.now) site.entry.level (entry_of entry))) (machine.list_step (spot_of
+        site.entry) (items_view items.now) site.entry.level (entry_of entry)) stacks.old.rests state.old result stacks.new.next stacks.new.rests state.new }
 {
-    let mut left = entered(items, entry);
-    let mut at = Entry::Beginning;
-    while let [first, following @ ..] = left {
-        let along = list_item(site, (first, following), at, stacks, state)?;
-        match along {
-            Along::On(next) => at = next,
-            Along::Over => return Ok(()),
+    match next_command(items, entry) {
+        Some(found) => begin(site, found, stacks, state),
+        None => {
+            stacks.next = Progress::On(Work::Left(Exit::Past));
+            Ok(())
         }
-        left = following;
     }
-    stacks.next = Progress::On(Work::Left(Exit::Past));
-    Ok(())
 }

@@ -18,7 +18,7 @@ pub struct State {
     pub turns: u64,
 }
 
-/// The call that a step made. No contract speaks of it: it is for `bc_interpret_trace`.
+/// The call that a step made. No contract speaks of it: it is for observers.
 #[derive(Clone, Copy)]
 pub struct Called {
     /// The least length of the stack of continuations while the run is inside the called routine; 0 if the step made no call.

@@ -2,7 +2,6 @@
 #![tactic(auto)]
 
 mod copying;
-mod marks;
 mod objects;
 mod running;
 mod tags;

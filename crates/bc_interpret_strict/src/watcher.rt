@@ -1,12 +1,12 @@
 //! The observer that sees the accesses of a run of the copied sections, and ends the run at a mistake.
 
-use crate::marks::Marks;
 use crate::objects::{Mistake, Objects};
 use crate::tags::{DeclaredVectors, Tags};
 use bc_core::{Block, Command};
 use bc_interpret::{Observer, Stacks, Trail};
 use bc_interpret_steps::{NumberRest, Progress, Rest, Site, ValueRest, Work};
 use bc_interpret_store::Store;
+use bc_interpret_trace::trail_in;
 use bc_word::{Memory, Op, Word};
 use std::alloc::Global;
 
@@ -20,9 +20,9 @@ pub(crate) struct Found {
 /// Watches a run.
 #[derive(Drop)]
 pub(crate) struct Watcher {
+    alloc: Global,
     objects: Objects,
     tags: Tags,
-    marks: Marks,
     /// Whether START was called.
     is_begun: bool,
     /// The mistake that ended the run, once there is one.
@@ -58,9 +58,9 @@ impl Watcher {
     /// A watcher of a run that hasn't begun.
     pub fn new(alloc: Global, objects: Objects, tags: Tags) -> Watcher {
         Watcher {
+            alloc,
             objects,
             tags,
-            marks: Marks::new(alloc),
             is_begun: false,
             found: None,
         }
@@ -122,7 +122,7 @@ impl Watcher {
         let Some(mistake) = self.see_number(number, left) else {
             return Ok(());
         };
-        let trail = self.marks.trail(left)?;
+        let trail = trail_in(self.alloc, left)?;
         self.found = Some(Found { mistake, trail });
         Err(Memory)
     }
@@ -131,7 +131,6 @@ impl Watcher {
 impl Observer for Watcher {
     fn before(&mut self, stacks: &Stacks<'_>, _store: &mut Store) -> Result<(), Memory> {
         let depth = stacks.rests.len();
-        self.marks.follow(stacks)?;
         self.objects.leave(depth);
         match &stacks.next {
             Progress::On(Work::Perform(at, Command::Nested(block))) => {
@@ -146,7 +145,7 @@ impl Observer for Watcher {
 
     fn after(&mut self, stacks: &Stacks<'_>, _store: &mut Store) -> Result<(), Memory> {
         self.is_begun = self.is_begun || stacks.called.least > 0;
-        self.marks.enter(stacks.called)
+        Ok(())
     }
 
     fn over(&mut self, _store: &mut Store) {}

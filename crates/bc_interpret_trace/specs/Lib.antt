@@ -1,3 +1,5 @@
 pub mod Opened
+pub mod Positions
+pub mod Roots
 pub mod Shown
 pub mod ShownExamples

@@ -1,11 +1,11 @@
-//! Where a run of a resolved program is: the calls that led there, and how much of each body follows that place.
+//! Where a run of a resolved program is: the calls that are open, and how much of each body follows the run's position.
 #![tactic(auto)]
 
-mod remaining;
+mod position;
 mod roots;
-mod trace;
+mod trail;
 
 pub use bc_interpret_steps::{OpenCall, Rest, Stacks};
 pub use bc_word::Memory;
 pub use roots::{roots_of_block, roots_of_body};
-pub use trace::{Standing, Trace, Trail};
+pub use trail::{Standing, Trail, trail_in};

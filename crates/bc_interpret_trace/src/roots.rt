@@ -1,9 +1,19 @@
-//! Counts the roots of a tree: the expressions, tests and assignments for which code is chosen. Those inside VALOFs aren't counted.
+//! Counts the roots of a tree: the expressions, tests and assignments for which code is chosen. Those inside VALOFs aren't counted. A count
+//! that doesn't fit stays at the greatest number.
+
+ghost use Rattle.std.specs.Prelude.{◌≡◌, map, sum_by};
+ghost use Rattle.std.specs.Io.Iter.{u64_saturate};
+ghost use Rattle.bc_core.specs.Commands.{no_item};
+ghost use Rattle.bc_core.specs.View.{variable as variable_view, declarations as declarations_view, command as command_view, items as items_view, items_before, block_of, body_of};
+ghost use Rattle.bc_interpret_defs.specs.Trails as trails;
+ghost use Rattle.bc_interpret_trace.specs.Roots.{roots_of_body as roots_in_body};
 
 use bc_core::{Block, Body, Command, Declaration, ListItem, Variable};
 
 /// The number of roots (expressions, tests and assignments) in the body of a routine, not counting those inside VALOFs.
-pub fn roots_of_body(body: &Body) -> u64 {
+pub fn roots_of_body(body: &Body) -> u64
+    ensures { result ≡ u64_saturate (roots_in_body (body_of body.now)) }
+{
     match body {
         Body::Value(_) => 1,
         Body::Commands(block) => roots_of_block(block),
@@ -12,12 +22,17 @@ pub fn roots_of_body(body: &Body) -> u64 {
 
 /// The number of roots (expressions, tests and assignments) in a block, not counting those inside VALOFs.
 #[cycle(roots)]
-pub fn roots_of_block(block: &Block) -> u64 {
+pub fn roots_of_block(block: &Block) -> u64
+    ensures { result ≡ u64_saturate (trails.roots_of_block (block_of block.now)) }
+{
     roots_of_declarations(&block.declarations).saturating_add(roots_of_items(&block.list))
 }
 
 /// The roots of declarations: one for each variable with an initial value.
-pub(crate) fn roots_of_declarations(declarations: &[Declaration]) -> u64 {
+#[tactic(auto, using(crate::proofs::Counts::declarations_more))]
+pub(crate) fn roots_of_declarations(declarations: &[Declaration]) -> u64
+    ensures { result ≡ u64_saturate (trails.roots_of_declarations (declarations_view declarations.now)) }
+{
     let mut roots = 0u64;
     for declaration in declarations {
         roots = roots.saturating_add(roots_of_variables(&declaration.variables));
@@ -26,7 +41,10 @@ pub(crate) fn roots_of_declarations(declarations: &[Declaration]) -> u64 {
 }
 
 /// The roots of variables.
-pub(crate) fn roots_of_variables(variables: &[Variable]) -> u64 {
+#[tactic(auto, using(crate::proofs::Counts::variables_more))]
+pub(crate) fn roots_of_variables(variables: &[Variable]) -> u64
+    ensures { result ≡ u64_saturate (sum_by trails.roots_of_variable (map variable_view variables.now)) }
+{
     let mut roots = 0u64;
     for variable in variables {
         roots = roots.saturating_add(match variable {
@@ -39,7 +57,10 @@ pub(crate) fn roots_of_variables(variables: &[Variable]) -> u64 {
 
 /// The roots of a list of items.
 #[cycle(roots)]
-pub(crate) fn roots_of_items(items: &[ListItem]) -> u64 {
+#[tactic(auto, using(crate::proofs::Counts::items_more))]
+pub(crate) fn roots_of_items(items: &[ListItem]) -> u64
+    ensures { result ≡ u64_saturate (trails.roots_of_items (items_view items.now)) }
+{
     let mut roots = 0u64;
     for item in items {
         roots = roots.saturating_add(roots_of_item(item));
@@ -48,7 +69,9 @@ pub(crate) fn roots_of_items(items: &[ListItem]) -> u64 {
 }
 
 #[cycle(roots)]
-fn roots_of_item(item: &ListItem) -> u64 {
+fn roots_of_item(item: &ListItem) -> u64
+    ensures { result ≡ u64_saturate (trails.roots_of_items (items_before item.now no_item)) }
+{
     match item {
         ListItem::Command(command) => roots_of_command(command),
         ListItem::Case(_) | ListItem::Default | ListItem::Label(_) => 0,
@@ -56,18 +79,21 @@ fn roots_of_item(item: &ListItem) -> u64 {
 }
 
 #[cycle(roots)]
-fn roots_of_command(command: &Command) -> u64 {
+fn roots_of_command(command: &Command) -> u64
+    ensures { result ≡ u64_saturate (trails.roots_of_command (command_view command.now)) }
+{
     match command {
         Command::Call(_) | Command::Assign { .. } | Command::ResultIs(_) => 1,
-        Command::If(_, body) | Command::While(_, body) | Command::RepeatWhile(body, _) => {
-            roots_of_block(body).saturating_add(1)
-        }
+        Command::If(_, body) => roots_of_block(body).saturating_add(1),
         Command::Test(_, this, that) => roots_of_block(this)
             .saturating_add(roots_of_block(that))
             .saturating_add(1),
-        Command::Repeat(body) | Command::Nested(body) => roots_of_block(body),
+        Command::While(_, body) => roots_of_block(body).saturating_add(1),
+        Command::Repeat(body) => roots_of_block(body),
+        Command::RepeatWhile(body, _) => roots_of_block(body).saturating_add(1),
         Command::For { body, .. } => roots_of_block(body).saturating_add(2),
         Command::SwitchOn(_, items) => roots_of_items(items).saturating_add(1),
+        Command::Nested(body) => roots_of_block(body),
         Command::Break
         | Command::Loop
         | Command::EndCase

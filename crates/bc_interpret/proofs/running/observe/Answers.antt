@@ -1,6 +1,6 @@
 use Rattle.std.proofs.Common.{◌≡◌, ◌+◌, ◌<◌, suc, [], ◌∷◌, List, sym, ap, subst, ◌∙◌, arith}
 use Rattle.bc_interpret_defs.specs.Machine as machine
-use Rattle.bc_interpret_defs.specs.OpenCalls.{calls_in}
+use Rattle.bc_interpret_defs.specs.Trails.{trail_in}
 use Rattle.bc_interpret_steps.specs.Code.{stack}
 use Rattle.bc_interpret_steps.specs.Sections.{program_of, IsTable}
 use Rattle.bc_interpret_steps.specs.Came.{state_of}
@@ -31,8 +31,8 @@ returns g c =
     record {
       means = λ known. run_means program base c.args.turns c.push-2.new.rests.items st (g.S.Streams.content c.args.streams.now) (g.S.Streams.content c.to_end.new.streams) c.in_ok-outcome.outcome
           store c.run_over-run.ensures.turns rests (subst (λ w. IsResult (left_of program (suc st.turns) w c.push-2.new.rests.items st (g.S.Streams.content c.args.streams.now)) c.in_ok-outcome.outcome (g.S.Streams.content c.to_end.new.streams)) next (h.means known program t (suc st.turns) l));
-      names = λ known. run_names program base c.args.turns c.push-2.new.rests.items st (g.S.Streams.content c.args.streams.now) (record { outcome = c.in_ok-outcome.outcome; trail = c.in_ok-trail.trail }) (calls_in (stack c.to_end.new.run.stacks.rests.items))
-          store c.run_over-run.ensures.turns rests (subst (λ w. Names program (at_of w c.push-2.new.rests.items) (state_of st (g.S.Streams.content c.args.streams.now)) c.in_ok-outcome.outcome (calls_in (stack c.to_end.new.run.stacks.rests.items))) next (h.names known program t)) c.in_ok-trail.ensures;
+      names = λ known. run_names program base c.args.turns c.push-2.new.rests.items st (g.S.Streams.content c.args.streams.now) (record { outcome = c.in_ok-outcome.outcome; trail = c.in_ok-trail.trail }) (trail_in (stack c.to_end.new.run.stacks.rests.items))
+          store c.run_over-run.ensures.turns rests (subst (λ w. Names program (at_of w c.push-2.new.rests.items) (state_of st (g.S.Streams.content c.args.streams.now)) c.in_ok-outcome.outcome (trail_in (stack c.to_end.new.run.stacks.rests.items))) next (h.names known program t)) c.in_ok-trail.ensures;
       kept = h.kept;
       failed = h.failed;
       counted = h.counted;

@@ -19,7 +19,7 @@ pub returns-in-Some-Is : goal.returns-in-Some-Is
 returns-in-Some-Is c =
     let before = c.args.stacks.now.rests.items in
     let after = c.enter_if.new.stacks.rests.items in
-    on_ok_weaker c.enter_if.result (λ h. if_told (spot_of c.args.site) c.args.condition.now.sense (exp c.args.condition.now.test) (block_of c.args.body.now) c.args.site.level (stack before) c.args.state.now c.in_ok-t.field-0 c.in-Some-Is.t c.agrees-holds.result c.enter_if.new.stacks.next (stack after) (given after) c.enter_if.new.state
+    on_ok_weaker c.enter_if.result (λ h. if_told _ (spot_of c.args.site) c.args.condition.now.sense (exp c.args.condition.now.test) (block_of c.args.body.now) c.args.site.level (stack before) c.args.state.now c.in_ok-t.field-0 c.in-Some-Is.t c.agrees-holds.result c.enter_if.new.stacks.next (stack after) (given after) c.enter_if.new.state
     c.in_ok-t.ensures (cc) c.agrees-holds.ensures h) c.enter_if.ensures
 
 pub returns-in-Some-Divides : goal.returns-in-Some-Divides
@@ -30,7 +30,7 @@ returns-in-Some-Divides c =
     let before = c.args.stacks.now.rests.items in
     let st = c.args.state.now in
     let f = c.put_after in
-    on_ok_weaker f.result (following (perform_step E (commands.If c.args.condition.now.sense e b) c.args.site.level) (rests.Truth (truth_rests.Ifs c.args.site c.args.condition.now.sense c.args.body)) (progress.Ended endings.ZeroDivide) before f.new.stacks.next f.new.stacks.rests.items st st
+    on_ok_weaker f.result (following _ (perform_step E (commands.If c.args.condition.now.sense e b) c.args.site.level) (rests.Truth (truth_rests.Ifs c.args.site c.args.condition.now.sense c.args.body)) (progress.Ended endings.ZeroDivide) before f.new.stacks.next f.new.stacks.rests.items st st
     (if_divides E c.args.condition.now.sense e b c.args.site.level (stack before) st c.in_ok-t.field-0 [] [] c.in_ok-t.ensures cc)) f.ensures
 
 pub returns-in-Some-Fails : goal.returns-in-Some-Fails
@@ -41,7 +41,7 @@ returns-in-Some-Fails c =
     let before = c.args.stacks.now.rests.items in
     let st = c.args.state.now in
     let f = c.put_after-in-Some-Fails in
-    on_ok_weaker f.result (following (perform_step E (commands.If c.args.condition.now.sense e b) c.args.site.level) (rests.Truth (truth_rests.Ifs c.args.site c.args.condition.now.sense c.args.body)) (progress.Wild c.in-Some-Fails.cause) before f.new.stacks.next f.new.stacks.rests.items st st
+    on_ok_weaker f.result (following _ (perform_step E (commands.If c.args.condition.now.sense e b) c.args.site.level) (rests.Truth (truth_rests.Ifs c.args.site c.args.condition.now.sense c.args.body)) (progress.Wild c.in-Some-Fails.cause) before f.new.stacks.next f.new.stacks.rests.items st st
     (if_fails E c.args.condition.now.sense e b c.args.site.level (stack before) st c.in_ok-t.field-0 c.in-Some-Fails.cause (stacked (stack before) (given before) (rests.Truth (truth_rests.Ifs c.args.site c.args.condition.now.sense c.args.body))) [] c.in_ok-t.ensures (cc) refl)) f.ensures
 
 pub returns-in-None : goal.returns-in-None
@@ -56,4 +56,4 @@ returns-in-None c =
     let P : Option Truth → Type 0 = λ o. IsTruth (sight st E) e o in
     let is : c.in_ok-t.field-0 ≡ None = cc in
     let calls = subst P is c.in_ok-t.ensures in
-    on_ok_weaker f.result (λ h. if_calls E c.args.condition.now.sense e b c.args.site.level (stack before) st f.new.stacks.next (stack after) (given after) calls h) (f.ensures st)
+    on_ok_weaker f.result (λ h. if_calls _ E c.args.condition.now.sense e b c.args.site.level (stack before) st f.new.stacks.next (stack after) (given after) calls h) (f.ensures st)

@@ -6,6 +6,7 @@ use Rattle.bc_core.specs.View.{exp, block_of}
 use Rattle.bc_interpret_defs.specs.Machine as machine
 use Rattle.bc_interpret_steps.specs.Code.{spot_of, truth_rest, stack, given}
 use Rattle.bc_interpret_steps.specs.Came.{Goes}
+use Rattle.bc_interpret_steps.proofs.Quiet.{went_goes}
 use Rattle.bc_interpret_steps.proofs.conditions.truth_taken.Goals as goal
 
 pub returns-in-Ifs : goal.returns-in-Ifs
@@ -18,14 +19,16 @@ returns-in-Ifs c program =
     let b = block_of t.body.now in
     on_ok_weaker c.enter_if.result (λ h. subst (λ r. Goes (machine.next program (truth_rest r) (machine.Verdict c.args.t)) before c.args.state.now p after c.enter_if.new.state) (sym t.is)
     (subst (λ h. Goes (λ rs. choose h (machine.enter E b t.site.level rs) (machine.give (machine.Left Past) rs)) before c.args.state.now p after c.enter_if.new.state) c.agrees-holds.ensures
-    h)) c.enter_if.ensures
+    (went_goes (λ rs. choose c.agrees-holds.result (machine.enter E b t.site.level rs) (machine.give (machine.Left Past) rs)) before c.args.state.now p after c.enter_if.new.state h))) c.enter_if.ensures
 
 pub returns-in-Chooses : goal.returns-in-Chooses
 returns-in-Chooses c program =
     let before = c.args.stacks.now.rests.items in
     let after = c.enter_either.new.stacks.rests.items in
+    let t = c.in-Chooses in
+    let E = spot_of t.site in
     on_ok_weaker c.enter_either.result (λ h. subst (λ r. Goes (machine.next program (truth_rest r) (machine.Verdict c.args.t)) before c.args.state.now c.enter_either.new.stacks.next after c.enter_either.new.state) (sym c.in-Chooses.is)
-    h) c.enter_either.ensures
+    (went_goes (λ rs. choose c.args.t (machine.enter E (block_of t.this.now) t.site.level (machine.Skips (block_of t.that.now) ∷ rs)) (machine.enter E (block_of t.that.now) t.site.level rs)) before c.args.state.now c.enter_either.new.stacks.next after c.enter_either.new.state h)) c.enter_either.ensures
 
 pub returns-in-Whiles : goal.returns-in-Whiles
 returns-in-Whiles c program =
@@ -39,7 +42,7 @@ returns-in-Whiles c program =
     let e = exp t.condition.now.test in
     on_ok_weaker c.enter_while.result (λ h. subst (λ r. Goes (machine.next program (truth_rest r) (machine.Verdict c.args.t)) before c.args.state.now p after c.enter_while.new.state) (sym t.is)
     (subst (λ h. Goes (λ rs. choose h (machine.enter E b t.site.level (machine.WhileBody E sense e b t.site.level ∷ rs)) (machine.give (machine.Left Past) rs)) before c.args.state.now p after c.enter_while.new.state) c.agrees-holds-in-Whiles.ensures
-    h)) c.enter_while.ensures
+    (went_goes (λ rs. choose c.agrees-holds-in-Whiles.result (machine.enter E b t.site.level (machine.WhileBody E sense e b t.site.level ∷ rs)) (machine.give (machine.Left Past) rs)) before c.args.state.now p after c.enter_while.new.state h))) c.enter_while.ensures
 
 pub returns-in-Conjoins : goal.returns-in-Conjoins
 returns-in-Conjoins c program =

@@ -1,8 +1,8 @@
 use Rattle.std.proofs.Common.{Some, sym, subst}
-use Rattle.bc_core.specs.View.{items}
+use Rattle.bc_core.specs.View.{items, block_of}
 use Rattle.bc_interpret_steps.specs.Code.{spot_of, exit_of}
 use Rattle.bc_interpret_steps.specs.Passing.{IsLeft, IsHandedOn}
-use Rattle.bc_interpret_steps.proofs.Passing.{left_list, cases_out}
+use Rattle.bc_interpret_steps.proofs.Passing.{left_list, cases_out, skipped}
 use Rattle.bc_interpret_steps.proofs.exits.exit_passed_on.Goals as goal
 
 pub returns-then-is_left : goal.returns-then-is_left
@@ -23,3 +23,8 @@ returns-in-Cases c =
     let exit = c.args.exit in
     let out = c.after_cases.result in
     subst (λ r. IsHandedOn (exit_of exit) r (Some out)) (sym c.in-Cases.is) (λ rs. cases_out (exit_of exit) (exit_of out) rs c.after_cases.ensures)
+
+pub returns-in-Skips : goal.returns-in-Skips
+returns-in-Skips c =
+    let exit = c.args.exit in
+    subst (λ r. IsHandedOn (exit_of exit) r (Some exit)) (sym c.in-Skips.is) (λ rs. skipped (exit_of exit) (block_of c.in-Skips.field-0.now) rs)

@@ -16,7 +16,7 @@ returns-in-Results c program =
     let before = c.args.stacks.now.rests.items in
     let st = c.args.state.now in
     subst (λ r. GoesOrMalformed (next program (exit_rest r) (Left (exit_of c.args.exit))) before st c.resulted-stacks.result before st) (sym c.in-Results.is)
-    (c.resulted-stacks.ensures st program (stack before) (given before))
+    (c.resulted-stacks.ensures c.in-Results.field-0 st program (stack before) (given before))
 
 pub returns-in-WhileBody : goal.returns-in-WhileBody
 returns-in-WhileBody c program =
@@ -48,5 +48,5 @@ returns-in-ForBody c program =
 
 pub returns-in-Listed : goal.returns-in-Listed
 returns-in-Listed c program =
-    subst (λ r. OnOk c.list_left.result (GoesOrMalformed (next program (exit_rest r) (Left (exit_of c.args.exit))) c.args.stacks.now.rests.items c.args.state.now c.list_left.new.stacks.next c.list_left.new.stacks.rests.items c.list_left.new.state)) (sym c.in-Listed.is)
-    (c.list_left.ensures program)
+    subst (λ r. OnOk c.list_left.result (GoesOrMalformed (next program (exit_rest r) (Left (exit_of c.args.exit))) c.args.stacks.now.rests.items c.args.state.now c.list_left.new.stacks.next c.list_left.new.stacks.rests.items c.args.state.now)) (sym c.in-Listed.is)
+    (c.list_left.ensures c.args.state.now program)

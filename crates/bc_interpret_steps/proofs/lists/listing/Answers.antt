@@ -1,22 +1,20 @@
-use Rattle.std.proofs.Common.{rules, arith, ◌-◌, ◌∙◌, length, take, drop}
-use Rattle.std.proofs.lemmas.Grind.{common_steps}
-use Rattle.bc_interpret_steps.proofs.Counts.{apart}
-use Rattle.bc_interpret_steps.specs.Code.{spot_of}
-use Rattle.bc_interpret_steps.proofs.Listings.{listed_on, listed_over}
+use Rattle.std.proofs.Common.{sym, ap, ◌∙◌}
+use Rattle.std.proofs.lemmas.Result.{on_ok_weaker}
+use Rattle.bc_core.specs.View.{command, items}
+use Rattle.bc_interpret_steps.specs.Assigns.{found_of}
+use Rattle.bc_interpret_steps.specs.Code.{spot_of, entry_of, stack, given}
+use Rattle.bc_interpret_steps.specs.Came.{state_of}
+use Rattle.bc_interpret_steps.proofs.Listings.{found_next, none_next}
 use Rattle.bc_interpret_steps.proofs.lists.listing.Goals as goal
 
-pub loop-left-preserved : goal.loop-left-preserved
-loop-left-preserved c =
-    let i = c.loop-left.invariant in
-    let on = listed_on (spot_of c.args.site) c.args.site.level c.loop-left.left.now (take (length c.loop-left.left.now - 1) (drop 1 c.loop-left.left.now)) c.first-item.result c.loop-left.at c.in-On.next c.loop-left.stacks.rests.items c.list_item.new.stacks.rests.items c.loop-left.state c.list_item.new.state c.in_ok-along.along c.list_item.new.stacks.next c.in_ok-along.ensures c.in-On.is (first_of (search (rules, apart), grind (arith, common_steps, apart))) in
-    record {
-      kept = λ rs streams. i.kept rs streams ∙ on.1 rs streams;
-      rests = on.0 ∙ i.rests;
-      stood = λ rs cause h. i.stood rs cause (on.2 rs cause h);
-    }
+pub returns-in-Some : goal.returns-in-Some
+returns-in-Some c =
+    let f = c.begin in
+    let after = f.new.stacks.rests.items in
+    on_ok_weaker f.result (λ h. found_next (spot_of c.args.site) (items c.args.items.now) (entry_of c.args.entry) c.args.site.level (command c.in-Some.found.command.now) (items c.in-Some.found.following.now) (stack c.args.stacks.now.rests.items) c.args.state.now f.new.stacks.next (stack after) (given after) f.new.state
+    (sym c.next_command.ensures ∙ ap found_of c.in-Some.is) h) f.ensures
 
-pub returns-in-Over : goal.returns-in-Over
-returns-in-Over c =
-    let i = c.loop-left.invariant in
-    listed_over (spot_of c.args.site) c.args.site.level c.args.items.now c.loop-left.left.now (take (length c.loop-left.left.now - 1) (drop 1 c.loop-left.left.now)) c.first-item.result c.args.entry c.loop-left.at c.args.stacks.now.rests.items c.loop-left.stacks.rests.items c.list_item.new.stacks.rests.items c.args.state.now c.loop-left.state c.list_item.new.state c.in_ok-along.along c.list_item.new.stacks.next
-    c.in_ok-along.ensures c.in-Over.is (first_of (search (rules, apart), grind (arith, common_steps, apart))) i.rests i.stood i.kept
+pub returns-in-None : goal.returns-in-None
+returns-in-None c streams =
+    none_next (spot_of c.args.site) (items c.args.items.now) (entry_of c.args.entry) c.args.site.level (stack c.args.stacks.now.rests.items) (state_of c.args.state.now streams)
+    (sym c.next_command.ensures ∙ ap found_of c.in-None.is)

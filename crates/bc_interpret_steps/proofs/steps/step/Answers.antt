@@ -3,7 +3,7 @@ use Rattle.bc_interpret_steps.specs.declared.forms.Progress.TheVariants as progr
 use Rattle.bc_interpret_steps.specs.declared.forms.Work.TheVariants as works
 use Rattle.bc_interpret_steps.specs.Code.{work_of, given}
 use Rattle.bc_interpret_steps.specs.Passing.{RunsOver}
-use Rattle.bc_interpret_steps.proofs.Passing.{proceeds_next, ran_next, ran_once, nothing_next}
+use Rattle.bc_interpret_steps.proofs.Passing.{proceeds_next, proceeds_on, ran_next, ran_once, nothing_next}
 use Rattle.bc_interpret_steps.proofs.steps.step.Goals as goal
 
 pub returns-in-On-Evaluate : goal.returns-in-On-Evaluate
@@ -49,12 +49,12 @@ returns-in-On-RepeatWhile c =
 pub returns-in-On-Enter : goal.returns-in-On-Enter
 returns-in-On-Enter c =
     let t = c.in-On-Enter in
-    proceeds_next c.args.table.now c.args.stacks.now.next (works.Enter t.site t.block) c.args.stacks.now.rests c.args.state.now c.enter.result c.enter.new.stacks.next c.enter.new.stacks.rests c.enter.new.state (t.is ∙ ap progress.On (rw t.is at t.field-0-is)) (λ v vs f k. let w = k.work in cc) tt (λ program. c.enter.ensures)
+    proceeds_on c.args.table.now c.args.stacks.now.next (works.Enter t.site t.block) c.args.stacks.now.rests c.args.state.now c.enter.result c.enter.new.stacks.next c.enter.new.stacks.rests c.enter.new.state (t.is ∙ ap progress.On (rw t.is at t.field-0-is)) (λ v vs f k. let w = k.work in cc) tt (λ program. c.enter.ensures)
 
 pub returns-in-On-Declare : goal.returns-in-On-Declare
 returns-in-On-Declare c =
     let t = c.in-On-Declare in
-    proceeds_next c.args.table.now c.args.stacks.now.next (works.Declare t.site t.declarations t.items t.level) c.args.stacks.now.rests c.args.state.now c.declare.result c.declare.new.stacks.next c.declare.new.stacks.rests c.declare.new.state (t.is ∙ ap progress.On (rw t.is at t.field-0-is)) (λ v vs f k. let w = k.work in cc) tt (λ program. c.declare.ensures)
+    proceeds_on c.args.table.now c.args.stacks.now.next (works.Declare t.site t.declarations t.items t.level) c.args.stacks.now.rests c.args.state.now c.declare.result c.declare.new.stacks.next c.declare.new.stacks.rests c.declare.new.state (t.is ∙ ap progress.On (rw t.is at t.field-0-is)) (λ v vs f k. let w = k.work in cc) tt (λ program. c.declare.ensures)
 
 pub returns-in-On-Initialise : goal.returns-in-On-Initialise
 returns-in-On-Initialise c =
