@@ -206,9 +206,9 @@ on_advances table w old new known before failures next p s is = record {
       passes_keep program n (at_of w old.stacks.rests.items) r.along r.middle old.state before r.passes l
       ∙ (on_keeps program n r.middle old.state next new.stacks.rests.items new.state before r.comes l
       ∙ ap (λ x. left_of program n x new.stacks.rests.items new.state before) (sym is));
-  tracks = λ k program t c calls g. let r = s program t in
-      passes_lead program (at_of w old.stacks.rests.items) r.along r.middle old.state before c calls r.passes
-      (one_more program r.middle (at_of next new.stacks.rests.items) (state_of old.state before) (state_of new.state before) c calls (r.comes.1 before)
+  tracks = λ k program t c trail g. let r = s program t in
+      passes_lead program (at_of w old.stacks.rests.items) r.along r.middle old.state before c trail r.passes
+      (one_more program r.middle (at_of next new.stacks.rests.items) (state_of old.state before) (state_of new.state before) c trail (r.comes.1 before)
       (subst (λ x. ComesTo program (at_of x new.stacks.rests.items) (state_of new.state before) c trail) is g));
   lessened = let r = s p.0 p.1 in
       let k = on_lessens p.0 r.middle old.state next new.stacks.rests.items new.state r.comes in
@@ -244,9 +244,9 @@ served_number table w old new q call v stacks mid known tells before after failu
   keeps = λ k program t n l. let r = s program t in
       passes_keep program n (at_of w old.stacks.rests.items) r.along r.middle old.state before r.passes l
       ∙ served_keeps program n r.middle old.state q call v stacks.rests.items mid new.state before after r.comes (x.exact k) l;
-  tracks = λ k program t c calls g. let r = s program t in
-      passes_lead program (at_of w old.stacks.rests.items) r.along r.middle old.state before c calls r.passes
-      (served_leads program r.middle old.state q call v stacks.rests.items mid new.state before after c calls r.comes (x.exact k) g);
+  tracks = λ k program t c trail g. let r = s program t in
+      passes_lead program (at_of w old.stacks.rests.items) r.along r.middle old.state before c trail r.passes
+      (served_leads program r.middle old.state q call v stacks.rests.items mid new.state before after c trail r.comes (x.exact k) g);
   lessened = let r = s p.0 p.1 in
       let k = served_lessens p.0 r.middle old.state q call v stacks.rests.items mid new.state r.comes x.numbers in
       let more = passes_lessen p.0 (at_of w old.stacks.rests.items) r.along r.middle old.state r.passes in
@@ -271,7 +271,7 @@ served_advances table w old new q call stacks mid known tells before after failu
           passes_keep program n (at_of w old.stacks.rests.items) r.along r.middle old.state before r.passes l
           ∙ served_wild program n r.middle old.state q call c stacks.rests.items mid new.state before after r.comes (x.exact k) l;
       tracks = λ k program t. let r = s program t in
-          subst (λ calls. Names program (at_of w old.stacks.rests.items) (state_of old.state before) (outs.Wild c) calls) (sym m.1)
+          subst (λ trail. Names program (at_of w old.stacks.rests.items) (state_of old.state before) (outs.Wild c) trail) (sym m.1)
           (passes_lead program (at_of w old.stacks.rests.items) r.along r.middle old.state before (cause_of c) (begun call.routine call.frame ∷ trail_in (stack stacks.rests.items)) r.passes
           (served_met program r.middle old.state q call c stacks.rests.items mid new.state before after r.comes (x.exact k) x.blamed));
       lessened = tt;

@@ -5,6 +5,7 @@ use Rattle.bc_interpret_steps.specs.Code.{stack}
 use Rattle.bc_interpret_steps.specs.Sections.{program_of, IsTable}
 use Rattle.bc_interpret_steps.specs.Came.{state_of}
 use Rattle.bc_interpret_steps.specs.Passing.{work_next}
+use Rattle.bc_interpret_trace.specs.Shown.{Shows}
 use Rattle.bc_interpret.specs.Moving.{at_of, left_of}
 use Rattle.bc_interpret.specs.Results.{IsResult, Names}
 use Rattle.bc_interpret.specs.Starting.{IsStart}
@@ -32,7 +33,7 @@ returns g c =
       means = λ known. run_means program base c.args.turns c.push-2.new.rests.items st (g.S.Streams.content c.args.streams.now) (g.S.Streams.content c.to_end.new.streams) c.in_ok-outcome.outcome
           store c.run_over-run.ensures.turns rests (subst (λ w. IsResult (left_of program (suc st.turns) w c.push-2.new.rests.items st (g.S.Streams.content c.args.streams.now)) c.in_ok-outcome.outcome (g.S.Streams.content c.to_end.new.streams)) next (h.means known program t (suc st.turns) l));
       names = λ known. run_names program base c.args.turns c.push-2.new.rests.items st (g.S.Streams.content c.args.streams.now) (record { outcome = c.in_ok-outcome.outcome; trail = c.in_ok-trail.trail }) (trail_in (stack c.to_end.new.run.stacks.rests.items))
-          store c.run_over-run.ensures.turns rests (subst (λ w. Names program (at_of w c.push-2.new.rests.items) (state_of st (g.S.Streams.content c.args.streams.now)) c.in_ok-outcome.outcome (trail_in (stack c.to_end.new.run.stacks.rests.items))) next (h.names known program t)) c.in_ok-trail.ensures;
+          store c.run_over-run.ensures.turns rests (subst (λ w. Names program (at_of w c.push-2.new.rests.items) (state_of st (g.S.Streams.content c.args.streams.now)) c.in_ok-outcome.outcome (trail_in (stack c.to_end.new.run.stacks.rests.items))) next (h.names known program t)) (subst (λ xs. Shows c.in_ok-trail.trail (trail_in (stack xs))) c.as_slice-2.ensures.value c.in_ok-trail.ensures);
       kept = h.kept;
       failed = h.failed;
       counted = h.counted;
