@@ -45,9 +45,17 @@ for_kept call E start limit by b s rs st =
     (λ u st3. join_within 1 a (l st3) rounds out (resume call rs) (λ n. then_do (rounds n) out) closes
     (λ n st4. join_left 1 a (rounds n st4) out (resume call rs) out closes (λ x st5. refl)))))
 
+-- the items after a command
+on_kept : (call : Calling) (E : Spot) (is : Items) (s : ℕ) (rs : List Rest) (st : State) → followed (followed (perform_items (context_at call E) is E.frame s Beginning st) out) (resume call rs) ≡ followed (machine.go_on E is s rs st) (meant call)
+on_kept call E no_item s rs st = refl
+on_kept call E (command c is) s rs st = refl
+on_kept call E (case k is) s rs st = refl
+on_kept call E (default is) s rs st = refl
+on_kept call E (label l is) s rs st = refl
+
 -- the first command of a list, and then the remaining items
 first_by : (call : Calling) (E : Spot) (v a : Exp) (is : Items) (s : ℕ) (rs : List Rest) (st : State) (t : Bool) → (has_call v || has_call a) ≡ t
-    → meant call (record { work = Listing E (command (commands.Assign v a) is) s Beginning; rests = rs }) st ≡ followed (by_number t (go (Perform E (commands.Assign v a) s) (machine.Follows E is s ∷ rs)) (then_do (assign (quiet E) v a E.frame s) (λ u. go (Listing E is s Beginning) rs)) st) (meant call)
+    → meant call (record { work = Listing E (command (commands.Assign v a) is) s Beginning; rests = rs }) st ≡ followed (by_number t (go (Perform E (commands.Assign v a) s) (machine.Follows E is s ∷ rs)) (then_do (assign (quiet E) v a E.frame s) (λ u. machine.go_on E is s rs)) st) (meant call)
 first_by call E v a is s rs st true h =
     let C = context_at call E in
     join3 (perform C (commands.Assign v a) E.frame s st) (onward (perform_items C is E.frame s Beginning)) out (resume call rs) out (resume call (machine.Follows E is s ∷ rs)) (λ x st1. refl)
@@ -55,10 +63,10 @@ first_by call E v a is s rs st false h =
     let C = context_at call E in
     let q = assign (quiet E) v a E.frame s in
     let following = onward (perform_items C is E.frame s Beginning) in
-    let next : Unit {0} → Step = λ u. go (Listing E is s Beginning) rs in
+    let next : Unit {0} → Step = λ u. machine.go_on E is s rs in
     subst (λ z. followed (followed (followed (followed (z st) past) following) out) (resume call rs) ≡ followed (followed (q st) next) (meant call))
     (sym (quiet_assign E.address call (λ r1 vs f. wild) (valofs_from E.address call E.first E.valofs) (λ n p s1. wild) v a h E.frame s))
-    (join4 (q st) past following out (resume call rs) next (meant call) (λ u st1. refl))
+    (join4 (q st) past following out (resume call rs) next (meant call) (λ u st1. on_kept call E is s rs st1))
 
 first_kept : (call : Calling) (E : Spot) (c : Command) (is : Items) (s : ℕ) (rs : List Rest) (st : State)
     → meant call (record { work = Listing E (command c is) s Beginning; rests = rs }) st ≡ followed (first_command E c is s rs st) (meant call)

@@ -262,13 +262,21 @@ store_by E v a s rs st false h =
 store_less : (program : List Placed) (E : Spot) (v a : Exp) (s : ℕ) (rs : List Rest) (st : State) → Less program (Store E v a s) rs st
 store_less program E v a s rs st = store_by E v a s rs st (has_call v || has_call a) refl
 
+-- the items after an assignment
+on_less : (E : Spot) (v a : Exp) (is : Items) (s : ℕ) (rs : List Rest) (st : State) → Lessens st.turns (weight (Listing E (command (commands.Assign v a) is) s Beginning) rs) (machine.go_on E is s rs st)
+on_less E v a no_item s rs st = (omega arith, λ le. omega arith)
+on_less E v a (command c is) s rs st = (omega arith, λ le. omega arith)
+on_less E v a (case k is) s rs st = (omega arith, λ le. omega arith)
+on_less E v a (default is) s rs st = (omega arith, λ le. omega arith)
+on_less E v a (label l is) s rs st = (omega arith, λ le. omega arith)
+
 -- the first command of a list, and then the remaining items
 first_less_by : (E : Spot) (v a : Exp) (is : Items) (s : ℕ) (rs : List Rest) (st : State) (t : Bool) → (has_call v || has_call a) ≡ t
-    → Lessens st.turns (weight (Listing E (command (commands.Assign v a) is) s Beginning) rs) (by_test t (go (Perform E (commands.Assign v a) s) (machine.Follows E is s ∷ rs)) (then_do (assign (quiet E) v a E.frame s) (λ u. go (Listing E is s Beginning) rs)) st)
+    → Lessens st.turns (weight (Listing E (command (commands.Assign v a) is) s Beginning) rs) (by_test t (go (Perform E (commands.Assign v a) s) (machine.Follows E is s ∷ rs)) (then_do (assign (quiet E) v a E.frame s) (λ u. machine.go_on E is s rs)) st)
 first_less_by E v a is s rs st true h = (omega arith, λ le. omega arith)
 first_less_by E v a is s rs st false h =
-    after_still (assign (quiet E) v a E.frame s) (λ u. go (Listing E is s Beginning) rs) (weight (Listing E (command (commands.Assign v a) is) s Beginning) rs) st (still_assign E v a s h)
-    (λ u st1. (omega arith, λ le. omega arith))
+    after_still (assign (quiet E) v a E.frame s) (λ u. machine.go_on E is s rs) (weight (Listing E (command (commands.Assign v a) is) s Beginning) rs) st (still_assign E v a s h)
+    (λ u st1. on_less E v a is s rs st1)
 
 first_less : (E : Spot) (c : Command) (is : Items) (s : ℕ) (rs : List Rest) (st : State)
     → Lessens st.turns (weight (Listing E (command c is) s Beginning) rs) (machine.first_command E c is s rs st)

@@ -24,7 +24,9 @@ spot = record { address = λ l. 0; first = 0; valofs = []; frame = 30 }
 
 -- X := 1; IF X DO X := 2
 abbrev two : Items
-two = command (commands.Assign (Num 1) (Frame 3)) (command (commands.If true (Frame 3) (block [] (command (commands.Assign (Num 2) (Frame 3)) no_item))) no_item)
+two =
+    command (commands.Assign (Num 1) (Frame 3))
+    (command (commands.If true (Frame 3) (block [] (command (commands.Assign (Num 2) (Frame 3)) no_item))) no_item)
 
 -- the routine at 600 was called in the frame at 20, by a command with those two after it; it called the one at 700, in the frame at 30, which
 -- declared a vector of 4 cells

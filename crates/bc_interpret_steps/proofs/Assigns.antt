@@ -143,9 +143,9 @@ assigned_at_once st E v a w x came new plain also_plain is this h =
 
 -- the first command of a list
 pub first_done : (E : machine.Spot) (v a : Exp) (old new : State) (came : Assigned) → (has_call v || has_call a) ≡ false → ((s : ℕ) (streams : Content) → assign (quiet E) v a E.frame s (state_of old streams) ≡ outcome_of came new streams)
-    → (is : Items) (s : ℕ) (rs : List machine.Rest) (streams : Content) → first_command E (commands.Assign v a) is s rs (state_of old streams) ≡ followed (outcome_of came new streams) (λ u. machine.go (machine.Listing E is s Beginning) rs)
+    → (is : Items) (s : ℕ) (rs : List machine.Rest) (streams : Content) → first_command E (commands.Assign v a) is s rs (state_of old streams) ≡ followed (outcome_of came new streams) (λ u. machine.go_on E is s rs)
 first_done E v a old new came plain h is s rs streams =
-    let onward = machine.go (machine.Listing E is s Beginning) rs in
+    let onward = machine.go_on E is s rs in
     ap (λ t. by_test t (machine.go (machine.Perform E (commands.Assign v a) s) (machine.Follows E is s ∷ rs)) (then_do (assign (quiet E) v a E.frame s) (λ u. onward)) (state_of old streams)) plain
     ∙ ap (λ o. followed {A = Unit {0}} o (λ u. onward)) (h s streams)
 
@@ -153,7 +153,7 @@ pub first_tells : (E : machine.Spot) (v a : Exp) (old new : State) (came : Assig
     → (is : Items) (s : ℕ) (rs : List machine.Rest) → TellsFirst (first_command E (commands.Assign v a) is s rs) came old
 first_tells E v a old new came plain h is s rs = by_case came (h s) where
   onward : machine.Step
-  onward = machine.go (machine.Listing E is s Beginning) rs
+  onward = machine.go_on E is s rs
 
   first : machine.Step
   first = first_command E (commands.Assign v a) is s rs
@@ -169,7 +169,7 @@ first_tells E v a old new came plain h is s rs = by_case came (h s) where
 pub first_left : (E : machine.Spot) (v a : Exp) → (has_call v || has_call a) ≡ true → (is : Items) (s : ℕ) (rs : List machine.Rest)
     → first_command E (commands.Assign v a) is s rs ≡ machine.go (machine.Perform E (commands.Assign v a) s) (machine.Follows E is s ∷ rs)
 first_left E v a calls is s rs =
-    ap (λ t. by_test t (machine.go (machine.Perform E (commands.Assign v a) s) (machine.Follows E is s ∷ rs)) (then_do (assign (quiet E) v a E.frame s) (λ u. machine.go (machine.Listing E is s Beginning) rs))) calls
+    ap (λ t. by_test t (machine.go (machine.Perform E (commands.Assign v a) s) (machine.Follows E is s ∷ rs)) (then_do (assign (quiet E) v a E.frame s) (λ u. machine.go_on E is s rs))) calls
 
 pub told_assigned : (E : machine.Spot) (v a : Exp) (old new : State) (told : Option Assigned) (came : Assigned) → IsAssigned E v a old told new → told ≡ Some came → IsAssigned E v a old (Some came) new
 told_assigned E v a old new told came h e = subst (λ z. IsAssigned E v a old z new) e h

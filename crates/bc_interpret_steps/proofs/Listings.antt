@@ -1,11 +1,14 @@
 -- A step along a list.
-use Rattle.std.proofs.Common.{◌≡◌, ℕ, Option, Some, None, List, ◌∷◌, refl, sym, ap, subst, ◌∙◌}
+use Rattle.std.proofs.Common.{◌≡◌, ℕ, Option, Some, None, List, [], ◌∷◌, refl, sym, ap, subst, ◌∙◌, ◌≤◌, length, arith}
 use Rattle.std.specs.Borrow.{Bor}
 use Rattle.bc_core.specs.declared.command.Command.{Command}
-use Rattle.bc_core.specs.View.{command as command_view}
+use Rattle.bc_core.specs.declared.command.ListItem.{ListItem}
+use Rattle.bc_core.specs.declared.command.ListItem.TheVariants as list_items
+use Rattle.bc_core.specs.View.{command as command_view, items}
 use Rattle.bc_core.specs.Commands as commands
+use Rattle.bc_machine_defs.specs.Streams.{Content}
 use Rattle.bc_core.specs.Exit.{Past}
-use Rattle.bc_core.specs.Lists.{Entry}
+use Rattle.bc_core.specs.Lists.{Entry, Beginning}
 use Rattle.bc_core.specs.Outcome as outcomes
 use Rattle.bc_interpret_defs.specs.Machine as machine
 use Rattle.bc_interpret_defs.specs.Machine.{next_command, begin_next, first_command, list_step}
@@ -20,12 +23,37 @@ use Rattle.bc_interpret_steps.specs.declared.forms.Work.TheVariants as works
 use Rattle.bc_interpret_steps.specs.declared.forms.Progress.{Progress}
 use Rattle.bc_interpret_steps.specs.declared.forms.Progress.TheVariants as progress
 use Rattle.bc_interpret_steps.specs.Code.{spot_of}
-use Rattle.bc_interpret_steps.specs.Came.{state_of, Came}
+use Rattle.bc_interpret_steps.specs.Came.{state_of, Came, Went}
 use Rattle.bc_interpret_steps.specs.Assigns.{IsDone}
 
 -- the outcome of the first command
 told_done : (E : machine.Spot) (c : commands.Command) (old : State) (found : Option Assigned) (came : Assigned) (new : State) → IsDone E c old found new → found ≡ Some came → IsDone E c old (Some came) new
 told_done E c old found came new h is = let P : Option Assigned → Type 0 = λ o. IsDone E c old o new in subst P is h
+
+-- what comes after a command
+pub goes_on : (E : machine.Spot) (left : List ListItem) (s : ℕ) (rs : List machine.Rest) (st : outcomes.State) → 1 ≤ length left → machine.go_on E (items left) s rs st ≡ machine.go (machine.Listing E (items left) s Beginning) rs st
+goes_on E [] s rs st l = absurd (omega (arith, l))
+goes_on E (list_items.Command c ∷ following) s rs st l = refl
+goes_on E (list_items.Case k ∷ following) s rs st l = refl
+goes_on E (list_items.Default ∷ following) s rs st l = refl
+goes_on E (list_items.Label k ∷ following) s rs st l = refl
+
+pub leaves : (E : machine.Spot) (left : List ListItem) (s : ℕ) (rs : List machine.Rest) (st : outcomes.State) → left ≡ [] → machine.go_on E (items left) s rs st ≡ machine.give (machine.Left Past) rs st
+leaves E left s rs st e = ap (λ xs. machine.go_on E (items xs) s rs st) e
+
+pub begin_done : (E : machine.Spot) (c : commands.Command) (is : commands.Items) (s : ℕ) (rs : List machine.Rest) (old : State) (found : Option Assigned) (trail : List Standing) (p : Progress) (vs : List ℕ) (new : State) → IsDone E c old found new → found ≡ Some forms.Done
+    → Went (machine.go_on E is s rs) new p rs vs new → Came trail (first_command E c is s rs) old p rs vs new
+begin_done E c is s rs old found trail p vs new h e g = by_progress p g where
+  d : (streams : Content) → first_command E c is s rs (state_of old streams) ≡ machine.go_on E is s rs (state_of new streams)
+  d = (told_done E c old found forms.Done new h e).0 is s rs
+
+  by_progress : (p : Progress) → Went (machine.go_on E is s rs) new p rs vs new → Came trail (first_command E c is s rs) old p rs vs new
+  by_progress (progress.On w) g = λ streams. d streams ∙ g streams
+  by_progress (progress.Serve q call) g = absurd g
+  by_progress progress.Answered g = absurd g
+  by_progress (progress.Ended x) g = λ streams. d streams ∙ g streams
+  by_progress progress.Going g = λ streams. d streams ∙ g streams
+  by_progress (progress.Wild cause) g = absurd g
 
 pub begin_divided : (E : machine.Spot) (c : commands.Command) (is : commands.Items) (s : ℕ) (rs : List machine.Rest) (old : State) (found : Option Assigned) (trail : List Standing) (rs1 : List machine.Rest) (vs : List ℕ) (new : State) → IsDone E c old found new → found ≡ Some forms.Divides
     → Came trail (first_command E c is s rs) old (progress.Ended endings.ZeroDivide) rs1 vs new

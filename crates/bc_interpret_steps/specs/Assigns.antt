@@ -76,7 +76,7 @@ IsDone E c old None new =
     × (new ≡ old)
 IsDone E c old (Some done) new =
     ((is : Items) (s : ℕ) (rs : List machine.Rest) (streams : Content)
-    → first_command E c is s rs (state_of old streams) ≡ followed (outcome_of done new streams) (λ u. machine.go (machine.Listing E is s Beginning) rs))
+    → first_command E c is s rs (state_of old streams) ≡ followed (outcome_of done new streams) (λ u. machine.go_on E is s rs))
     × ((is : Items) (s : ℕ) (rs : List machine.Rest) → TellsFirst (first_command E c is s rs) done old)
 
 -- what comes next in a list that begins with this item and is entered at `at`

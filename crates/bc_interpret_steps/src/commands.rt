@@ -229,7 +229,8 @@ pub(crate) fn enter_either<'c>(
     state: &mut State,
 ) -> Result<(), Memory>
     ensures { ProceedsOn (λ rs. choose t (machine.enter (spot_of site.entry) (block_of branches.entry.0.now) site.entry.level (machine.Skips (block_of
-        branches.entry.1.now) ∷ rs)) (machine.enter (spot_of site.entry) (block_of branches.entry.1.now) site.entry.level rs)) stacks.old.rests state.old result stacks.new.next stacks.new.rests state.new }
+        branches.entry.1.now) ∷ rs)) (machine.enter (spot_of site.entry) (block_of branches.entry.1.now) site.entry.level rs))
+        stacks.old.rests state.old result stacks.new.next stacks.new.rests state.new }
 {
     let (this, that) = branches;
     if t {

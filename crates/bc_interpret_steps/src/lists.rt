@@ -1,13 +1,15 @@
 //! Lists of items: commands, and the cases and labels at which control enters the list.
 
-ghost use Rattle.std.specs.Prelude.{◌≡◌, ◌∷◌, ◌||◌};
+ghost use Rattle.std.specs.Prelude.{ℕ, ◌≡◌, List, ◌∷◌, ◌||◌};
 ghost use Rattle.bc_core.specs.Commands.{Items};
 ghost use Rattle.bc_core.specs.View.{command as command_view, items as items_view, items_before};
 ghost use Rattle.bc_core.specs.Lists.{has_case as has_case_of, has_label as has_label_of};
 ghost use Rattle.bc_interpret_defs.specs.Machine as machine;
 ghost use Rattle.bc_interpret_defs.specs.Machine.{next_command as next_command_of};
 ghost use Rattle.bc_interpret_defs.specs.Trails.{trail_in, trail_of};
+ghost use Rattle.bc_interpret_steps.specs.declared.state.State.{State as StateValue};
 ghost use Rattle.bc_interpret_steps.specs.Code.{spot_of, entry_of};
+ghost use Rattle.bc_interpret_steps.specs.Came.{Went};
 ghost use Rattle.bc_interpret_steps.specs.Assigns.{IsNext, found_of};
 ghost use Rattle.bc_interpret_steps.specs.Stepped.{ProceedsAt};
 
@@ -123,6 +125,19 @@ fn next_command<'c>(items: &'c [ListItem], entry: Entry) -> Option<Found<'c>>
     None
 }
 
+/// What comes after a command of a list that these items follow. The list is left if there is none.
+#[inline(always)]
+#[tactic(auto, using(crate::proofs::Listings::leaves))]
+fn after_command<'c>(site: Site<'c>, following: &'c [ListItem]) -> Progress<'c>
+    ensures { (st : StateValue) (rs : List machine.Rest) (vs : List ℕ) → Went (machine.go_on (spot_of site.entry) (items_view following.now) site.entry.level
+        rs) st result rs vs st }
+{
+    match following {
+        [] => Progress::On(Work::Left(Exit::Past)),
+        [_, ..] => Progress::On(Work::Listing(site, following, Entry::Beginning)),
+    }
+}
+
 /// Begins a command of a list; a pure assignment is performed within this step. If that fails, the continuation that goes on with the list is
 /// pushed all the same: the trail of the run needs it.
 fn begin<'c>(
@@ -138,7 +153,7 @@ fn begin<'c>(
     let rest = Rest::Exit(ExitRest::Follows(site, found.following));
     match command_at_once(&site, found.command, &mut stacks.room, state)? {
         Some(Assigned::Done) => {
-            stacks.next = Progress::On(Work::Listing(site, found.following, Entry::Beginning));
+            stacks.next = after_command(site, found.following);
             Ok(())
         }
         Some(Assigned::Divides) => put_after(rest, Progress::Ended(Ending::ZeroDivide), stacks),

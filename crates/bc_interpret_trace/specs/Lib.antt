@@ -1,5 +1,4 @@
 pub mod Opened
 pub mod Positions
-pub mod Roots
 pub mod Shown
 pub mod ShownExamples

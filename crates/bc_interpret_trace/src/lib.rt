@@ -7,5 +7,4 @@ mod trail;
 
 pub use bc_interpret_steps::{OpenCall, Rest, Stacks};
 pub use bc_word::Memory;
-pub use roots::{roots_of_block, roots_of_body};
 pub use trail::{Standing, Trail, trail_in};

@@ -4,25 +4,14 @@
 ghost use Rattle.std.specs.Prelude.{◌≡◌, map, sum_by};
 ghost use Rattle.std.specs.Io.Iter.{u64_saturate};
 ghost use Rattle.bc_core.specs.Commands.{no_item};
-ghost use Rattle.bc_core.specs.View.{variable as variable_view, declarations as declarations_view, command as command_view, items as items_view, items_before, block_of, body_of};
+ghost use Rattle.bc_core.specs.View.{variable as variable_view, declarations as declarations_view, command as command_view, items as items_view, items_before, block_of};
 ghost use Rattle.bc_interpret_defs.specs.Trails as trails;
-ghost use Rattle.bc_interpret_trace.specs.Roots.{roots_of_body as roots_in_body};
 
-use bc_core::{Block, Body, Command, Declaration, ListItem, Variable};
-
-/// The number of roots (expressions, tests and assignments) in the body of a routine, not counting those inside VALOFs.
-pub fn roots_of_body(body: &Body) -> u64
-    ensures { result ≡ u64_saturate (roots_in_body (body_of body.now)) }
-{
-    match body {
-        Body::Value(_) => 1,
-        Body::Commands(block) => roots_of_block(block),
-    }
-}
+use bc_core::{Block, Command, Declaration, ListItem, Variable};
 
 /// The number of roots (expressions, tests and assignments) in a block, not counting those inside VALOFs.
 #[cycle(roots)]
-pub fn roots_of_block(block: &Block) -> u64
+pub(crate) fn roots_of_block(block: &Block) -> u64
     ensures { result ≡ u64_saturate (trails.roots_of_block (block_of block.now)) }
 {
     roots_of_declarations(&block.declarations).saturating_add(roots_of_items(&block.list))

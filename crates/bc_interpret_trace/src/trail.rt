@@ -20,9 +20,9 @@ pub struct Standing {
     pub routine: u16,
     /// The address of the call's frame.
     pub frame: usize,
-    /// The number, in its section, of the VALOF whose body contains the place, if any.
+    /// The number, in its section, of the VALOF whose body contains the position, if any.
     pub valof: Option<usize>,
-    /// How many roots (expressions, tests and assignments) of the body follow the place in the text.
+    /// How many roots (expressions, tests and assignments) of the body follow the position in the text.
     pub following: u64,
 }
 

@@ -39,7 +39,7 @@ pub(crate) fn add_error(out: &mut Printout, error: &EvaluationError) {
             "calls, VALOF, TABLE and strings have no value here: the program would have to run",
         ),
         EvaluationError::NoCell => out.say(
-            "@, watch and last need a name or an expression that has a cell",
+            "@, watch and last take a name or an expression that has a cell",
         ),
         EvaluationError::Memory => out.refuse(),
     }

@@ -132,7 +132,7 @@ impl Session<'_, '_> {
     }
 
     /// Whether several routines of the program's own have the name of this one.
-    fn is_shared(&self, index: usize) -> bool {
+    fn has_namesake(&self, index: usize) -> bool {
         let routines = self.run.names.routines.as_slice();
         let Some(this) = routines.get(index) else {
             return false;
@@ -268,11 +268,11 @@ impl Session<'_, '_> {
     }
 
     /// Appends where a routine is declared, if others have its name.
-    fn add_shared(&self, out: &mut Printout, address: u16) {
+    fn add_place_if_ambiguous(&self, out: &mut Printout, address: u16) {
         let Some(index) = self.run.names.routine_at(address) else {
             return;
         };
-        if self.is_shared(index)
+        if self.has_namesake(index)
             && let Some(routine) = self.run.names.routines.get(index)
             && let Some(span) = routine.span
         {
@@ -288,7 +288,7 @@ impl Session<'_, '_> {
         );
         match target {
             Target::Line { file, line, .. } => self.add_file_line(out, " at ", *file, *line),
-            Target::Routine(address) => self.add_shared(out, *address),
+            Target::Routine(address) => self.add_place_if_ambiguous(out, *address),
             Target::Cell { .. } => {}
         }
         out.text("\n");

@@ -97,7 +97,7 @@ pub(crate) fn help(cause: Cause) -> &'static str {
             "make the index of numbers and of the variables of FORs between numbers, which nothing assigns, by +, - and *"
         }
         Cause::Unset => {
-            "set the cell before, in this list, by a number as index, or all cells by FOR I = 0 TO N DO V!I := E; assign no string's cell again"
+            "set the cell before, in this list, by a number as index, or all cells by FOR I = 0 TO N DO V!I := E; a cell that holds a string can't be set again"
         }
     }
 }

@@ -11,8 +11,17 @@ use Rattle.bc_interpret_steps.specs.declared.continuations.Rest.TheVariants as r
 use Rattle.bc_interpret_steps.specs.declared.forms.Work.TheVariants as works
 use Rattle.bc_interpret_steps.specs.Code.{spot_of, stacked, then_given, stack, given}
 use Rattle.bc_interpret_steps.proofs.After.{following}
-use Rattle.bc_interpret_steps.proofs.Listings.{begin_divided, begin_failed, begin_performed}
+use Rattle.bc_interpret_steps.proofs.Listings.{begin_done, begin_divided, begin_failed, begin_performed}
 use Rattle.bc_interpret_steps.proofs.lists.begin.Goals as goal
+
+pub returns-in-Some-Done : goal.returns-in-Some-Done
+returns-in-Some-Done c =
+    let E = spot_of c.args.site in
+    let is = items c.args.found.following.now in
+    let before = c.args.stacks.now.rests.items in
+    let new = c.command_at_once.new.state in
+    begin_done E (command c.args.found.command.now) is c.args.site.level (stack before) c.args.state.now c.in_ok-command_at_once.field-0 (trail_in (machine.Follows E is c.args.site.level ∷ stack before)) c.after_command-stacks.result (given before) new c.in_ok-command_at_once.ensures (cc)
+    (c.after_command-stacks.ensures new (stack before) (given before))
 
 pub returns-in-Some-Divides : goal.returns-in-Some-Divides
 returns-in-Some-Divides c =
