@@ -418,7 +418,7 @@
   /** The same where a loop begins. */
   const BEGINS = { for: "begins" };
   const ENDS = { finished: "The run finished.", cut: "The recording was full here; the run went on." };
-  const FAULTS = ["wild", "zero", "device"];
+  const FAULTS = ["wild", "strict", "zero", "device"];
   /** The kinds of commands that set cells themselves. */
   const WRITES = ["assign", "let", "for", "call"];
   /** The kinds of commands without a root of their own. */
@@ -458,7 +458,14 @@
       this.entersLibrary = false;
       this.cursor = 0;
       this.build();
-      this.show(this.isShown(0) ? 0 : this.find(0, 1));
+      this.show(this.firstShown());
+    }
+
+    /** The stop at which the page opens: the end of a run that failed, or else the first stop. */
+    firstShown() {
+      const { kind } = this.recording.data.end;
+      if (kind === "turns" || FAULTS.includes(kind)) return this.recording.count - 1;
+      return this.isShown(0) ? 0 : this.find(0, 1);
     }
 
     // ---- The parts, made once

@@ -229,7 +229,7 @@ def believed():
     return all_below(set().union(*(contract.units for crate in crates() for contract in contracts_of(crate) if contract.is_public)))
 
 
-# What README's headline says of a built program.
+# What the headline of PROVED.md says of a built program.
 HEADLINE = ["bc_build.Built.IsBuilt", "bc_build.Runs.RunsAsMeant", "bc_build.Least.AreLeast", "bc_build.Certified.IsCertified"]
 
 # The statements of the table in docs/PROVED.md: the headline, its parts, and the public calls.

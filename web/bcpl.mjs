@@ -1,11 +1,11 @@
 #!/usr/bin/env node
-// bcpl.mjs ARGUMENTS: the program bcpl, as WebAssembly, on the computer's own files. It needs Node 24 or newer, on any system; Node 20 and
-// 22 need the option --experimental-wasm-memory64.
+// bcpl.mjs ARGUMENTS: the program bcpl, as WebAssembly, on the computer's own files. It needs Node 18 or newer, on any system.
 // The module is bcpl.wasm beside this file, or in out/ where web/build puts it, or the shipped one in dist/; BCPL_WASM names another.
 import fs from "node:fs";
 import os from "node:os";
 import path from "node:path";
 import tty from "node:tty";
+import v8 from "node:v8";
 import { fileURLToPath } from "node:url";
 import { gunzipSync } from "node:zlib";
 import { ERRORS, OPEN, SystemError, isSupported, runProgram } from "./page/host.mjs";
@@ -153,9 +153,10 @@ function complain(sentence) {
 }
 
 async function main() {
+  // Before Node 24 memory64 is behind a flag of its engine.
+  if (!isSupported()) v8.setFlagsFromString("--experimental-wasm-memory64");
   if (!isSupported()) {
-    complain(`Node ${process.versions.node} can't run the program: it lacks memory64, a part of WebAssembly. ` +
-      "Use Node 24 or newer, or start it with node --experimental-wasm-memory64.");
+    complain(`Node ${process.versions.node} can't run the program: it lacks memory64, a part of WebAssembly. Use Node 18 or newer.`);
     return;
   }
   const place = modulePath();

@@ -11,8 +11,10 @@ SHOWN = 8
 
 
 def program():
-    """The path of the program: the one that BCPL names, else the repository's own."""
-    return os.path.abspath(os.environ.get("BCPL") or os.path.join(TOP, "bcpl"))
+    """The command of the program: the one that BCPL names, else the repository's own, which is the one for Node where this isn't Linux."""
+    path = os.path.abspath(os.environ.get("BCPL") or os.path.join(TOP, "bcpl" if sys.platform == "linux" else "web/bcpl.mjs"))
+    # Windows starts no script by its first line.
+    return ["node", path] if path.endswith(".mjs") else [path]
 
 
 def called(command, given="", folder=None):
@@ -23,7 +25,7 @@ def called(command, given="", folder=None):
 
 def bcpl(*words, given="", folder=None):
     """The same for the program with these arguments."""
-    return called([program()] + list(words), given, folder)
+    return called(program() + list(words), given, folder)
 
 
 def write(path, text):

@@ -12,11 +12,39 @@
 ;;; Code:
 
 (require 'compile)
+(require 'seq)
 (require 'subr-x)
 
 (defgroup bcpl nil "BCPL." :group 'languages)
 
 (defcustom bcpl-program "bcpl" "The program that builds BCPL sources." :type 'string :group 'bcpl)
+
+(defcustom bcpl-include nil
+  "The folders in which GET finds files, after that of the source.
+A relative name counts from the folder of the file .dir-locals.el, or from that of the source if there is none."
+  :type '(repeat string) :group 'bcpl :safe (lambda (value) (and (listp value) (seq-every-p #'stringp value))))
+
+(defun bcpl-include-arguments ()
+  "The arguments that name the folders of `bcpl-include'."
+  (let ((base (or (locate-dominating-file default-directory dir-locals-file) default-directory)))
+    (seq-mapcat (lambda (folder) (list "--include" (expand-file-name folder base))) bcpl-include)))
+
+(defun bcpl-set-compile-command ()
+  "Sets `compile-command' to build this buffer's file."
+  (when buffer-file-name
+    (let ((name (file-name-nondirectory buffer-file-name)))
+      (setq-local compile-command
+                  (mapconcat #'shell-quote-argument
+                             `(,bcpl-program "build" "--places" "always" ,@(bcpl-include-arguments)
+                                             "--out" ,(concat (file-name-sans-extension name) ".int") ,name)
+                             " ")))))
+
+(defun bcpl-is-header ()
+  "Whether this buffer's file has no extension, and the text of a header."
+  (and buffer-file-name
+       (not (file-name-extension buffer-file-name))
+       (let ((case-fold-search nil))
+         (re-search-forward "^[ \t]*\\(?:GET[ \t]*\"\\|\\(?:GLOBAL\\|MANIFEST\\|STATIC\\)[ \t]*\\(?:$\\|\\$(\\)\\)" nil t))))
 
 (defun bcpl-match-name (kind)
   "A matcher for the names of which the function KIND is true.  A name takes all its letters, digits and dots."
@@ -197,19 +225,19 @@
   (setq-local indent-line-function #'bcpl-indent-line)
   (setq-local indent-tabs-mode nil)
   (setq-local imenu-generic-expression bcpl-index)
-  (setq-local compile-command
-              (when buffer-file-name
-                (let ((name (file-name-nondirectory buffer-file-name)))
-                  (format "%s build --places always --out %s.int %s" bcpl-program
-                          (shell-quote-argument (file-name-sans-extension name)) (shell-quote-argument name))))))
+  (bcpl-set-compile-command)
+  ;; `bcpl-include' may be set for the folder or in the file.
+  (add-hook 'hack-local-variables-hook #'bcpl-set-compile-command nil t))
 
 ;;;###autoload
 (add-to-list 'auto-mode-alist '("\\.bcpl\\'" . bcpl-mode))
+(add-to-list 'magic-fallback-mode-alist '(bcpl-is-header . bcpl-mode))
 
 ;; Eglot starts the language server by M-x eglot.
 (defvar eglot-server-programs)
 (with-eval-after-load 'eglot
-  (add-to-list 'eglot-server-programs (list 'bcpl-mode bcpl-program "lsp")))
+  (add-to-list 'eglot-server-programs
+               (cons 'bcpl-mode (lambda (&rest _) `(,bcpl-program "lsp" ,@(bcpl-include-arguments))))))
 
 (provide 'bcpl-mode)
 ;;; bcpl-mode.el ends here

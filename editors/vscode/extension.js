@@ -16,8 +16,9 @@ function activate() {
   if (!languages) {
     return undefined;
   }
-  const program = require("vscode").workspace.getConfiguration("bcpl").get("server");
-  const server = { command: program, args: ["lsp"], transport: languages.TransportKind.stdio };
+  const settings = require("vscode").workspace.getConfiguration("bcpl");
+  const folders = settings.get("include").flatMap((folder) => ["--include", folder]);
+  const server = { command: settings.get("server"), args: ["lsp", ...folders], transport: languages.TransportKind.stdio };
   client = new languages.LanguageClient("bcpl", "BCPL", server, { documentSelector: [{ scheme: "file", language: "bcpl" }] });
   return client.start();
 }

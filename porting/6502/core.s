@@ -6,13 +6,30 @@
 ; IMAGE has the stack base and the words from address 0 up to it, each with its low byte first. The status is 0 if the run ends by
 ; X22, 1 if by a division by zero or a bad instruction, 2 if the program needs a cell that the store hasn't, 3 if there is no image.
 ; For another machine write `get_byte`, `put_byte` and the reading of the image anew; nothing else depends on the system.
+;
+; With WORDS the store has another number of words, a multiple of 256. With BASE, the stack base, a file `image` is a part of the
+; program. Its segments stay in ROM, but for the cells from RAM up to RAM_END, without the last. All other cells are in RAM; only the
+; first GLOBALS globals have one. The status is 4 if the program writes to a cell in ROM. `run --rom` defines these symbols.
 
         .export         _main
         .import         _open, _read, _write, __argv, pushax
         .forceimport    initmainargs
         .importzp       ptr1
 
-WORDS   = 20480                         ; a multiple of 256
+.ifndef WORDS
+WORDS   = 20480
+.endif
+SEGMENTS = 520                          ; the first cell that may be in ROM
+.ifdef BASE
+.ifndef RAM
+RAM     = BASE                          ; no cell of the segments is written
+RAM_END = BASE
+.endif
+.ifndef GLOBALS
+GLOBALS = 512
+.endif
+LOW     = 8 + GLOBALS                   ; the first cells, which are in RAM
+.endif
 
 ; The zero page from $80 on; the first bytes are those of the library.
 rA      = $80
@@ -28,7 +45,13 @@ name    = $92
 sign    = $94
 
         .bss
+.ifdef BASE
+low:    .res 2 * LOW                    ; the boot code and the globals,
+middle: .res 2 * (RAM_END - RAM) + 1    ; those of the segments that are written,
+high:   .res 2 * (WORDS - BASE)         ; and those from the stack base on
+.else
 store:  .res 2 * WORDS
+.endif
 file:   .res 2
 byte:   .res 1
 selected: .res 2                        ; whether the input, the output is selected,
@@ -36,6 +59,11 @@ ended:  .res 2                          ; and whether it has ended
 frame:  .res 1                          ; the stack pointer of _main
 
         .rodata
+.ifdef BASE
+rom:    .incbin "image", 2
+ends:   .word   LOW, SEGMENTS, RAM, RAM_END, BASE
+parts:  .word   low, 0, rom, middle - 2 * RAM, rom, high - 2 * BASE
+.endif
 sysin:  .byte   5, "SYSIN"
 sysprint: .byte 8, "SYSPRINT"
 
@@ -106,7 +134,7 @@ done:
 
 .macro  store_cell address, from
         ldx     #address
-        jsr     locate
+        jsr     locate_to_write
         ldy     #0
         lda     from
         sta     (cell),y
@@ -120,6 +148,81 @@ done:
         bump    rC
 .endmacro
 
+.ifdef BASE
+
+locate: ldy     #0                      ; Y := twice the part that has the cell: 1 has none, 2 and 4 are in ROM
+next_part:
+        lda     0,x
+        cmp     ends,y
+        lda     1,x
+        sbc     ends+1,y
+        bcc     located
+        iny
+        iny
+        cpy     #10
+        bne     next_part
+located:
+        cpy     #2
+        beq     outside
+        lda     0,x                     ; cell := the address of the cell whose number is in the zero page at X
+        sta     cell
+        lda     1,x
+        cmp     #>WORDS
+        bcs     outside
+        asl     cell
+        rol     a
+        sta     cell+1
+        clc
+        lda     cell
+        adc     parts,y
+        sta     cell
+        lda     cell+1
+        adc     parts+1,y
+        sta     cell+1
+        rts
+
+locate_to_write:                        ; the same, unless the cell is in ROM
+        jsr     locate
+        cpy     #4
+        beq     in_rom
+        cpy     #8
+        beq     in_rom
+        rts
+in_rom: lda     #4
+        jmp     end_run
+
+.macro  copy    from, to, words         ; puts the first content of cells into RAM
+        set     name, from
+        set     cell, to
+        set     rT, words
+        jsr     copy_words
+.endmacro
+
+copy_words:
+        lda     rT
+        ora     rT+1
+        beq     copied
+        ldy     #0
+        lda     (name),y
+        sta     (cell),y
+        iny
+        lda     (name),y
+        sta     (cell),y
+        bump    name
+        bump    name
+        bump    cell
+        bump    cell
+        lda     rT
+        bne     copied_low
+        dec     rT+1
+copied_low:
+        dec     rT
+        jmp     copy_words
+copied: rts
+
+.else
+
+locate_to_write:
 locate: lda     0,x                     ; cell := the address of the cell whose number is in the zero page at X
         sta     cell
         lda     1,x
@@ -136,6 +239,9 @@ locate: lda     0,x                     ; cell := the address of the cell whose 
         adc     #>store
         sta     cell+1
         rts
+
+.endif
+
 outside:
         lda     #2
         jmp     end_run
@@ -144,6 +250,11 @@ outside:
 
 _main:  tsx
         stx     frame
+.ifdef BASE
+        copy    rom, low, LOW
+        copy    rom + 2 * RAM, middle, RAM_END - RAM
+        set     rP, BASE
+.else
         lda     __argv                  ; the image's path is argv[1]
         sta     ptr1
         lda     __argv+1
@@ -184,6 +295,7 @@ _main:  tsx
         lda     rT
         ldx     rT+1
         jsr     _read
+.endif
         lda     #0
         sta     rA
         sta     rA+1

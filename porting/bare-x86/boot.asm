@@ -10,11 +10,20 @@
 ;
 ; Each record is run in turn. After one with its own input the bytes 16 and F, Z or B are written: it has finished, or ended by a
 ; division by zero or a bad instruction. A byte 16 that such a program writes is written twice.
+;
+; With -DWORDS=N the store has N words instead of 65,536. A program that needs another cell ends with the byte S, and then the machine.
 
         cpu     8086
         org     0x7C00
 
-SECTORS equ     3                       ; of this code
+%ifndef WORDS
+%define WORDS   65536
+%endif
+%if WORDS < 65536
+SECTORS equ     4                       ; of this code
+%else
+SECTORS equ     3
+%endif
 STORE   equ     0x1000                  ; the segment of the cells up to 32767; the others are in the next 64 KB
 GIVEN   equ     0x3000                  ; the segment of the input
 SECTOR  equ     0x8600                  ; where a sector is read to
@@ -30,11 +39,12 @@ start:  xor     ax, ax
         jmp     0:.here
 .here:  mov     [drive], dl
         mov     es, ax
-        mov     ax, 0x0200 + SECTORS - 1 ; the other sectors of this code
         mov     bx, start + 512
         mov     cx, 2
         xor     dh, dh
+.again: mov     ax, 0x0200 + SECTORS - 1 ; the other sectors of this code
         int     0x13
+        jc      .again                  ; a motor that isn't fast enough yet
         jmp     begin
 
 ; ---- The disk: a stream of bytes from the sector after the code on
@@ -78,8 +88,9 @@ read_sector:                            ; reads the next sector of a disk of 80 
         xor     ax, ax
         mov     es, ax
         mov     bx, SECTOR
-        mov     ax, 0x0201
+.again: mov     ax, 0x0201
         int     0x13
+        jc      .again
         pop     es
         pop     dx
         pop     bx
@@ -197,7 +208,12 @@ write:  push    ax                      ; writes AL, as one of the bytes of a pr
 
 ; ---- The store
 
-locate: add     bx, bx                  ; ES:BX: the cell BX; uses AX
+locate:                                 ; ES:BX: the cell BX; uses AX
+%if WORDS < 65536
+        cmp     bx, WORDS
+        jae     outside
+%endif
+        add     bx, bx
         sbb     ax, ax
         and     ax, 0x1000
         add     ax, STORE
@@ -227,6 +243,10 @@ fetch:  push    bx                      ; AX: the word at C, which goes on
 
 begin:  call    open_line
 next_program:
+%if WORDS < 65536
+        cmp     byte [over], 0
+        jne     off
+%endif
         call    clear
         call    next_word
         or      ax, ax
@@ -264,15 +284,28 @@ next_program:
         jmp     step
 
 clear:  mov     ax, STORE               ; all cells become 0
-        call    .half
+%if WORDS > 32768
+        mov     cx, 32768
+        call    .part
         mov     ax, STORE + 0x1000
-.half:  mov     es, ax
+        mov     cx, WORDS - 32768
+%else
+        mov     cx, WORDS
+%endif
+.part:  mov     es, ax
         xor     ax, ax
         xor     di, di
-        mov     cx, 32768
         rep     stosw
         ret
 
+%if WORDS < 65536
+outside:
+        mov     sp, STACK
+        mov     byte [over], 1
+        mov     bx, no_cell
+        mov     al, 'S'
+        jmp     end_run
+%endif
 zero_divide:
         mov     bx, divided
         mov     al, 'Z'
@@ -548,6 +581,10 @@ sysprint db     8, "SYSPRINT"
 nothing db      0
 divided db      10, "division by zero", 10, 0
 bad_instruction db 10, "bad instruction", 10, 0
+%if WORDS < 65536
+no_cell db      10, "no such cell", 10, 0
+over    db      0
+%endif
 
 selected db     0, 0                    ; whether the input, the output is selected,
 ended   db      0, 0                    ; and whether it has ended

@@ -6,10 +6,10 @@ import subprocess
 
 
 class Client:
-    """A session with a server, which is started by this command."""
+    """A session with a server, which is started by this command, in this folder if one is given."""
 
-    def __init__(self, command):
-        self.work = subprocess.Popen(command, stdin=subprocess.PIPE, stdout=subprocess.PIPE, bufsize=0)
+    def __init__(self, command, folder=None):
+        self.work = subprocess.Popen(command, stdin=subprocess.PIPE, stdout=subprocess.PIPE, bufsize=0, cwd=folder)
         self.number = 0
         self.notes = []
         self.rest = b""
@@ -18,10 +18,10 @@ class Client:
         """Sends bytes as they are."""
         self.work.stdin.write(data)
 
-    def send(self, message):
-        """Sends a message."""
-        text = json.dumps(message).encode()
-        self.send_bytes(b"Content-Length: %d\r\n\r\n" % len(text) + text)
+    def send(self, *messages):
+        """Sends messages, all at once."""
+        texts = [json.dumps(message).encode() for message in messages]
+        self.send_bytes(b"".join(b"Content-Length: %d\r\n\r\n%b" % (len(text), text) for text in texts))
 
     def more(self, seconds=60):
         """Reads what comes next. Fails if nothing comes in this time, or the server ended."""

@@ -13,7 +13,7 @@ local function start(settings)
   vim.lsp.buf_attach_client(0, number)
   return number
 end
-local client = start({ name = "bcpl", cmd = { os.getenv("BCPL_LSP"), "lsp" }, root_dir = vim.fn.getcwd() })
+local client = start({ name = "bcpl", cmd = { os.getenv("BCPL_LSP"), "lsp", "--include", "headers" }, root_dir = vim.fn.getcwd() })
 local function ask(method, row, column, more)
   local params = { textDocument = { uri = vim.uri_from_bufnr(0) }, position = { line = row, character = column } }
   for key, value in pairs(more or {}) do params[key] = value end
@@ -41,6 +41,15 @@ local laid = ask("textDocument/formatting", 0, 0, { options = { tabSize = 3, ins
 vim.lsp.util.apply_text_edits(laid, 0, "utf-16")
 say(("layout %d: %s"):format(#laid, vim.api.nvim_buf_get_lines(0, 3, 4, false)[1]))
 say(("symbols %d"):format(#ask("textDocument/documentSymbol", 0, 0)))
+vim.opt.runtimepath:prepend(os.getenv("EDITORS") .. "/vim")
+vim.cmd("filetype plugin on")
+vim.api.nvim_buf_set_lines(0, 1, 1, false, { 'GET "DEFS"' })
+vim.wait(20000, function() return #ask("textDocument/documentSymbol", 0, 0) == 2 end, 20)
+vim.api.nvim_buf_set_lines(0, 5, 6, false, { "   WRITEN(SUM(N, LIMIT))" })
+vim.wait(1000, function() return #vim.diagnostic.get(0) > 0 end, 20)
+say(("with a header: %d"):format(#vim.diagnostic.get(0)))
+vim.lsp.util.jump_to_location(ask("textDocument/definition", 5, 17), "utf-16")
+say(("the header: %s %s"):format(vim.fn.expand("%:."), vim.bo.filetype))
 vim.lsp.stop_client(client)
 vim.wait(5000, function() return vim.lsp.client_is_stopped(client) end, 20)
 say("stopped")

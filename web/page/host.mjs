@@ -78,6 +78,8 @@ function importsOf(system, words, memory) {
     arg_count: () => BigInt(words.length),
     arg: (number, to, room) => BigInt(argument(Number(number), to, Number(room))),
     write: (file, from, count) => BigInt(answered(() => system.write(file, bytes(from, count)))),
+    // One byte, if the system has a function for it: at a terminal the program writes byte by byte, and numbers of 32 bits are quicker.
+    put: (file, byte) => Number(system.writeByte?.(file, byte) ?? false),
     read: (file, to, count) => BigInt(answered(() => system.read(file, bytes(to, count)))),
     open: (path, flags, mode) => answered(() => system.open(pathAt(path), flags, mode)),
     close: (file) => answered(() => system.close(file)),

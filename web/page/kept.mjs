@@ -4,6 +4,7 @@ import { element } from "./dom.mjs";
 const FILES = "kibvorg.files";
 const BEFORE = "kibvorg.before";
 const THEME = "kibvorg.theme";
+const STRICT = "kibvorg.strict";
 
 const isFile = (file) => typeof file?.name === "string" && typeof file?.text === "string";
 
@@ -36,7 +37,15 @@ export class Kept {
     element("before-open").addEventListener("click", () => this.goBack());
     element("before-remove").addEventListener("click", () => this.remove());
     this.listenToTheme();
+    this.listenToStrict();
     this.show();
+  }
+
+  /** The switch for strict runs is kept as well; they are the rule. */
+  listenToStrict() {
+    const box = element("strict");
+    box.checked = read(STRICT) !== false;
+    box.addEventListener("change", () => write(STRICT, box.checked));
   }
 
   /** The choice of colours is kept as well; an empty one is the system's. */
@@ -64,7 +73,8 @@ export class Kept {
   /** Sets the user's files aside before those of a link replace them. Files that were set aside before stay. */
   setAside(files) {
     const last = this.last();
-    const isSame = JSON.stringify(last?.files) === JSON.stringify(files);
+    const texts = (list) => JSON.stringify(list?.map(({ name, text }) => [name, text]));
+    const isSame = texts(last?.files) === texts(files);
     if (last && !isSame && this.app.isOwn(last.files) && readFiles(BEFORE) === null) write(BEFORE, last);
     this.show();
   }

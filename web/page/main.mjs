@@ -15,7 +15,7 @@ import { Learn } from "./learn.mjs";
 import { fragmentOf, stateOf } from "./link.mjs";
 import { Output } from "./output.mjs";
 import { Problems } from "./problems.mjs";
-import { Project } from "./project.mjs";
+import { MOST_FILES, Project } from "./project.mjs";
 import { Tabs } from "./tabs.mjs";
 
 const UNSUPPORTED = `This browser can't run the compiler: it lacks memory64, a part of WebAssembly. Chromium and Chrome have it from version 133 on,
@@ -32,6 +32,10 @@ class App {
     /** Texts of examples and of pages, which the user can open again. */
     this.given = new Set();
     this.project = new Project();
+    /** What each program reads and writes, by its number: what is in the boxes while it isn't worked on. */
+    this.boxes = new Map();
+    /** Everything as it was before an example was opened, until something is edited; undo brings it back. */
+    this.before = null;
     this.editor = new Editor({ change: () => this.typed(), move: (line) => this.inside.follow(line) });
     this.compiler = new Compiler(isSupported() ? loadModule() : new Promise(() => {}), startWorker);
     this.tabs = new Tabs(this);
@@ -104,12 +108,18 @@ class App {
     }
   }
 
-  /** Shows files and settings instead of those that are there. */
-  take({ files, input = "", outputs = [], steps = null }) {
+  /** Shows files and settings instead of those that are there. `programs` and `current` are there where several programs were kept. */
+  take({ files, input = "", outputs = [], steps = null, programs = [], current = null }) {
     this.project.replace(files);
     if (this.project.files.length === 0) this.project.add({ name: "main.bcpl", text: "" });
-    element("input").value = input;
-    element("outputs").value = outputs.join(" ");
+    this.project.current = this.project.find(current) ?? this.project.current;
+    this.boxes = new Map(programs);
+    this.fillBoxes({ input, outputs: outputs.join(" ") });
+    this.showCurrent(steps);
+  }
+
+  /** Shows the current file, of a program that needs so many steps. */
+  showCurrent(steps = null) {
     if (steps && Number(element("budget").value) < steps) element("budget").value = "100000000";
     this.tabs.library = null;
     this.editor.show(this.project.current.text);
@@ -117,8 +127,39 @@ class App {
     this.problems.changed();
   }
 
+  shownBoxes() {
+    return { input: element("input").value, outputs: element("outputs").value };
+  }
+
+  fillBoxes({ input = "", outputs = "" } = {}) {
+    element("input").value = input;
+    element("outputs").value = outputs;
+  }
+
+  /** Makes a file the current one. Where it is of another program, that is worked on from now on. */
+  enter(file) {
+    const { project } = this;
+    const before = project.program;
+    project.current = file;
+    if (project.program === before) return;
+    this.boxes.set(before, this.shownBoxes());
+    this.fillBoxes(this.boxes.get(project.program));
+    this.before = null;
+    this.problems.changed();
+    this.keepLater();
+  }
+
+  /** The files and settings of all programs. */
   state() {
-    const files = this.project.files.map(({ name, text, role, stream }) => ({ name, text, role, stream }));
+    const { project } = this;
+    const files = project.files.map(({ name, text, role, stream, program }) => ({ name, text, role, stream, program }));
+    const shown = { input: element("input").value, outputs: this.output.outputs() };
+    return { files, ...shown, programs: [...this.boxes], current: project.current.name };
+  }
+
+  /** Those of the program that is worked on. */
+  programState() {
+    const files = this.project.inProgram.map(({ name, text, role, stream }) => ({ name, text, role, stream }));
     return { files, input: element("input").value, outputs: this.output.outputs() };
   }
 
@@ -131,6 +172,7 @@ class App {
   }
 
   edited() {
+    this.before = null;
     this.trust();
     this.problems.changed();
     this.keepLater();
@@ -200,29 +242,48 @@ class App {
     return files.some(({ text }) => text.trim() !== "" && !this.given.has(text));
   }
 
-  mayReplace(name) {
-    return !this.isOwn(this.project.files) || confirm(`${name} replaces the files in the editor. Go on?`);
-  }
-
-  /** Opens a program: beside the files in the editor, or instead of them where both have a START. */
+  /** Opens a source: as a file of the program in the editor, or as a program beside it where both have a START. */
   openProgram(name, text) {
     const isMain = (source) => /\bSTART\s*\(/.test(source);
-    if (!isMain(text) || !this.project.files.some((file) => file.role === "section" && isMain(file.text))) {
-      this.tabs.add({ name, text });
-    } else if (this.mayReplace(name)) {
-      this.take({ files: [{ name, text }] });
-      this.edited();
-      this.editor.area.focus();
-      this.tell(`${name} is in the editor. Press Interpret to run it.`);
-    }
+    if (isMain(text) && this.project.withRole("section").some((file) => isMain(file.text))) this.openBeside(name, { files: [{ name, text }] });
+    else this.tabs.add({ name, text });
   }
 
   openExample(name) {
-    if (!this.mayReplace(name)) return;
+    this.openBeside(name, this.examples.find((it) => it.name === name));
+  }
+
+  /** Opens a program beside those that are there. Texts of examples that nobody has changed make room for it. */
+  openBeside(name, { files, input = "", outputs = [], steps = null }) {
+    const { project } = this;
+    if (project.files.length + files.length > MOST_FILES) {
+      this.tell(`There can be ${MOST_FILES} files. Remove some first.`);
+      return;
+    }
+    const before = this.state();
     this.trust();
-    this.showExample(name);
+    const program = project.freeProgram();
+    const old = project.inProgram;
+    if (this.isOwn(old)) this.boxes.set(project.program, this.shownBoxes());
+    else for (const file of old) project.remove(file);
+    project.current = files.map((file) => project.add({ ...file, program }))[0];
+    this.fillBoxes({ input, outputs: outputs.join(" ") });
+    this.showCurrent(steps);
     this.keepLater();
-    this.tell(`${name} is in the editor. Press Interpret to run it.`);
+    this.before = before;
+    this.editor.area.focus();
+    const isAlone = project.files.length === files.length;
+    this.tell(`${name} is in the editor${isAlone ? "" : ", beside your files"}. Press Interpret to run it.`);
+  }
+
+  /** Brings back what was there before an example was opened, and returns whether there was something. */
+  undoOpening() {
+    if (this.before === null) return false;
+    this.take(this.before);
+    this.before = null;
+    this.keepLater();
+    this.tell("Your files are back.");
+    return true;
   }
 
   showExample(name) {
@@ -232,7 +293,7 @@ class App {
 
   /** The texts of the library that the files get, to be read beside them. */
   libraryTexts() {
-    const names = new Set(this.project.files.flatMap(({ text }) => namesGot(text)));
+    const names = new Set(this.project.inProgram.flatMap(({ text }) => namesGot(text)));
     const headers = { BLIB: "LIBHDR", EXTLIB: "EXTHDR" };
     return Object.entries(this.texts).filter(([name]) => names.has(headers[name] ?? name));
   }
@@ -241,7 +302,7 @@ class App {
 
   async share() {
     const address = new URL(location.href);
-    address.hash = await fragmentOf(this.state());
+    address.hash = await fragmentOf(this.programState());
     try {
       await navigator.clipboard.writeText(address.href);
       this.tell(`The link is copied: ${counted(address.href.length, "character")}. The files are in it, and were sent nowhere.`);
@@ -252,7 +313,7 @@ class App {
   }
 
   async download(what) {
-    const { current, files } = this.project;
+    const { current, inProgram: files } = this.project;
     const { built } = this.problems;
     if (what === "source") save(current.name, current.text, "text/plain");
     else if (what === "sources") for (const file of files) save(file.name, file.text, "text/plain");
@@ -316,7 +377,10 @@ class App {
 
   key(event) {
     if (!(event.ctrlKey || event.metaKey) || event.altKey) return;
-    if (event.key === "Enter" && this.isReady) {
+    const isInField = event.target.matches?.("input, select, textarea:not(#text)");
+    if (event.key === "z" && !event.shiftKey && !isInField && this.undoOpening()) {
+      event.preventDefault();
+    } else if (event.key === "Enter" && this.isReady) {
       event.preventDefault();
       if (event.shiftKey) this.output.run();
       else this.output.interpret();

@@ -103,10 +103,13 @@ const BLOCKS = [
   { begins: (lines, at) => ITEM.test(lines[at]), take: takeList },
 ];
 
+/** Whether a block begins inside of a paragraph. Of numbered lists only those from 1 on do: a sentence may begin with another number. */
+const interrupts = (lines, at) => BLOCKS.some(({ begins }) => begins(lines, at)) && !/^\s*(?!1\.)\d+\. /.test(lines[at]);
+
 const PARAGRAPH = {
   take(lines, at, on) {
-    let end = at;
-    while (end < lines.length && (end === at || !BLOCKS.some(({ begins }) => begins(lines, end)))) end += 1;
+    let end = at + 1;
+    while (end < lines.length && !interrupts(lines, end)) end += 1;
     return { node: made("p", {}, ...inline(lines.slice(at, end).join(" "), on)), next: end };
   },
 };

@@ -31,8 +31,8 @@ class MemoryFile {
 export class MemorySystem {
   /**
    * `files` are pairs of a name and bytes. `streams.read(to)` puts bytes of standard input there and returns how many, 0 at its end;
-   * `streams.write(number, bytes)` takes what is written to standard output, 1, and standard error, 2. `terminals` lists the standard
-   * streams that are answered to be terminals.
+   * `streams.write(number, bytes)` and `streams.writeByte(number, byte)` take what is written to standard output, 1, and standard error, 2.
+   * `terminals` lists the standard streams that are answered to be terminals.
    */
   constructor(files, streams, terminals = []) {
     this.inodes = 100;
@@ -113,6 +113,14 @@ export class MemorySystem {
     handle.file.write(handle.at, bytes);
     handle.at += bytes.length;
     return bytes.length;
+  }
+
+  /** Writes a byte to a standard stream, and returns whether it has: the rest is for `write`. */
+  writeByte(number, byte) {
+    if ((number !== 1 && number !== 2) || this.written >= MOST_WRITTEN) return false;
+    this.written += 1;
+    this.streams.writeByte(number, byte);
+    return true;
   }
 
   seek(number, offset, origin) {

@@ -6,6 +6,10 @@ import { readDiagnostics } from "./diagnostics.mjs";
 const MOST_SHOWN = 200_000;
 const PAUSE = 60;
 
+/** A piece of an output ends with the line after so many characters, or in a line that is so long. */
+const PIECE = 2_000;
+const LONGEST_LINE = 8_000;
+
 /** Files that the page makes for itself. */
 const OWN = ["out.int", "run.html"];
 
@@ -16,7 +20,10 @@ const SPENT = /ended (Budget|Turns)Spent/;
 
 const PLACE = /([^\s:][^:\n]*):(\d+):(\d+)(?=: )/g;
 
-/** A stream of the run, shown in an element. It is drawn once every PAUSE milliseconds at most, so that Stop works however much is written. */
+/**
+ * A stream of the run, shown in an element. It is drawn once every PAUSE milliseconds at most, so that Stop works however much is written. It is
+ * shown in pieces of whole lines, and the browser lays out only those that can be seen: a long text takes it longer than the run.
+ */
 class Shown {
   constructor(node) {
     this.node = node;
@@ -26,6 +33,8 @@ class Shown {
     this.waiting = "";
     this.timer = null;
     this.count = 0;
+    /** The last piece, which may go on. */
+    this.piece = null;
   }
 
   add(bytes) {
@@ -34,32 +43,76 @@ class Shown {
     this.timer ??= setTimeout(() => this.draw(), PAUSE);
   }
 
+  /** The last line; empty if nothing was written. */
+  get lastLine() {
+    return this.node.textContent.trimEnd().split("\n").pop();
+  }
+
   /** Shows what was added. */
   draw() {
     clearTimeout(this.timer);
     this.timer = null;
     if (this.waiting === "") return;
     const isAtEnd = this.node.scrollTop + this.node.clientHeight > this.node.scrollHeight - 30;
-    const isLong = this.waiting.length >= MOST_SHOWN;
-    if (isLong) this.node.replaceChildren(this.note);
-    const text = pictured(this.waiting.slice(-MOST_SHOWN));
+    if (this.waiting.length >= MOST_SHOWN) this.clear();
+    this.append(pictured(this.waiting.slice(-MOST_SHOWN)));
     this.waiting = "";
-    this.node.append(text);
-    this.count = isLong ? text.length : this.count + text.length;
     this.cut();
     if (isAtEnd) this.node.scrollTop = this.node.scrollHeight;
+  }
+
+  /** Removes what is shown: only the end of more is. */
+  clear() {
+    this.node.replaceChildren(this.note);
+    this.count = 0;
+    this.piece = null;
+  }
+
+  /** Appends a text to the last piece, and to further ones. */
+  append(text) {
+    this.count += text.length;
+    for (let from = 0; from < text.length; ) {
+      const piece = this.openPiece();
+      const room = Math.max(from, from + PIECE - piece.textContent.length);
+      const line = text.indexOf("\n", room) + 1;
+      const to = Math.min(line || text.length, room + LONGEST_LINE);
+      piece.append(text.slice(from, to));
+      piece.style.containIntrinsicBlockSize = `auto ${piece.textContent.split("\n").length}lh`;
+      if (to === line || to === room + LONGEST_LINE) this.piece = null;
+      from = to;
+    }
+  }
+
+  openPiece() {
+    if (this.piece === null) {
+      this.piece = made("span", { className: "piece" });
+      this.node.append(this.piece);
+    }
+    return this.piece;
+  }
+
+  /** Appends a line that the user typed. */
+  type(text) {
+    this.openPiece().append(made("span", { className: "typed", textContent: text }));
+    this.count += text.length;
   }
 
   /** Removes the oldest pieces, so that a program that never stops writing doesn't fill the page. */
   cut() {
     while (this.count > MOST_SHOWN) {
-      const oldest = this.node.firstChild === this.note ? this.note.nextSibling : this.node.firstChild;
-      if (oldest === this.node.lastChild) return;
+      const oldest = this.node.querySelector(".piece");
+      if (oldest === this.piece || oldest === this.node.lastChild) return;
       this.count -= oldest.textContent.length;
       oldest.remove();
       this.node.prepend(this.note);
     }
   }
+}
+
+/** Copies the text as it was written: a browser puts a line of its own between pieces. */
+function copyText(event) {
+  event.clipboardData.setData("text/plain", getSelection().getRangeAt(0).cloneContents().textContent);
+  event.preventDefault();
 }
 
 export class Output {
@@ -69,6 +122,7 @@ export class Output {
     element("interpret").addEventListener("click", () => this.interpret());
     element("run").addEventListener("click", () => this.run());
     element("stop").addEventListener("click", () => this.stop());
+    element("output").addEventListener("copy", copyText);
     element("prompt").addEventListener("submit", (event) => this.typed(event));
     element("prompt-end").addEventListener("click", () => this.reply(new Uint8Array(0)));
     if (globalThis.crossOriginIsolated) element("input-hint").textContent = "What the program reads from SYSIN. Leave it empty to type while the program runs.";
@@ -78,6 +132,11 @@ export class Output {
     return element("budget").value;
   }
 
+  /** The option that makes a run strict, if the switch is on. */
+  strictWords() {
+    return element("strict").checked ? ["--strict"] : [];
+  }
+
   outputs() {
     return element("outputs").value.split(/[\s,]+/).filter(Boolean);
   }
@@ -85,7 +144,7 @@ export class Output {
   /** Runs the sources by their meaning. */
   interpret() {
     const { project } = this.app;
-    const words = ["interpret", "--places", "always", "--no-warnings", "--turns", this.budget];
+    const words = ["interpret", ...this.strictWords(), "--places", "always", "--no-warnings", "--turns", this.budget];
     return this.start([...words, ...project.getWords(), ...project.streamWords(this.outputs()), "--", ...project.sectionNames()], "--turns");
   }
 
@@ -112,7 +171,8 @@ export class Output {
     }
     this.begin(words);
     const input = bytesOf(element("input").value);
-    const streams = { 1: new Shown(element("output")), 2: [] };
+    this.shown = new Shown(element("output"));
+    const streams = { 1: this.shown, 2: [] };
     const on = {
       output: (stream, bytes) => (stream === 1 ? streams[1].add(bytes) : streams[2].push(textOf(bytes))),
       asks: (reply) => {
@@ -124,8 +184,9 @@ export class Output {
     const request = { words, files: [...project.content(), ...further], input, isTyped: input.length === 0, terminals: [1] };
     const done = await compiler.run(request, on);
     streams[1].draw();
-    this.end(done, streams[2].join(""), performance.now() - began, limit);
-    return done;
+    const seconds = `${((performance.now() - began) / 1000).toFixed(2)} s`;
+    this.end(done, streams[2].join(""), { seconds, limit, lastLine: streams[1].lastLine });
+    return { ...done, seconds };
   }
 
   begin(words) {
@@ -142,18 +203,21 @@ export class Output {
     this.app.tell("Running …");
   }
 
-  end({ status, failure, stopped, files }, errors, milliseconds, limit) {
+  end({ status, failure, stopped, files }, errors, { seconds, limit, lastLine }) {
     this.isAtWork = false;
     element("prompt").hidden = true;
-    const seconds = `${(milliseconds / 1000).toFixed(2)} s`;
-    const isSpent = SPENT.test(errors);
-    const said = stopped ? `Stopped after ${seconds}` : failure ? `Failed: ${failure}` : endInWords(status, errors, seconds);
-    element("ending").textContent = said;
-    element("ending").className = status === 0 ? "good" : "bad";
-    this.app.tell(isSpent ? `${said}. Choose a larger budget to go on longer (${limit}).` : `${said}.`);
+    const said = stopped ? stoppedInWords(seconds, lastLine) : failure ? `Failed: ${failure}` : endInWords(status, errors, seconds);
+    this.showEnding(said, status === 0, SPENT.test(errors) ? limit : null);
     this.showErrors(errors);
     element("written").replaceChildren(...(files ?? []).filter(([name]) => !OWN.includes(name)).map(writtenFile));
     this.showButtons();
+  }
+
+  /** Shows how a run ended. `limit` is the option of the budget, if that is spent. */
+  showEnding(said, isGood, limit = null) {
+    element("ending").textContent = said;
+    element("ending").className = isGood ? "good" : "bad";
+    this.app.tell(limit ? `${said}. Choose a larger budget to go on longer (${limit}).` : `${said}.`);
   }
 
   /** What was said on standard error; each place in it is a button that leads there. */
@@ -192,7 +256,7 @@ export class Output {
   typed(event) {
     event.preventDefault();
     const line = `${element("prompt-line").value}\n`;
-    element("output").append(made("span", { className: "typed", textContent: line }));
+    this.shown.type(line);
     this.reply(bytesOf(line));
   }
 
@@ -215,7 +279,13 @@ function endInWords(status, errors, seconds) {
   if (status === 0) return `Finished in ${seconds}`;
   if (status === 1) return "Refused";
   if (SPENT.test(errors)) return `The budget is spent, after ${seconds}`;
-  return errors.startsWith("bcpl: wild") ? `Stopped at a wild access, after ${seconds}` : `Ended after ${seconds}`;
+  if (errors.startsWith("bcpl: wild")) return `Stopped at a wild access, after ${seconds}`;
+  return errors.startsWith("bcpl: strict") ? `Stopped at a probable mistake, after ${seconds}` : `Ended after ${seconds}`;
+}
+
+/** What is said of a run that the user stopped. */
+function stoppedInWords(seconds, lastLine) {
+  return `Stopped after ${seconds}; ${lastLine === "" ? "it had written nothing" : `its last line of output is “${lastLine.slice(0, 80)}”`}`;
 }
 
 /** A file that the run wrote: its text, and a button that saves it. */

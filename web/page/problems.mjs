@@ -112,7 +112,8 @@ export class Problems {
   }
 
   show(sentence) {
-    element("checked").textContent = sentence;
+    // It is spoken where it changes, not after each key.
+    if (element("checked").textContent !== sentence) element("checked").textContent = sentence;
     element("tame").hidden = true;
     element("problem-list").replaceChildren(...this.diagnostics.map((diagnostic) => made("li", {}, this.button(diagnostic))));
     this.showMarks();

@@ -34,10 +34,27 @@ export class Project {
     this.current = null;
   }
 
+  /** The number of the program that is worked on. Files of several programs can be open beside each other, as an example beside one's own. */
+  get program() {
+    return this.current?.program ?? 0;
+  }
+
+  /** The files of the program that is worked on. */
+  get inProgram() {
+    return this.files.filter((file) => file.program === this.program);
+  }
+
+  /** A number that no program has. */
+  freeProgram() {
+    return Math.max(-1, ...this.files.map((file) => file.program)) + 1;
+  }
+
   /** Adds a file under its name, or under one like it where that is taken, and returns it. */
-  add({ name, text = "", role, stream }) {
-    const safe = this.freeName(safeName(name));
-    const file = { name: safe, text, role: Object.hasOwn(ROLES, role ?? "") ? role : roleOf(safe), stream: stream ?? usualStream(safe) };
+  add({ name, text = "", role, stream, program = this.program }) {
+    const wanted = safeName(name);
+    const safe = this.freeName(wanted);
+    const known = Object.hasOwn(ROLES, role ?? "") ? role : roleOf(safe);
+    const file = { name: safe, text, role: known, stream: stream ?? usualStream(wanted), program };
     this.files.push(file);
     this.current ??= file;
     return file;
@@ -60,10 +77,16 @@ export class Project {
     if (safe !== file.name) file.name = this.freeName(safe);
   }
 
+  /** The file that is worked on after this one, if that is removed: its neighbour in the program, or one of another program. */
+  next(file) {
+    const here = this.inProgram;
+    const at = here.indexOf(file);
+    return here[at + 1] ?? here[at - 1] ?? this.files.find((other) => other !== file);
+  }
+
   remove(file) {
-    const at = this.files.indexOf(file);
-    this.files.splice(at, 1);
-    if (this.current === file) this.current = this.files[Math.min(at, this.files.length - 1)] ?? null;
+    this.files.splice(this.files.indexOf(file), 1);
+    if (this.current === file) this.current = null;
   }
 
   replace(files) {
@@ -73,12 +96,12 @@ export class Project {
   }
 
   withRole(role) {
-    return this.files.filter((file) => file.role === role);
+    return this.inProgram.filter((file) => file.role === role);
   }
 
   /** Whether a source gets the further library's header, so that it must be linked as well. */
   needsExtension() {
-    return this.files.some((file) => file.role !== "data" && namesGot(file.text).includes("EXTHDR"));
+    return this.inProgram.some((file) => file.role !== "data" && namesGot(file.text).includes("EXTHDR"));
   }
 
   /** The arguments that say what GET finds. */
@@ -102,8 +125,8 @@ export class Project {
     return this.withRole("section").map((file) => file.name);
   }
 
-  /** All files as the compiler gets them: pairs of a name and bytes. */
+  /** The files of the program as the compiler gets them: pairs of a name and bytes. */
   content() {
-    return this.files.map((file) => [file.name, bytesOf(file.text)]);
+    return this.inProgram.map((file) => [file.name, bytesOf(file.text)]);
   }
 }

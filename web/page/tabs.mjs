@@ -57,8 +57,8 @@ export class Tabs {
     } else {
       const { current } = project;
       if (current.text.trim() !== "" && !confirm(`Remove ${current.name}? This can't be undone.`)) return;
+      this.app.enter(project.next(current) ?? project.add({ name: "main.bcpl", text: "" }));
       project.remove(current);
-      if (project.files.length === 0) project.add({ name: "main.bcpl", text: "" });
       this.app.edited();
     }
     this.choose(project.current);
@@ -77,7 +77,7 @@ export class Tabs {
     const { project, editor } = this.app;
     if (this.library === null && project.current === file && editor.text === file.text) return;
     this.library = null;
-    project.current = file;
+    this.app.enter(file);
     editor.show(file.text);
     this.show();
     this.app.problems.showMarks();
@@ -95,7 +95,7 @@ export class Tabs {
   /** Draws the tabs and the settings of the current file. */
   show() {
     const { project } = this.app;
-    const tabs = project.files.map((file) => this.tab(file.name, !this.library && file === project.current, () => this.choose(file)));
+    const tabs = this.inOrder().map((file) => this.tabOf(file));
     for (const [name, text] of this.app.libraryTexts()) tabs.push(this.tab(name, this.library?.name === name, () => this.read(name, text)));
     element("file-tabs").replaceChildren(...tabs);
     const file = project.current;
@@ -108,6 +108,22 @@ export class Tabs {
     for (const id of ["file-name", "file-role"]) element(id).disabled = isLibrary;
     element("remove-file").textContent = isLibrary ? "Close" : "Remove";
     element("text").setAttribute("aria-label", isLibrary ? `${this.library.name}, to be read` : `Source of ${file.name}`);
+  }
+
+  /** The files with those of one program together. */
+  inOrder() {
+    return [...this.app.project.files].sort((one, other) => one.program - other.program);
+  }
+
+  /** The tab of a file; that of another program is set apart, and leads to it. */
+  tabOf(file) {
+    const { project } = this.app;
+    const tab = this.tab(file.name, !this.library && file === project.current, () => this.choose(file));
+    if (file.program === project.program) return tab;
+    tab.classList.add("beside");
+    tab.title = "This file belongs to another program, which is worked on once you choose it";
+    tab.setAttribute("aria-label", `${file.name}, of another program`);
+    return tab;
   }
 
   tab(name, isChosen, action) {

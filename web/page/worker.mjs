@@ -5,6 +5,7 @@ import { MemorySystem } from "./memory.mjs";
 /** Output is sent at most so often, in milliseconds, or when so many bytes wait. */
 const PAUSE = 40;
 const MOST_WAITING = 1 << 16;
+const LINE_FEED = 10;
 
 /** What a run writes, gathered so that a program that writes byte by byte doesn't flood the page: a piece has many writes to one stream. */
 class Gathered {
@@ -26,6 +27,15 @@ class Gathered {
     this.buffer.set(bytes, this.count);
     this.count += bytes.length;
     if (performance.now() - this.sentAt > PAUSE) this.send();
+  }
+
+  /** The same for one byte. Only the end of a line, or of 64 bytes, looks at the clock, which is slow. */
+  writeByte(stream, byte) {
+    if (stream !== this.stream || this.count === MOST_WAITING) this.send();
+    this.stream = stream;
+    this.buffer[this.count] = byte;
+    this.count += 1;
+    if ((byte === LINE_FEED || this.count % 64 === 0) && performance.now() - this.sentAt > PAUSE) this.send();
   }
 
   send() {
@@ -80,7 +90,8 @@ async function run({ id, words, files, input, shared, terminals }) {
     postMessage({ id, asks: true });
   };
   const read = shared ? typedInput(shared, ask) : givenInput(input);
-  const system = new MemorySystem(files, { read, write: (stream, bytes) => gathered.write(stream, bytes) }, terminals);
+  const streams = { read, write: (stream, bytes) => gathered.write(stream, bytes), writeByte: (stream, byte) => gathered.writeByte(stream, byte) };
+  const system = new MemorySystem(files, streams, terminals);
   let answer;
   try {
     answer = { status: await runProgram(module, ["bcpl", ...words], system) };

@@ -4,6 +4,7 @@
 
 #define HOST(name) __attribute__((import_module("host"), import_name(#name)))
 HOST(write) long host_write(int file, const void *from, size_t count);
+HOST(put) int host_put(int file, int byte);
 HOST(read) long host_read(int file, void *to, size_t count);
 HOST(open) int host_open(const char *path, int flags, int mode);
 HOST(close) int host_close(int file);
@@ -65,7 +66,11 @@ int __xpg_strerror_r(int number, char *to, size_t room) {
 
 /* ---- Files */
 
-long write(int file, const void *from, size_t count) { return answer(host_write(file, from, count)); }
+/* At a terminal the program writes byte by byte. The host may take a byte by itself, which is quicker; else it answers 0. */
+long write(int file, const void *from, size_t count) {
+  if (count == 1 && host_put(file, *(const unsigned char *)from)) return 1;
+  return answer(host_write(file, from, count));
+}
 long __write(int file, const void *from, size_t count) { return write(file, from, count); }
 long rattle_write_no_sigpipe(int file, const void *from, size_t count) { return write(file, from, count); }
 long read(int file, void *to, size_t count) { return answer(host_read(file, to, count)); }

@@ -35,7 +35,6 @@ use bc_text_items::Segment;
 use std::alloc::Global;
 
 /// A built program.
-#[derive(Drop)]
 pub struct Built {
     /// The segments, one for each main, in the order of the mains.
     pub segments: Vec<Segment>,
@@ -47,13 +46,32 @@ pub struct Built {
     pub image: Image,
 }
 
+impl Drop for Built {
+    fn drop(self) {
+        let Built {
+            segments: _,
+            entries: _,
+            workings: _,
+            image: _,
+        } = self;
+    }
+}
+
 /// What a main was lexed and parsed to.
-#[derive(Drop)]
 pub struct Parsed<'s> {
     /// The tokens of the main, with those of the files that its GETs insert.
     pub tokens: Vec<Token<'s>>,
     /// The section that these tokens spell.
     pub section: Section<'s>,
+}
+
+impl Drop for Parsed<'_> {
+    fn drop(self) {
+        let Parsed {
+            tokens: _,
+            section: _,
+        } = self;
+    }
 }
 
 /// Appends what a main was parsed to if `keeps`, and frees it otherwise, so that the generator can use its memory.

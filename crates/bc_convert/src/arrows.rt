@@ -1,6 +1,6 @@
 //! `J_I`, which assigns in dialects with a left arrow, written without blanks.
 
-use crate::bytes::span;
+use crate::bytes::{first, span};
 use crate::kind::Kind;
 use crate::source::Token;
 use bc_word::Memory;
@@ -26,7 +26,7 @@ fn plain_words<'s>(
 /// Where the `_` of a word is, if it assigns: the part before it is a word elsewhere, and the part after it is empty, a
 /// number, or a word elsewhere.
 fn arrow_in<'s>(word: &'s [u8], words: &[&'s [u8]]) -> Option<usize> {
-    let at = word.iter().position(|byte| *byte == b'_')?;
+    let at = first(word, b'_')?;
     let left = span(word, 0, at);
     let right = span(word, at.saturating_add(1), word.len());
     let is_value = match right {
@@ -76,9 +76,17 @@ fn add_parts(
 
 /// Whether a text may have such words: it has underlines in words, and nothing assigns by `:=`.
 fn may_have_arrows(text: &[u8], tokens: &[Token]) -> bool {
-    tokens.iter().all(|token| token.kind != Kind::Assign)
-        && tokens.iter().any(|token| token.kind == Kind::Word
-            && span(text, token.start, token.end).contains(&b'_'))
+    let mut has_underline = false;
+    for token in tokens {
+        match token.kind {
+            Kind::Assign => return false,
+            Kind::Word if span(text, token.start, token.end).contains(&b'_') => {
+                has_underline = true;
+            }
+            _ => {}
+        }
+    }
+    has_underline
 }
 
 /// The tokens of a text, with each word in which `_` assigns split into its parts.

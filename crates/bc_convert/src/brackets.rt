@@ -24,10 +24,14 @@ fn is_closed_by(text: &[u8], opening: &Token, closing: &Token) -> bool {
 
 /// Whether `closing` closes one of the open brackets.
 fn closes_any(source: TokenizedText<'_>, open: &[usize], closing: &Token) -> bool {
-    open.iter().any(|index| match source.tokens.get(*index) {
-        Some(opening) => is_closed_by(source.text, opening, closing),
-        None => false,
-    })
+    for index in open.iter() {
+        if let Some(opening) = source.tokens.get(*index)
+            && is_closed_by(source.text, opening, closing)
+        {
+            return true;
+        }
+    }
+    false
 }
 
 /// Pops brackets up to the one that this token closes, and records the token as their partner.

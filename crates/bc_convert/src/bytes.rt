@@ -38,6 +38,16 @@ pub fn is_space(byte: u8) -> bool
     matches!(byte, b' ' | b'\t' | b'\r' | b'\x0c' | b'\n')
 }
 
+/// Where a byte is first.
+pub fn first(bytes: &[u8], wanted: u8) -> Option<usize> {
+    for index in 0..bytes.len() {
+        if bytes[index] == wanted {
+            return Some(index);
+        }
+    }
+    None
+}
+
 /// The number of leading bytes that may be part of a name.
 pub fn name_bytes(bytes: &[u8]) -> usize
     ensures value { result ≡ names_of bytes.now }

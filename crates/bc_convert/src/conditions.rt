@@ -51,9 +51,14 @@ impl<'t> Tags<'t> {
 
     /// Whether a tag is set.
     fn is_set(&self, tag: &[u8]) -> bool {
-        let flips = self.flips.iter().filter(|flip| **flip == tag).count();
-        let is_defined = self.defines.iter().any(|name| name.as_bytes() == tag);
-        is_defined != (flips % 2 == 1)
+        let mut is_set = false;
+        for name in self.defines {
+            is_set |= name.as_bytes() == tag;
+        }
+        for flip in &self.flips {
+            is_set ^= *flip == tag;
+        }
+        is_set
     }
 
     /// Whether the part after a sign isn't compiled.
@@ -71,8 +76,8 @@ impl<'t> Tags<'t> {
         let tag = self.tag(sign);
         matches!(self.letter(sign), b'<' | b'~')
             && self.defines.is_empty()
-            && !self.flips.iter().any(|flip| *flip == tag)
-            && !self.reported.iter().any(|other| *other == tag)
+            && !self.flips.contains(&tag)
+            && !self.reported.contains(&tag)
     }
 }
 

@@ -20,7 +20,7 @@ pub fn find_doubts(source: TokenizedText<'_>, notes: &mut Notes, options: Option
     for index in 0..source.tokens.len() {
         let next = index.saturating_add(1);
         match source.kind(index) {
-            Kind::Shift if value_of_number(source, next).is_ok_and(|value| value > 15) => {
+            Kind::Shift if matches!(value_of_number(source, next), Ok(value) if value > 15) => {
                 notes.complain(source, next, Fault::LongShift);
             }
             Kind::Name if has_parameter(source, index, options.library) => {
@@ -84,17 +84,24 @@ pub fn find_formats(source: TokenizedText<'_>, notes: &mut Notes, options: Optio
 
 /// Whether a source looks like one for the Alto: it has a block in square brackets, or a character written with a dollar sign.
 pub fn looks_like_alto(source: TokenizedText<'_>) -> bool {
-    (0..source.tokens.len()).any(|index| match source.kind(index) {
-        Kind::Character => source.bytes(index).starts_with(b"$".as_slice()),
-        Kind::OpenSection => source.bytes(index) == b"[".as_slice(),
-        _ => false,
-    })
+    for index in 0..source.tokens.len() {
+        match source.kind(index) {
+            Kind::Character if source.bytes(index).starts_with(b"$".as_slice()) => return true,
+            Kind::OpenSection if source.bytes(index) == b"[".as_slice() => return true,
+            _ => {}
+        }
+    }
+    false
 }
 
 /// Whether a source has LV.
 fn has_address_word(source: TokenizedText<'_>) -> bool {
-    (0..source.tokens.len()).any(|index| source.kind(index) == Kind::Address
-        && source.bytes(index).eq_ignore_ascii_case(b"LV"))
+    for index in 0..source.tokens.len() {
+        if source.kind(index) == Kind::Address && source.bytes(index).eq_ignore_ascii_case(b"LV") {
+            return true;
+        }
+    }
+    false
 }
 
 /// Reports each `@` in a source that may be written for the Alto: it looks like that, or has LV.
@@ -116,24 +123,33 @@ fn is_decimal(source: TokenizedText<'_>, index: usize) -> bool {
 
 /// Whether a number looks like an octal mask: at least three digits up to 7, the last two 7.
 fn looks_octal(digits: &[u8]) -> bool {
-    digits.len() > 2
-        && digits.ends_with(b"77".as_slice())
-        && digits.iter().all(|digit| matches!(digit, b'0'..=b'7'))
+    if digits.len() <= 2 || !digits.ends_with(b"77".as_slice()) {
+        return false;
+    }
+    for digit in digits.iter() {
+        if !matches!(digit, b'0'..=b'7') {
+            return false;
+        }
+    }
+    true
 }
 
 /// Reports the first number that looks octal, if no number has a digit 8 or 9.
 fn find_octal_number(source: TokenizedText<'_>, notes: &mut Notes) {
     let count = source.tokens.len();
-    let has_decimal = (0..count).any(|index| is_decimal(source, index)
-        && source
-            .bytes(index)
-            .iter()
-            .any(|digit| matches!(digit, b'8' | b'9')));
-    let octal = (0..count).find(|index| is_decimal(source, *index)
-        && looks_octal(source.bytes(*index)));
-    if let Some(index) = octal
-        && !has_decimal
-    {
+    let mut octal = None;
+    for index in 0..count {
+        if is_decimal(source, index) {
+            let digits = source.bytes(index);
+            if digits.contains(&b'8') || digits.contains(&b'9') {
+                return;
+            }
+            if octal.is_none() && looks_octal(digits) {
+                octal = Some(index);
+            }
+        }
+    }
+    if let Some(index) = octal {
         notes.complain(source, index, Fault::OctalNumber);
     }
 }

@@ -66,8 +66,10 @@ fn is_byte(source: TokenizedText<'_>, notes: &Notes, index: usize) -> bool {
 /// like one for the Alto, each `%` that was taken for a byte is reported.
 pub fn find_flags(source: TokenizedText<'_>, notes: &mut Notes) {
     let count = source.tokens.len();
-    if (0..count).any(|index| takes_byte(source, index)) {
-        return;
+    for index in 0..count {
+        if takes_byte(source, index) {
+            return;
+        }
     }
     let is_alto = looks_like_alto(source);
     for index in 0..count {

@@ -1,6 +1,6 @@
 //! Which header a program needs: formats of WRITEF, names, and GETs of the library's header.
 
-use crate::bytes::span;
+use crate::bytes::{first, span};
 use crate::kind::Kind;
 use crate::names::{has_routine, is_for};
 use crate::old_names::OldNames;
@@ -104,8 +104,8 @@ fn arguments(source: TokenizedText<'_>, opening: usize) -> usize {
 
 /// Whether a format has a letter that BLIB's WRITEF doesn't know.
 fn has_further_letter(format: &[u8]) -> bool {
-    format.windows(2).any(|pair| {
-        matches!(
+    for pair in format.windows(2) {
+        if matches!(
             pair,
             [
                 b'%',
@@ -124,8 +124,11 @@ fn has_further_letter(format: &[u8]) -> bool {
                     | b's'
                     | b'c'
             ]
-        )
-    })
+        ) {
+            return true;
+        }
+    }
+    false
 }
 
 /// Whether the token at an index is a string with such a letter.
@@ -154,7 +157,7 @@ pub fn gets_header(source: TokenizedText<'_>, index: usize) -> bool {
 
 /// Whether a name is that of the library's header, in either case and with any extension.
 pub fn is_library_header(name: &[u8]) -> bool {
-    let stem = match name.iter().position(|byte| *byte == b'.') {
+    let stem = match first(name, b'.') {
         Some(dot) => span(name, 0, dot),
         None => name,
     };
@@ -163,6 +166,10 @@ pub fn is_library_header(name: &[u8]) -> bool {
 
 /// Whether the source gets no header but the library's.
 pub fn gets_header_alone(source: TokenizedText<'_>) -> bool {
-    (1..source.tokens.len()).all(|index| source.kind(index - 1) != Kind::Get
-        || gets_header(source, index))
+    for index in 1..source.tokens.len() {
+        if source.kind(index - 1) == Kind::Get && !gets_header(source, index) {
+            return false;
+        }
+    }
+    true
 }

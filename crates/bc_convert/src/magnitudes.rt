@@ -17,7 +17,7 @@ fn magnitude(source: TokenizedText<'_>, at: usize) -> Option<usize> {
         next
     };
     let is_positive = match source.kind(index) {
-        Kind::Number => value_of_number(source, index).is_ok_and(|value| value < 32_768),
+        Kind::Number => matches!(value_of_number(source, index), Ok(value) if value < 32_768),
         Kind::Character => true,
         _ => false,
     };

@@ -109,7 +109,7 @@ impl Names {
 
     /// Notes which names are used as numbers, of those that are followed by a star and a parenthesis.
     fn note_numbers(&mut self, source: TokenizedText<'_>) {
-        if !self.facts.iter().any(|facts| facts.has_star) {
+        if !has_star(self.facts.as_slice()) {
             return;
         }
         for index in 0..source.tokens.len() {
@@ -136,8 +136,7 @@ impl Names {
     /// Notes the numbers of the new names that the text has already.
     fn add_taken(&mut self, alloc: Global, source: TokenizedText<'_>) -> Result<(), Memory> {
         let count = source.tokens.len();
-        let is_new = |facts: &NameFacts| temporary_number(source.bytes(facts.first)).is_some();
-        if !self.facts.iter().any(is_new) {
+        if !has_new_name(source, self.facts.as_slice()) {
             return Ok(());
         }
         self.taken = vec![in alloc; false; count]?;
@@ -159,8 +158,7 @@ impl Names {
         source: TokenizedText<'_>,
         known: &IndexMap<&[u8], usize>,
     ) -> Result<(), Memory> {
-        let has_underline = |facts: &NameFacts| source.bytes(facts.first).contains(&b'_');
-        if !self.facts.iter().any(has_underline) {
+        if !has_underline(source, self.facts.as_slice()) {
             return Ok(());
         }
         let mut groups = groups(alloc, source, self.facts.as_slice())?;
@@ -172,6 +170,36 @@ impl Names {
         }
         Ok(())
     }
+}
+
+/// Whether one of these names is followed by a star and a parenthesis.
+fn has_star(names: &[NameFacts]) -> bool {
+    for facts in names {
+        if facts.has_star {
+            return true;
+        }
+    }
+    false
+}
+
+/// Whether one of these names is a new one that the text has already.
+fn has_new_name(source: TokenizedText<'_>, names: &[NameFacts]) -> bool {
+    for facts in names {
+        if temporary_number(source.bytes(facts.first)).is_some() {
+            return true;
+        }
+    }
+    false
+}
+
+/// Whether one of these names has an underline.
+fn has_underline(source: TokenizedText<'_>, names: &[NameFacts]) -> bool {
+    for facts in names {
+        if source.bytes(facts.first).contains(&b'_') {
+            return true;
+        }
+    }
+    false
 }
 
 /// The groups of names that become the same once underlines are dots, by their spelling with dots.

@@ -45,17 +45,30 @@ pub fn is_for(word: &[u8], library: &OldNames<'_>, name: &[u8]) -> bool {
 
 /// Whether a word has no upper-case letter.
 fn is_small(word: &[u8]) -> bool {
-    !word.iter().any(|byte| byte.is_ascii_uppercase())
+    for byte in word.iter() {
+        if byte.is_ascii_uppercase() {
+            return false;
+        }
+    }
+    true
 }
 
 /// Whether the name at an index is a reserved word in this dialect.
 fn is_reserved_here(source: TokenizedText<'_>, index: usize) -> bool {
-    reserved(source.bytes(index), false).is_some_and(|word| !word.is_name_now)
+    matches!(reserved(source.bytes(index), false), Some(word) if !word.is_name_now)
 }
 
 /// Whether a word has upper-case and lower-case letters.
 fn is_mixed(word: &[u8]) -> bool {
-    !is_small(word) && word.iter().any(|byte| byte.is_ascii_lowercase())
+    if is_small(word) {
+        return false;
+    }
+    for byte in word.iter() {
+        if byte.is_ascii_lowercase() {
+            return true;
+        }
+    }
+    false
 }
 
 /// Whether the name at an index, in upper and lower case, must be the library's: the source doesn't declare it and gets no
@@ -262,7 +275,7 @@ fn begins_number(source: TokenizedText<'_>, index: usize) -> bool {
     } else {
         index
     };
-    value_of_number(source, number).is_ok_and(|value| value != 0)
+    matches!(value_of_number(source, number), Ok(value) if value != 0)
 }
 
 /// The index of the value that the name at an index is set to or compared with, or the name's own index if there is

@@ -28,10 +28,7 @@ fn opens_list(source: TokenizedText<'_>, index: usize) -> bool {
 
 /// Whether the token at an index is directly in the list of a SWITCHON.
 fn is_in_list(source: TokenizedText<'_>, index: usize) -> bool {
-    source
-        .context(index)
-        .section
-        .is_some_and(|section| opens_list(source, section))
+    matches!(source.context(index).section, Some(section) if opens_list(source, section))
 }
 
 /// Whether a command begins at an index that is no part of another one: after a bracket, a separator or a colon.
@@ -120,12 +117,15 @@ fn after_cases(source: TokenizedText<'_>, index: usize) -> usize {
 
 /// Whether nothing between two indices belongs to another command.
 fn is_condition(source: TokenizedText<'_>, from: usize, to: usize) -> bool {
-    (from..to).all(|index| {
-        !matches!(
+    for index in from..to {
+        if matches!(
             source.kind(index),
             Kind::Joint | Kind::Command | Kind::For | Kind::Valof | Kind::OpenSection
-        )
-    })
+        ) {
+            return false;
+        }
+    }
+    true
 }
 
 /// The index of the last command that begins before an index.
@@ -206,7 +206,7 @@ fn is_movable(source: TokenizedText<'_>, block: usize) -> bool {
     let outer = source.context(block).section;
     closing < source.tokens.len()
         && ends_command(source, closing.saturating_add(1))
-        && outer.is_some_and(|outer| source.partner(outer) > closing)
+        && matches!(outer, Some(outer) if source.partner(outer) > closing)
         && !source.bytes(block).contains(&b'_')
         && !source.bytes(closing).contains(&b'_')
 }
@@ -214,25 +214,48 @@ fn is_movable(source: TokenizedText<'_>, block: usize) -> bool {
 /// Whether the brackets of a block may be removed: it has no names of its own.
 fn is_removable(source: TokenizedText<'_>, block: usize) -> bool {
     let closing = source.partner(block);
-    is_movable(source, block) && (block..closing).all(|index| !declares_in(source, block, index))
+    if !is_movable(source, block) {
+        return false;
+    }
+    for index in block..closing {
+        if declares_in(source, block, index) {
+            return false;
+        }
+    }
+    true
 }
 
 /// Whether the token at an index declares a name that is also between two further indices.
 fn is_used_between(source: TokenizedText<'_>, index: usize, from: usize, to: usize) -> bool {
-    source.kind(index) == Kind::Name
-        && declares(source, index)
-        && (from..to).any(|other| source.is_same(index, other))
+    if source.kind(index) != Kind::Name || !declares(source, index) {
+        return false;
+    }
+    for other in from..to {
+        if source.is_same(index, other) {
+            return true;
+        }
+    }
+    false
 }
 
 /// Whether a block may end before the CASE at an index: it has no labels, and the names that it declares aren't used from there
 /// on.
 fn may_end_before(source: TokenizedText<'_>, block: usize, index: usize) -> bool {
     let closing = source.partner(block);
-    is_movable(source, block)
-        && (index..closing).all(|at| !declares_in(source, block, at))
-        && (block..index).all(|at| {
-            !is_label_in(source, block, at) && !is_used_between(source, at, index, closing)
-        })
+    if !is_movable(source, block) {
+        return false;
+    }
+    for at in index..closing {
+        if declares_in(source, block, at) {
+            return false;
+        }
+    }
+    for at in block..index {
+        if is_label_in(source, block, at) || is_used_between(source, at, index, closing) {
+            return false;
+        }
+    }
+    true
 }
 
 /// Ends the block at `block`, which is directly in the list of a SWITCHON, before the CASE at an index. Returns whether that is
@@ -276,7 +299,12 @@ fn flatten(source: TokenizedText<'_>, notes: &mut Notes, block: usize) -> bool {
 
 /// Whether an earlier CASE or DEFAULT is directly in the block with the bracket at an index.
 fn has_case_before(source: TokenizedText<'_>, block: usize, index: usize) -> bool {
-    (block..index).any(|at| is_case(source, at) && source.context(at).section == Some(block))
+    for at in block..index {
+        if is_case(source, at) && source.context(at).section == Some(block) {
+            return true;
+        }
+    }
+    false
 }
 
 /// Rewrites or reports the CASE or DEFAULT at an index, if it isn't directly in the list of its SWITCHON.

@@ -270,14 +270,17 @@ impl Notes {
 
     /// Whether any token changes.
     pub fn has_changes(&self) -> bool {
-        self.slots.iter().any(|slot| !slot.is_untouched())
+        for slot in self.slots.iter() {
+            if !slot.is_untouched() {
+                return true;
+            }
+        }
+        false
     }
 
     /// Whether the token at an index changes.
     pub fn is_changed(&self, index: usize) -> bool {
-        self.slots
-            .get(index)
-            .is_some_and(|slot| !slot.is_untouched())
+        matches!(self.slots.get(index), Some(slot) if !slot.is_untouched())
     }
 
     /// Notes a label.
@@ -325,25 +328,39 @@ impl Notes {
 
     /// Whether such a block ends before the token at an index.
     pub fn ends_late_block(&self, index: usize) -> bool {
-        self.blocks.iter().any(|block| block.to == index)
+        for block in self.blocks.iter() {
+            if block.to == index {
+                return true;
+            }
+        }
+        false
     }
 
     /// Whether the token at `destination` is the destination of a GOTO that comes before such a block, with its label
     /// inside the block.
     pub fn is_parted(&self, source: TokenizedText<'_>, destination: usize) -> bool {
-        matches!(self.roles.get(destination), Some(Role::Destination))
-            && self.blocks.iter().any(|block| {
-                block.from <= destination
-                    && destination < block.at
-                    && self.has_label(source, *block, destination)
-            })
+        if !matches!(self.roles.get(destination), Some(Role::Destination)) {
+            return false;
+        }
+        for block in self.blocks.iter() {
+            if block.from <= destination
+                && destination < block.at
+                && self.has_label(source, *block, destination)
+            {
+                return true;
+            }
+        }
+        false
     }
 
     /// Whether the label of a destination is in a block and in no bracket inside it.
     fn has_label(&self, source: TokenizedText<'_>, block: LateBlock, destination: usize) -> bool {
-        self.labels_like(source, destination).iter().any(|label| {
-            block.at <= *label && *label < block.to && !is_enclosed(source, block.at, *label)
-        })
+        for label in self.labels_like(source, destination).iter() {
+            if block.at <= *label && *label < block.to && !is_enclosed(source, block.at, *label) {
+                return true;
+            }
+        }
+        false
     }
 
     /// Whether `*(` after the name at an index is looked at for the first time. Other operands are always new.

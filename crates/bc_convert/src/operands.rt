@@ -65,7 +65,12 @@ fn is_call(source: TokenizedText<'_>, index: usize) -> bool {
 
 /// Whether a range of tokens has no call and no VALOF, so that it may be evaluated twice.
 pub fn is_plain(source: TokenizedText<'_>, from: usize, to: usize) -> bool {
-    (from..to).all(|index| !is_call(source, index) && source.kind(index) != Kind::Valof)
+    for index in from..to {
+        if is_call(source, index) || source.kind(index) == Kind::Valof {
+            return false;
+        }
+    }
+    true
 }
 
 /// Whether a text is too long to be written out several times.

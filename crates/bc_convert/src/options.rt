@@ -125,13 +125,10 @@ fn fault_of(earlier: &OldNames<'_>, old: &[u8], new: &[u8]) -> Option<Fault> {
 /// The first word of a line, and the rest of the line.
 fn first_word(line: &[u8]) -> (&[u8], &[u8]) {
     let trimmed = line.trim_ascii_start();
-    let count = trimmed
-        .iter()
-        .take_while(|byte| !byte.is_ascii_whitespace())
-        .count();
-    if count <= trimmed.len() {
-        trimmed.split_at(count)
-    } else {
-        (trimmed, &[])
+    for count in 0..trimmed.len() {
+        if trimmed[count].is_ascii_whitespace() {
+            return trimmed.split_at(count);
+        }
     }
+    (trimmed, &[])
 }

@@ -35,7 +35,10 @@ fn number_at(source: TokenizedText<'_>, index: usize, last: Number) -> Number {
     let value = index.saturating_add(2);
     let end = index.saturating_add(3);
     if source.kind(index.saturating_add(1)) != Kind::Colon {
-        return last.map(|last| last.saturating_add(1));
+        return match last {
+            Some(last) => Some(last.saturating_add(1)),
+            None => None,
+        };
     }
     if source.kind(end).level() > 0 && !source.is_separated(end) {
         return None;
@@ -105,7 +108,12 @@ impl OwnGlobals {
 
     /// Whether EXTLIB has one of them too.
     pub fn clashes(&self) -> bool {
-        (30..100u32).any(|number| is_further(number) && self.has(number))
+        for number in 30..100u32 {
+            if is_further(number) && self.has(number) {
+                return true;
+            }
+        }
+        false
     }
 
     /// How much must be added to the numbers that EXTLIB has too, so that they are free: the least multiple of 100. `None` if
@@ -125,9 +133,12 @@ impl OwnGlobals {
 
     /// Whether the numbers that EXTLIB has too are free if this much is added.
     fn is_free(&self, distance: u32) -> bool {
-        (30..100u32).all(|number| {
-            !is_further(number) || !self.has(number) || !self.has(number.saturating_add(distance))
-        })
+        for number in 30..100u32 {
+            if is_further(number) && self.has(number) && self.has(number.saturating_add(distance)) {
+                return false;
+            }
+        }
+        true
     }
 }
 

@@ -16,11 +16,15 @@ fn has_returns_only(text: &[u8]) -> bool {
 /// Whether a line is a card with its number: it has 80 columns, the last 8 with letters and digits, the last one a digit.
 fn is_card(line: &[u8]) -> bool {
     let number = span(line, CARD_COLUMNS, line.len());
-    number.len() == 8
-        && number.last().is_some_and(|byte| byte.is_ascii_digit())
-        && number
-            .iter()
-            .all(|byte| byte.is_ascii_alphanumeric() || *byte == b' ')
+    if number.len() != 8 || !matches!(number.last(), Some(byte) if byte.is_ascii_digit()) {
+        return false;
+    }
+    for byte in number.iter() {
+        if !byte.is_ascii_alphanumeric() && *byte != b' ' {
+            return false;
+        }
+    }
+    true
 }
 
 /// A line without the carriage return at its end.

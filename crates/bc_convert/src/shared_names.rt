@@ -27,7 +27,12 @@ pub struct SharedNames {
 
 /// Whether a source declares no routine.
 fn is_header(source: TokenizedText<'_>) -> bool {
-    !(0..source.tokens.len()).any(|index| declares_routine(source, index))
+    for index in 0..source.tokens.len() {
+        if declares_routine(source, index) {
+            return false;
+        }
+    }
+    true
 }
 
 impl SharedNames {
@@ -83,13 +88,11 @@ impl SharedNames {
 
     /// Whether a word that is reserved in some dialect is a name in all sources.
     pub fn has_word(&self, word: &[u8]) -> bool {
-        self.names.get(word).is_some_and(|shared| shared.is_word)
+        matches!(self.names.get(word), Some(shared) if shared.is_word)
     }
 
     /// Whether a name has a value by MANIFEST in all sources.
     pub fn has_constant(&self, name: &[u8]) -> bool {
-        self.names
-            .get(name)
-            .is_some_and(|shared| shared.is_constant)
+        matches!(self.names.get(name), Some(shared) if shared.is_constant)
     }
 }

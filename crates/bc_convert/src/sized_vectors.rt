@@ -43,6 +43,16 @@ fn is_of_size(kind: Kind) -> bool {
         || kind.can_be_operand() && kind != Kind::Valof && kind != Kind::Table
 }
 
+/// Whether each token of a range may be part of a size.
+fn has_size(source: TokenizedText<'_>, from: usize, to: usize) -> bool {
+    for at in from..to {
+        if !is_of_size(source.kind(at)) {
+            return false;
+        }
+    }
+    true
+}
+
 /// Whether the call at an index is a command by itself, with the name of a routine and a size without commas.
 pub fn takes_vector(source: TokenizedText<'_>, index: usize) -> bool {
     let opening = index.saturating_add(1);
@@ -55,7 +65,7 @@ pub fn takes_vector(source: TokenizedText<'_>, index: usize) -> bool {
         && source.kind(comma) == Kind::Comma
         && size < closing
         && closing < source.tokens.len()
-        && (size..closing).all(|at| is_of_size(source.kind(at)))
+        && has_size(source, size, closing)
         && begins_command(source, index)
         && ends_command(source, closing.saturating_add(1))
 }

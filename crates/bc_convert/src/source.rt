@@ -93,10 +93,7 @@ impl<'s> TokenizedText<'s> {
         if index == 0 {
             return true;
         }
-        let is_on_a_new_line = self
-            .tokens
-            .get(index)
-            .is_some_and(|token| token.line_before);
+        let is_on_a_new_line = matches!(self.tokens.get(index), Some(token) if token.line_before);
         let before = self.kind(index - 1);
         before == Kind::Semicolon
             || is_on_a_new_line && before.can_end() && self.kind(index).can_begin()

@@ -63,7 +63,12 @@ fn is_filler(bytes: &[u8]) -> bool {
 
 /// Whether only fillers follow from the token at an index on.
 fn is_filled_up(source: TokenizedText<'_>, index: usize) -> bool {
-    (index..source.tokens.len()).all(|at| is_filler(source.bytes(at)))
+    for at in index..source.tokens.len() {
+        if !is_filler(source.bytes(at)) {
+            return false;
+        }
+    }
+    true
 }
 
 /// Rewrites a byte that begins no token. Fillers at the end of the text are removed, and so is the full stop after

@@ -36,10 +36,18 @@ fn value_end(source: TokenizedText<'_>, start: usize) -> usize {
 
 /// Whether a range of tokens can be a constant: no call, no string, no vector.
 fn is_constant(source: TokenizedText<'_>, from: usize, to: usize) -> bool {
-    from < to
-        && (from..to).all(|index| is_of_constant(source.kind(index))
-            && !(source.kind(index) == Kind::Name
-                && source.kind(index.saturating_add(1)) == Kind::OpenRound))
+    if from >= to {
+        return false;
+    }
+    for index in from..to {
+        if !is_of_constant(source.kind(index))
+            || (source.kind(index) == Kind::Name
+                && source.kind(index.saturating_add(1)) == Kind::OpenRound)
+        {
+            return false;
+        }
+    }
+    true
 }
 
 /// Whether the word at an index declares names with values: a name and `=` or a comma follow.

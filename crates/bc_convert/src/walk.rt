@@ -585,7 +585,7 @@ fn operand(walk: Walk<'_>, notes: &mut Notes, at: usize, to: usize, calls_only: 
 
 /// Whether a token ends with a byte of a name.
 fn ends_a_word(bytes: &[u8]) -> bool {
-    bytes.last().is_some_and(|byte| is_name_byte(*byte))
+    matches!(bytes.last(), Some(byte) if is_name_byte(*byte))
 }
 
 /// Removes a `+` that isn't a dyadic operator.
@@ -624,10 +624,18 @@ fn is_number_alone(source: TokenizedText<'_>, at: usize, end: usize) -> bool {
 
 /// Whether a range of tokens is in parentheses and has a relation but no choice, and so is a truth value.
 fn is_truth(source: TokenizedText<'_>, from: usize, to: usize) -> bool {
-    source.kind(from) == Kind::OpenRound
-        && source.partner(from).saturating_add(1) == to
-        && (from..to).any(|index| matches!(source.kind(index), Kind::Equal | Kind::Relation))
-        && (from..to).all(|index| source.kind(index) != Kind::Arrow)
+    if source.kind(from) != Kind::OpenRound || source.partner(from).saturating_add(1) != to {
+        return false;
+    }
+    let mut has_relation = false;
+    for index in from..to {
+        match source.kind(index) {
+            Kind::Arrow => return false,
+            Kind::Equal | Kind::Relation => has_relation = true,
+            _ => {}
+        }
+    }
+    has_relation
 }
 
 /// Why the sign at `sign` isn't taken for a subscript of the operand that begins at `at`, although it looks like one.

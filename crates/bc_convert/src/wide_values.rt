@@ -62,7 +62,7 @@ fn is_wide_shift(source: TokenizedText<'_>, index: usize) -> bool {
     index > 0
         && source.kind(index - 1) == Kind::Shift
         && source.kind(index) == Kind::Name
-        && constant_at(source, index).is_some_and(|value| value > 15)
+        && matches!(constant_at(source, index), Some(value) if value > 15)
 }
 
 /// Reports products of constants that are over 65,535, and shifts by a constant over 15 that has a name.

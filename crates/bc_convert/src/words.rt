@@ -419,7 +419,12 @@ static RESERVED: [ReservedWord; 66] = [
 
 /// Whether a word has no upper-case letter.
 pub fn is_small(word: &[u8]) -> bool {
-    word.iter().all(|byte| !byte.is_ascii_uppercase())
+    for byte in word.iter() {
+        if byte.is_ascii_uppercase() {
+            return false;
+        }
+    }
+    true
 }
 
 /// Whether a word is spelled in upper case, or, if `small`, in lower case.
@@ -429,11 +434,15 @@ fn is_spelled(word: &[u8], capitals: &[u8], small: bool) -> bool {
 
 /// Whether two words are the same, ignoring case.
 pub fn is_same_word(one: &[u8], other: &[u8]) -> bool {
-    one.len() == other.len()
-        && one
-            .iter()
-            .zip(other)
-            .all(|(a, b)| a.to_ascii_uppercase() == b.to_ascii_uppercase())
+    if one.len() != other.len() {
+        return false;
+    }
+    for (a, b) in one.iter().zip(other) {
+        if a.to_ascii_uppercase() != b.to_ascii_uppercase() {
+            return false;
+        }
+    }
+    true
 }
 
 /// The reserved word that a word spells, if any, with its index. `small` says whether lower case counts.

@@ -55,7 +55,6 @@ pub struct Stop {
 pub const NO_SITE: u32 = u32::MAX;
 
 /// A recorded run.
-#[derive(Drop)]
 pub struct Recording {
     /// Where the run could stop.
     pub sites: Vec<StopSite>,
@@ -73,6 +72,21 @@ pub struct Recording {
     pub moves: Vec<Move>,
     /// The output of the whole run.
     pub output: Vec<u8>,
+}
+
+impl Drop for Recording {
+    fn drop(self) {
+        let Recording {
+            sites: _,
+            first: _,
+            frames: _,
+            stops: _,
+            dropped: _,
+            changes: _,
+            moves: _,
+            output: _,
+        } = self;
+    }
 }
 
 /// A copy of the items after the first `count`.

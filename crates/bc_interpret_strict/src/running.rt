@@ -33,6 +33,8 @@ pub struct StrictRun {
     pub mistake: Option<Mistake>,
     /// Where the run was.
     pub trail: Trail,
+    /// The number of turns that it took. Only tested: it is the least limit with which a mistake that ended the run is found.
+    pub turns: u64,
 }
 
 /// Sections that are run.
@@ -132,12 +134,14 @@ fn watched_run<S: Streams>(
             outcome: interpreted.outcome,
             mistake: None,
             trail: interpreted.trail,
+            turns: watcher.turns,
         }),
         Err(refused) => match watcher.found.take() {
             Some(found) => Ok(StrictRun {
                 outcome: Outcome::Going,
                 mistake: Some(found.mistake),
                 trail: found.trail,
+                turns: watcher.turns,
             }),
             None => Err(refused),
         },

@@ -25,6 +25,8 @@ pub(crate) struct Watcher {
     tags: Tags,
     /// Whether START was called.
     is_begun: bool,
+    /// The number of turns that the run has taken.
+    pub turns: u64,
     /// The mistake that ended the run, once there is one.
     pub found: Option<Found>,
 }
@@ -54,6 +56,21 @@ fn takes_address(rests: &[Rest<'_>]) -> bool {
     )
 }
 
+/// Whether the step before took a turn that isn't a GOTO's, or began the first round of a FOR, which takes none.
+fn took_turn(stacks: &Stacks<'_>) -> bool {
+    stacks.called.least > 0
+        || matches!(
+            stacks.next,
+            Progress::Serve(_, _)
+                | Progress::On(
+                    Work::While(_, _, _)
+                        | Work::Repeat(_, _)
+                        | Work::RepeatWhile(_, _, _)
+                        | Work::Round(_, _)
+                )
+        )
+}
+
 impl Watcher {
     /// A watcher of a run that hasn't begun.
     pub fn new(alloc: Global, objects: Objects, tags: Tags) -> Watcher {
@@ -62,6 +79,7 @@ impl Watcher {
             objects,
             tags,
             is_begun: false,
+            turns: 0,
             found: None,
         }
     }
@@ -111,6 +129,11 @@ impl Watcher {
                 self.objects
                     .outside(*base, Word::new(number).negated().get())
             }
+            // The first round of a FOR takes no turn.
+            Rest::Value(ValueRest::Fors(_, _, _)) => {
+                self.turns = self.turns.saturating_sub(1);
+                None
+            }
             _ => None,
         }
     }
@@ -136,6 +159,10 @@ impl Observer for Watcher {
             Progress::On(Work::Perform(at, Command::Nested(block))) => {
                 self.see_block(at, block, depth)
             }
+            Progress::On(Work::Perform(_, Command::Goto(_))) => {
+                self.turns = self.turns.saturating_add(1);
+                Ok(())
+            }
             Progress::On(Work::Number(number)) if self.is_begun => {
                 self.check(*number, stacks.rests.as_slice())
             }
@@ -145,6 +172,9 @@ impl Observer for Watcher {
 
     fn after(&mut self, stacks: &Stacks<'_>, _store: &mut Store) -> Result<(), Memory> {
         self.is_begun = self.is_begun || stacks.called.least > 0;
+        if took_turn(stacks) {
+            self.turns = self.turns.saturating_add(1);
+        }
         Ok(())
     }
 

@@ -2,8 +2,9 @@
 
 ghost use Rattle.std.specs.Prelude.{◌≤◌};
 
-use crate::failures::{argument_status, status};
+use crate::failures::{argument_status, piped_status, status};
 use crate::hints::{ExpectedFiles, help_on_arguments, with_hints};
+use crate::noted_output::NotedOutput;
 use bcpl_cli::{
     ArgumentError, AssembleOrder, BuildOrder, CheckOrder, Clean, ConvertOrder, DebugOrder,
     Expected, ExplainOrder, Failure, FormatOrder, GoOrder, InterpretOrder, ListOrder, Order,
@@ -12,9 +13,7 @@ use bcpl_cli::{
 use bcpl_convert::convert_file;
 use bcpl_inspect::{Served, check_certificate, format_files, list, serve, show};
 use bcpl_project::convert_project;
-use bcpl_running::{
-    Ran, assemble, debug, go, interpret_files, print_high, print_lost, run, run_input,
-};
+use bcpl_running::{Ran, assemble, debug, go, interpret_files, print_lost, run, run_input};
 use bcpl_sources::{
     Console, RunOutput, RunStreams, Standard, Terminals, compile, explain, explains_at,
     print_lines, print_messages, tame,
@@ -65,7 +64,13 @@ fn finish<F: Files, R: Read + Drop, O: Write + Drop, E: Write + Drop>(
 
 /// What is printed if the program, run without arguments, waits for a terminal.
 const WAITING: &str =
-    "bcpl: waiting for INTCODE text on standard input; bcpl --help lists the commands\n";
+    "bcpl: waiting for INTCODE text on standard input, to the end of input (Ctrl-D); what you may have meant:
+  bcpl go hello.bcpl                       builds a program and runs it
+  bcpl interpret hello.bcpl                runs it and stops at the first cell that it reads before setting it
+  bcpl build --out hello.int hello.bcpl    compiles it to INTCODE text
+  bcpl < hello.int                         runs INTCODE text; in a clone, type ./bcpl instead of bcpl
+  bcpl --help                              lists the commands
+";
 
 /// Runs the text on standard input.
 fn run_input_command<F: Files, R: Read + Drop, O: Write + Drop, E: Write + Drop>(
@@ -96,7 +101,7 @@ fn run_input_command<F: Files, R: Read + Drop, O: Write + Drop, E: Write + Drop>
 /// Whether something is printed about a run.
 fn has_message(ran: &Result<Ran, Failure>) -> bool {
     match ran {
-        Ok(ran) => ran.done.is_err() || ran.high.is_some() || !ran.lost.is_empty(),
+        Ok(ran) => ran.done.is_err() || !ran.used.is_empty() || !ran.lost.is_empty(),
         Err(_) => true,
     }
 }
@@ -107,11 +112,9 @@ fn with_reports<E: Write + Drop>(
     ran: Result<Ran, Failure>,
     err: &mut Clean<E>,
 ) -> Result<(), Failure> {
-    let Ran { done, high, lost } = ran?;
+    let Ran { done, used, lost } = ran?;
     print_lost(alloc, lost.as_str(), err);
-    if let Some(high) = high {
-        print_high(high, err);
-    }
+    print_lines(used.as_str(), err);
     done
 }
 
@@ -167,16 +170,18 @@ fn go_command<F: Files, R: Read + Drop, O: Write + Drop, E: Write + Drop>(
     let sources = order.program.sources.files.as_slice();
     let files = ExpectedFiles::new(Expected::Source, sources, explains);
     let (input, mut out, mut err) = console.split();
+    let mut noted = NotedOutput::new(&mut out);
     let streams = RunStreams {
         input,
-        out: &mut out,
+        out: &mut noted,
         is_terminal,
         explains,
     };
     let ran = go(rt, alloc, order, streams, &mut err);
+    let has_reader = noted.has_reader();
     let done = reported(rt, alloc, ran, files, (&out, &mut err));
-    let is_terminal = err.is_terminal();
-    answer_status(done, order.program.places, is_terminal, &mut err)
+    let explains = explains_answer(&done, order.program.places, err.is_terminal());
+    piped_status(done, explains, has_reader, &mut err)
 }
 
 /// Runs `interpret`.
@@ -193,16 +198,18 @@ fn interpret_command<F: Files, R: Read + Drop, O: Write + Drop, E: Write + Drop>
     let sources = order.program.sources.files.as_slice();
     let files = ExpectedFiles::new(Expected::Source, sources, explains);
     let (input, mut out, mut err) = console.split();
+    let mut noted = NotedOutput::new(&mut out);
     let streams = RunStreams {
         input,
-        out: &mut out,
+        out: &mut noted,
         is_terminal,
         explains,
     };
     let ran = interpret_files(rt, alloc, order, streams, &mut err);
+    let has_reader = noted.has_reader();
     let done = reported(rt, alloc, ran, files, (&out, &mut err));
-    let is_terminal = err.is_terminal();
-    answer_status(done, order.program.places, is_terminal, &mut err)
+    let explains = explains_answer(&done, order.program.places, err.is_terminal());
+    piped_status(done, explains, has_reader, &mut err)
 }
 
 /// Runs `debug`. The page is written to a file only.
@@ -216,14 +223,9 @@ fn debug_command<F: Files, R: Read + Drop, O: Write + Drop, E: Write + Drop>(
 {
     let sources = order.sources.files.as_slice();
     let files = ExpectedFiles::new(Expected::Source, sources, console.explains);
-    let Console {
-        input,
-        out,
-        mut err,
-        terminals,
-        explains: _,
-    } = console;
-    let mut out = Clean::new(out, terminals.out);
+    let terminals = console.terminals;
+    let (input, out, mut err) = console.streams();
+    let mut out = NotedOutput::new(Clean::new(out, terminals.out));
     let done = debug(
         rt,
         alloc,
@@ -231,7 +233,7 @@ fn debug_command<F: Files, R: Read + Drop, O: Write + Drop, E: Write + Drop>(
         files.explains,
         (input, terminals, &mut out),
     );
-    let done = with_hints(rt, alloc, done, files);
+    let done = with_hints(rt, alloc, out.checked(alloc, done), files);
     status(done, files.explains, &mut err)
 }
 
@@ -248,13 +250,8 @@ fn serve_command<F: Files, R: Read + Drop, O: Write + Drop, E: Write + Drop>(
 ) -> u8
     ensures { result ≤ 3 }
 {
-    let Console {
-        input,
-        out,
-        mut err,
-        terminals,
-        explains,
-    } = console;
+    let (terminals, explains) = (console.terminals, console.explains);
+    let (input, out, mut err) = console.streams();
     if terminals.input && terminals.err {
         print_lines(SERVING, &mut err);
     }
@@ -312,13 +309,17 @@ fn convert_command<F: Files, R: Read + Drop, O: Write + Drop, E: Write + Drop>(
 ) -> u8
     ensures { result ≤ 3 }
 {
+    let mut out = NotedOutput::new(&mut console.out);
     let done = if order.is_project {
-        convert_project(rt, alloc, order, &mut console.out)
+        convert_project(rt, alloc, order, &mut out)
     } else {
-        convert_file(rt, alloc, order, &mut console.out)
+        convert_file(rt, alloc, order, &mut out)
     };
-    let is_terminal = console.terminals.err;
-    answer_status(done, order.places, is_terminal, &mut console.err)
+    let has_reader = out.has_reader();
+    // Why a project is refused is never plain from the first line.
+    let is_terminal = console.terminals.err || order.is_project;
+    let explains = explains_answer(&done, order.places, is_terminal);
+    piped_status(done, explains, has_reader, &mut console.err)
 }
 
 /// Runs `format`.
@@ -332,9 +333,11 @@ fn format_command<F: Files, R: Read + Drop, O: Write + Drop, E: Write + Drop>(
 {
     let sources = order.files.as_slice();
     let files = ExpectedFiles::new(Expected::Source, sources, console.explains);
-    let mut out = Clean::new(&mut console.out, console.terminals.out);
+    let mut out = NotedOutput::new(Clean::new(&mut console.out, console.terminals.out));
     let done = format_files(rt, alloc, order, files.explains, &mut out);
-    finish(rt, alloc, done, files, console)
+    let has_reader = out.has_reader();
+    let done = with_hints(rt, alloc, done, files);
+    piped_status(done, files.explains, has_reader, &mut console.err)
 }
 
 /// Runs `show`.

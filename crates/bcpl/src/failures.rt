@@ -3,6 +3,7 @@
 ghost use Rattle.std.specs.Prelude.{◌≡◌, ◌≤◌};
 ghost use Rattle.bcpl_cli.specs.Statuses.{status_of};
 
+use bc_machine_defs::End;
 use bc_word::Memory;
 use bcpl_cli::{ArgumentError, Cause, Clean, Escaped, Failure};
 use bcpl_reports::{Label, Severity, text_objects};
@@ -76,6 +77,30 @@ pub fn status<E: Write + Drop>(done: Result<(), Failure>, explains: bool, err: &
             let _ = print_failure(&failure, explains, err);
             failure.status()
         }
+    }
+}
+
+/// Whether this can be the failure of standard output.
+fn is_of_output(failure: &Failure) -> bool {
+    match &failure.cause {
+        Cause::File(path) => path.as_str() == "SYSPRINT",
+        Cause::Ended(end) => *end == End::Device,
+        _ => false,
+    }
+}
+
+/// Like `status`, but prints nothing if standard output failed because its reader has gone.
+pub fn piped_status<E: Write + Drop>(
+    done: Result<(), Failure>,
+    explains: bool,
+    has_reader: bool,
+    err: &mut Clean<E>,
+) -> u8
+    ensures { result ≡ status_of done }
+{
+    match done {
+        Err(failure) if !has_reader && is_of_output(&failure) => failure.status(),
+        done => status(done, explains, err),
     }
 }
 

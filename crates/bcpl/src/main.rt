@@ -4,6 +4,7 @@
 mod commands;
 mod failures;
 mod hints;
+mod noted_output;
 
 use crate::commands::command_on;
 use bcpl_sources::{Standard, Terminals};

@@ -12,9 +12,9 @@ use bc_parse::parse;
 use bc_scope::{ScopeError, resolve};
 use bc_scope_places::{Span as TokenSpan, fault_place};
 use bc_word::Memory;
+use bcpl_index::unknown_names;
 use bcpl_messages::{is_at, symbol_at};
 use bcpl_places::Span;
-use bcpl_warnings::unknown_names;
 use std::alloc::Global;
 
 /// At most this many times the text is changed and checked. Each time takes as long as parsing the main.

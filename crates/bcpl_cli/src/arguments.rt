@@ -74,6 +74,8 @@ pub enum ImageFormat {
 #[derive(Drop)]
 pub struct AssembleOrder<'a> {
     pub format: ImageFormat,
+    /// Whether to print the segments only.
+    pub only_segments: bool,
     pub texts: Vec<&'a str>,
     pub places: Places,
 }
@@ -198,6 +200,8 @@ pub struct DebugOrder<'a> {
     pub record: u64,
     /// The number of turns after which the run is cut off.
     pub turns: u64,
+    /// Whether lawful accesses that are probably mistakes end the run.
+    pub is_strict: bool,
     /// The file with commands, if any.
     pub script: Option<&'a str>,
     /// Whether the session ends after these commands.
@@ -251,6 +255,8 @@ pub struct ShowOrder<'a> {
 /// The arguments of `list`.
 #[derive(Drop)]
 pub struct ListOrder<'a> {
+    /// Whether to list the sizes of the parts instead of their words.
+    pub only_sizes: bool,
     /// The file with the certificate of the texts, if any.
     pub certificate: Option<&'a str>,
     pub texts: Vec<&'a str>,
@@ -579,12 +585,15 @@ fn program_order<'a>(reader: &mut ArgumentReader<'_, 'a>) -> ProgramOrder<'a> {
     }
 }
 
-/// Reads the arguments of `go`.
-fn go_order<'a>(reader: &mut ArgumentReader<'_, 'a>) -> GoOrder<'a> {
-    GoOrder {
+/// Reads the arguments of `go`, which with `--strict` is `interpret`.
+fn go_order<'a>(reader: &mut ArgumentReader<'_, 'a>) -> Order<'a> {
+    if reader.flag("strict") {
+        return Order::Interpret(interpret_order(reader));
+    }
+    Order::Go(GoOrder {
         steps: reader.number("steps", DEFAULT_STEPS),
         program: program_order(reader),
-    }
+    })
 }
 
 /// Reads the arguments of `interpret`.
@@ -605,6 +614,7 @@ fn debug_order<'a>(reader: &mut ArgumentReader<'_, 'a>) -> DebugOrder<'a> {
         outputs: reader.bindings("to", TO_ACCEPTS),
         record: reader.number("record", DEFAULT_STOPS),
         turns: reader.number("turns", DEFAULT_RECORDED_TURNS),
+        is_strict: reader.flag("strict"),
         script: reader.value("script"),
         is_batch: reader.flag("batch"),
         sources: sources_of(reader),
@@ -648,6 +658,7 @@ fn run_order<'a>(reader: &mut ArgumentReader<'_, 'a>) -> RunOrder<'a> {
 fn assemble_order<'a>(reader: &mut ArgumentReader<'_, 'a>) -> AssembleOrder<'a> {
     AssembleOrder {
         format: format_of(reader),
+        only_segments: reader.flag("segments"),
         texts: reader.values("TEXT"),
         places: places_option(reader),
     }
@@ -707,6 +718,7 @@ fn explain_order<'a>(reader: &mut ArgumentReader<'_, 'a>) -> ExplainOrder<'a> {
 /// Reads the arguments of `list`.
 fn list_order<'a>(reader: &mut ArgumentReader<'_, 'a>) -> ListOrder<'a> {
     ListOrder {
+        only_sizes: reader.flag("sizes"),
         certificate: reader.value("cert"),
         texts: reader.values("TEXT"),
         sources: sources_by(reader, "source"),
@@ -728,7 +740,7 @@ fn order_of<'a>(command: &str, reader: &mut ArgumentReader<'_, 'a>) -> Order<'a>
     match command {
         "asm" => Order::Assemble(assemble_order(reader)),
         "run" => Order::Run(run_order(reader)),
-        "go" => Order::Go(go_order(reader)),
+        "go" => go_order(reader),
         "interpret" => Order::Interpret(interpret_order(reader)),
         "debug" => Order::Debug(debug_order(reader)),
         "tame" => Order::Tame(tame_order(reader)),

@@ -1,6 +1,8 @@
 //! Files that are either written completely or left as they were, as far as their folders allow it.
 
 use crate::failure::{Cause, Failure};
+use crate::file_identity::parts;
+use crate::read_file::contents;
 use bc_word::Memory;
 use std::alloc::Global;
 use std::fs::{File, Metadata, OpenOptions, Permissions};
@@ -72,8 +74,26 @@ pub(crate) fn path_kind<F: Files>(rt: &F, path: &str) -> PathKind {
     }
 }
 
+/// How many bytes of a file's name its unfinished file has: with the suffix, no name may have more than 255.
+const NAME_PART: usize = 240;
+
+/// This path, with a long name cut.
+fn with_short_name(path: &str) -> &str {
+    let (_, name) = parts(path);
+    let end = path
+        .len()
+        .saturating_sub(name.len().saturating_sub(NAME_PART));
+    for back in 0..4 {
+        if let Some(short) = path.get(..end.saturating_sub(back)) {
+            return short;
+        }
+    }
+    path
+}
+
 /// The path of an unfinished file beside the one with this path.
 pub(crate) fn unfinished_path(alloc: Global, path: &str, number: usize) -> Result<String, Memory> {
+    let path = with_short_name(path);
     Ok(if number == 0 {
         format!(in alloc; "{path}{UNFINISHED}")?
     } else {
@@ -242,6 +262,27 @@ fn opened<F: Files>(
         },
         PathKind::Plain(found) => opened_plain(rt, alloc, path, &found, links),
     }
+}
+
+/// Removes what a run that was killed left of this file while it wrote these bytes: an unfinished file with their beginning.
+///
+/// # Errors
+///
+/// `Memory` if an allocation failed.
+pub fn remove_unfinished<F: Files>(
+    rt: &F,
+    alloc: Global,
+    path: &str,
+    bytes: &[u8],
+) -> Result<(), Memory> {
+    let unfinished = unfinished_path(alloc, path, 0)?;
+    if is_regular(rt, unfinished.as_str())
+        && let Ok(found) = contents(rt, alloc, unfinished.as_str())
+        && bytes.starts_with(found.as_slice())
+    {
+        let _ = fs::remove_file(rt, unfinished.as_str());
+    }
+    Ok(())
 }
 
 /// Whether there is a regular file with this path. A link is none.

@@ -102,6 +102,14 @@ const NO_WARNINGS: Argument = Argument {
     help: "Don't warn about valid code that is probably a mistake",
 };
 
+/// Ends a run at probable mistakes too.
+const STRICT: Argument = Argument {
+    name: "strict",
+    form: Form::Flag,
+    constraint: Constraint::Free,
+    help: "Stop also at accesses that are lawful and nearly always mistakes",
+};
+
 const BUILD: CommandSpec = CommandSpec {
     name: "build",
     about: "Compiles BCPL sources to INTCODE text and certifies that the code is as short as possible",
@@ -230,10 +238,17 @@ const LIST: CommandSpec = CommandSpec {
     more: "Lists each word, beginning with the boot code: its address, its value, and its INTCODE item. Each label has a\n\
            separate line with its global and the jumps to it; strings and tables are shown as such. With --cert, the\n\
            listing marks where each expression, test and assignment of the certificate begins. With --source, it names\n\
-           each routine before its label, with its file and line.\n\n\
+           each routine before its label, with its file and line. With --sizes, it has a line for each part instead: the\n\
+           first address, the words, those of code and of data, and how many globals the part sets.\n\n\
            Exit status: 0 success, 1 refused, 3 invalid arguments.\n\n\
-           Example:\n  bcpl list --cert hello.cert hello.int",
+           Examples:\n  bcpl list --cert hello.cert hello.int\n  bcpl list --sizes hello.int",
     arguments: &[
+        Argument {
+            name: "sizes",
+            form: Form::Flag,
+            constraint: Constraint::Without(&["cert", "source"]),
+            help: "List how many words each part of the image takes: the boot code, the globals and each segment",
+        },
         Argument {
             name: "cert",
             form: Form::Option("CERT"),
@@ -266,6 +281,7 @@ const ASSEMBLE: CommandSpec = CommandSpec {
            ihex:   Intel HEX, low byte first, at twice the word's address; the base of the stack is the number of words\n\
            c:      C source with a constant and an array\n\
            srec:   Motorola S-records, high byte first, at twice the word's address\n\n\
+           With --segments, the words begin at address 520, so that a ROM can hold them.\n\n\
            Exit status: 0 success, 1 refused, 3 invalid arguments.\n\n\
            Examples:\n  bcpl asm hello.int\n  bcpl asm --format bin-le hello.int > hello.img",
     arguments: &[
@@ -274,6 +290,12 @@ const ASSEMBLE: CommandSpec = CommandSpec {
             form: Form::Option("FORMAT"),
             constraint: Constraint::Free,
             help: "How to print: words, hex, bin-le, bin-be, ihex, c or srec [default: words]",
+        },
+        Argument {
+            name: "segments",
+            form: Form::Flag,
+            constraint: Constraint::Free,
+            help: "Leave out the boot code and the globals: print the words from address 520 on",
         },
         PLACES,
         MESSAGES,
@@ -287,8 +309,9 @@ const RUN: CommandSpec = CommandSpec {
     more: "Input 1 is standard input, named SYSIN; output 1 is standard output, named SYSPRINT.\n\n\
            With --trace, --profile or --high the run does the same, only slower; the files are written even if the run\n\
            does not finish. CELL is the highest cell in which an instruction was executed, or that an instruction read\n\
-           or wrote; FRAME is the highest address at which a frame began. With --source, the profile names the routines\n\
-           of these sources and of the library, with file and line.\n\n\
+           or wrote; FRAME is the highest address at which a frame began. A line `bcpl: wrote PART FIRST to LAST` follows for\n\
+           each range of cells that were written; PART is boot, globals, segments or stack, which has one range. With\n\
+           --source, the profile names the routines of these sources and of the library, with file and line.\n\n\
            A program gets no arguments and no environment, and has no exit status of its own.\n\n\
            Exit status: 0 the program finished, 1 refused, 2 the run ended in another way (reported on standard error),\n\
            3 invalid arguments.\n\n\
@@ -352,7 +375,7 @@ const RUN: CommandSpec = CommandSpec {
             name: "high",
             form: Form::Flag,
             constraint: Constraint::Free,
-            help: "Print on standard error how much of the store the run used: `bcpl: high CELL FRAME`",
+            help: "Print on standard error how much of the store the run used, and which cells it wrote",
         },
     ],
 };
@@ -363,6 +386,7 @@ const GO: CommandSpec = CommandSpec {
     more: "Compiles the sources as `build` does, prints the warnings, and runs the image as `run` does. Input 1 is\n\
            standard input, named SYSIN; output 1 is standard output, named SYSPRINT. A program gets no arguments and no\n\
            environment, and has no exit status of its own.\n\n\
+           With --strict, runs the meaning of the sources instead, exactly as `interpret --strict` does.\n\n\
            Exit status: 0 the program finished, 1 refused, 2 the run ended in another way (reported on standard error,\n\
            with the command that shows where), 3 invalid arguments.\n\n\
            Examples:\n  bcpl go hello.bcpl\n  bcpl go --steps 10M --in DATA=data.txt main.bcpl tables.bcpl",
@@ -370,8 +394,15 @@ const GO: CommandSpec = CommandSpec {
         Argument {
             name: "steps",
             form: Form::Number("N"),
-            constraint: Constraint::Free,
+            constraint: Constraint::Without(&["strict"]),
             help: "Stop after N instructions, such as 1e6 or 10M [default: 10000000000]",
+        },
+        STRICT,
+        Argument {
+            name: "turns",
+            form: Form::Number("N"),
+            constraint: Constraint::With("strict"),
+            help: "Stop after N turns [default: 100000000]",
         },
         LIBRARY,
         GET,
@@ -408,12 +439,7 @@ const INTERPRET: CommandSpec = CommandSpec {
             constraint: Constraint::Free,
             help: "Stop after N turns [default: 100000000]",
         },
-        Argument {
-            name: "strict",
-            form: Form::Flag,
-            constraint: Constraint::Free,
-            help: "Stop also at accesses that are lawful and nearly always mistakes",
-        },
+        STRICT,
         LIBRARY,
         GET,
         INCLUDE,
@@ -435,6 +461,7 @@ const DEBUG: CommandSpec = CommandSpec {
            `last NAME` finds the command that changed a variable last. `help` lists them. They are read from the\n\
            terminal or a pipe.\n\n\
            With --out, writes the recording as a page for a browser instead. The page is self-contained.\n\n\
+           With --strict, the run ends at what `interpret --strict` reports, and the command there is its last stop.\n\n\
            The program's standard input is the file that --input names, or empty. --in and --to attach further streams, as\n\
            in `interpret`; the files of --to are written when the session ends.\n\n\
            A program gets no arguments and no environment, and has no exit status of its own.\n\n\
@@ -465,6 +492,7 @@ const DEBUG: CommandSpec = CommandSpec {
             constraint: Constraint::Free,
             help: "Stop the run after N turns [default: 10000000]",
         },
+        STRICT,
         Argument {
             name: "script",
             form: Form::Lettered("FILE", 'x'),
@@ -539,7 +567,8 @@ const CONVERT: CommandSpec = CommandSpec {
            convert a result again with --dialect.\n\n\
            With --project, FILE is a folder, and all sources in it are converted as one program; files can be named\n\
            instead, with --out-dir. OUT is a new folder, which is created. It also gets the script build.sh, which builds\n\
-           the result, and REPORT.md and REPORT.html, which list what was changed and what is left to do by hand.\n\n\
+           the result, and REPORT.md and REPORT.html, which list what was changed and what is left to do by hand. A\n\
+           second conversion to OUT keeps files that were edited by hand, and writes the new text to NAME.new.\n\n\
            Exit status: 0 all converted, 1 refused or something is left to do by hand, 3 invalid arguments.\n\n\
            Examples:\n  bcpl convert --out queens.bcpl queens.old\n\
            \x20 bcpl convert --in-place header main.bcpl tables.bcpl\n\
@@ -573,13 +602,19 @@ const CONVERT: CommandSpec = CommandSpec {
             name: "out-dir",
             form: Form::Option("FOLDER"),
             constraint: Constraint::OneOf("PLACE"),
-            help: "Write the result of each FILE to this folder, under the same name",
+            help: "Write the result of each FILE to this folder, under the same name; it is created",
         },
         Argument {
             name: "project",
             form: Form::Flag,
             constraint: Constraint::Without(&["in-place"]),
             help: "Convert a folder of sources to a folder that can be built, with a report; requires --out or --out-dir",
+        },
+        Argument {
+            name: "overwrite",
+            form: Form::Flag,
+            constraint: Constraint::With("project"),
+            help: "Replace also files in OUT that were edited by hand, and keep each as NAME.old",
         },
         Argument {
             name: "header",

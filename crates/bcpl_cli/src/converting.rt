@@ -49,6 +49,8 @@ pub struct ConvertOrder<'a> {
     pub to: ConvertTo<'a>,
     /// Whether the files are a project: the result has a script that builds it, and a report.
     pub is_project: bool,
+    /// Whether the result of a project replaces files that were edited by hand, which are kept beside it.
+    pub overwrites: bool,
     /// The file that maps names of an old library, if any.
     pub library: Option<&'a str>,
     pub header: ConvertHeader,
@@ -128,6 +130,7 @@ pub fn convert_order<'a>(reader: &mut ArgumentReader<'_, 'a>) -> ConvertOrder<'a
         files: files_of(reader),
         to,
         is_project: is_project(reader, to),
+        overwrites: reader.flag("overwrite"),
         library: reader.value("library"),
         header: header_of(reader),
         dialect: dialect_of(reader),

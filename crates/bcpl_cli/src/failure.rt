@@ -47,11 +47,19 @@ pub enum Strict {
 }
 
 /// Why a command failed. Its `Display` text is what follows `bcpl: ` in the first line.
-#[derive(Drop)]
 pub struct Failure {
     pub cause: Cause,
     /// Further lines of explanation, each ended by a line feed.
     pub explanation: Option<String>,
+}
+
+impl Drop for Failure {
+    fn drop(self) {
+        let Failure {
+            cause: _,
+            explanation: _,
+        } = self;
+    }
 }
 
 /// The cause of a failure.
@@ -110,10 +118,9 @@ impl Failure {
     pub fn with(self, explanation: String) -> Failure
         ensures { result.cause ≡ self.cause }
     {
-        Failure {
-            cause: self.cause,
-            explanation: Some(explanation),
-        }
+        let mut explained = self;
+        explained.explanation = Some(explanation);
+        explained
     }
 
     /// The failure of the file with this path, or of the standard stream with this name.

@@ -4,7 +4,7 @@
 //!   to be.
 //! - Failing: a `Failure` has the first line of the message, an explanation, and the exit status.
 //! - Files: `contents` reads one up to a limit, `AtomicFile` writes one completely or not at all, `FilePair` two
-//!   together, `file_kind` guesses what one is.
+//!   together, `file_kind` guesses what one is, `names_in` lists a folder.
 //! - `lean_libraries` cuts the sources of the library to the definitions that a program can reach by name, for
 //!   `bcpl build --lean`.
 #![tactic(auto)]
@@ -22,6 +22,7 @@ mod failure;
 mod file_identity;
 mod file_kinds;
 mod file_pair;
+mod folders;
 mod formatting;
 mod get_hints;
 mod got_names;
@@ -45,13 +46,14 @@ pub use arguments::{
     Places, ProgramOrder, RunOrder, ShowOrder, Sources, TameOrder, TreeShape, WatchOrder,
     is_standard_output, parse_arguments,
 };
-pub use atomic_file::{AtomicFile, Links, is_one_file, is_regular, named_twice};
+pub use atomic_file::{AtomicFile, Links, is_one_file, is_regular, named_twice, remove_unfinished};
 pub use clean::Clean;
 pub use converting::{ConvertDialect, ConvertHeader, ConvertOrder, ConvertTo};
 pub use escaped::{Escaped, shown_path};
 pub use failure::{BuildLine, Cause, Failure, Strict, Wild};
 pub use file_kinds::{FileKind, file_kind};
 pub use file_pair::FilePair;
+pub use folders::{is_folder, names_in, sorted_names};
 pub use formatting::{FormatOrder, FormatTo};
 pub use get_hints::get_hint;
 pub use guessing::{Guess, guess_of, places_in};

@@ -3,6 +3,7 @@
 use crate::Failure;
 use crate::arguments::{Library, Sources};
 use crate::escaped::shown_path;
+use crate::folders::is_folder;
 use crate::got_names::got_names;
 use crate::read_file::contents;
 use bc_word::Memory;
@@ -11,7 +12,6 @@ use std::fs;
 use std::rt::Files;
 
 /// A source that was read from a file.
-#[derive(Drop)]
 pub struct LoadedSource {
     /// The name by which GET finds it.
     pub name: String,
@@ -21,6 +21,17 @@ pub struct LoadedSource {
     pub shown: String,
     /// Its content.
     pub text: Vec<u8>,
+}
+
+impl Drop for LoadedSource {
+    fn drop(self) {
+        let LoadedSource {
+            name: _,
+            path: _,
+            shown: _,
+            text: _,
+        } = self;
+    }
 }
 
 /// A source with this content.
@@ -105,12 +116,23 @@ fn add_all_included<F: Files>(
     Ok(())
 }
 
+/// Fails if one of these folders of `--include` isn't there: it is probably misspelt.
+fn check_folders<F: Files>(rt: &F, alloc: Global, folders: &[&str]) -> Result<(), Failure> {
+    for folder in folders {
+        if !is_folder(rt, folder) {
+            let reason = "--include names this folder, but there is no such folder";
+            return Err(Failure::file_since(alloc, folder, reason));
+        }
+    }
+    Ok(())
+}
+
 /// Reads the sources of a program: those of `--get`, then those that become segments, then those that they get from
 /// the folders of `--include`.
 ///
 /// # Errors
 ///
-/// The failure of a file that can't be read, or one of `Memory`.
+/// The failure of a file that can't be read or of a folder that isn't there, or one of `Memory`.
 pub fn load_sources<F: Files>(
     rt: &F,
     alloc: Global,
@@ -124,6 +146,7 @@ pub fn load_sources<F: Files>(
         add_source(rt, alloc, &mut sources, path, path)?;
     }
     if !given.includes.is_empty() {
+        check_folders(rt, alloc, given.includes.as_slice())?;
         add_all_included(rt, alloc, given, &mut sources)?;
     }
     Ok(sources)

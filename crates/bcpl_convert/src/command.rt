@@ -10,7 +10,7 @@ use crate::rounds::{
 use crate::summary::{add_told, told_of};
 use bc_convert::{Lawful, NameList, OldNames, renamings};
 use bc_word::Memory;
-use bcpl_cli::{Cause, ConvertOrder, Escaped, Failure, Places, contents};
+use bcpl_cli::{Cause, ConvertOrder, ConvertTo, Escaped, Failure, Places, contents, is_folder};
 use std::alloc::Global;
 use std::fs;
 use std::io::Write;
@@ -64,11 +64,7 @@ pub fn refuse_list(
 
 /// The failure to read the file with this path. If that is a folder, it has a hint on how to convert one.
 fn read_failure<F: Files>(rt: &F, alloc: Global, path: &str, failure: Failure) -> Failure {
-    let is_folder = match fs::metadata(rt, path) {
-        Ok(found) => found.is_dir(),
-        Err(_) => false,
-    };
-    if !is_folder {
+    if !is_folder(rt, path) {
         return failure;
     }
     let shown = Escaped(path);
@@ -207,6 +203,17 @@ fn jobs_of<'a>(
     Ok(jobs)
 }
 
+/// Creates the folder of the results, if there is none.
+fn make_folder<F: Files>(rt: &F, alloc: Global, order: &ConvertOrder<'_>) -> Result<(), Failure> {
+    match order.to {
+        ConvertTo::Folder(folder) => match fs::create_dir_all(rt, folder) {
+            Ok(()) => Ok(()),
+            Err(error) => Err(Failure::io(alloc, &error, folder)),
+        },
+        _ => Ok(()),
+    }
+}
+
 /// Fails with everything that must be done by hand, if there is anything.
 fn tell_jobs(alloc: Global, order: &ConvertOrder<'_>, jobs: &[Job<'_>]) -> Result<(), Failure> {
     let mut count: usize = 0;
@@ -241,6 +248,7 @@ fn convert_with<F: Files, O: Write + Drop>(
     let converted = converted_in_rounds(rt, alloc, order, library, texts.as_slice())?;
     let jobs = jobs_of(alloc, order, texts, converted)?;
     spare(rt, alloc, order, jobs.as_slice())?;
+    make_folder(rt, alloc, order)?;
     for job in &jobs {
         write_job(rt, alloc, job, out)?;
     }

@@ -51,7 +51,6 @@ pub fn name_of(path: &str) -> &str {
 }
 
 /// A source, its conversion, and where that goes.
-#[derive(Drop)]
 pub struct Job<'a> {
     /// The path of the source.
     pub file: &'a str,
@@ -61,6 +60,18 @@ pub struct Job<'a> {
     pub to: Target,
     /// What happens to further names of the target.
     pub links: Links,
+}
+
+impl Drop for Job<'_> {
+    fn drop(self) {
+        let Job {
+            file: _,
+            old: _,
+            converted: _,
+            to: _,
+            links: _,
+        } = self;
+    }
 }
 
 impl Job<'_> {

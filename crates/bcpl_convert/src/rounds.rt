@@ -74,12 +74,20 @@ impl<'d> Round<'d> {
 }
 
 /// What the sources of a program show together.
-#[derive(Drop)]
 pub struct Shown {
     /// `None` if there is no source.
     program: Option<Program>,
     /// The names that they share: none if there is only one source.
     shared: SharedNames,
+}
+
+impl Drop for Shown {
+    fn drop(self) {
+        let Shown {
+            program: _,
+            shared: _,
+        } = self;
+    }
 }
 
 /// What sources show together.

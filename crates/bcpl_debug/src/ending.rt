@@ -1,10 +1,10 @@
 //! What is printed about the end of a run.
 
-use crate::program::DebugProgram;
+use crate::program::{DebugProgram, wild_program};
 use bc_interpret_record::{Ending, Interpreted, Outcome};
 use bc_word::Memory;
 use bcpl_messages::{Message, message_lines};
-use bcpl_wild::{Met, Stand, WildProgram, placed_message, wild_message};
+use bcpl_wild::{Met, Mistake, Stand, placed_message, wild_message};
 use std::alloc::Global;
 
 /// The message about the end of a run; `None` if it finished.
@@ -13,11 +13,7 @@ fn message_of(
     program: &DebugProgram<'_, '_>,
     run: &Interpreted,
 ) -> Result<Option<Message>, Memory> {
-    let wild_program = WildProgram {
-        sources: program.named.sources,
-        mains: program.mains,
-        image: program.image,
-    };
+    let wild_program = wild_program(program);
     let standings = run.trail.standings.as_slice();
     let calls = run.trail.calls;
     let sentence = match run.outcome {
@@ -52,7 +48,10 @@ pub(crate) fn end_lines(
 }
 
 /// How a run ended, in a few words.
-pub(crate) fn end_words(outcome: Outcome) -> &'static str {
+pub(crate) fn end_words(outcome: Outcome, mistake: Option<Mistake>) -> &'static str {
+    if mistake.is_some() {
+        return "the strict run stopped here";
+    }
     match outcome {
         Outcome::Ended(Ending::Finished) => "the run finished",
         Outcome::Ended(Ending::ZeroDivide) => "the run divided by 0",

@@ -1,6 +1,6 @@
 //! Values of expressions of BCPL over the names in scope, without calls.
 
-use crate::manifests::{Manifest, Part};
+use crate::manifests::Manifest;
 use crate::scope::{DebugScope, Meaning};
 use bc_interpret_record::Cell;
 use bc_lex::{Source, lex};
@@ -184,11 +184,11 @@ impl Evaluation<'_, '_> {
     }
 }
 
-/// The value of a constant expression over the manifests that a part of the program knows, the newest of which come last; `None` if it has
-/// none.
+/// The value of a constant expression over those manifests of a section whose scope hasn't ended, the newest of which come last; `None` if it
+/// has none.
 pub(crate) fn constant_value(
     manifests: &[Manifest<'_>],
-    part: Part<'_>,
+    section: usize,
     e: &Exp<'_>,
 ) -> Option<u16> {
     match e {
@@ -197,22 +197,22 @@ pub(crate) fn constant_value(
         Exp::False => Some(0),
         Exp::Name(name) => {
             for manifest in manifests.iter().rev() {
-                if manifest.name == *name && part.knows(manifest) {
+                if manifest.name == *name && manifest.section == section && manifest.is_outer() {
                     return Some(manifest.value);
                 }
             }
             None
         }
         Exp::Unary(UnaryOp::Neg, operand) => {
-            Some(constant_value(manifests, part, operand)?.wrapping_neg())
+            Some(constant_value(manifests, section, operand)?.wrapping_neg())
         }
         Exp::Unary(UnaryOp::Not, operand) => {
-            let value = constant_value(manifests, part, operand)?;
+            let value = constant_value(manifests, section, operand)?;
             Some(Word::new(value).complemented().get())
         }
         Exp::Bin(operator, left, right) => {
-            let left = constant_value(manifests, part, left)?;
-            let right = constant_value(manifests, part, right)?;
+            let left = constant_value(manifests, section, left)?;
+            let right = constant_value(manifests, section, right)?;
             let op = op_of(operator)?;
             Some(apply(op, Word::new(left), Word::new(right))?.get())
         }

@@ -22,6 +22,7 @@ mod session;
 mod showing;
 mod stream;
 mod streams;
+mod strict;
 mod values;
 mod words;
 mod writers;

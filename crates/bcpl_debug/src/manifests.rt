@@ -2,7 +2,7 @@
 
 use crate::evaluate::constant_value;
 use bc_parse::parse;
-use bc_parse_tree::{Constant, Definition, Section, Storage};
+use bc_parse_tree::{Constant, Section, Storage};
 use bc_word::Memory;
 use bcpl_places::{PartVisit, TreePart, visits_of};
 use bcpl_wild::ReadMain;
@@ -17,22 +17,21 @@ pub struct Manifest<'s> {
     pub value: u16,
     /// The index of its section.
     pub section: usize,
-    /// The name of the routine that declares it; empty if it is declared outside routines.
-    pub routine: &'s [u8],
+    /// The leaf of its name.
+    pub leaf: u64,
+    /// The leaf after the end of the block that declares it. `u64::MAX` before the end is known, and outside routines.
+    pub end: u64,
 }
 
-/// A part of a program: one of its sections, and there a routine or, if its name is empty, what is outside routines.
-#[derive(Clone, Copy)]
-pub struct Part<'s> {
-    pub section: usize,
-    pub routine: &'s [u8],
-}
+impl Manifest<'_> {
+    /// Whether it is declared outside routines.
+    pub fn is_outer(&self) -> bool {
+        self.end == u64::MAX
+    }
 
-impl Part<'_> {
-    /// Whether a manifest can be named in this part.
-    pub fn knows(&self, manifest: &Manifest<'_>) -> bool {
-        manifest.section == self.section
-            && (manifest.routine.is_empty() || manifest.routine == self.routine)
+    /// Whether it is in scope at a leaf of its section.
+    pub fn is_known_at(&self, leaf: u64) -> bool {
+        self.leaf <= leaf && leaf < self.end
     }
 }
 
@@ -43,63 +42,49 @@ struct ManifestList<'s> {
     manifests: Vec<Manifest<'s>>,
     /// The index of the section.
     section: usize,
-    /// The names of the routines around, the innermost last.
-    routines: Vec<&'s [u8]>,
     /// Whether an allocation failed. Then the rest is void.
     is_refused: bool,
 }
 
 impl<'s> ManifestList<'s> {
-    /// The part of the program where the visits are.
-    fn part(&self) -> Part<'s> {
-        Part {
-            section: self.section,
-            routine: match self.routines.last() {
-                Some(name) => *name,
-                None => b"",
-            },
-        }
-    }
-
-    /// Adds a manifest. A value that can't be computed here is left out.
-    fn add(&mut self, constant: &Constant<'s>) {
-        let part = self.part();
-        let Some(value) = constant_value(self.manifests.as_slice(), part, &constant.value) else {
+    /// Adds a manifest whose name is at a leaf. A value that can't be computed here is left out.
+    fn add(&mut self, constant: &Constant<'s>, leaf: u64) {
+        let section = self.section;
+        let known = self.manifests.as_slice();
+        let Some(value) = constant_value(known, section, &constant.value) else {
             return;
         };
         let manifest = Manifest {
             name: constant.name,
             value,
-            section: part.section,
-            routine: part.routine,
+            section,
+            leaf,
+            end: u64::MAX,
         };
         if self.manifests.push(manifest).is_err() {
             self.is_refused = true;
         }
     }
 
-    /// Enters the routine of a definition, if it has one.
-    fn enter(&mut self, definition: &Definition<'s>) {
-        if let Definition::Function(name, _, _) | Definition::Routine(name, _, _) = definition {
-            if self.routines.push(*name).is_err() {
-                self.is_refused = true;
+    /// Ends the scopes that began in a block.
+    fn leave(&mut self, first: u64, end: u64) {
+        for manifest in self.manifests.iter_mut() {
+            let is_inside = manifest.section == self.section && manifest.leaf >= first;
+            if is_inside && manifest.is_outer() {
+                manifest.end = end;
             }
-        }
-    }
-
-    /// Leaves the routine of a definition, if it has one.
-    fn leave(&mut self, definition: &Definition<'s>) {
-        if let Definition::Function(_, _, _) | Definition::Routine(_, _, _) = definition {
-            let _name = self.routines.pop();
         }
     }
 
     /// The beginning or the end of a part.
     fn visit(&mut self, visit: PartVisit<'_, 's>) {
         match visit.part {
-            TreePart::Constant(Storage::Manifest, constant) if !visit.is_end => self.add(constant),
-            TreePart::Definition(definition) if visit.is_end => self.leave(definition),
-            TreePart::Definition(definition) => self.enter(definition),
+            TreePart::Constant(Storage::Manifest, constant) if !visit.is_end => {
+                self.add(constant, visit.leaves as u64);
+            }
+            TreePart::Block if visit.is_end => {
+                self.leave(visit.first as u64, visit.leaves as u64);
+            }
             _ => {}
         }
     }
@@ -122,7 +107,6 @@ pub(crate) fn manifests_of<'s>(
     let mut list = ManifestList {
         manifests: Vec::new(alloc),
         section: 0,
-        routines: Vec::new(alloc),
         is_refused: false,
     };
     for read in reads {

@@ -24,6 +24,8 @@ pub struct Variable<'s> {
     pub is_parameter: bool,
     /// Where it is declared.
     pub span: Option<Span>,
+    /// The leaf of its name.
+    pub leaf: u64,
     /// The index of the first root in its scope.
     pub from: usize,
     /// The index after the last root in its scope.
@@ -177,6 +179,7 @@ impl<'s> Gathering<'_, 's> {
                     cells: site.cells,
                     is_parameter: site.offset < above,
                     span: self.span(site.leaf),
+                    leaf: site.leaf,
                     from: site.from,
                     to: site.to,
                 })?;

@@ -5,12 +5,14 @@ use crate::names::{Names, Routine, Variable};
 use crate::parts::{AFTER, BEFORE};
 use crate::places::SitePlace;
 use crate::program::DebugProgram;
+use crate::scope::GLOBALS;
 use crate::session::RecordedRun;
 use crate::stream::{bytes_of, state_of};
 use base64::engine::general_purpose::STANDARD;
 use bc_interpret_record::{Cause, Cell, Ending, NO_SITE, Outcome, Recording, StopKind};
 use bc_word::Memory;
 use bcpl_places::Span;
+use bcpl_wild::Mistake;
 use std::alloc::Global;
 
 /// A recorded run of a program with this input.
@@ -125,6 +127,7 @@ impl PageOf<'_, '_> {
             kind: StopKind::End,
             section: 0,
             root: usize::MAX,
+            leaf: 0,
         };
         add_place(json, &unknown);
         json.close("]");
@@ -311,8 +314,7 @@ impl PageOf<'_, '_> {
 
     /// Appends how the run ended.
     fn add_end(&self, json: &mut Json) {
-        let outcome = self.run.interpreted.outcome;
-        let (kind, text) = ending_of(outcome);
+        let (kind, text, address) = self.ending();
         json.open_field("end", "{");
         json.ascii_field("kind", kind);
         json.ascii_field("text", text);
@@ -322,8 +324,19 @@ impl PageOf<'_, '_> {
             None => None,
         };
         json.known_field("place", place);
-        json.known_field("address", address_of(outcome));
+        json.known_field("address", address);
         json.close("}");
+    }
+
+    /// A word and a sentence on how the run ended, and the address of the access that ended it.
+    fn ending(&self) -> (&'static str, &'static str, Option<u64>) {
+        if let Some(mistake) = self.run.mistake {
+            let address = u64::from(address_of_mistake(mistake));
+            return ("strict", "The strict run stopped here.", Some(address));
+        }
+        let outcome = self.run.interpreted.outcome;
+        let (kind, text) = ending_of(outcome);
+        (kind, text, address_of(outcome))
     }
 
     /// The names of the files of the mains, without their folders.
@@ -367,6 +380,15 @@ fn address_of(outcome: Outcome) -> Option<u64> {
             Some(u64::from(address))
         }
         _ => None,
+    }
+}
+
+/// The address of the access that a mistake is.
+fn address_of_mistake(mistake: Mistake) -> u16 {
+    match mistake {
+        Mistake::Outside(outside) => outside.start.wrapping_add(outside.index),
+        Mistake::Constant(address) => address,
+        Mistake::NoGlobal(number) | Mistake::UnsetGlobal(number) => GLOBALS.saturating_add(number),
     }
 }
 

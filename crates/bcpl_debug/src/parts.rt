@@ -6,7 +6,7 @@ pub(crate) const BEFORE: &str = r#"<!DOCTYPE html>
 <head>
 <meta charset="utf-8">
 <meta name="viewport" content="width=device-width, initial-scale=1">
-<meta http-equiv="Content-Security-Policy" content="default-src 'none'; script-src 'sha256-dRPm+DQ+XjChlnkSW7vQiAlK8Y2qguxifIL4SqUfU5k=';
+<meta http-equiv="Content-Security-Policy" content="default-src 'none'; script-src 'sha256-eoqP/nmrrGBWCuRYhIUBbd/aqu3RFHskqfc83eOupVQ=';
   style-src 'unsafe-inline'; img-src data:; base-uri 'none'; form-action 'none'">
 <meta name="referrer" content="no-referrer">
 <title>A run, step by step</title>
@@ -75,7 +75,7 @@ h1 { font-size: 1.1rem; margin: 0; }
 .dbg-about { flex: 1; min-width: 0; overflow: hidden; text-overflow: ellipsis; white-space: nowrap; }
 .dbg-about i { color: var(--quiet); }
 .dbg .dbg-message { margin: 0; padding: .5rem .7rem; max-height: 12rem; overflow: auto; background: var(--panel); border: 1px solid var(--error);
-  border-radius: 6px; white-space: pre; }
+  border-radius: 6px; white-space: pre-wrap; overflow-wrap: anywhere; }
 .dbg-source { contain: content; flex: 1 1 20rem; min-height: 12rem; overflow: auto; border: 1px solid var(--line); border-radius: 6px;
   padding: .3rem 0; line-height: 1.5; tab-size: 8; white-space: pre; }
 .dbg-source > div { display: flex; width: max-content; min-width: 100%; }
@@ -88,7 +88,7 @@ h1 { font-size: 1.1rem; margin: 0; }
 .dbg-source > .now { background: var(--chosen); box-shadow: inset 3px 0 var(--accent); }
 .dbg-source > .waiting { background: var(--panel); box-shadow: inset 3px 0 var(--edge); }
 .dbg-source:focus-visible > .cursor { outline: 1px dashed var(--accent); outline-offset: -1px; }
-.dbg-source mark { color: inherit; background: light-dark(#b9d6f5, #2a557d); border-radius: 2px; }
+.dbg-source mark { color: inherit; background: light-dark(#b9d6f5, #1f4468); border-radius: 2px; }
 .dbg .word { color: var(--word); font-weight: 600; }
 .dbg .string { color: var(--string); }
 .dbg .comment { color: var(--comment); font-style: italic; }
@@ -150,6 +150,7 @@ h1 { font-size: 1.1rem; margin: 0; }
   .dbg-time { flex-basis: 100%; }
   .dbg-left .dbg-line { flex-wrap: wrap; }
   .dbg-status { white-space: normal; min-height: 2.9em; }
+  .dbg button.dbg-plain { min-height: 1.9rem; }
   .dbg dialog dl { grid-template-columns: 1fr; gap: .1rem; }
 }
 @media print {
@@ -578,7 +579,7 @@ h1 { font-size: 1.1rem; margin: 0; }
   /** The same where a loop begins. */
   const BEGINS = { for: "begins" };
   const ENDS = { finished: "The run finished.", cut: "The recording was full here; the run went on." };
-  const FAULTS = ["wild", "zero", "device"];
+  const FAULTS = ["wild", "strict", "zero", "device"];
   /** The kinds of commands that set cells themselves. */
   const WRITES = ["assign", "let", "for", "call"];
   /** The kinds of commands without a root of their own. */
@@ -618,7 +619,14 @@ h1 { font-size: 1.1rem; margin: 0; }
       this.entersLibrary = false;
       this.cursor = 0;
       this.build();
-      this.show(this.isShown(0) ? 0 : this.find(0, 1));
+      this.show(this.firstShown());
+    }
+
+    /** The stop at which the page opens: the end of a run that failed, or else the first stop. */
+    firstShown() {
+      const { kind } = this.recording.data.end;
+      if (kind === "turns" || FAULTS.includes(kind)) return this.recording.count - 1;
+      return this.isShown(0) ? 0 : this.find(0, 1);
     }
 
     // ---- The parts, made once

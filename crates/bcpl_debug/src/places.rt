@@ -21,6 +21,21 @@ pub struct SitePlace {
     pub section: usize,
     /// The index, among the roots of the section, of the root that says which variables are in scope.
     pub root: usize,
+    /// The first leaf of that root; without one, the leaf of the routine's name.
+    pub leaf: u64,
+}
+
+/// The first leaf of the root of a site, or else the leaf of the routine's name.
+fn leaf_of(read: &ReadMain<'_>, site: &StopSite, root: Option<usize>) -> u64 {
+    if let Some(root) = root
+        && let Some(found) = read.sites.roots.get(root)
+    {
+        return found.leaf;
+    }
+    match site.body {
+        InBody::Routine(label) => read.sites.label(label).unwrap_or(0),
+        InBody::Valof(_) => 0,
+    }
 }
 
 /// A body, as `bc_scope_places` has it.
@@ -100,13 +115,14 @@ fn plain_place(read: &ReadMain<'_>, site: &StopSite) -> SitePlace {
         };
         span = read.span_of(Extent { first, last });
     }
+    let before = site.root.saturating_sub(1);
+    let root = nth_root(&read.sites, body_of(site.body), before);
     SitePlace {
         span,
         kind: site.kind,
         section: site.section,
-        root: nth_root(&read.sites, body_of(site.body), site.root.saturating_sub(1)).unwrap_or(
-            usize::MAX,
-        ),
+        root: root.unwrap_or(usize::MAX),
+        leaf: leaf_of(read, site, root),
     }
 }
 
@@ -185,19 +201,29 @@ fn rooted_place(read: &ReadMain<'_>, site: &StopSite) -> SitePlace {
         kind: site.kind,
         section: site.section,
         root: root.unwrap_or(usize::MAX),
+        leaf: leaf_of(read, site, root),
     }
+}
+
+/// Whether a command of this kind has a root.
+pub(crate) fn is_rooted(kind: StopKind) -> bool {
+    !matches!(
+        kind,
+        StopKind::Break
+            | StopKind::Loop
+            | StopKind::EndCase
+            | StopKind::Return
+            | StopKind::Finish
+            | StopKind::Goto
+    )
 }
 
 /// The place of a site in this main.
 fn place_of(read: &ReadMain<'_>, site: &StopSite) -> SitePlace {
-    match site.kind {
-        StopKind::Break
-        | StopKind::Loop
-        | StopKind::EndCase
-        | StopKind::Return
-        | StopKind::Finish
-        | StopKind::Goto => plain_place(read, site),
-        _ => rooted_place(read, site),
+    if is_rooted(site.kind) {
+        rooted_place(read, site)
+    } else {
+        plain_place(read, site)
     }
 }
 
@@ -216,6 +242,7 @@ pub(crate) fn places_of(
                 kind: site.kind,
                 section: site.section,
                 root: usize::MAX,
+                leaf: 0,
             },
         })?;
     }

@@ -7,6 +7,7 @@ use bc_parse::parse;
 use bc_scope::resolve;
 use bc_word::Memory;
 use bcpl_messages::Named;
+use bcpl_wild::WildProgram;
 use std::alloc::Global;
 
 /// A program that was built, and is debugged.
@@ -49,6 +50,15 @@ impl<'p, 's> DebugProgram<'p, 's> {
             Some(main) => *main < self.library,
             None => true,
         }
+    }
+}
+
+/// A program as `bcpl_wild` takes it.
+pub(crate) fn wild_program<'p, 's>(program: &DebugProgram<'p, 's>) -> WildProgram<'p, 's> {
+    WildProgram {
+        sources: program.named.sources,
+        mains: program.mains,
+        image: program.image,
     }
 }
 

@@ -1,7 +1,8 @@
 //! What names mean at a stop, in one of the calls that the run is in.
 
+use crate::manifests::Manifest;
 use crate::names::{Names, Variable};
-use crate::places::SitePlace;
+use crate::places::{SitePlace, is_rooted};
 use crate::program::DebugProgram;
 use bc_interpret_record::{Cell, Frame, Moment, StopKind};
 
@@ -44,7 +45,7 @@ pub struct Element<'s> {
 const MOST_CALLS: usize = 200;
 
 /// The address of the cell of global 0.
-const GLOBALS: u16 = 8;
+pub const GLOBALS: u16 = 8;
 
 /// The address of a cell of a frame.
 pub fn cell_in(base: u32, offset: u64) -> u16 {
@@ -67,12 +68,7 @@ fn roots_ahead(kind: StopKind) -> usize {
         // variable counts only in the body.
         StopKind::For => 2,
         // The root of these is the one before them, and a vector may be declared in between.
-        StopKind::Break
-        | StopKind::Loop
-        | StopKind::EndCase
-        | StopKind::Return
-        | StopKind::Finish
-        | StopKind::Goto => 1,
+        _ if !is_rooted(kind) => 1,
         _ => 0,
     }
 }
@@ -135,8 +131,8 @@ impl<'v, 's> DebugScope<'v, 's> {
         }
     }
 
-    /// The variable in scope with this name, and the address of its cell.
-    pub fn local(&self, name: &[u8]) -> Option<(Variable<'s>, u16)> {
+    /// The newest variable in scope with this name, and the address of its cell. A manifest may hide it.
+    fn newest(&self, name: &[u8]) -> Option<(Variable<'s>, u16)> {
         for index in (0..self.count()).rev() {
             if let Some((variable, address)) = self.variable(index)
                 && variable.name == name
@@ -147,9 +143,19 @@ impl<'v, 's> DebugScope<'v, 's> {
         None
     }
 
-    /// The address of the variable in scope with this name.
+    /// The variable that this name means, and the address of its cell. Of a variable and a manifest around a place, the one that is declared
+    /// later in the text is the inner one.
+    pub fn local(&self, name: &[u8]) -> Option<(Variable<'s>, u16)> {
+        let (variable, address) = self.newest(name)?;
+        match self.own_manifest(name) {
+            Some(manifest) if manifest.leaf > variable.leaf => None,
+            _ => Some((variable, address)),
+        }
+    }
+
+    /// The address of the newest variable in scope with this name.
     pub fn address_of_local(&self, name: &[u8]) -> Option<u16> {
-        let (_, address) = self.local(name)?;
+        let (_, address) = self.newest(name)?;
         Some(address)
     }
 
@@ -166,10 +172,7 @@ impl<'v, 's> DebugScope<'v, 's> {
             }
         }
         for found in &self.names.manifests {
-            if found.name == name
-                && found.routine.is_empty()
-                && self.counts(found.section, is_own)
-            {
+            if found.name == name && found.is_outer() && self.counts(found.section, is_own) {
                 return Some(Meaning::Value(found.value));
             }
         }
@@ -186,15 +189,16 @@ impl<'v, 's> DebugScope<'v, 's> {
         None
     }
 
-    /// The value of the manifest with this name that the call's routine declares.
-    fn own_manifest(&self, name: &[u8]) -> Option<u16> {
-        let routine = self.names.routines.get(self.routine()?)?;
+    /// The innermost manifest with this name that a block around the call's place declares.
+    fn own_manifest(&self, name: &[u8]) -> Option<Manifest<'s>> {
+        let place = self.names.place(self.frame?.site)?;
         for found in self.names.manifests.iter().rev() {
             if found.name == name
-                && found.section == routine.section
-                && found.routine == routine.name
+                && found.section == place.section
+                && !found.is_outer()
+                && found.is_known_at(place.leaf)
             {
-                return Some(found.value);
+                return Some(*found);
             }
         }
         None
@@ -205,8 +209,8 @@ impl<'v, 's> DebugScope<'v, 's> {
         if let Some((_, address)) = self.local(name) {
             return Some(Meaning::Cell(address));
         }
-        if let Some(value) = self.own_manifest(name) {
-            return Some(Meaning::Value(value));
+        if let Some(manifest) = self.own_manifest(name) {
+            return Some(Meaning::Value(manifest.value));
         }
         match self.outside(name, true) {
             Some(meaning) => Some(meaning),

@@ -7,12 +7,14 @@ use crate::places::SitePlace;
 use crate::program::DebugProgram;
 use crate::scope::DebugScope;
 use crate::streams::{RunInput, further_outputs, streams_of};
+use crate::strict::{end_strictly, strict_end_of};
 use bc_interpret_record::{
     Bounds, Frame, Interpreted, Moment, RecordError, RecordLimits, Recordable, Recorded, Recording,
     Stop, record_run,
 };
 use bc_machine::{MemoryStreams, StreamsError};
 use bc_word::Memory;
+use bcpl_wild::Mistake;
 use std::alloc::Global;
 
 /// How far a run goes, and how much of it is kept.
@@ -22,10 +24,11 @@ pub struct SessionLimits {
     pub turns: u64,
     /// The greatest number of stops that are kept.
     pub stops: usize,
+    /// Whether lawful accesses that are probably mistakes end the run.
+    pub is_strict: bool,
 }
 
 /// A run that was recorded, with its names and its end.
-#[derive(Drop)]
 pub struct RecordedRun<'s> {
     /// The outcome of the run, and where it was then.
     pub interpreted: Interpreted,
@@ -37,6 +40,21 @@ pub struct RecordedRun<'s> {
     pub end_lines: String,
     /// What it wrote to each of its further outputs.
     pub outputs: Vec<Vec<u8>>,
+    /// The mistake at which the recording of a strict run ends.
+    pub mistake: Option<Mistake>,
+}
+
+impl Drop for RecordedRun<'_> {
+    fn drop(self) {
+        let RecordedRun {
+            interpreted: _,
+            recording: _,
+            names: _,
+            end_lines: _,
+            outputs: _,
+            mistake: _,
+        } = self;
+    }
 }
 
 /// Why there is no session.
@@ -111,13 +129,12 @@ fn with_names<'s>(
         names,
         end_lines,
         outputs,
+        mistake: None,
     })
 }
 
-/// Runs a program with this input, and records the run.
-///
-/// `Memory` if an allocation fails, `Streams` if two streams have one name or a name is too long, and `Differs` if the recorder made a mistake.
-pub fn recorded<'s>(
+/// Runs a program with this input by its meaning, and records the run. The errors are those of `recorded`.
+fn run_recorded<'s>(
     alloc: Global,
     program: &DebugProgram<'_, 's>,
     input: &RunInput,
@@ -130,8 +147,29 @@ pub fn recorded<'s>(
     Ok(with_names(alloc, program, recorded, outputs)?)
 }
 
+/// Runs a program with this input, and records the run, of a strict one what comes before a mistake.
+///
+/// `Memory` if an allocation fails, `Streams` if two streams have one name or a name is too long, and `Differs` if the recorder made a mistake.
+pub fn recorded<'s>(
+    alloc: Global,
+    program: &DebugProgram<'_, 's>,
+    input: &RunInput,
+    limits: SessionLimits,
+) -> Result<RecordedRun<'s>, SessionError> {
+    let end = strict_end_of(alloc, program, input, limits)?;
+    let turns = match &end {
+        Some(end) => end.turns(),
+        None => limits.turns,
+    };
+    let limits = SessionLimits { turns, ..limits };
+    let mut run = run_recorded(alloc, program, input, limits)?;
+    if let Some(end) = &end {
+        end_strictly(alloc, program, end, &mut run)?;
+    }
+    Ok(run)
+}
+
 /// A debugging session.
-#[derive(Drop)]
 pub struct Session<'p, 's> {
     pub(crate) alloc: Global,
     pub(crate) program: DebugProgram<'p, 's>,
@@ -155,6 +193,27 @@ pub struct Session<'p, 's> {
     pub(crate) is_stale: bool,
     /// Whether stepping goes into the library's routines.
     pub(crate) enters_library: bool,
+}
+
+impl Drop for Session<'_, '_> {
+    fn drop(self) {
+        let Session {
+            alloc: _,
+            program: _,
+            run: _,
+            moment: _,
+            breakpoints: _,
+            next_number: _,
+            selected: _,
+            repeated: _,
+            listed: _,
+            listed_file: _,
+            input: _,
+            limits: _,
+            is_stale: _,
+            enters_library: _,
+        } = self;
+    }
 }
 
 impl<'p, 's> Session<'p, 's> {

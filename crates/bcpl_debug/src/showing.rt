@@ -139,7 +139,7 @@ impl Session<'_, '_> {
     /// Appends how the run ended.
     fn add_end(&self, out: &mut Printout) {
         self.add_number(out, self.moment.at);
-        out.say(end_words(self.run.interpreted.outcome));
+        out.say(end_words(self.run.interpreted.outcome, self.run.mistake));
         out.text(self.run.end_lines.as_str());
     }
 

@@ -11,7 +11,6 @@ const MOST_OUTPUT: usize = 1_000_000;
 const SECOND: u16 = 2;
 
 /// What a program reads, and the outputs that it has besides SYSPRINT.
-#[derive(Drop)]
 pub struct RunInput {
     /// The bytes of SYSIN.
     pub standard: Vec<u8>,
@@ -19,6 +18,16 @@ pub struct RunInput {
     pub inputs: Vec<Named<Vec<u8>>>,
     /// The names of the further outputs.
     pub outputs: Vec<Vec<u8>>,
+}
+
+impl Drop for RunInput {
+    fn drop(self) {
+        let RunInput {
+            standard: _,
+            inputs: _,
+            outputs: _,
+        } = self;
+    }
 }
 
 /// A copy of these bytes.

@@ -38,11 +38,9 @@ const NOT_READ: &str =
 
 /// The refusal of a certificate that can be opened but not read to its end.
 fn not_read(alloc: Global, path: &str) -> Failure {
-    let shown = Failure::file_since(alloc, path, NOT_READ);
-    Failure {
-        cause: Cause::Check(CheckFault::Read),
-        explanation: shown.explanation,
-    }
+    let mut shown = Failure::file_since(alloc, path, NOT_READ);
+    shown.cause = Cause::Check(CheckFault::Read);
+    shown
 }
 
 /// The failure of a certificate that can't be read to its end: that of the file if not even its first byte can be

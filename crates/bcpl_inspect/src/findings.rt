@@ -4,17 +4,25 @@ use bc_build::{BuildError, Built, ParseError, Parsed, ScopeFault, build_keeping}
 use bc_word::Memory;
 use bcpl_advice::{FurtherFault, advised, further_faults, further_scope_faults, likely_meaning};
 use bcpl_cli::BuildLine;
+use bcpl_index::unknown_names;
 use bcpl_lsp::{Cost, Document, Finding, Related, line_starts, range_of, uri_of};
 use bcpl_messages::{Message, Note, message_of, shown};
 use bcpl_places::{Span, way_to};
 use bcpl_show::{CostedSection, root_costs};
 use bcpl_sources::{Gathered, Program, entries_of_segment};
-use bcpl_warnings::{all_warnings, unknown_names};
+use bcpl_warnings::all_warnings;
 use serde_json::Value;
 use std::alloc::Global;
 
 /// At most this many errors of a document are shown.
 const MOST: usize = 1000;
+
+/// How a warning says that a global isn't set. It isn't shown: another file of the program may set the global, and only
+/// this one is known here.
+const UNSET: &str = "nothing in the program sets";
+
+/// How the help on a GET goes on with an option that `lsp` doesn't have.
+const GET_OPTION: &str = ", or --get ";
 
 /// The document, and the program of the library and its source.
 #[derive(Clone, Copy)]
@@ -254,6 +262,9 @@ impl<'s> Checked<'_, '_, 's> {
         let mut findings = Vec::new(alloc);
         let mut last: Option<(usize, usize)> = None;
         for message in &all_warnings(alloc, sources, self.library, program.mains, parsed)? {
+            if message.sentence.as_str().contains(UNSET) {
+                continue;
+            }
             let finding = self.finding(alloc, "", message)?;
             let place = (finding.start, finding.end);
             if last != Some(place) && findings.len() < MOST {
@@ -279,6 +290,7 @@ fn placed_finding(
         Some(help) => help.as_str(),
         None => "",
     };
+    let help = help.split(GET_OPTION).next().unwrap_or(help);
     Ok(Finding {
         start,
         end,

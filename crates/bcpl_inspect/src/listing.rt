@@ -6,7 +6,7 @@ use bc_core::Root;
 use bc_text_items::Segment;
 use bc_word::Memory;
 use bcpl_cli::{Cause, Failure, ListOrder};
-use bcpl_list::{ListedProgram, Note, image_listing};
+use bcpl_list::{ListedProgram, Note, image_listing, image_sizes};
 use bcpl_reports::Text;
 use bcpl_sources::{
     Growing, LinkedProgram, Remark, linked_program, named_routines, of_listing, or_memory_failure,
@@ -122,6 +122,17 @@ fn notes_of<'r>(
     Ok(whole)
 }
 
+/// The sizes of a program's parts, with these names for its segments.
+fn sizes_of(alloc: Global, program: &LinkedProgram, names: &[&str]) -> Result<String, Memory> {
+    let program = ListedProgram {
+        segments: program.segments.as_slice(),
+        names,
+        image: &program.image,
+        notes: &[],
+    };
+    image_sizes(alloc, program)
+}
+
 /// The listing of a program, with these names for its segments and these notes.
 fn listing_of<'p>(
     alloc: Global,
@@ -163,6 +174,9 @@ fn listed_of<F: Files>(
 ) -> Result<String, Failure> {
     let program = linked_program(alloc, texts, explains)?;
     let names = names_of(alloc, texts)?;
+    if order.only_sizes {
+        return or_memory_failure(sizes_of(alloc, &program, names.as_slice()));
+    }
     let (routines, entries) = all_remarks(rt, alloc, order, &program, explains)?;
     let remarks = (routines.as_slice(), entries.as_slice());
     or_memory_failure(listing_of(alloc, &program, names.as_slice(), remarks))

@@ -125,16 +125,59 @@ fn add_all_got<F: Files>(
     Ok(())
 }
 
-/// The folders in which the files that a document gets are: its own, then these.
+/// A link to the working directory.
+const HERE: &str = "/proc/self/cwd";
+
+/// The path of a folder from the root on. A relative one counts from `here`.
+fn absolute(alloc: Global, here: &str, folder: &str) -> Result<String, Memory> {
+    let mut path = String::new(alloc);
+    if !folder.starts_with('/') {
+        path.push_str(here)?;
+    }
+    for part in folder.split('/') {
+        match (part, path.as_str().rsplit_once('/')) {
+            ("" | ".", _) => {}
+            ("..", Some((before, _))) => path = String::from_str(alloc, before)?,
+            _ => write!(path, "/{part}")?,
+        }
+    }
+    Ok(path)
+}
+
+/// The path of a folder from the root on, or its relative path on a system that doesn't show the working directory.
+fn absolute_folder<F: Files>(rt: &F, alloc: Global, folder: &str) -> Result<String, Memory> {
+    match rt.read_link(alloc, HERE) {
+        Ok(here) => absolute(alloc, here.as_str(), folder),
+        Err(_) => Ok(String::from_str(alloc, folder)?),
+    }
+}
+
+/// The paths of these folders from the root on, since a URI can't have a relative one. Returns `Memory` if an allocation
+/// fails.
+pub fn absolute_folders<F: Files>(
+    rt: &F,
+    alloc: Global,
+    folders: &[&str],
+) -> Result<Vec<String>, Memory> {
+    let mut paths = Vec::new(alloc);
+    for folder in folders {
+        paths.push(absolute_folder(rt, alloc, folder)?)?;
+    }
+    Ok(paths)
+}
+
+/// The folders in which the files that a document gets are: its own, if it is a file, then these.
 fn folders_for<'f>(
     alloc: Global,
     document: &'f Document,
-    includes: &[&'f str],
+    includes: &'f [String],
 ) -> Result<Vec<&'f str>, Memory> {
     let mut folders = Vec::new(alloc);
-    folders.push(folder_of(document.path()))?;
+    if document.path().starts_with('/') {
+        folders.push(folder_of(document.path()))?;
+    }
     for folder in includes {
-        folders.push(folder.trim_end_matches('/'))?;
+        folders.push(folder.as_str())?;
     }
     Ok(folders)
 }
@@ -153,7 +196,7 @@ pub fn sources_of<F: Files>(
     alloc: Global,
     server: &Server,
     document: &Document,
-    includes: &[&str],
+    includes: &[String],
 ) -> Result<Vec<LoadedSource>, Memory> {
     let folders = folders_for(alloc, document, includes)?;
     let mut sources = Vec::new(alloc);

@@ -1,7 +1,7 @@
 //! The command `lsp`: a language server on standard input and output.
 
 use crate::findings::{costs_of, findings_of};
-use crate::served_files::{headers_of, library_for, sources_of};
+use crate::served_files::{absolute_folders, headers_of, library_for, sources_of};
 use bc_library_ext::EXTHDR;
 use bc_run::LIBHDR;
 use bc_word::Memory;
@@ -16,6 +16,9 @@ use std::rt::Files;
 
 /// The headers of the library.
 const HEADERS: [(&str, &str); 2] = [("LIBHDR", LIBHDR), ("EXTHDR", EXTHDR)];
+
+/// How many bytes are read ahead at most: as many as a pipe holds, so that all changes that wait are seen.
+const AHEAD: usize = 1 << 16;
 
 /// How a session ended.
 #[derive(Clone, Copy, PartialEq, Eq)]
@@ -71,11 +74,11 @@ fn measured(
 fn checked_with_headers<F: Files>(
     rt: &F,
     alloc: Global,
-    order: &ServeOrder<'_>,
+    includes: &[String],
     server: &Server,
     document: &Document,
 ) -> Result<(Vec<Finding>, Vec<File>), Memory> {
-    let sources = sources_of(rt, alloc, server, document, order.includes.as_slice())?;
+    let sources = sources_of(rt, alloc, server, document, includes)?;
     let findings = checked(alloc, document, sources.as_slice())?;
     Ok((findings, headers_of(alloc, &HEADERS, sources.as_slice())?))
 }
@@ -84,12 +87,12 @@ fn checked_with_headers<F: Files>(
 fn check<F: Files>(
     rt: &F,
     alloc: Global,
-    order: &ServeOrder<'_>,
+    includes: &[String],
     server: &mut Server,
     index: usize,
 ) -> Result<String, Memory> {
     let (findings, headers) = match server.document(index) {
-        Some(document) => checked_with_headers(rt, alloc, order, server, document)?,
+        Some(document) => checked_with_headers(rt, alloc, includes, server, document)?,
         None => return Ok(String::new(alloc)),
     };
     server.set_headers(index, headers)?;
@@ -100,13 +103,13 @@ fn check<F: Files>(
 fn measure<F: Files>(
     rt: &F,
     alloc: Global,
-    order: &ServeOrder<'_>,
+    includes: &[String],
     server: &mut Server,
     index: usize,
 ) -> Result<(), Memory> {
     let costs = match server.document(index) {
         Some(document) => {
-            let sources = sources_of(rt, alloc, server, document, order.includes.as_slice())?;
+            let sources = sources_of(rt, alloc, server, document, includes)?;
             measured(alloc, document, sources.as_slice())?
         }
         None => return Ok(()),
@@ -119,14 +122,14 @@ fn measure<F: Files>(
 fn answer_to<F: Files>(
     rt: &F,
     alloc: Global,
-    order: &ServeOrder<'_>,
+    includes: &[String],
     server: &mut Server,
     message: &[u8],
 ) -> Result<Answer, Memory> {
     let answer = server.take(message)?;
     match answer.job {
         Job::Measure(index) => {
-            measure(rt, alloc, order, server, index)?;
+            measure(rt, alloc, includes, server, index)?;
             server.take(message)
         }
         _ => Ok(answer),
@@ -161,14 +164,14 @@ fn are_sent<W: Write>(texts: &[String], out: &mut W) -> bool {
 fn check_all<F: Files>(
     rt: &F,
     alloc: Global,
-    order: &ServeOrder<'_>,
+    includes: &[String],
     server: &mut Server,
     job: Job,
 ) -> Result<Vec<String>, Memory> {
     let mut texts = Vec::new(alloc);
     let (first, end) = checked_by(job, server);
     for index in first..end {
-        texts.push(check(rt, alloc, order, server, index)?)?;
+        texts.push(check(rt, alloc, includes, server, index)?)?;
     }
     Ok(texts)
 }
@@ -177,12 +180,12 @@ fn check_all<F: Files>(
 fn answer_to_received<F: Files>(
     rt: &F,
     alloc: Global,
-    order: &ServeOrder<'_>,
+    includes: &[String],
     server: &mut Server,
     received: Received,
 ) -> Result<Answer, Memory> {
     match received {
-        Received::Text(text) => answer_to(rt, alloc, order, server, text.as_slice()),
+        Received::Text(text) => answer_to(rt, alloc, includes, server, text.as_slice()),
         Received::BadHeader => server.take_bad_header(),
         Received::End => Ok(Answer {
             text: None,
@@ -209,19 +212,32 @@ fn ended_by(job: Job, is_sent: bool) -> Option<Served> {
     }
 }
 
+/// This job. `Nothing` if it checks a document that the next message changes again and that message was read ahead:
+/// the check after that one counts for both.
+fn due_job(alloc: Global, server: &Server, job: Job, mut ahead: &[u8]) -> Result<Job, Memory> {
+    if let Job::Check(index) = job
+        && let Received::Text(text) = read_message(alloc, &mut ahead)?
+        && server.is_changed_by(index, text.as_slice())?
+    {
+        return Ok(Job::Nothing);
+    }
+    Ok(job)
+}
+
 /// Reads messages and answers each, to the end of the session.
 fn session<F: Files, R: Read + Drop, O: Write + Drop>(
     rt: &F,
     alloc: Global,
-    order: &ServeOrder<'_>,
+    includes: &[String],
     input: &mut BufReader<R>,
     out: &mut BufWriter<O>,
 ) -> Result<Served, Memory> {
     let mut server = Server::new(alloc);
     for _each in 0..u64::MAX {
         let received = read_message(alloc, input)?;
-        let answer = answer_to_received(rt, alloc, order, &mut server, received)?;
-        let texts = check_all(rt, alloc, order, &mut server, answer.job)?;
+        let answer = answer_to_received(rt, alloc, includes, &mut server, received)?;
+        let job = due_job(alloc, &server, answer.job, input.buffer())?;
+        let texts = check_all(rt, alloc, includes, &mut server, job)?;
         let is_sent = is_answer_sent(&answer.text, out) && are_sent(texts.as_slice(), out);
         if let Some(ended) = ended_by(answer.job, is_sent) {
             return Ok(ended);
@@ -238,11 +254,12 @@ pub fn serve<F: Files, R: Read + Drop, O: Write + Drop>(
     input: R,
     out: O,
 ) -> Result<Served, Failure> {
-    let Ok(mut input) = BufReader::new(alloc, input) else {
+    let Ok(mut input) = BufReader::with_capacity(alloc, AHEAD, input) else {
         return Err(Failure::new(Cause::Memory));
     };
     let Ok(mut out) = BufWriter::new(alloc, out) else {
         return Err(Failure::new(Cause::Memory));
     };
-    Ok(session(rt, alloc, order, &mut input, &mut out)?)
+    let includes = absolute_folders(rt, alloc, order.includes.as_slice())?;
+    Ok(session(rt, alloc, includes.as_slice(), &mut input, &mut out)?)
 }

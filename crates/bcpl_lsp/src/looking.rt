@@ -4,7 +4,7 @@ use crate::costs::cost_at;
 use crate::described::{name_of, said_of};
 use crate::document::{Document, sources_of, tokens_of};
 use crate::json_values::{JsonArray, JsonObject};
-use crate::names::{Declared, Mention};
+use crate::names::{Declared, Mention, Sort};
 use crate::paths::uri_of;
 use bc_lex::Source;
 use bc_lex_tokens::TokenKind;
@@ -171,6 +171,8 @@ pub enum NoRename {
     NotParsed,
     /// It is declared in another file.
     OtherFile,
+    /// A GLOBAL declaration declares it.
+    Global,
     /// The new name is none.
     NoName,
     /// The new name is declared where the old one is in scope, or the other way round.
@@ -185,6 +187,8 @@ impl NoRename {
             NoRename::NotParsed => "the source has errors, so what its names mean isn't known",
             NoRename::OtherFile =>
                 "the name is declared in another file, which other sources may get too",
+            NoRename::Global =>
+                "a GLOBAL declaration declares the name, so other files of the program may use it too",
             NoRename::NoName =>
                 "the new name is none: a name begins with a letter, goes on with letters, digits and dots, and is no reserved word",
             NoRename::Captured =>
@@ -254,8 +258,9 @@ fn renamed_at(document: &Document, offset: usize) -> Result<(usize, Declared), N
     };
     let root = document.names.root_of(mention.declared);
     match document.names.get(root) {
-        Some(declared) if declared.file == 0 => Ok((root, declared)),
-        Some(_) => Err(NoRename::OtherFile),
+        Some(declared) if declared.file != 0 => Err(NoRename::OtherFile),
+        Some(declared) if declared.sort == Sort::Global => Err(NoRename::Global),
+        Some(declared) => Ok((root, declared)),
         None => Err(NoRename::NothingThere),
     }
 }

@@ -249,6 +249,26 @@ impl Server {
         }
     }
 
+    /// The index of the document that a message changes, if it changes one.
+    fn changed_by(&self, message: &Value) -> Option<usize> {
+        match (text_at(message, "/method"), message.get("id")) {
+            (Some("textDocument/didChange"), None) => self.index_of(message.get("params")?),
+            _ => None,
+        }
+    }
+
+    /// Whether a message changes the document with this index. Returns `Memory` if an allocation fails.
+    pub fn is_changed_by(&self, index: usize, message: &[u8]) -> Result<bool, Memory> {
+        let Ok(text) = std::str::from_utf8(message) else {
+            return Ok(false);
+        };
+        match Value::from_str(self.alloc, text) {
+            Ok(value) => Ok(self.changed_by(&value) == Some(index)),
+            Err(error) if error.is_memory() => Err(Memory),
+            Err(_) => Ok(false),
+        }
+    }
+
     /// Takes a header that can't be read. Returns `Memory` if an allocation fails.
     pub fn take_bad_header(&mut self) -> Result<Answer, Memory> {
         self.refuse(RequestError::Parse)

@@ -212,7 +212,10 @@ fn help_for_get(draft: &mut Draft, name: &[u8]) {
             &[],
         );
     } else {
-        draft.help("name the file with --get {}=PATH", &[Fill::Shown(name)]);
+        draft.help(
+            "add --include with its folder, or --get {}=PATH",
+            &[Fill::Shown(name)],
+        );
     }
 }
 

@@ -1,11 +1,10 @@
 //! The steps of `convert --project`.
 
 use crate::files::{OldFile, is_source};
-use crate::folder::{
-    OldProject, PAGE, REPORT, SCRIPT, make_folder, old_project, path_in, spare_files,
-};
+use crate::folder::{OldProject, PAGE, REPORT, SCRIPT, make_folder, old_project, spare_files};
 use crate::headers::{Alias, Headers, headers_of};
 use crate::new_files::{NewFile, declares_start, gets_further};
+use crate::outputs::{Fate, Output, ResultFolder, edited_lines};
 use crate::programs::{
     ProjectProgram, Refusal, file_alone, paths_of, programs_of, refusal_for, refusal_of_program,
     sources_of,
@@ -17,18 +16,14 @@ use crate::unknown::{UnknownNames, unknown_in};
 use bc_convert::{Lawful, OldNames, Options, Program, System, renamings};
 use bc_lex::Source;
 use bc_word::Memory;
-use bcpl_cli::{ConvertDialect, ConvertOrder, ConvertTo, Failure, Links};
+use bcpl_cli::{ConvertDialect, ConvertOrder, ConvertTo, Failure};
 use bcpl_convert::{
     Converted, Given, MOST_ROUNDS, Round, Shown, by_hand, compiled_texts, first_round,
     further_round, lawful_in, list_text, may_change_any, needs_another_round, refuse_list,
-    write_file,
 };
 use bcpl_messages::Named;
 use std::alloc::Global;
-use std::fs;
-use std::fs::Permissions;
 use std::io::Write;
-use std::os::unix::fs::PermissionsExt;
 use std::rt::Files;
 
 /// The texts of these files, then those that the aliases mean.
@@ -214,7 +209,6 @@ fn unbuilt_of(
 }
 
 /// The new project, before its files are written.
-#[derive(Drop)]
 struct NewProject<'p> {
     files: Vec<NewFile>,
     /// The names of files that are no sources.
@@ -225,49 +219,17 @@ struct NewProject<'p> {
     is_further: bool,
 }
 
-/// Where files are written.
-#[derive(Clone, Copy)]
-struct Destination<'d> {
-    folder: &'d str,
-    links: Links,
-}
-
-/// Writes a file of the result.
-fn write_in<F: Files>(
-    rt: &F,
-    alloc: Global,
-    destination: Destination<'_>,
-    name: &str,
-    bytes: &[u8],
-) -> Result<(), Failure> {
-    let path = path_in(alloc, destination.folder, name)?;
-    write_file(rt, alloc, path.as_str(), destination.links, bytes)
-}
-
-/// Writes the script, which can be run.
-fn write_script<F: Files>(
-    rt: &F,
-    alloc: Global,
-    destination: Destination<'_>,
-    script: &str,
-) -> Result<(), Failure> {
-    write_in(rt, alloc, destination, SCRIPT, script.as_bytes())?;
-    let path = path_in(alloc, destination.folder, SCRIPT)?;
-    // On a file system without such permissions the script is run by `sh build.sh`.
-    let _ = fs::set_permissions(rt, path.as_str(), Permissions::from_mode(0o755));
-    Ok(())
-}
-
-/// Writes the report in both forms.
-fn write_report<F: Files>(
-    rt: &F,
-    alloc: Global,
-    destination: Destination<'_>,
-    report: &Report<'_>,
-) -> Result<(), Failure> {
-    let pages = page_of(alloc, report)?;
-    write_in(rt, alloc, destination, REPORT, pages.markdown.as_bytes())?;
-    write_in(rt, alloc, destination, PAGE, pages.html.as_bytes())
+impl Drop for NewProject<'_> {
+    fn drop(self) {
+        let NewProject {
+            files: _,
+            others: _,
+            headers: _,
+            shared: _,
+            dialect: _,
+            is_further: _,
+        } = self;
+    }
 }
 
 /// Prints what was done.
@@ -315,37 +277,83 @@ fn tell_left(alloc: Global, order: &ConvertOrder<'_>, report: &Report<'_>) -> Re
     let names = left.names;
     let headers = left.headers;
     let refused = left.refused;
-    let told = format!(in alloc;
+    let mut told = format!(in alloc;
         "{folder}/{REPORT} lists what is left to do by hand\n\
          \x20 doubtful places: {places}; names that nothing declares: {names}; headers that weren't found: {headers}\n\
          \x20 files and programs that don't build for other reasons: {refused}\n"
     )?;
+    told.push_str(report.edited)?;
     Err(by_hand(order, left.count(), told))
 }
 
-/// Writes the files of the result, the script and the report.
-fn write_files<F: Files>(
+/// What the files of a result have.
+#[derive(Clone, Copy)]
+struct Texts<'o> {
+    files: &'o [NewFile],
+    script: &'o str,
+    report: &'o str,
+    page: &'o str,
+}
+
+impl<'o> Texts<'o> {
+    /// These files with this script, report and page.
+    fn new(files: &'o [NewFile], script: &'o str, report: &'o str, page: &'o str) -> Texts<'o> {
+        Texts {
+            files,
+            script,
+            report,
+            page,
+        }
+    }
+}
+
+/// The files of the result, the script and the report.
+fn outputs_of<'o>(alloc: Global, texts: Texts<'o>) -> Result<Vec<Output<'o>>, Memory> {
+    let mut outputs = Vec::new(alloc);
+    for file in texts.files {
+        outputs.push(Output {
+            name: file.name(),
+            text: file.text(),
+        })?;
+    }
+    outputs.push(Output {
+        name: SCRIPT,
+        text: texts.script.as_bytes(),
+    })?;
+    outputs.push(Output {
+        name: REPORT,
+        text: texts.report.as_bytes(),
+    })?;
+    outputs.push(Output {
+        name: PAGE,
+        text: texts.page.as_bytes(),
+    })?;
+    Ok(outputs)
+}
+
+/// Where these texts go, and the lines about files that were edited by hand. Nothing is written.
+fn fates_in<F: Files>(
     rt: &F,
     alloc: Global,
-    order: &ConvertOrder<'_>,
-    project: &NewProject<'_>,
-    report: &Report<'_>,
+    folder: &ResultFolder<'_>,
+    texts: Texts<'_>,
+) -> Result<(Vec<Fate>, String), Failure> {
+    let outputs = outputs_of(alloc, texts)?;
+    let fates = folder.fates(rt, outputs.as_slice())?;
+    let edited = edited_lines(alloc, outputs.as_slice(), fates.as_slice())?;
+    Ok((fates, edited))
+}
+
+/// Writes these texts to where they go.
+fn write_texts<F: Files>(
+    rt: &F,
+    alloc: Global,
+    folder: &mut ResultFolder<'_>,
+    texts: Texts<'_>,
+    fates: &[Fate],
 ) -> Result<(), Failure> {
-    let destination = Destination {
-        folder: folder_of(order),
-        links: order.links,
-    };
-    for file in report.files {
-        write_in(rt, alloc, destination, file.name(), file.text())?;
-    }
-    let parts = Parts {
-        files: report.files,
-        aliases: project.headers.aliases.as_slice(),
-        is_further: report.is_further,
-    };
-    let script = script_of(alloc, report.programs, parts)?;
-    write_script(rt, alloc, destination, script.as_str())?;
-    write_report(rt, alloc, destination, report)
+    let outputs = outputs_of(alloc, texts)?;
+    folder.write(rt, outputs.as_slice(), fates)
 }
 
 /// The sources, with an empty text for each header that wasn't found, so that what gets it can be read.
@@ -365,7 +373,6 @@ fn with_missing<'s>(
 }
 
 /// What building the new project in memory shows.
-#[derive(Drop)]
 struct Judged {
     programs: Vec<ProjectProgram>,
     /// Why each file doesn't build.
@@ -373,6 +380,17 @@ struct Judged {
     /// Why each program doesn't build.
     unbuilt: Vec<Option<Refusal>>,
     unknown: UnknownNames,
+}
+
+impl Drop for Judged {
+    fn drop(self) {
+        let Judged {
+            programs: _,
+            refusals: _,
+            unbuilt: _,
+            unknown: _,
+        } = self;
+    }
 }
 
 /// The names that nothing declares in these files.
@@ -420,8 +438,8 @@ fn judge(alloc: Global, project: &NewProject<'_>) -> Result<Judged, Memory> {
     judge_under(alloc, project, named)
 }
 
-/// The report on a new project.
-fn report_of<'r>(project: &'r NewProject<'r>, judged: &'r Judged) -> Report<'r> {
+/// The report on a new project, with these lines about files that were edited by hand.
+fn report_of<'r>(project: &'r NewProject<'r>, judged: &'r Judged, edited: &'r str) -> Report<'r> {
     Report {
         dialect: &project.dialect,
         is_further: project.is_further,
@@ -433,6 +451,7 @@ fn report_of<'r>(project: &'r NewProject<'r>, judged: &'r Judged) -> Report<'r> 
         refusals: judged.refusals.as_slice(),
         programs: judged.programs.as_slice(),
         unbuilt: judged.unbuilt.as_slice(),
+        edited,
     }
 }
 
@@ -445,8 +464,21 @@ fn write_project<F: Files, O: Write + Drop>(
     out: &mut O,
 ) -> Result<(), Failure> {
     let judged = judge(alloc, project)?;
-    let report = report_of(project, &judged);
-    write_files(rt, alloc, order, project, &report)?;
+    let files = project.files.as_slice();
+    let parts = Parts {
+        files,
+        aliases: project.headers.aliases.as_slice(),
+        is_further: project.is_further,
+    };
+    let script = script_of(alloc, judged.programs.as_slice(), parts)?;
+    let mut folder = ResultFolder::open(rt, alloc, order, folder_of(order))?;
+    let without_report = Texts::new(files, script.as_str(), "", "");
+    let (fates, edited) = fates_in(rt, alloc, &folder, without_report)?;
+    let report = report_of(project, &judged, edited.as_str());
+    let pages = page_of(alloc, &report)?;
+    let report_text = pages.markdown.as_str();
+    let texts = Texts::new(files, script.as_str(), report_text, pages.html.as_str());
+    write_texts(rt, alloc, &mut folder, texts, fates.as_slice())?;
     print_summary(alloc, &report, folder_of(order), out)?;
     tell_left(alloc, order, &report)
 }

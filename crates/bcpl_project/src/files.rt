@@ -6,7 +6,6 @@ use bcpl_convert::name_of;
 use std::alloc::Global;
 
 /// A section of an old source, which becomes a file.
-#[derive(Drop)]
 pub struct OldFile {
     /// The name of the new file.
     pub name: String,
@@ -18,6 +17,18 @@ pub struct OldFile {
     pub lines_before: usize,
     /// Its text.
     pub text: Vec<u8>,
+}
+
+impl Drop for OldFile {
+    fn drop(self) {
+        let OldFile {
+            name: _,
+            beside: _,
+            source: _,
+            lines_before: _,
+            text: _,
+        } = self;
+    }
 }
 
 /// The signs that open a list of declarations.
@@ -107,7 +118,7 @@ fn beside(alloc: Global, path: &str, name: &str) -> Result<String, Memory> {
 }
 
 /// How many line feeds these bytes have.
-fn count_lines(bytes: &[u8]) -> usize {
+pub fn count_lines(bytes: &[u8]) -> usize {
     bytes.iter().filter(|byte| **byte == b'\n').count()
 }
 

@@ -1,11 +1,14 @@
 //! The folders of a project: the files of the old one, and whether the new one may be written to.
 
 use crate::files::{OldFile, add_sections, is_source};
+use crate::outputs::LIST;
+use crate::texts::as_text;
 use bc_word::Memory;
-use bcpl_cli::{FILE_LIMIT, Failure, contents, is_one_file};
+use bcpl_cli::{FILE_LIMIT, Failure, contents, is_folder, names_in, sorted_names};
 use bcpl_convert::name_of;
+use indexmap::IndexMap;
 use std::alloc::Global;
-use std::io::Read;
+use std::os::unix::fs::MetadataExt;
 use std::rt::Files;
 use std::{fs, str};
 
@@ -29,41 +32,18 @@ pub struct OldProject {
     pub others: Vec<String>,
 }
 
-/// Whether this path leads to a folder.
-fn is_folder<F: Files>(rt: &F, path: &str) -> bool {
-    match fs::metadata(rt, path) {
-        Ok(found) => found.is_dir(),
-        Err(_) => false,
-    }
-}
-
-/// The names in a folder, each ended by a byte 0.
-fn names_in<F: Files>(rt: &F, alloc: Global, folder: &str) -> Result<Vec<u8>, Failure> {
-    let path = format!(in alloc; "{folder}/")?;
-    let mut names = Vec::new(alloc);
-    let mut opened = match rt.open_dir(path.as_str()) {
-        Ok(opened) => opened,
-        Err(error) => return Err(Failure::io(alloc, &error, folder)),
-    };
-    match opened.read_to_end(&mut names) {
-        Ok(_) => Ok(names),
-        Err(error) => Err(Failure::io(alloc, &error, folder)),
-    }
-}
-
-/// The names in a folder that aren't hidden, in order.
-fn sorted_names<'n>(alloc: Global, names: &'n [u8]) -> Result<Vec<&'n str>, Memory> {
-    let mut sorted = Vec::new(alloc);
+/// The names in a folder that aren't hidden, in order. Those that aren't UTF-8 are left out.
+fn sorted_in<'n>(
+    alloc: Global,
+    project: &mut OldProject,
+    names: &'n [u8],
+) -> Result<Vec<&'n str>, Memory> {
     for name in names.split(|byte| *byte == 0) {
-        if let Ok(name) = str::from_utf8(name)
-            && !name.is_empty()
-            && !name.starts_with('.')
-        {
-            sorted.push(name)?;
+        if !name.is_empty() && !name.starts_with(b".") && str::from_utf8(name).is_err() {
+            project.others.push(as_text(alloc, name)?)?;
         }
     }
-    sorted.sort()?;
-    Ok(sorted)
+    sorted_names(alloc, names)
 }
 
 /// Whether this path leads to a file that can be read as a whole.
@@ -103,7 +83,7 @@ fn add_folder<F: Files>(
 ) -> Result<(), Failure> {
     let folder = folder.trim_end_matches('/');
     let names = names_in(rt, alloc, folder)?;
-    for name in &sorted_names(alloc, names.as_slice())? {
+    for name in &sorted_in(alloc, project, names.as_slice())? {
         let path = format!(in alloc; "{folder}/{name}")?;
         add_found(rt, alloc, project, path.as_str())?;
     }
@@ -162,7 +142,7 @@ fn has_report<F: Files>(rt: &F, alloc: Global, folder: &str) -> Result<bool, Fai
     Ok(start.starts_with(TITLE.as_bytes()))
 }
 
-/// Creates the folder of the result. It may exist if it is empty, or has the report of an earlier conversion.
+/// Creates the folder of the result. It may exist if it is empty, or has the list or the report of an earlier conversion.
 ///
 /// # Errors
 ///
@@ -175,14 +155,20 @@ pub fn make_folder<F: Files>(rt: &F, alloc: Global, folder: &str) -> Result<(), 
         };
     }
     let names = names_in(rt, alloc, folder)?;
+    let mut is_used = false;
     for name in names.split(|byte| *byte == 0) {
-        if !matches!(name, b"" | b"." | b"..") && !has_report(rt, alloc, folder)? {
-            return Err(Failure::file_since(
-                alloc,
-                folder,
-                "this folder has files that no conversion wrote; name a new folder, or an empty one",
-            ));
+        if name == LIST.as_bytes() {
+            return Ok(());
         }
+        // A conversion that was killed early leaves only an unfinished list.
+        is_used |= !matches!(name, b"" | b"." | b"..") && !name.starts_with(LIST.as_bytes());
+    }
+    if is_used && !has_report(rt, alloc, folder)? {
+        return Err(Failure::file_since(
+            alloc,
+            folder,
+            "this folder has files that no conversion wrote; name a new folder, or an empty one",
+        ));
     }
     Ok(())
 }
@@ -201,50 +187,27 @@ pub fn path_in(alloc: Global, folder: &str, name: &str) -> Result<String, Memory
     Ok(format!(in alloc; "{folder}/{name}")?)
 }
 
-/// Whether a name is that of the script or a report.
-fn is_reserved(name: &str) -> bool {
-    name == REPORT || name == PAGE || name == SCRIPT
+/// What a path leads to: the device and the inode.
+fn identity<F: Files>(rt: &F, path: &str) -> Option<(u64, u64)> {
+    match fs::metadata(rt, path) {
+        Ok(found) => Some((found.dev(), found.ino())),
+        Err(_) => None,
+    }
 }
 
-/// Refuses to write a new file over another one of these, over an old source, or over the report or the script.
-fn spare_file<F: Files>(
+/// The files of these sources.
+fn identities<F: Files>(
     rt: &F,
     alloc: Global,
-    folder: &str,
     files: &[OldFile],
-    index: usize,
-) -> Result<(), Failure> {
-    let Some(file) = files.get(index) else {
-        return Ok(());
-    };
-    let path = path_in(alloc, folder, file.name.as_str())?;
-    let path = path.as_str();
-    for other in files.get(..index).unwrap_or(&[]) {
-        if other.name.as_str() == file.name.as_str() {
-            return Err(Failure::file_since(
-                alloc,
-                path,
-                "two sources would be written to this file; rename one of them",
-            ));
+) -> Result<IndexMap<(u64, u64), bool>, Memory> {
+    let mut found = IndexMap::new(alloc);
+    for file in files {
+        if let Some(identity) = identity(rt, file.source.as_str()) {
+            found.insert(identity, true)?;
         }
     }
-    for other in files {
-        if is_one_file(rt, path, other.source.as_str()) {
-            return Err(Failure::file_since(
-                alloc,
-                path,
-                "this is a source, which would be lost; name a new folder",
-            ));
-        }
-    }
-    if is_reserved(file.name.as_str()) {
-        return Err(Failure::file_since(
-            alloc,
-            path,
-            "a source has the name of the script or the report; rename it",
-        ));
-    }
-    Ok(())
+    Ok(found)
 }
 
 /// Refuses to write these files to a folder if one would be lost.
@@ -258,8 +221,26 @@ pub fn spare_files<F: Files>(
     folder: &str,
     files: &[OldFile],
 ) -> Result<(), Failure> {
-    for index in 0..files.len() {
-        spare_file(rt, alloc, folder, files, index)?;
+    let sources = identities(rt, alloc, files)?;
+    let mut names = IndexMap::new(alloc);
+    for file in files {
+        let name = file.name.as_str();
+        let path = path_in(alloc, folder, name)?;
+        let is_source = match identity(rt, path.as_str()) {
+            Some(identity) => sources.get(&identity).is_some(),
+            None => false,
+        };
+        let other = names.insert(Vec::from_slice(alloc, name.as_bytes())?, true)?;
+        let reason = if other.is_some() {
+            "two sources would be written to this file; rename one of them"
+        } else if is_source {
+            "this is a source, which would be lost; name a new folder"
+        } else if matches!(name, REPORT | PAGE | SCRIPT | LIST) {
+            "a source has the name of the script, the report or the list of digests; rename it"
+        } else {
+            continue;
+        };
+        return Err(Failure::file_since(alloc, path.as_str(), reason));
     }
     Ok(())
 }

@@ -9,6 +9,7 @@ mod folder;
 mod headers;
 mod new_files;
 mod old_routines;
+mod outputs;
 mod page;
 mod places;
 mod programs;

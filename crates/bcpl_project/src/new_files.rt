@@ -7,7 +7,6 @@ use bc_word::Memory;
 use std::alloc::Global;
 
 /// A file of the result.
-#[derive(Drop)]
 pub struct NewFile {
     pub old: OldFile,
     pub conversion: Conversion,
@@ -17,6 +16,18 @@ pub struct NewFile {
     pub is_header: bool,
     /// Whether it declares the routine START.
     pub has_start: bool,
+}
+
+impl Drop for NewFile {
+    fn drop(self) {
+        let NewFile {
+            old: _,
+            conversion: _,
+            later: _,
+            is_header: _,
+            has_start: _,
+        } = self;
+    }
 }
 
 impl NewFile {

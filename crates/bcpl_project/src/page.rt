@@ -42,10 +42,18 @@ impl Text {
 }
 
 /// A report in both forms. A failed allocation is remembered until the report is finished.
-#[derive(Drop)]
 pub struct Page {
     markdown: Text,
     html: Text,
+}
+
+impl Drop for Page {
+    fn drop(self) {
+        let Page {
+            markdown: _,
+            html: _,
+        } = self;
+    }
 }
 
 /// A finished report in both forms.

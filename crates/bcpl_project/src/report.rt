@@ -1,6 +1,7 @@
 //! The report on a conversion.
 
 use crate::changes::{KINDS, counts_of};
+use crate::files::count_lines;
 use crate::folder::{SCRIPT, TITLE};
 use crate::headers::Missing;
 use crate::new_files::NewFile;
@@ -40,6 +41,8 @@ pub struct Report<'r> {
     pub programs: &'r [ProjectProgram],
     /// Why each program doesn't build; `None` if it does.
     pub unbuilt: &'r [Option<Refusal>],
+    /// The lines about files that were edited by hand.
+    pub edited: &'r str,
 }
 
 /// How much is left to do by hand.
@@ -50,6 +53,8 @@ pub struct Left {
     pub headers: usize,
     /// Files and programs that don't build for a reason that the other lists don't have.
     pub refused: usize,
+    /// Files that were edited by hand, and stay.
+    pub edited: usize,
 }
 
 impl Left {
@@ -59,6 +64,7 @@ impl Left {
         listed
             .saturating_add(self.headers)
             .saturating_add(self.refused)
+            .saturating_add(self.edited)
     }
 }
 
@@ -89,6 +95,7 @@ impl Report<'_> {
             names: self.unknown.len(),
             headers: self.missing.len(),
             refused: files.saturating_add(count_refused(self.unbuilt, true)),
+            edited: count_lines(self.edited.as_bytes()),
         }
     }
 
@@ -236,7 +243,7 @@ fn add_files(alloc: Global, page: &mut Page, report: &Report<'_>) -> Result<(), 
     for other in report.others {
         page.paragraph(&[
             Part::Code(other.as_str()),
-            Part::Text(" doesn't begin as a source does, and was left out."),
+            Part::Text(" isn't taken for a source, and was left out."),
         ]);
     }
     Ok(())
@@ -352,6 +359,9 @@ fn add_left(page: &mut Page, report: &Report<'_>) {
         Part::Number(left.refused),
     ]);
     page.end_table();
+    if left.edited > 0 {
+        page.lines(report.edited);
+    }
     add_missing(page, report);
     add_unknown(page, report);
 }

@@ -9,8 +9,14 @@ use std::alloc::Global;
 /// How the script begins.
 const HEAD: &str = "#!/bin/sh
 # Builds what `bcpl convert --project` wrote here. The variable BCPL names the compiler, by a path from the root; the default is bcpl.
-set -e
-cd \"$(dirname \"$0\")\"
+cd \"$(dirname \"$0\")\" || exit
+unbuilt=
+failed() { unbuilt=\"$unbuilt $1\"; }
+";
+
+/// How the script ends.
+const TAIL: &str =
+    "test -z \"$unbuilt\" || { printf 'build.sh: not built:%s\\n' \"$unbuilt\" >&2; exit 1; }
 ";
 
 /// Adds text between single quotes, in which the shell takes each sign as it is.
@@ -96,6 +102,8 @@ fn add_build(
             add_path(alloc, script, file.name())?;
         }
     }
+    script.push_str(" || failed")?;
+    add_path(alloc, script, text.as_str())?;
     Ok(script.push('\n')?)
 }
 
@@ -113,5 +121,6 @@ pub fn script_of(
     for program in programs {
         add_build(alloc, &mut script, program, parts)?;
     }
+    script.push_str(TAIL)?;
     Ok(script)
 }

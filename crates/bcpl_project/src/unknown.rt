@@ -6,9 +6,9 @@ use crate::programs::LIBRARY;
 use crate::texts::as_text;
 use bc_word::Memory;
 use bcpl_advice::likely_meaning;
+use bcpl_index::unknown_names;
 use bcpl_messages::Named;
 use bcpl_places::{LineCounter, Span};
-use bcpl_warnings::unknown_names;
 use indexmap::IndexMap;
 use std::alloc::Global;
 

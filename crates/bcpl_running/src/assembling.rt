@@ -27,7 +27,7 @@ pub fn assemble<F: Files, O: Write + Drop>(
     out: &mut O,
 ) -> Result<(), Failure> {
     match assembled(rt, alloc, order, explains) {
-        Ok(program) => of_output(alloc, print_image(alloc, &program.image, order.format, out)),
+        Ok(program) => of_output(alloc, print_image(alloc, &program.image, order, out)),
         Err(failure) => Err(failure),
     }
 }

@@ -25,6 +25,7 @@ fn limits_of(order: &DebugOrder<'_>) -> SessionLimits {
     SessionLimits {
         turns: order.turns,
         stops: usize::try_from(order.record).unwrap_or(usize::MAX).max(2),
+        is_strict: order.is_strict,
     }
 }
 

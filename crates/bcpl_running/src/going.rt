@@ -29,7 +29,7 @@ fn run_built<F: Files, R: Read + Drop, O: Write + Drop>(
     };
     Ok(Ran {
         done,
-        high: None,
+        used: String::new(alloc),
         lost: lost_in(alloc, &streams, warns),
     })
 }

@@ -2,7 +2,7 @@
 
 use bc_machine_defs::Image;
 use bc_word::Word;
-use bcpl_cli::ImageFormat;
+use bcpl_cli::{AssembleOrder, ImageFormat};
 use itoa::Buffer;
 use std::alloc::Global;
 use std::io;
@@ -13,6 +13,9 @@ const IN_A_LINE: usize = 8;
 
 /// The number of bytes in a record.
 const IN_A_RECORD: u32 = 16;
+
+/// The address of the first segment. The byte address is a multiple of `IN_A_RECORD`.
+const SEGMENTS: usize = 520;
 
 /// Writes a byte of a record in hexadecimal, and returns the sum of the record's bytes with it, modulo 256.
 fn write_byte<W: Write>(out: &mut W, sum: u8, byte: u8) -> io::Result<u8> {
@@ -94,12 +97,13 @@ fn write_hex<W: Write>(out: &mut W, base: u16, words: &[Word]) -> io::Result<()>
 
 /// Writes a C constant for the base of the stack and an array for the words.
 fn write_c<W: Write>(out: &mut W, base: u16, words: &[Word]) -> io::Result<()> {
+    let count = words.len();
     writeln!(
         out,
         "/* An INTCODE image, made by bcpl asm. The stack begins at stack_base. */"
     )?;
     writeln!(out, "const unsigned short stack_base = {base};")?;
-    writeln!(out, "const unsigned short image[{base}] = {{")?;
+    writeln!(out, "const unsigned short image[{count}] = {{")?;
     for line in words.chunks(IN_A_LINE) {
         for word in line {
             let word = word.get();
@@ -131,9 +135,9 @@ fn write_intel_record<W: Write>(out: &mut W, low: [u8; 2], words: &[Word]) -> io
     writeln!(out, "{check:02X}")
 }
 
-/// Writes the words as Intel HEX.
-fn write_intel<W: Write>(out: &mut W, words: &[Word]) -> io::Result<()> {
-    let mut address: u32 = 0;
+/// Writes the words as Intel HEX, beginning at this address of bytes.
+fn write_intel<W: Write>(out: &mut W, start: u32, words: &[Word]) -> io::Result<()> {
+    let mut address = start;
     for line in words.chunks(IN_A_LINE) {
         let [top, upper, high, low] = address.to_be_bytes();
         if high == 0 && low == 0 && upper > 0 {
@@ -157,11 +161,12 @@ fn write_s_record<W: Write>(out: &mut W, kind: u8, bytes: &[u8], words: &[Word])
     writeln!(out, "{check:02X}")
 }
 
-/// Writes the base of the stack, in the first record, and the words as Motorola S-records.
-fn write_motorola<W: Write>(out: &mut W, base: u16, words: &[Word]) -> io::Result<()> {
+/// Writes the base of the stack, in the first record, and the words as Motorola S-records, beginning at this address of
+/// bytes.
+fn write_motorola<W: Write>(out: &mut W, base: u16, start: u32, words: &[Word]) -> io::Result<()> {
     let [high, low] = base.to_be_bytes();
     write_s_record(out, 0, &[0, 0, high, low], &[])?;
-    let mut address: u32 = 0;
+    let mut address = start;
     for line in words.chunks(IN_A_LINE) {
         let [_, upper, high, low] = address.to_be_bytes();
         write_s_record(out, 2, &[upper, high, low], line)?;
@@ -170,29 +175,32 @@ fn write_motorola<W: Write>(out: &mut W, base: u16, words: &[Word]) -> io::Resul
     write_s_record(out, 8, &[0, 0, 0], &[])
 }
 
-/// Writes the image up to the base of the stack in this format.
-fn write_image<W: Write>(out: &mut W, image: &Image, format: ImageFormat) -> io::Result<()> {
+/// Writes the image up to the base of the stack as ordered.
+fn write_image<W: Write>(out: &mut W, image: &Image, order: &AssembleOrder<'_>) -> io::Result<()> {
     let base = image.stack_base.get();
     let words = &image.words.as_slice()[..usize::from(base)];
-    match format {
+    let first = if order.only_segments { SEGMENTS } else { 0 };
+    let words = words.get(first..).unwrap_or(&[]);
+    let start = (first * 2) as u32;
+    match order.format {
         ImageFormat::Words => write_decimal(out, words),
         ImageFormat::Hex => write_hex(out, base, words),
         ImageFormat::LittleEndian => write_all_binary(out, base, words, false),
         ImageFormat::BigEndian => write_all_binary(out, base, words, true),
-        ImageFormat::IntelHex => write_intel(out, words),
+        ImageFormat::IntelHex => write_intel(out, start, words),
         ImageFormat::CSource => write_c(out, base, words),
-        ImageFormat::Srec => write_motorola(out, base, words),
+        ImageFormat::Srec => write_motorola(out, base, start, words),
     }
 }
 
-/// Prints the image up to the base of the stack in this format.
+/// Prints the image up to the base of the stack as ordered.
 pub fn print_image<O: Write + Drop>(
     alloc: Global,
     image: &Image,
-    format: ImageFormat,
+    order: &AssembleOrder<'_>,
     out: &mut O,
 ) -> io::Result<()> {
     let mut out = BufWriter::new(alloc, out)?;
-    write_image(&mut out, image, format)?;
+    write_image(&mut out, image, order)?;
     out.flush()
 }

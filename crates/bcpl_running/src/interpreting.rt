@@ -46,7 +46,7 @@ pub fn interpret_files<F: Files, R: Read + Drop, O: Write + Drop, E: Write + Dro
     let (run, lost) = interpretation_of(rt, alloc, order, &gathered, console)?;
     Ok(Ran {
         done: result_of(alloc, &gathered.program(), &run, gathered.library),
-        high: None,
+        used: String::new(alloc),
         lost,
     })
 }
@@ -67,13 +67,22 @@ fn print_warnings<'s, E: Write + Drop>(
 }
 
 /// A program that was built, and run by its meaning.
-#[derive(Drop)]
 pub struct Interpretation {
     pub built: Built,
     /// The result of the run.
     pub interpreted: Interpreted,
     /// Whether its streams were closed without error.
     pub is_closed: bool,
+}
+
+impl Drop for Interpretation {
+    fn drop(self) {
+        let Interpretation {
+            built: _,
+            interpreted: _,
+            is_closed: _,
+        } = self;
+    }
 }
 
 /// Builds a program of these files, and prints its warnings. The second part of the console says whether a refusal is explained.

@@ -18,4 +18,3 @@ pub use going::go;
 pub use interpreting::interpret_files;
 pub use lost_output::print_lost;
 pub use running::{Ran, run, run_input};
-pub use watched_run::print_high;

@@ -5,7 +5,7 @@ ghost use Rattle.bc_machine_defs.specs.declared.state.End.TheVariants.{Finished,
 ghost use Rattle.bcpl_cli.specs.Statuses.{unexplained};
 ghost use Rattle.bcpl_cli.specs.declared.failure.Cause.TheVariants as causes;
 
-use crate::watched_run::{RecordFiles, Records, high_of, is_watched, window_of};
+use crate::watched_run::{RecordFiles, Records, is_watched, used_by, window_of};
 use bc_machine::{Machine, Named, StreamsError};
 use bc_machine_defs::End;
 use bc_word::{Memory, Word};
@@ -17,7 +17,7 @@ use bcpl_sources::{
     with_explanation,
 };
 use bcpl_streams::NotedStreams;
-use bcpl_trace::{High, Nowhere, ProfiledProgram, Watch, profile, run_image, run_watched};
+use bcpl_trace::{Nowhere, ProfiledProgram, Watch, profile, run_image, run_watched};
 use std::alloc::Global;
 use std::fs;
 use std::io::{BufReader, BufWriter, Read, Write};
@@ -213,11 +213,11 @@ fn run_linked<R: Read, W: Write>(
     result_of(alloc, setup, &machine, streams, &end)
 }
 
-/// A run that took place: its result, how much of the store it used, if that was recorded, and what it lost, as lines.
+/// A run that took place: its result and, as lines, how much of the store it used, if that is reported, and what it lost.
 #[derive(Drop)]
 pub struct Ran {
     pub done: Result<(), Failure>,
-    pub high: Option<High>,
+    pub used: String,
     pub lost: String,
 }
 
@@ -346,7 +346,7 @@ fn watch_linked<F: Files, R: Read, W: Write>(
     };
     Ok(Ran {
         done: first_failure(done, finish_records(rt, alloc, order, notes, ran)),
-        high: high_of(order, &watch),
+        used: used_by(alloc, order, &watch, image.stack_base.get()),
         lost: lost_in(alloc, streams, setup.explains),
     })
 }
@@ -362,12 +362,8 @@ pub fn streams_of<F: Files, R: Read + Drop, O: Write + Drop>(
     inputs_of: &[Binding<'_>],
     outputs_of: &[Binding<'_>],
 ) -> Result<Streams<R, O, F::File>, Failure> {
-    let RunStreams {
-        input,
-        out,
-        is_terminal,
-        explains: _,
-    } = streams;
+    let is_terminal = streams.is_terminal;
+    let (input, out) = streams.split();
     let inputs = inputs(rt, alloc, input, inputs_of)?;
     let outputs = outputs(rt, alloc, out, is_terminal, outputs_of)?;
     match NotedStreams::new(alloc, inputs, outputs) {
@@ -401,12 +397,8 @@ pub fn run_input<F: Files, R: Read + Drop, O: Write + Drop>(
     alloc: Global,
     streams: RunStreams<R, O>,
 ) -> Result<(), Failure> {
-    let RunStreams {
-        input,
-        out,
-        is_terminal,
-        explains,
-    } = streams;
+    let (is_terminal, explains) = (streams.is_terminal, streams.explains);
+    let (input, out) = streams.split();
     let bytes = standard_text(alloc, input)?;
     let texts = [Text {
         path: "SYSIN",
@@ -463,11 +455,20 @@ fn explain_streams(
 }
 
 /// The texts of a run, the program linked from them, and the notes on its routines.
-#[derive(Drop)]
 struct LoadedTexts {
     files: Vec<TextFile>,
     program: LinkedProgram,
     routines: Vec<Remark>,
+}
+
+impl Drop for LoadedTexts {
+    fn drop(self) {
+        let LoadedTexts {
+            files: _,
+            program: _,
+            routines: _,
+        } = self;
+    }
 }
 
 /// Reads and links the texts of a run, and names its routines if their sources are given. If `explains`, explains a
@@ -543,7 +544,7 @@ fn run_program<F: Files, R: Read + Drop, O: Write + Drop>(
                 let done = run_linked(alloc, setup, &mut streams);
                 Ok(Ran {
                     done,
-                    high: None,
+                    used: String::new(alloc),
                     lost: lost_in(alloc, &streams, setup.explains),
                 })
             }

@@ -111,7 +111,7 @@ pub fn interpret_strictly<F: Files, R: Read + Drop, O: Write + Drop, E: Write + 
     let lost = lost_in(alloc, &streams, warns);
     Ok(Ran {
         done: strict_result(alloc, gathered, built, run, is_closed),
-        high: None,
+        used: String::new(alloc),
         lost,
     })
 }

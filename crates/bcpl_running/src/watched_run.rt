@@ -1,7 +1,7 @@
 //! What `run` records of a run: the trace, the profile, and how much of the store it used.
 
 use bcpl_cli::{AtomicFile, Failure, Links, WatchOrder};
-use bcpl_trace::{High, Watch, Window};
+use bcpl_trace::{Watch, Window, use_lines};
 use std::alloc::Global;
 use std::io::Write;
 use std::rt::Files;
@@ -38,17 +38,16 @@ pub fn is_watched(order: &WatchOrder<'_>) -> bool {
     order.trace.is_some() || order.profile.is_some() || order.high
 }
 
-/// How much of the store a recorded run used, if that is to be reported.
-pub fn high_of(order: &WatchOrder<'_>, watch: &Watch) -> Option<High> {
-    order.high.then_some(watch.high())
-}
-
-/// Prints how much of the store a run used. Errors are ignored: there is nowhere to report them.
-pub fn print_high<E: Write + Drop>(high: High, err: &mut E) {
-    let cell = high.cell;
-    let frame = high.frame;
-    let _ = writeln!(err, "bcpl: high {cell} {frame}");
-    let _ = err.flush();
+/// How much of the store a recorded run used, as lines; empty if that is not to be reported, or if memory runs out.
+/// `base` is where the stack began.
+pub fn used_by(alloc: Global, order: &WatchOrder<'_>, watch: &Watch, base: u16) -> String {
+    if !order.high {
+        return String::new(alloc);
+    }
+    match use_lines(alloc, watch, base) {
+        Ok(lines) => lines,
+        Err(_) => String::new(alloc),
+    }
 }
 
 /// Begins a file, if there is a path.

@@ -8,10 +8,11 @@ use bcpl_advice::{
     likely_meaning,
 };
 use bcpl_cli::BuildLine;
+use bcpl_index::unknown_names;
 use bcpl_messages::{Message, Named, Note, message_lines, message_of, shown};
 use bcpl_places::Span;
 use bcpl_reports::{Label, Severity, message_line, text_objects};
-use bcpl_warnings::{all_warnings, likely_starts, unknown_names, warning_lines};
+use bcpl_warnings::{all_warnings, likely_starts, warning_lines};
 use std::alloc::Global;
 
 /// The largest number of refused files that are explained, unless all are.

@@ -24,7 +24,6 @@ use std::rt::Files as Access;
 
 /// What the compiler knows of a main: its source and segment indexes, and its trees. It is never dropped, because the
 /// process is about to end.
-#[derive(Drop)]
 pub struct Front<'s> {
     main: usize,
     /// The index of its segment.
@@ -35,6 +34,18 @@ pub struct Front<'s> {
     pub section: Section<'s>,
     /// Its core form.
     pub core: Core,
+}
+
+impl Drop for Front<'_> {
+    fn drop(self) {
+        let Front {
+            main: _,
+            segment: _,
+            tokens: _,
+            section: _,
+            core: _,
+        } = self;
+    }
 }
 
 /// The tokens of a main. The program was built before, so only `Memory` can be the failure.

@@ -18,7 +18,6 @@ use std::mem::forget;
 use std::rt::Files as Access;
 
 /// A note on an entry of a certificate or on a routine, and the item where it begins.
-#[derive(Drop)]
 pub struct Remark {
     /// The index of the segment; 0 is the primitives.
     pub segment: usize,
@@ -26,6 +25,16 @@ pub struct Remark {
     pub item: usize,
     /// What is said.
     pub text: String,
+}
+
+impl Drop for Remark {
+    fn drop(self) {
+        let Remark {
+            segment: _,
+            item: _,
+            text: _,
+        } = self;
+    }
 }
 
 /// Whether two segments have the same items.

@@ -156,7 +156,6 @@ fn paths_of<'s>(
 }
 
 /// The sources of a program in the compiler's order, and which of them are mains.
-#[derive(Drop)]
 pub struct Gathered<'a, 's> {
     sources: Vec<Source<'s>>,
     /// The path of each source.
@@ -172,6 +171,20 @@ pub struct Gathered<'a, 's> {
     /// The index of the last file of the command line.
     pub last: usize,
     ghost within: { All (λ main. main < vec_len sources) mains.items },
+}
+
+impl Drop for Gathered<'_, '_> {
+    fn drop(self) {
+        let Gathered {
+            sources: _,
+            paths: _,
+            mains: _,
+            library: _,
+            is_json: _,
+            explains_all: _,
+            last: _,
+        } = self;
+    }
 }
 
 impl<'s> Gathered<'s, 's> {

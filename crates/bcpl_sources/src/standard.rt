@@ -34,7 +34,6 @@ pub struct Standard<'a, R: Read + Drop, O: Write + Drop, E: Write + Drop> {
 }
 
 /// The standard streams of a command.
-#[derive(Drop)]
 pub struct Console<R: Read + Drop, O: Write + Drop, E: Write + Drop> {
     /// Standard input.
     pub input: R,
@@ -48,8 +47,19 @@ pub struct Console<R: Read + Drop, O: Write + Drop, E: Write + Drop> {
     pub explains: bool,
 }
 
+impl<R: Read + Drop, O: Write + Drop, E: Write + Drop> Drop for Console<R, O, E> {
+    fn drop(self) {
+        let Console {
+            input: _,
+            out: _,
+            err: _,
+            terminals: _,
+            explains: _,
+        } = self;
+    }
+}
+
 /// Standard input and output for a run, whether the output is a terminal, and whether refusals are explained.
-#[derive(Drop)]
 pub struct RunStreams<R: Read + Drop, O: Write + Drop> {
     /// Standard input.
     pub input: R,
@@ -59,6 +69,17 @@ pub struct RunStreams<R: Read + Drop, O: Write + Drop> {
     pub is_terminal: bool,
     /// Whether refusals are explained after their first line.
     pub explains: bool,
+}
+
+impl<R: Read + Drop, O: Write + Drop> Drop for RunStreams<R, O> {
+    fn drop(self) {
+        let RunStreams {
+            input: _,
+            out: _,
+            is_terminal: _,
+            explains: _,
+        } = self;
+    }
 }
 
 /// The standard streams of a run from sources, and the stream for warnings.
@@ -101,24 +122,38 @@ impl<R: Read + Drop, O: Write + Drop, E: Write + Drop> Console<R, O, E> {
         }
     }
 
-    /// Splits the streams into standard input, standard output as a run sees it, and standard error.
-    pub fn split(self) -> (R, RunOutput<O>, Clean<E>) {
+    /// Standard input, output and error.
+    pub fn streams(self) -> (R, O, Clean<E>) {
         let Console {
             input,
             out,
             err,
-            terminals,
+            terminals: _,
             explains: _,
         } = self;
-        (
-            input,
-            RunOutput::new(out, terminals.out && terminals.err),
-            err,
-        )
+        (input, out, err)
+    }
+
+    /// Standard input, standard output as a run sees it, and standard error.
+    pub fn split(self) -> (R, RunOutput<O>, Clean<E>) {
+        let is_shared = self.terminals.out && self.terminals.err;
+        let (input, out, err) = self.streams();
+        (input, RunOutput::new(out, is_shared), err)
     }
 }
 
 impl<R: Read + Drop, O: Write + Drop> RunStreams<R, O> {
+    /// Standard input and output.
+    pub fn split(self) -> (R, O) {
+        let RunStreams {
+            input,
+            out,
+            is_terminal: _,
+            explains: _,
+        } = self;
+        (input, out)
+    }
+
     /// These streams, with standard input as a device of a run.
     pub fn on_source<F: Read + Drop>(self) -> RunStreams<Source<R, F>, O> {
         let RunStreams {

@@ -33,12 +33,17 @@ pub fn or_memory_failure<T: Drop>(found: Result<T, Memory>) -> Result<T, Failure
 }
 
 /// The content of a file with a text.
-#[derive(Drop)]
 pub struct TextFile {
     /// The path as messages show it.
     shown: String,
     /// Its content.
     bytes: Vec<u8>,
+}
+
+impl Drop for TextFile {
+    fn drop(self) {
+        let TextFile { shown: _, bytes: _ } = self;
+    }
 }
 
 /// Reads the file with this path.
@@ -197,12 +202,20 @@ pub fn segments_of(
 }
 
 /// A linked program: its segments, beginning with the primitives, and its image.
-#[derive(Drop)]
 pub struct LinkedProgram {
     /// The segments; the first one is the primitives.
     pub segments: Vec<Segment>,
     /// What they were linked to.
     pub image: Image,
+}
+
+impl Drop for LinkedProgram {
+    fn drop(self) {
+        let LinkedProgram {
+            segments: _,
+            image: _,
+        } = self;
+    }
 }
 
 /// The failure of texts that can't be linked.

@@ -93,11 +93,20 @@ impl SideNotes {
 /// is selected, as after FINDINPUT or FINDOUTPUT gave 0, and what it reads or writes after the stream was ended.
 ///
 /// As streams they are those over the readers and writers. The notes change nothing.
-#[derive(Drop)]
 pub struct NotedStreams<R, W> {
     streams: FileStreams<R, W>,
     input: SideNotes,
     output: SideNotes,
+}
+
+impl<R: Drop, W: Drop> Drop for NotedStreams<R, W> {
+    fn drop(self) {
+        let NotedStreams {
+            streams: _,
+            input: _,
+            output: _,
+        } = self;
+    }
 }
 
 impl<R: Read, W: Write> NotedStreams<R, W> {

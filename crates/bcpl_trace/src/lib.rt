@@ -11,12 +11,13 @@ mod nowhere;
 mod profiling;
 mod running;
 mod watch;
+mod written;
 
 pub use change::Change;
-pub use high::High;
 pub use image_run::run_image;
 pub use names::NamedRoutine;
 pub use nowhere::Nowhere;
 pub use profiling::{ProfiledProgram, profile};
 pub use running::run_watched;
 pub use watch::{Watch, Window};
+pub use written::use_lines;

@@ -3,6 +3,7 @@
 use crate::change::{Change, cell, change_of};
 use crate::counts::Counts;
 use crate::high::{High, highest_of};
+use crate::written::Written;
 use bc_machine::Machine;
 use bc_machine_defs::End;
 use bc_word::{Memory, Word};
@@ -44,7 +45,6 @@ pub struct Seen {
 
 /// The records of a run: the trace, which is written as the run goes on, the count of each instruction, and how much of
 /// the store was used.
-#[derive(Drop)]
 pub struct Watch {
     alloc: Global,
     window: Option<Window>,
@@ -52,8 +52,23 @@ pub struct Watch {
     number: u64,
     counts: Counts,
     high: High,
+    written: Written,
     /// Whether every line of the trace was written.
     is_whole: bool,
+}
+
+impl Drop for Watch {
+    fn drop(self) {
+        let Watch {
+            alloc: _,
+            window: _,
+            number: _,
+            counts: _,
+            high: _,
+            written: _,
+            is_whole: _,
+        } = self;
+    }
 }
 
 /// What a trace says about the end of a run at an instruction.
@@ -109,6 +124,7 @@ impl Watch {
             number: 0,
             counts: Counts::new(alloc)?,
             high: High::new(),
+            written: Written::new(alloc)?,
             is_whole: true,
         })
     }
@@ -126,6 +142,11 @@ impl Watch {
     /// How much of the store was used.
     pub fn high(&self) -> High {
         self.high
+    }
+
+    /// The cells that were written.
+    pub fn written(&self) -> &Written {
+        &self.written
     }
 
     /// Whether every line of the trace was written.
@@ -186,6 +207,7 @@ impl Watch {
         self.counts.add_time(seen.address);
         let frame = machine.registers().p;
         self.high = self.high.with(seen.highest, seen.change, frame);
+        self.written.add(seen.change);
         if seen.word.get() / OF_A_FUNCTION == CALL {
             self.counts.add_call(machine.address().get());
         }

@@ -1,9 +1,7 @@
 //! Warnings on the address of a local that is used when the local is gone.
 
-use crate::kind::Kind;
 use crate::known::Known;
-use crate::names::Sort;
-use crate::node::Form;
+use bcpl_index::{Form, Kind, Sort};
 use bcpl_messages::Draft;
 
 /// The declaration whose address an expression is, if that is of a routine's frame.

@@ -1,13 +1,11 @@
 //! Warnings on arithmetic that gives another number than meant: products that don't fit into a word, quotients that drop
 //! their fraction, and characters that are taken for the digits that they show.
 
-use crate::kind::Kind;
 use crate::kinds::is_relation;
 use crate::known::Known;
-use crate::names::Sort;
-use crate::node::Form;
 use bc_parse_tree::BinaryOp;
 use bc_word::Word;
+use bcpl_index::{Form, Kind, Sort};
 use bcpl_messages::{Draft, Fill};
 
 /// A word as a signed number.

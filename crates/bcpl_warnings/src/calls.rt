@@ -1,12 +1,9 @@
 //! Warnings on calls: arguments of another kind than the library takes, and too many or too few of them.
 
-use crate::kind::{Fact, Kind};
 use crate::known::Known;
-use crate::names::{Declared, Sort};
-use crate::node::Form;
-use crate::signatures::{Wanted, signature_of};
 use bc_parse_tree::BinaryOp;
 use bc_word::Word;
+use bcpl_index::{Declared, Fact, Form, Kind, Sort, Wanted, signature_of};
 use bcpl_messages::{Draft, Fill};
 
 /// Whether what is known of an argument doesn't fit what is wanted.

@@ -2,14 +2,12 @@
 
 use crate::calls::{large, only_character, say_signed, warns_of_large};
 use crate::habits::warns_of_end;
-use crate::kind::Kind;
 use crate::kinds::is_relation;
 use crate::known::{Known, sign_of};
-use crate::names::Sort;
-use crate::node::Form;
 use crate::ranges::warns_of_range;
 use crate::relations::warns_of_equality;
 use bc_parse_tree::{BinaryOp, UnaryOp};
+use bcpl_index::{Form, Kind, Sort};
 use bcpl_messages::{Draft, Fill};
 
 /// The operator of a relation; `None` if the node isn't one.

@@ -1,9 +1,8 @@
 //! Warnings on a variable of a routine that is meant to keep its value from call to call.
 
 use crate::known::Known;
-use crate::names::{Declared, Sort};
-use crate::node::Form;
 use bc_parse_tree::BinaryOp;
+use bcpl_index::{Declared, Form, Sort};
 use bcpl_messages::{Draft, Fill};
 
 /// Whether a block is the body of a routine or the VALOF of a function, other than START.

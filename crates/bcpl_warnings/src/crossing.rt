@@ -1,7 +1,7 @@
 //! Warnings on an assignment to several variables that is meant to happen at once, as in Python.
 
 use crate::known::Known;
-use crate::node::Form;
+use bcpl_index::Form;
 use bcpl_messages::Draft;
 
 /// Whether a node uses the variable with this index.

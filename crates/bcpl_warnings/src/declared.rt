@@ -1,11 +1,13 @@
 //! All declarations of a main, found by scanning its tokens. Warnings look names up here.
 
-use crate::interned::Interned;
 use crate::routines::{is_command_declared, is_defined, is_library_command};
-use crate::tokens::{begins_command, is_after, is_at, name_at, symbol_at, symbol_before};
+use crate::tokens::{
+    begins_command, closes_at, is_after, is_at, name_at, opens_at, symbol_at, symbol_before,
+};
 use crate::uses::Uses;
 use bc_lex_tokens::{Symbol, Token, TokenKind};
 use bc_word::Memory;
+use bcpl_index::Interned;
 use indexmap::IndexMap;
 use std::alloc::Global;
 
@@ -399,7 +401,30 @@ impl<'s> Declarations<'s> {
             if is_at(tokens, at, Symbol::CloseBracket) {
                 break;
             }
-            if self.uses_at(at).is_addressed {
+            if self.uses_at(at).is_addressed && self.is_addressed_in(tokens, routine, at) {
+                return true;
+            }
+        }
+        false
+    }
+
+    /// Whether the routine that is declared at this index takes the address of a variable with the name at `named`.
+    fn is_addressed_in(&self, tokens: &[Token<'_>], routine: usize, named: usize) -> bool {
+        let name = self.interned.number_at(named);
+        let mut depth: usize = 0;
+        for at in routine..tokens.len() {
+            let is_closed = closes_at(tokens, at);
+            let is_next = is_at(tokens, at, Symbol::Let) || is_at(tokens, at, Symbol::And);
+            if depth == 0 && (is_closed || is_next) {
+                return false;
+            }
+            if opens_at(tokens, at) {
+                depth = depth.saturating_add(1);
+            } else if is_closed {
+                depth = depth.saturating_sub(1);
+            } else if is_at(tokens, at, Symbol::AddressOf)
+                && self.interned.number_at(at.saturating_add(1)) == name
+            {
                 return true;
             }
         }

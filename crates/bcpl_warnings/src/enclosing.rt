@@ -1,14 +1,11 @@
 //! The loop around a place where a run used up its turns, and what its condition depends on.
 
-use crate::interned::Interned;
-use crate::names::{Names, Sort};
-use crate::node::Form;
-use crate::tree::Tree;
 use bc_lex::{Source, lex};
 use bc_lex_tokens::Token;
 use bc_parse::parse;
 use bc_parse_tree::{BinaryOp, Section, UnaryOp};
 use bc_word::Memory;
+use bcpl_index::{Form, Interned, Names, Sort, Tree};
 use bcpl_messages::{Note, shown};
 use bcpl_places::Span;
 use std::alloc::Global;

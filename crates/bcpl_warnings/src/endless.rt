@@ -2,8 +2,7 @@
 
 use crate::enclosing::{condition_of, condition_terms, listed};
 use crate::known::Known;
-use crate::names::Sort;
-use crate::node::Form;
+use bcpl_index::{Form, Sort};
 use bcpl_messages::{Draft, Fill};
 
 /// Whether a called expression is a routine of the library that returns.

@@ -1,9 +1,7 @@
 //! Warnings on commands after a call of a routine that ends the run by FINISH.
 
 use crate::known::Known;
-use crate::names::Sort;
-use crate::node::Form;
-use crate::tree::Tree;
+use bcpl_index::{Form, Sort, Tree};
 use bcpl_messages::{Draft, Fill};
 use bcpl_places::Span;
 

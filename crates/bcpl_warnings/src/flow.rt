@@ -2,16 +2,18 @@
 //! reached from the one before.
 
 use crate::kinds::Kinds;
-use crate::names::Sort;
-use crate::node::Form;
-use crate::tree::Tree;
 use bc_word::Memory;
+use bcpl_index::{Form, Sort, Tree};
 use std::alloc::Global;
+
+/// How many indexes of an ascending list are before this one.
+fn count_before(list: &[usize], from: usize) -> usize {
+    list.partition_point(|at| *at < from)
+}
 
 /// Whether an ascending list has an index from the first to before the second.
 fn has_between(list: &[usize], from: usize, to: usize) -> bool {
-    let first = list.partition_point(|at| *at < from);
-    match list.get(first) {
+    match list.get(count_before(list, from)) {
         Some(at) => *at < to,
         None => false,
     }
@@ -20,11 +22,34 @@ fn has_between(list: &[usize], from: usize, to: usize) -> bool {
 /// Which of the SWITCHONs a node is, if it is one.
 fn switch_at(tree: &Tree<'_>, at: usize) -> Option<usize> {
     let switches = &tree.marks().switches;
-    let found = switches.partition_point(|switch| *switch < at);
+    let found = count_before(switches.as_slice(), at);
     match switches.get(found) {
         Some(switch) if *switch == at => Some(found),
         _ => None,
     }
+}
+
+/// Whether a BREAK, LOOP or ENDCASE in a loop or SWITCHON belongs to it, and not to an inner one.
+fn belongs(tree: &Tree<'_>, leaving: usize, at: usize) -> bool {
+    let is_case = matches!(tree.form(leaving), Form::EndCase);
+    let mut node = leaving;
+    for _ in at..leaving {
+        node = tree.parent(node);
+        let is_owner = match tree.form(node) {
+            Form::SwitchOn => is_case,
+            Form::Repeat
+            | Form::RepeatWhile
+            | Form::RepeatUntil
+            | Form::While
+            | Form::Until
+            | Form::For => !is_case,
+            _ => false,
+        };
+        if is_owner {
+            break;
+        }
+    }
+    node == at
 }
 
 /// What is known of the list of a SWITCHON.
@@ -97,9 +122,23 @@ impl Flow {
         }
     }
 
-    /// Whether a node contains a BREAK or ENDCASE.
-    fn has_break(&self, tree: &Tree<'_>, at: usize) -> bool {
-        has_between(tree.marks().breaks.as_slice(), at, tree.end(at))
+    /// Whether a BREAK or ENDCASE leaves this loop or SWITCHON, or a LOOP goes to the test at its end.
+    fn is_left(&self, tree: &Tree<'_>, at: usize) -> bool {
+        let breaks = tree.marks().breaks.as_slice();
+        let has_test = matches!(tree.form(at), Form::RepeatWhile | Form::RepeatUntil);
+        for number in count_before(breaks, at)..breaks.len() {
+            let Some(leaving) = breaks.get(number) else {
+                return false;
+            };
+            if *leaving >= tree.end(at) {
+                return false;
+            }
+            let may_leave = has_test || !matches!(tree.form(*leaving), Form::Loop);
+            if may_leave && belongs(tree, *leaving, at) {
+                return true;
+            }
+        }
+        false
     }
 
     /// Whether a node contains a jump out of it.
@@ -206,15 +245,21 @@ impl Flow {
             Form::Do => returns(tree, kinds, tree.first(tree.first(at))),
             Form::Block => self.is_reached(at),
             Form::Test => self.is_reached(tree.second(at)) || self.is_reached(tree.third(at)),
-            Form::Repeat => self.has_break(tree, at),
+            Form::Repeat => self.is_left(tree, at),
+            Form::RepeatWhile | Form::RepeatUntil => {
+                let body = tree.first(at);
+                !matches!(tree.form(body), Form::Block)
+                    || self.is_reached(body)
+                    || self.is_left(tree, at)
+            }
             Form::While => {
-                !matches!(tree.form(tree.first(at)), Form::True) || self.has_break(tree, at)
+                !matches!(tree.form(tree.first(at)), Form::True) || self.is_left(tree, at)
             }
             Form::Until => {
-                !matches!(tree.form(tree.first(at)), Form::False) || self.has_break(tree, at)
+                !matches!(tree.form(tree.first(at)), Form::False) || self.is_left(tree, at)
             }
             Form::SwitchOn => {
-                !self.cases(tree, at).has_default || self.is_reached(at) || self.has_break(tree, at)
+                !self.cases(tree, at).has_default || self.is_reached(at) || self.is_left(tree, at)
             }
             _ => true,
         }

@@ -3,10 +3,8 @@
 
 use crate::calls::{arguments, help_on, is_other, name_of};
 use crate::known::Known;
-use crate::names::Sort;
-use crate::node::Form;
-use crate::signatures::Wanted;
 use bc_word::Memory;
+use bcpl_index::{Form, Sort, Wanted};
 use bcpl_messages::{Draft, Fill};
 use std::alloc::Global;
 

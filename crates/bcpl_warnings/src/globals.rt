@@ -123,7 +123,9 @@ pub fn library_global<'s>(
     }
     let number = declared_number(tokens, declarations, index)?;
     let known = known_name(declarations, library, number)?;
-    if known == name {
+    let dot = name.len().saturating_sub(known.len().saturating_add(1));
+    // a name such as OLD.RDCH for RDCH is given on purpose
+    if known == name || name.ends_with(known) && name.get(dot) == Some(&b'.') {
         None
     } else {
         Some((number, known))

@@ -1,11 +1,8 @@
 //! Warnings on habits from other languages: BREAK at the end of each CASE, strings that begin at 0, and functions that are
 //! called for nothing.
 
-use crate::kind::Kind;
 use crate::known::Known;
-use crate::names::Sort;
-use crate::node::Form;
-use crate::tree::Tree;
+use bcpl_index::{Form, Kind, Sort, Tree};
 use bcpl_messages::Draft;
 
 /// Whether a node is a BREAK after the commands of a CASE in the SWITCHON `switch`.

@@ -2,9 +2,8 @@
 //! a routine that changes only its own parameters.
 
 use crate::known::Known;
-use crate::names::{Declared, Sort};
-use crate::node::Form;
 use bc_parse_tree::BinaryOp;
+use bcpl_index::{Declared, Form, Sort};
 use bcpl_messages::{Draft, Fill};
 use bcpl_places::Span;
 

@@ -1,13 +1,10 @@
 //! What each expression is, found from its parts and from what its names were given. Two passes are made: the second
 //! one knows what the first one met of variables that are assigned, and of parameters.
 
-use crate::kind::{Fact, Kind};
-use crate::names::{Declared, Names, Sort};
-use crate::node::Form;
-use crate::tree::Tree;
 use bc_parse_tree::{BinaryOp, Storage, UnaryOp};
 use bc_scope_names::operator;
 use bc_word::{Memory, Word, apply};
+use bcpl_index::{Declared, Fact, Form, Kind, Names, Sort, Tree};
 use std::alloc::Global;
 
 /// What is known of the nodes of a section.

@@ -2,11 +2,9 @@
 
 use crate::flow::Flow;
 use crate::kinds::Kinds;
-use crate::names::Sort;
-use crate::node::Form;
-use crate::tree::Tree;
 use bc_lex::Source;
 use bc_parse_tree::{BinaryOp, UnaryOp};
+use bcpl_index::{Form, Sort, Tree};
 use bcpl_messages::{Draft, Fill};
 
 /// A main, and what was found out about it.

@@ -3,9 +3,8 @@
 use crate::habits::is_library_call;
 use crate::known::Known;
 use crate::loops::counting_of;
-use crate::names::{Declared, Sort};
-use crate::node::Form;
 use bc_parse_tree::BinaryOp;
+use bcpl_index::{Declared, Form, Sort};
 use bcpl_messages::Draft;
 
 /// How many nodes after a vector's declaration are searched.

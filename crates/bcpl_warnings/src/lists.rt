@@ -2,8 +2,7 @@
 
 use crate::flow::Cases;
 use crate::known::Known;
-use crate::node::Form;
-use crate::tree::Tree;
+use bcpl_index::{Form, Tree};
 use bcpl_messages::Draft;
 use bcpl_places::Span;
 

@@ -2,11 +2,9 @@
 
 use crate::calls::{is_negative, warns_of_large};
 use crate::habits::is_library_call;
-use crate::kind::Kind;
 use crate::known::Known;
-use crate::names::Sort;
-use crate::node::Form;
 use bc_word::Word;
+use bcpl_index::{Form, Kind, Sort};
 use bcpl_messages::Draft;
 
 /// The numbers of a FOR.

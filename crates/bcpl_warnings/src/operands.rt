@@ -2,8 +2,8 @@
 
 use crate::conditions::relation_at;
 use crate::known::{Known, sign_of};
-use crate::node::Form;
 use bc_parse_tree::{BinaryOp, UnaryOp};
+use bcpl_index::Form;
 use bcpl_messages::{Draft, Fill};
 
 /// The operator of a relation without parentheses of its own; `None` if the node isn't one.

@@ -1,9 +1,8 @@
 //! Warnings on variables that are used in their own initial values, where they have no value yet.
 
 use crate::known::Known;
-use crate::names::Declared;
-use crate::node::Form;
 use bc_parse_tree::UnaryOp;
+use bcpl_index::{Declared, Form};
 use bcpl_messages::{Draft, Fill};
 use bcpl_places::Span;
 

@@ -1,10 +1,8 @@
 //! Warnings on vectors that are written as strings, but have one character in each word.
 
-use crate::kind::Kind;
 use crate::known::Known;
-use crate::names::{Declared, Sort};
-use crate::node::Form;
 use bc_parse_tree::BinaryOp;
+use bcpl_index::{Declared, Form, Kind, Sort};
 use bcpl_messages::{Draft, Fill};
 
 /// How many nodes after a vector's declaration are searched.

@@ -2,9 +2,8 @@
 //! because it hides a routine.
 
 use crate::known::Known;
-use crate::names::{Declared, Sort};
-use crate::node::Form;
 use bc_parse_tree::{BinaryOp, UnaryOp};
+use bcpl_index::{Declared, Form, Sort};
 use bcpl_messages::Draft;
 use bcpl_places::Span;
 

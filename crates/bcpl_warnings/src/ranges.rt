@@ -2,8 +2,8 @@
 
 use crate::arithmetic::signed;
 use crate::known::Known;
-use crate::node::Form;
 use bc_parse_tree::BinaryOp;
+use bcpl_index::Form;
 use bcpl_messages::{Draft, Fill};
 
 /// What a relation of a variable to a number allows: the numbers from a limit on, or those up to one.

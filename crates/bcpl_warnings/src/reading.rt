@@ -4,9 +4,8 @@
 use crate::enclosing::condition_of;
 use crate::habits::{is_library_call, reads_character};
 use crate::known::Known;
-use crate::node::Form;
-use crate::tree::Tree;
 use bc_parse_tree::BinaryOp;
+use bcpl_index::{Form, Tree};
 use bcpl_messages::Draft;
 
 /// The name of what RDCH returns at the end of the input.

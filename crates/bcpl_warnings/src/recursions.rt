@@ -1,7 +1,7 @@
 //! Warnings on routines each call of which calls the same routine again.
 
 use crate::known::Known;
-use crate::names::Sort;
+use bcpl_index::Sort;
 use bcpl_messages::Draft;
 
 /// Warns of a call that its own routine makes whenever it is called. Returns whether it is one.

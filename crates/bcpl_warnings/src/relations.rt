@@ -5,10 +5,8 @@
 use crate::calls::is_negative;
 use crate::habits::is_library_call;
 use crate::known::Known;
-use crate::names::{Declared, Sort};
-use crate::node::Form;
-use crate::tree::Tree;
 use bc_parse_tree::BinaryOp;
+use bcpl_index::{Declared, Form, Sort, Tree};
 use bcpl_messages::{Draft, Fill};
 
 /// Warns of `(CH = RDCH()) ~= ENDSTREAMCH`. Returns whether it is one.

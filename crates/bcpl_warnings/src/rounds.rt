@@ -2,8 +2,7 @@
 
 use crate::finishing::last_command;
 use crate::known::Known;
-use crate::node::Form;
-use crate::tree::Tree;
+use bcpl_index::{Form, Tree};
 use bcpl_messages::Draft;
 
 /// The block of a FOR, WHILE or UNTIL.

@@ -18,7 +18,7 @@ const LIBRARY: [&[u8]; 10] = [
 ];
 
 /// The index of the parenthesis that closes the one with this index.
-fn closing(tokens: &[Token<'_>], open: usize) -> Option<usize> {
+pub fn closing(tokens: &[Token<'_>], open: usize) -> Option<usize> {
     let mut depth: usize = 0;
     for index in open..tokens.len() {
         if is_at(tokens, index, Symbol::OpenBracket) {

@@ -1,5 +1,6 @@
 //! Warnings: lines that are read otherwise than they look.
 
+use crate::routines::closing;
 use crate::tokens::{can_end, is_after, is_at, is_line_start, is_separated, name_at, symbol_at};
 use bc_lex::Source;
 use bc_lex_tokens::{Symbol, Token};
@@ -49,6 +50,21 @@ fn first_after_bracket(tokens: &[Token<'_>], index: usize) -> usize {
     }
 }
 
+/// The same, after the last section bracket or label up to there.
+fn command_start(tokens: &[Token<'_>], index: usize) -> usize {
+    let mut at = index;
+    for _ in 0..index {
+        if is_line_start(tokens, at)
+            || is_after(tokens, at, Symbol::OpenSection)
+            || is_after(tokens, at, Symbol::Colon)
+        {
+            break;
+        }
+        at = at.saturating_sub(1);
+    }
+    at
+}
+
 /// Whether the line of the token with this index begins with an operator, so that it continues the line before.
 fn is_continued(tokens: &[Token<'_>], index: usize) -> bool {
     matches!(
@@ -75,6 +91,28 @@ fn is_assigned_on_line(tokens: &[Token<'_>], index: usize) -> bool {
     false
 }
 
+/// Whether the parenthesis at this index begins a call of a value, as in `(V!0)(X)`.
+fn is_value_called(tokens: &[Token<'_>], index: usize) -> bool {
+    let Some(close) = closing(tokens, index) else {
+        return false;
+    };
+    let next = close.saturating_add(1);
+    is_at(tokens, next, Symbol::OpenBracket) && !is_line_start(tokens, next)
+}
+
+/// Whether what begins at `start` and ends before this index is the head of a loop or choice whose DO is omitted.
+fn is_bare_head(tokens: &[Token<'_>], start: usize, index: usize) -> bool {
+    if !begins_head(tokens, start) || is_at(tokens, start, Symbol::Else) {
+        return false;
+    }
+    for at in start..index {
+        if is_at(tokens, at, Symbol::Do) {
+            return false;
+        }
+    }
+    true
+}
+
 /// How the line that begins at this index looks, if it is read otherwise.
 pub fn misread(sources: &[Source<'_>], tokens: &[Token<'_>], index: usize) -> Option<Looks> {
     if index == 0 || !is_line_start(tokens, index) || !can_end(tokens, index - 1) {
@@ -86,15 +124,18 @@ pub fn misread(sources: &[Source<'_>], tokens: &[Token<'_>], index: usize) -> Op
     if !is_bracket && !is_sign && !is_minus {
         return None;
     }
-    let before = indented(sources, tokens, first_after_bracket(tokens, index - 1));
     let own = indented(sources, tokens, index);
     if is_minus {
+        let before = indented(sources, tokens, first_after_bracket(tokens, index - 1));
         if own <= before && !is_continued(tokens, index - 1) {
-            Some(Looks::Apart)
-        } else {
-            None
+            return Some(Looks::Apart);
         }
-    } else if own > before || is_bracket && !is_assigned_on_line(tokens, index) {
+        return None;
+    }
+    let start = command_start(tokens, index - 1);
+    let is_together = own > indented(sources, tokens, start)
+        || is_bracket && !is_assigned_on_line(tokens, index) && !is_value_called(tokens, index);
+    if is_together && !is_bare_head(tokens, start, index) {
         Some(Looks::Together)
     } else {
         None
@@ -152,7 +193,7 @@ pub fn seeming_head<'s>(
     if name_at(tokens, body).is_none() || !ends_head(tokens, sign) {
         return None;
     }
-    let head = first_after_bracket(tokens, sign);
+    let head = command_start(tokens, sign);
     let own = indented(sources, tokens, index);
     let is_below = own == indented(sources, tokens, body) && own > indented(sources, tokens, head);
     if is_below && begins_head(tokens, head) {

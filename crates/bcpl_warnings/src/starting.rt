@@ -4,10 +4,9 @@ use crate::arithmetic::signed;
 use crate::hiding::is_read_from;
 use crate::kinds::{is_relation, value_of};
 use crate::known::Known;
-use crate::names::Sort;
-use crate::node::Form;
 use bc_parse_tree::BinaryOp;
 use bc_word::Word;
+use bcpl_index::{Form, Sort};
 use bcpl_messages::{Draft, Fill};
 
 /// How many nodes between a declaration and a loop are searched.

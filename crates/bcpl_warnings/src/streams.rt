@@ -3,7 +3,7 @@
 use crate::habits::is_library_call;
 use crate::hiding::is_read_from;
 use crate::known::Known;
-use crate::node::Form;
+use bcpl_index::Form;
 use bcpl_messages::{Draft, Fill};
 
 /// What is said of an input or an output that is found, and what to do.

@@ -1,14 +1,11 @@
 //! Warnings on subscripts outside of a vector, words of strings, zero divisors, and shifts by 16 or more.
 
 use crate::calls::say_signed;
-use crate::kind::{Fact, Kind};
 use crate::known::Known;
 use crate::loops::{counting_of, is_read_once};
-use crate::names::{Declared, Sort};
-use crate::node::Form;
-use crate::tree::Tree;
 use bc_parse_tree::BinaryOp;
 use bc_word::Word;
+use bcpl_index::{Declared, Fact, Form, Kind, Sort, Tree};
 use bcpl_messages::{Draft, Fill};
 
 /// A subscript that is outside, and whether it is the last or first one of a FOR.

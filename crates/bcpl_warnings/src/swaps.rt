@@ -1,7 +1,7 @@
 //! Warning: an exchange of two variables, of which only the first command depends on its condition.
 
 use crate::known::Known;
-use crate::node::Form;
+use bcpl_index::Form;
 use bcpl_messages::Draft;
 
 /// The left and the right side of the item at a node, if it is an assignment of one value.

@@ -3,13 +3,85 @@
 use crate::arguments::is_called;
 use crate::declared::{Declarations, Meaning};
 use crate::mixed::gets_further;
-use crate::tokens::name_at;
+use crate::tokens::{
+    closes_at, is_after, is_at, is_line_start, name_at, opens_at, symbol_at, symbol_before,
+};
 use bc_build::Parsed;
-use bc_lex_tokens::Token;
+use bc_lex_tokens::{Symbol, Token};
 use bc_library::library_name;
 use bc_word::Memory;
 use indexmap::{IndexMap, IndexSet};
 use std::alloc::Global;
+
+/// Whether the main with these declarations may set the global with the name at this index.
+fn is_set(declarations: &Declarations<'_>, at: usize) -> bool {
+    let uses = declarations.uses_at(at);
+    declarations.has_routine(at) || uses.is_assigned || uses.is_listed || uses.is_addressed
+}
+
+/// Whether something is added to the name at this index, or it is subscripted, in the rest of the block after `from`.
+fn is_offset_after(
+    tokens: &[Token<'_>],
+    declarations: &Declarations<'_>,
+    index: usize,
+    from: usize,
+) -> bool {
+    let name = declarations.interned.number_at(index);
+    let mut depth: usize = 0;
+    for at in from..tokens.len() {
+        if opens_at(tokens, at) {
+            depth = depth.saturating_add(1);
+        } else if closes_at(tokens, at) {
+            if depth == 0 {
+                return false;
+            }
+            depth = depth.saturating_sub(1);
+        } else if declarations.interned.number_at(at) == name
+            && matches!(
+                symbol_at(tokens, at.saturating_add(1)),
+                Some(Symbol::Indirection | Symbol::Plus | Symbol::Minus)
+            )
+        {
+            return true;
+        }
+    }
+    false
+}
+
+/// Whether the address that is taken by the `@` at this index may become that of other cells: something is added to it,
+/// or to the variable that it is assigned to.
+fn is_offset(tokens: &[Token<'_>], declarations: &Declarations<'_>, at: usize) -> bool {
+    let mut first = at;
+    let mut next = at.saturating_add(2);
+    if is_after(tokens, at, Symbol::OpenBracket) && is_at(tokens, next, Symbol::CloseBracket) {
+        first = at.saturating_sub(1);
+        next = next.saturating_add(1);
+    }
+    match (symbol_before(tokens, first), symbol_at(tokens, next)) {
+        // in `!@G + 1` the sum is that of the content
+        (Some(Symbol::Indirection), Some(Symbol::Plus | Symbol::Minus)) => false,
+        (Some(Symbol::Plus), _) | (_, Some(Symbol::Plus | Symbol::Minus)) => true,
+        (_, Some(Symbol::Indirection)) => first < at && !is_line_start(tokens, next),
+        (Some(Symbol::Equal | Symbol::Assign), _) => {
+            let holder = first.saturating_sub(2);
+            name_at(tokens, holder).is_some() && is_offset_after(tokens, declarations, holder, next)
+        }
+        _ => false,
+    }
+}
+
+/// Whether a main takes the address of a global in a way that may reach others.
+fn reaches_others(tokens: &[Token<'_>], declarations: &Declarations<'_>) -> bool {
+    for at in 0..tokens.len() {
+        if is_at(tokens, at, Symbol::AddressOf)
+            && declarations.has_global(at.saturating_add(1))
+            && is_offset(tokens, declarations, at)
+        {
+            return true;
+        }
+    }
+    false
+}
 
 /// The globals that a program may set, and the declarations of its mains.
 #[derive(Drop)]
@@ -18,7 +90,7 @@ pub struct Settings<'s> {
     pub declarations: Vec<Declarations<'s>>,
     /// Their numbers, except those of the library.
     numbers: IndexSet<u16>,
-    /// Whether any global may be set, because a number isn't known or an address is taken.
+    /// Whether any global may be set, because a number isn't known or an address may become that of others.
     is_open: bool,
     /// Whether a main that isn't the library's gets EXTHDR.
     pub gets_further: bool,
@@ -79,6 +151,10 @@ impl<'s> Settings<'s> {
         is_own: bool,
     ) -> Result<(), Memory> {
         let declarations = Declarations::of(alloc, tokens)?;
+        if reaches_others(tokens, &declarations) {
+            self.is_open = true;
+            self.is_own_open = self.is_own_open || is_own;
+        }
         self.add_declared(&declarations, is_own)?;
         Ok(self.declarations.push(declarations)?)
     }
@@ -115,18 +191,14 @@ impl<'s> Settings<'s> {
             let Meaning::Global(number) = declared.meaning else {
                 continue;
             };
-            let uses = declarations.uses_at(declared.at);
-            let is_set = declarations.has_routine(declared.at)
-                || uses.is_assigned
-                || uses.is_listed;
+            if !is_set(declarations, declared.at) {
+                continue;
+            }
             match number {
-                Some(number) if is_set => {
+                Some(number) => {
                     self.own.insert(number)?;
                 }
-                _ => {}
-            }
-            if uses.is_addressed || is_set && number.is_none() {
-                self.is_own_open = true;
+                None => self.is_own_open = true,
             }
         }
         Ok(())
@@ -150,17 +222,13 @@ impl<'s> Settings<'s> {
         at: usize,
         number: Option<u16>,
     ) -> Result<(), Memory> {
-        let uses = declarations.uses_at(at);
-        if declarations.has_routine(at) || uses.is_assigned || uses.is_listed {
+        if is_set(declarations, at) {
             match number {
                 Some(number) => {
                     self.numbers.insert(number)?;
                 }
                 None => self.is_open = true,
             }
-        }
-        if uses.is_addressed {
-            self.is_open = true;
         }
         Ok(())
     }

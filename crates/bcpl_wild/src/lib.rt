@@ -19,6 +19,6 @@ pub use bcpl_messages::Message;
 pub use extent::Extent;
 pub use message::{Met, Stand, WildProgram, placed_message, wild_message};
 pub use naming::named_globals;
-pub use placed::{ReadMain, read};
+pub use placed::{ReadMain, RootOf, read, root_of};
 pub use progress::ProgressLine;
 pub use strict::strict_message;

@@ -2,6 +2,7 @@
 
 use crate::calls::{Call, Parameter, only_call, parameter_at};
 use crate::extent::{Extent, extent_from};
+use crate::message::WildProgram;
 use bc_interpret_trace::Standing;
 use bc_lex::{Source, lex};
 use bc_lex_tokens::{Symbol, Token, TokenKind};
@@ -10,6 +11,7 @@ use bc_parse::parse;
 use bc_scope_places::{BodyOf, Sites, sites_of, token_at};
 use bcpl_messages::{Draft, is_at, span_of};
 use bcpl_places::Span;
+use std::alloc::Global;
 
 /// A label of a segment; segments are counted without that of the primitives.
 #[derive(Clone, Copy)]
@@ -73,6 +75,28 @@ pub fn read<'s>(draft: &mut Draft, sources: &[Source<'s>], main: usize) -> Optio
         }),
         None => None,
     }
+}
+
+/// A root of a segment; segments are counted without that of the primitives.
+#[derive(Clone, Copy)]
+pub struct RootOf {
+    /// The index of the segment.
+    pub segment: usize,
+    /// The index of the root among those of the segment's main.
+    pub root: usize,
+}
+
+/// The root at which a call is; `None` if no source has its routine.
+pub fn root_of(
+    alloc: Global,
+    program: &WildProgram<'_, '_>,
+    standing: &Standing,
+) -> Option<RootOf> {
+    let LabelOf { segment, label } = labelled(program.image, standing.routine)?;
+    let mut draft = Draft::new(alloc, 0);
+    let read = read(&mut draft, program.sources, *program.mains.get(segment)?)?;
+    let root = read.root(label, standing)?;
+    Some(RootOf { segment, root })
 }
 
 impl<'s> ReadMain<'s> {
