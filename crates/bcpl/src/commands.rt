@@ -169,19 +169,18 @@ fn go_command<F: Files, R: Read + Drop, O: Write + Drop, E: Write + Drop>(
     let explains = console.explains;
     let sources = order.program.sources.files.as_slice();
     let files = ExpectedFiles::new(Expected::Source, sources, explains);
-    let (input, mut out, mut err) = console.split();
-    let mut noted = NotedOutput::new(&mut out);
+    let (input, out, mut err) = console.split();
+    let mut out = NotedOutput::new(out);
     let streams = RunStreams {
         input,
-        out: &mut noted,
+        out: &mut out,
         is_terminal,
         explains,
     };
     let ran = go(rt, alloc, order, streams, &mut err);
-    let has_reader = noted.has_reader();
-    let done = reported(rt, alloc, ran, files, (&out, &mut err));
+    let done = reported(rt, alloc, ran, files, (out.inner(), &mut err));
     let explains = explains_answer(&done, order.program.places, err.is_terminal());
-    piped_status(done, explains, has_reader, &mut err)
+    piped_status(done, explains, out.has_reader(), &mut err)
 }
 
 /// Runs `interpret`.
@@ -197,19 +196,18 @@ fn interpret_command<F: Files, R: Read + Drop, O: Write + Drop, E: Write + Drop>
     let explains = console.explains;
     let sources = order.program.sources.files.as_slice();
     let files = ExpectedFiles::new(Expected::Source, sources, explains);
-    let (input, mut out, mut err) = console.split();
-    let mut noted = NotedOutput::new(&mut out);
+    let (input, out, mut err) = console.split();
+    let mut out = NotedOutput::new(out);
     let streams = RunStreams {
         input,
-        out: &mut noted,
+        out: &mut out,
         is_terminal,
         explains,
     };
     let ran = interpret_files(rt, alloc, order, streams, &mut err);
-    let has_reader = noted.has_reader();
-    let done = reported(rt, alloc, ran, files, (&out, &mut err));
+    let done = reported(rt, alloc, ran, files, (out.inner(), &mut err));
     let explains = explains_answer(&done, order.program.places, err.is_terminal());
-    piped_status(done, explains, has_reader, &mut err)
+    piped_status(done, explains, out.has_reader(), &mut err)
 }
 
 /// Runs `debug`. The page is written to a file only.

@@ -25,6 +25,11 @@ impl<O: Write + Drop> NotedOutput<O> {
         }
     }
 
+    /// What it writes to.
+    pub fn inner(&self) -> &O {
+        &self.out
+    }
+
     /// Whether no write has shown that the reader has gone.
     pub fn has_reader(&self) -> bool {
         self.has_reader
