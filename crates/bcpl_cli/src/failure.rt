@@ -90,7 +90,7 @@ pub enum Cause {
     /// A strict run met an access that is probably a mistake.
     Strict(Strict),
     /// A program is not known to be tame, for the reason with this number and name.
-    Tame(u32, &'static str),
+    Tame(u32, String),
     /// This many things in an old source can't be converted automatically.
     ByHand(usize),
     /// This many sources are not laid out.

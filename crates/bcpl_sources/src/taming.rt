@@ -47,6 +47,9 @@ fn lines_of(
 fn not_tame(alloc: Global, gathered: &Gathered<'_, '_>, reason: (Refused, Spot)) -> Failure {
     let (main, cause) = reason_in(gathered, reason);
     let (number, name) = number_of(cause);
+    let Ok(name) = String::from_str(alloc, name) else {
+        return Failure::new(Cause::Memory);
+    };
     let failure = Failure::new(Cause::Tame(number, name));
     let program = gathered.program();
     match lines_of(alloc, &program, (cause, reason.1), main, &failure) {
